@@ -7,7 +7,7 @@ use Rattle.ordered_group.specs.Sums.{amount_at}
 use Rattle.closure_net.specs.Network.{NetView}
 use Rattle.machine_law.specs.declared.operations.Operation.{Operation}
 use Rattle.machine_law.specs.declared.operations.Operation.TheVariants.{Idle}
-use Rattle.machine_law.specs.States.{State, put}
+use Rattle.machine_law.specs.States.{State, with_value_at}
 use Rattle.machine_law.specs.Steps.{becomes}
 use Rattle.machine_law.proofs.Points.{put-same, put-other, put-each}
 use Rattle.async_step.specs.declared.limits.TheConstants.{MOST_STEPS}
@@ -20,31 +20,31 @@ use Rattle.async_step.specs.declared.refusals.StepRefusal.{StepRefusal}
 use Rattle.async_step.specs.declared.refusals.StepRefusal.TheVariants.{TooLarge}
 
 -- a list with another element, as a function from its places
-places-set : {X : Type 0} (xs : List X) (k : ℕ) (v d : X) → k < length xs → (λ i. get_or (set xs k v) i d) ≡ put (λ i. get_or xs i d) k v
+places-set : {X : Type 0} (xs : List X) (k : ℕ) (v d : X) → k < length xs → (λ i. get_or (set xs k v) i d) ≡ with_value_at (λ i. get_or xs i d) k v
 places-set xs k v d h = fun_ext (λ i. elim (cases_eq i k) [
-  | inl e ↦ subst (λ j. get_or (set xs k v) j d ≡ put (λ i. get_or xs i d) k v j) (sym e) (get_or-set_same xs k v d h ∙ sym (put-same (λ i. get_or xs i d) k v))
+  | inl e ↦ subst (λ j. get_or (set xs k v) j d ≡ with_value_at (λ i. get_or xs i d) k v j) (sym e) (get_or-set_same xs k v d h ∙ sym (put-same (λ i. get_or xs i d) k v))
   | inr ne ↦ get_or-set_other xs k i v d ne ∙ sym (put-other (λ i. get_or xs i d) k v i ne)
 ])
 
 -- a changed number that fits
-fits_put : (f : ℕ → Amount) (k : ℕ) (v : Amount) → ((i : ℕ) → FitsPair (f i)) → FitsPair v → (i : ℕ) → FitsPair (put f k v i)
+fits_put : (f : ℕ → Amount) (k : ℕ) (v : Amount) → ((i : ℕ) → FitsPair (f i)) → FitsPair v → (i : ℕ) → FitsPair (with_value_at f k v i)
 fits_put f k v h e = put-each (λ i a. FitsPair a) f k v e (λ i _. h i)
 
 -- and what the changed number is
-pub put_here : (f : ℕ → Amount) (k : ℕ) (v : Amount) → FitsPair (put f k v k) → FitsPair v
+pub put_here : (f : ℕ → Amount) (k : ℕ) (v : Amount) → FitsPair (with_value_at f k v k) → FitsPair v
 put_here f k v h = subst FitsPair (put-same f k v) h
 
-pub room_here : (net : NetView) (f : ℕ → Amount) (b : ℕ) (v : Amount) → FitsPair (minus (negative (amount_at net.worths b)) (put f b v b)) → FitsPair (minus (negative (amount_at net.worths b)) v)
+pub room_here : (net : NetView) (f : ℕ → Amount) (b : ℕ) (v : Amount) → FitsPair (minus (negative (amount_at net.worths b)) (with_value_at f b v b)) → FitsPair (minus (negative (amount_at net.worths b)) v)
 room_here net f b v h = subst (λ a. FitsPair (minus (negative (amount_at net.worths b)) a)) (put-same f b v) h
 
-pub label_here : (f : ℕ → ℕ) (k v : ℕ) → put f k v k < 2 ^ 64 → v < 2 ^ 64
+pub label_here : (f : ℕ → ℕ) (k v : ℕ) → with_value_at f k v k < 2 ^ 64 → v < 2 ^ 64
 label_here f k v h = subst (λ a. a < 2 ^ 64) (put-same f k v) h
 
 -- the rooms after what a block gave the sink has changed
-room_put : (net : NetView) (f : ℕ → Amount) (b : ℕ) (v : Amount) → ((i : ℕ) → FitsPair (minus (negative (amount_at net.worths i)) (f i))) → FitsPair (minus (negative (amount_at net.worths b)) v) → (i : ℕ) → FitsPair (minus (negative (amount_at net.worths i)) (put f b v i))
+room_put : (net : NetView) (f : ℕ → Amount) (b : ℕ) (v : Amount) → ((i : ℕ) → FitsPair (minus (negative (amount_at net.worths i)) (f i))) → FitsPair (minus (negative (amount_at net.worths b)) v) → (i : ℕ) → FitsPair (minus (negative (amount_at net.worths i)) (with_value_at f b v i))
 room_put net f b v h e = put-each (λ i a. FitsPair (minus (negative (amount_at net.worths i)) a)) f b v e (λ i _. h i)
 
-label_put : (f : ℕ → ℕ) (k v : ℕ) → ((i : ℕ) → f i < 2 ^ 64) → v < 2 ^ 64 → (i : ℕ) → put f k v i < 2 ^ 64
+label_put : (f : ℕ → ℕ) (k v : ℕ) → ((i : ℕ) → f i < 2 ^ 64) → v < 2 ^ 64 → (i : ℕ) → with_value_at f k v i < 2 ^ 64
 label_put f k v h e = put-each (λ i a. a < 2 ^ 64) f k v e (λ i _. h i)
 
 -- what it says that no further step is counted, or that one is
@@ -56,7 +56,7 @@ not_full t k n h e =
     ]
 
 module _ (net : NetView) (v : StateView) (over : IsStateOf net v) (b : ℕ) (l : b < length net.worths) (o : Operation Amount) where
-  operation_set : (λ c. operation_at (set v.operation b o) c) ≡ put (λ c. operation_at v.operation c) b o
+  operation_set : (λ c. operation_at (set v.operation b o) c) ≡ with_value_at (λ c. operation_at v.operation c) b o
   operation_set = places-set v.operation b o Idle (omega (arith, l, over.blocks))
 
   -- every number fits after a change that can be made

@@ -3,7 +3,7 @@ use Rattle.std.specs.Prelude.{ℕ, ◌<◌, ◌^◌, length, slice_set}
 use Rattle.ordered_group.specs.Amount.{Amount, minus, negative, FitsPair}
 use Rattle.ordered_group.specs.Sums.{amount_at}
 use Rattle.closure_net.specs.Network.{NetView}
-use Rattle.machine_law.specs.States.{State, put}
+use Rattle.machine_law.specs.States.{State, with_value_at}
 use Rattle.async_step.specs.Views.{StateView}
 use Rattle.async_step.specs.declared.changing.Change.{Change}
 use Rattle.async_step.specs.declared.changing.Change.TheVariants.{Nothing, Excess, Label, Source, Sink, Flow, AtSource, AtSink}
@@ -22,11 +22,11 @@ change_as f (AtSink amount) = AtSink (f amount)
 -- a state after a change by block b
 abbrev pub after_change : State → ℕ → Change Amount → State
 after_change s b Nothing = s
-after_change s b (Excess at amount) = record s { excess = put s.excess at amount }
-after_change s b (Label label) = record s { label = put s.label b label }
-after_change s b (Source amount) = record s { source = put s.source b amount }
-after_change s b (Sink amount) = record s { sink = put s.sink b amount }
-after_change s b (Flow pair amount) = record s { flow = put s.flow pair amount }
+after_change s b (Excess at amount) = record s { excess = with_value_at s.excess at amount }
+after_change s b (Label label) = record s { label = with_value_at s.label b label }
+after_change s b (Source amount) = record s { source = with_value_at s.source b amount }
+after_change s b (Sink amount) = record s { sink = with_value_at s.sink b amount }
+after_change s b (Flow pair amount) = record s { flow = with_value_at s.flow pair amount }
 after_change s b (AtSource amount) = record s { at_source = amount }
 after_change s b (AtSink amount) = record s { at_sink = amount }
 

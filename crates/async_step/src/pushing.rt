@@ -7,7 +7,7 @@ ghost use Rattle.closure_net.specs.declared.port.PortKind.TheVariants.{Sink, For
 ghost use Rattle.machine_law.specs.declared.operations.Operation.TheVariants.{Idle};
 ghost use Rattle.machine_law.specs.Operations.{best_as};
 ghost use Rattle.machine_law.specs.Residual.{IsPortOf};
-ghost use Rattle.machine_law.specs.States.{put};
+ghost use Rattle.machine_law.specs.States.{with_value_at};
 ghost use Rattle.machine_law.specs.Steps.{becomes, after_push, after_push_by, after_take, after_give, after_raise, push_amount};
 ghost use Rattle.async_step.specs.Views.{state_of};
 ghost use Rattle.async_step.specs.Answers.{IsStateOf, Leads, LeadsTelling};
@@ -200,7 +200,7 @@ impl<G: OrderedGroup> State<G> {
         requires over { IsStateOf net.now self.old }
         requires block { block < length net.now.worths }
         requires other { other < length net.now.worths }
-        ensures { let s = state_of self.old in Leads net.now self.old (record (becomes s block Idle) { excess = put s.excess other (plus (s.excess other) (G.parts_of amount)) }) self.new result }
+        ensures { let s = state_of self.old in Leads net.now self.old (record (becomes s block Idle) { excess = with_value_at s.excess other (plus (s.excess other) (G.parts_of amount)) }) self.new result }
     {
         let more = self
             .excess(other)

@@ -18,8 +18,8 @@ pub record ReportedBlocks : Type 0 where
   pub worth : ℕ → ℤ
 
 -- The blocks of a model, with its heights and one of its columns, the shells of a series, and worths.
-abbrev pub reported : BlocksView → SeriesView → ℕ → List ℤ → ReportedBlocks
-reported model series column worths = record {
+abbrev pub reported_blocks : BlocksView → SeriesView → ℕ → List ℤ → ReportedBlocks
+reported_blocks model series column worths = record {
   blocks = model.blocks;
   height = λ b. (slice_index_or model.places b origin).z;
   shell = shell_at series.shells;

@@ -4,7 +4,7 @@ use Rattle.std.specs.declared.alloc.Global.{Global}
 use Rattle.std.specs.Fmt.{decimal, signed_decimal}
 use Rattle.csv.specs.declared.writer.Writer.{Writer}
 use Rattle.csv.specs.Writing.{default_writer, writer_setup, fields_written, has_written, writer_under, writer_pending}
-use Rattle.fixed_worth.specs.Printed.{printed}
+use Rattle.fixed_worth.specs.Printed.{amount_text}
 use Rattle.bench_report.specs.declared.bench_row.BenchRow.{BenchRow}
 
 -- the names of the columns
@@ -13,7 +13,7 @@ header_line = codes "z,shell,blocks,tonnes,worth\n"
 
 -- the numbers of a row with commas (44) between them, and a line feed (10): tonnes with at most six places, worth with at most nine
 abbrev pub line_of : ℤ → ℕ → ℕ → ℤ → ℤ → List ℕ
-line_of z shell blocks tonnes worth = signed_decimal z ++ 44 ∷ (decimal shell ++ 44 ∷ (decimal blocks ++ 44 ∷ (printed 6 tonnes ++ 44 ∷ (printed 9 worth ++ 10 ∷ []))))
+line_of z shell blocks tonnes worth = signed_decimal z ++ 44 ∷ (decimal shell ++ 44 ∷ (decimal blocks ++ 44 ∷ (amount_text 6 tonnes ++ 44 ∷ (amount_text 9 worth ++ 10 ∷ []))))
 
 abbrev pub row_line : BenchRow → List ℕ
 row_line r = line_of r.z r.shell r.blocks r.tonnes r.worth
@@ -34,5 +34,5 @@ pub record IsReady (w : Writer (Vec ℕ Global)) : Type 0 where
   pub wrote : has_written w ≡ false
 
 -- the bytes that a writer was given: those that its vector has, and those that wait
-abbrev pub written : Writer (Vec ℕ Global) → List ℕ
-written w = (writer_under w).items ++ writer_pending w
+abbrev pub written_bytes : Writer (Vec ℕ Global) → List ℕ
+written_bytes w = (writer_under w).items ++ writer_pending w

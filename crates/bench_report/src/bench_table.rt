@@ -4,7 +4,7 @@
 ghost use Rattle.std.specs.Prelude.{◌≡◌, ◌<◌, ◌↔◌, [], pos, length, IsTrue, IfOk, OnOk, IfErr, MatchResult, slice_index_or};
 ghost use Rattle.std.specs.BTreeMap.{get, values, IsOrdered};
 ghost use Rattle.blocks_file.specs.Denotes.{origin};
-ghost use Rattle.bench_report.specs.Benches.{reported, by_bench, IsBenchTable};
+ghost use Rattle.bench_report.specs.Benches.{reported_blocks, by_bench, IsBenchTable};
 ghost use Rattle.bench_report.specs.FaultStands.{SameLengths, AllSumsFit, ReportFaultStands};
 ghost use Rattle.bench_report.specs.GrowingRows.{IsTallied, TallyFaultStands};
 
@@ -71,7 +71,7 @@ fn tally(
 ) -> Result<Rows, ReportFault>
     requires column { tonnes < length model.now.columns }
     requires lengths { SameLengths model.now series.now worths.now }
-    ensures { let m = reported model.now series.now tonnes worths.now in MatchResult result
+    ensures { let m = reported_blocks model.now series.now tonnes worths.now in MatchResult result
         (λ rows. IsTallied m m.blocks (get by_bench rows))
         (λ e. TallyFaultStands m e) }
 {
@@ -105,7 +105,7 @@ pub fn rows(
     worths: &[i128],
 ) -> Result<Vec<BenchRow>, ReportFault>
     requires { tonnes < length model.now.columns }
-    ensures { let m = reported model.now series.now tonnes worths.now in MatchResult result
+    ensures { let m = reported_blocks model.now series.now tonnes worths.now in MatchResult result
         (λ rows. SameLengths model.now series.now worths.now × AllSumsFit m × IsBenchTable m rows.items)
         (λ e. ReportFaultStands model.now series.now worths.now m e) }
 {

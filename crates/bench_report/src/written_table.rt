@@ -4,7 +4,7 @@ ghost use Rattle.std.specs.Prelude.{◌≡◌, ◌++◌, ◌+◌, ◌-◌, ◌^�
 ghost use Rattle.std.specs.Io.KnownBytes.{Appends};
 ghost use Rattle.csv.specs.Writing.{default_writer, row_text};
 ghost use Rattle.fixed_worth.specs.Device.{ReceivedPrefix};
-ghost use Rattle.bench_report.specs.Written.{IsReady, written, row_line, table_text};
+ghost use Rattle.bench_report.specs.Written.{IsReady, written_bytes, row_line, table_text};
 
 use crate::bench_row::BenchRow;
 use crate::write_fault::ReportWriteFault;
@@ -16,7 +16,7 @@ use std::alloc::{AllocError, Global};
 pub(crate) fn put_fields(wtr: &mut Writer<Vec<u8>>, fields: &[&[u8]]) -> Result<(), AllocError>
     requires ready { IsReady wtr.old }
     ensures ready { OnOk result (IsReady wtr.new) }
-    ensures text { OnOk result (written wtr.new ≡ written wtr.old ++ row_text default_writer (map (λ f. f.now) fields.now)) }
+    ensures text { OnOk result (written_bytes wtr.new ≡ written_bytes wtr.old ++ row_text default_writer (map (λ f. f.now) fields.now)) }
 {
     match wtr.write_fields(fields) {
         Ok(()) => Ok(()),
@@ -28,7 +28,7 @@ pub(crate) fn put_fields(wtr: &mut Writer<Vec<u8>>, fields: &[&[u8]]) -> Result<
 fn put_row(alloc: Global, wtr: &mut Writer<Vec<u8>>, row: &BenchRow) -> Result<(), AllocError>
     requires ready { IsReady wtr.old }
     ensures ready { OnOk result (IsReady wtr.new) }
-    ensures text { OnOk result (written wtr.new ≡ written wtr.old ++ row_line row.now) }
+    ensures text { OnOk result (written_bytes wtr.new ≡ written_bytes wtr.old ++ row_line row.now) }
 {
     let BenchRow {
         z,

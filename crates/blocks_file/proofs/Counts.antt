@@ -5,15 +5,15 @@ use Rattle.std.proofs.lemmas.List.{get_or_push, get_or_append_left, length-appen
 use Rattle.std.proofs.lemmas.List.Concat.{flat_map-append}
 use Rattle.fixed_worth.specs.declared.limits.TheConstants.{LINE_BYTES}
 use Rattle.fixed_worth.specs.Text.{Left, fields_of}
-use Rattle.fixed_worth.specs.Record.{Line, numbered, is_skipped}
+use Rattle.fixed_worth.specs.Record.{Line, numbered_lines, is_skipped}
 use Rattle.blocks_file.specs.Records.{record_lines, long_fault}
 use Rattle.fixed_worth.proofs.NextLine.{line, Next, next_is, short}
 
 -- What has been counted, and what is left.
 pub record Counted (all : List Line) (most count extra : ℕ) (left : Left) : Type 0 where
   pub before : List Line
-  pub whole : before ++ numbered left.number left.lines ≡ all
-  pub long : long_fault (numbered left.number left.lines) ≡ long_fault all
+  pub whole : before ++ numbered_lines left.number left.lines ≡ all
+  pub long : long_fault (numbered_lines left.number left.lines) ≡ long_fault all
   pub counted : length (record_lines before) ≡ count
   pub found : most < count → get_or (record_lines before) most 0 ≡ extra
   pub small : count ≤ left.number
@@ -27,11 +27,11 @@ push_skipped before k text s = flat_map-append (λ l. cond (is_skipped (fields_o
 pub push_record : (before : List Line) (k : ℕ) (text : List ℕ) → is_skipped (fields_of text) ≡ false → record_lines (before ++ line k text ∷ []) ≡ record_lines before ++ k ∷ []
 push_record before k text s = flat_map-append (λ l. cond (is_skipped (fields_of l.text)) [] (l.number ∷ [])) before (line k text ∷ []) ∙ rw s refl
 
-pub moved : (all before : List Line) (left next : Left) (k : ℕ) (text : List ℕ) → before ++ numbered left.number left.lines ≡ all → Next left next k text → (before ++ line k text ∷ []) ++ numbered next.number next.lines ≡ all
-moved all before left next k text w h = append_assoc before (line k text ∷ []) (numbered next.number next.lines) ∙ ap (λ (xs : List Line). before ++ xs) (sym (next_is left next k text h)) ∙ w
+pub moved : (all before : List Line) (left next : Left) (k : ℕ) (text : List ℕ) → before ++ numbered_lines left.number left.lines ≡ all → Next left next k text → (before ++ line k text ∷ []) ++ numbered_lines next.number next.lines ≡ all
+moved all before left next k text w h = append_assoc before (line k text ∷ []) (numbered_lines next.number next.lines) ∙ ap (λ (xs : List Line). before ++ xs) (sym (next_is left next k text h)) ∙ w
 
-pub still_long : (all : List Line) (left next : Left) (k : ℕ) (text : List ℕ) → long_fault (numbered left.number left.lines) ≡ long_fault all → Next left next k text → long_fault (numbered next.number next.lines) ≡ long_fault all
-still_long all left next k text l h = sym (next_long k text (numbered next.number next.lines) (short text h.small)) ∙ ap long_fault (sym (next_is left next k text h)) ∙ l
+pub still_long : (all : List Line) (left next : Left) (k : ℕ) (text : List ℕ) → long_fault (numbered_lines left.number left.lines) ≡ long_fault all → Next left next k text → long_fault (numbered_lines next.number next.lines) ≡ long_fault all
+still_long all left next k text l h = sym (next_long k text (numbered_lines next.number next.lines) (short text h.small)) ∙ ap long_fault (sym (next_is left next k text h)) ∙ l
 
 pub passes : (all : List Line) (most count extra : ℕ) (left next : Left) (k : ℕ) (text : List ℕ) → Counted all most count extra left → Next left next k text → is_skipped (fields_of text) ≡ true → Counted all most count extra next
 passes all most count extra left next k text g h s = record {

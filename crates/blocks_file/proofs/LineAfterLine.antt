@@ -10,7 +10,7 @@ use Rattle.std.proofs.Math.Bool.{or-false}
 use Rattle.std.proofs.Math.ListN.{length-set}
 use Rattle.fixed_worth.specs.declared.limits.TheConstants.{MOST_BLOCKS}
 use Rattle.fixed_worth.specs.Text.{Left, fields_of}
-use Rattle.fixed_worth.specs.Record.{Line, numbered, is_skipped}
+use Rattle.fixed_worth.specs.Record.{Line, numbered_lines, is_skipped}
 use Rattle.blocks_file.specs.declared.place.Place.{Place}
 use Rattle.blocks_file.specs.declared.blocks_fault.BlocksFault.{BlocksFault}
 use Rattle.blocks_file.specs.declared.blocks_fault.BlocksFault.TheVariants.{UnknownBlock, Repeated}
@@ -26,9 +26,9 @@ use Rattle.fixed_worth.proofs.Bits.{or_true}
 -- What has been read, and what is left.
 pub record ReadSoFar (n : ℕ) (chosen : List ℕ) (all : List Line) (seen : List Bool) (places : List Place) (values : List ℤ) (left : Left) : Type 0 where
   pub before : List Line
-  pub fault : first_fault n chosen before (numbered left.number left.lines) ≡ first_fault n chosen [] all
-  pub whole : before ++ numbered left.number left.lines ≡ all
-  pub long : long_fault (numbered left.number left.lines) ≡ long_fault all
+  pub fault : first_fault n chosen before (numbered_lines left.number left.lines) ≡ first_fault n chosen [] all
+  pub whole : before ++ numbered_lines left.number left.lines ≡ all
+  pub long : long_fault (numbered_lines left.number left.lines) ≡ long_fault all
   pub marks : (b : ℕ) → b < n → get_or seen b false ≡ has_record before b
   pub count : marked seen ≡ length (record_lines before)
   pub place : (b : ℕ) → b < n → get_or seen b false ≡ true → get_or places b origin ≡ place_of (record_among before b)
@@ -40,7 +40,7 @@ pub record ReadSoFar (n : ℕ) (chosen : List ℕ) (all : List Line) (seen : Lis
 unseen : (n b : ℕ) (seen : List Bool) → seen ≡ replicate n false → b < n → get_or seen b false ≡ false
 unseen n b seen s i = ap (λ (xs : List Bool). get_or xs b false) s ∙ get_or-replicate n b false false i
 
-pub begins : (n : ℕ) (chosen : List ℕ) (all : List Line) (seen : List Bool) (places : List Place) (values : List ℤ) (left : Left) → all ≡ numbered left.number left.lines → seen ≡ replicate n false → length places ≡ n → length values ≡ n * length chosen
+pub begins : (n : ℕ) (chosen : List ℕ) (all : List Line) (seen : List Bool) (places : List Place) (values : List ℤ) (left : Left) → all ≡ numbered_lines left.number left.lines → seen ≡ replicate n false → length places ≡ n → length values ≡ n * length chosen
     → ReadSoFar n chosen all seen places values left
 begins n chosen all seen places values left e s p v = record {
   before = [];
@@ -84,14 +84,14 @@ known n seen before k block m e =
 
 -- The fault of the next line, and of those behind it.
 next_fault : (n : ℕ) (chosen : List ℕ) (all : List Line) (seen : List Bool) (places : List Place) (values : List ℤ) (left next : Left) (k : ℕ) (text : List ℕ) (g : ReadSoFar n chosen all seen places values left) → Next left next k text
-    → option_or (record_fault n chosen (has_record g.before) k (fields_of text)) (first_fault n chosen (g.before ++ line k text ∷ []) (numbered next.number next.lines)) ≡ first_fault n chosen [] all
+    → option_or (record_fault n chosen (has_record g.before) k (fields_of text)) (first_fault n chosen (g.before ++ line k text ∷ []) (numbered_lines next.number next.lines)) ≡ first_fault n chosen [] all
 next_fault n chosen all seen places values left next k text g h = sym (ap (λ (ls : List Line). first_fault n chosen g.before ls) (next_is left next k text h)) ∙ g.fault
 
 -- The line has no fault.
 no_fault : (n : ℕ) (chosen : List ℕ) (all : List Line) (seen : List Bool) (places : List Place) (values : List ℤ) (left next : Left) (k : ℕ) (text : List ℕ) (g : ReadSoFar n chosen all seen places values left) → Next left next k text
-    → record_fault n chosen (has_record g.before) k (fields_of text) ≡ None → first_fault n chosen (g.before ++ line k text ∷ []) (numbered next.number next.lines) ≡ first_fault n chosen [] all
+    → record_fault n chosen (has_record g.before) k (fields_of text) ≡ None → first_fault n chosen (g.before ++ line k text ∷ []) (numbered_lines next.number next.lines) ≡ first_fault n chosen [] all
 no_fault n chosen all seen places values left next k text g h none =
-    sym (ap (λ (o : Option BlocksFault). option_or o (first_fault n chosen (g.before ++ line k text ∷ []) (numbered next.number next.lines))) none) ∙ next_fault n chosen all seen places values left next k text g h
+    sym (ap (λ (o : Option BlocksFault). option_or o (first_fault n chosen (g.before ++ line k text ∷ []) (numbered_lines next.number next.lines))) none) ∙ next_fault n chosen all seen places values left next k text g h
 
 -- The line is skipped.
 pub passes : (n : ℕ) (chosen : List ℕ) (all : List Line) (seen : List Bool) (places : List Place) (values : List ℤ) (left next : Left) (k : ℕ) (text : List ℕ) → ReadSoFar n chosen all seen places values left → Next left next k text
@@ -192,7 +192,7 @@ keeps n block chosen p row all seen more places others values new left next k te
 pub read_all : (n : ℕ) (chosen : List ℕ) (all : List Line) (seen : List Bool) (places : List Place) (values : List ℤ) (left : Left) → ReadSoFar n chosen all seen places values left → left.lines ≡ [] → n ≡ length (record_lines all) → n ≤ MOST_BLOCKS → length chosen ≤ 8
     → (first_fault n chosen [] all ≡ None) × AreKept n chosen all places values
 read_all n chosen all seen places values left g e count bound few =
-    let none : numbered left.number left.lines ≡ [] = rw e refl in
+    let none : numbered_lines left.number left.lines ≡ [] = rw e refl in
     let same : g.before ≡ all = sym (append-nil g.before) ∙ ap (λ (xs : List Line). g.before ++ xs) (sym none) ∙ g.whole in
     let full : marked seen ≡ length seen = g.count ∙ ap (λ (xs : List Line). length (record_lines xs)) same ∙ sym count ∙ sym g.all_seen in
     let had : (b : ℕ) → b < n → get_or seen b false ≡ true = λ b i. all_marked seen b full (omega (arith, g.all_seen)) in (

@@ -10,11 +10,11 @@ use Rattle.closure_net.specs.declared.port.PortKind.{PortKind}
 use Rattle.closure_net.specs.declared.port.PortKind.TheVariants.{Sink, Forward, Backward, Source}
 use Rattle.machine_law.specs.declared.operations.Operation.{Operation}
 use Rattle.machine_law.specs.declared.operations.Operation.TheVariants.{Idle, Scan, PushDue, TakeDue, GiveDue, RaiseDue}
-use Rattle.machine_law.specs.States.{State, put, IsQuiet}
+use Rattle.machine_law.specs.States.{State, with_value_at, IsQuiet}
 use Rattle.machine_law.specs.Steps.{push_amount, after_push_by, after_give_by, advance_by}
 use Rattle.machine_law.proofs.Law.{runs_keep_law}
 use Rattle.machine_law.proofs.Points.{put-other}
-use Rattle.boards.specs.Boards.{BoardView, shown, blocks_of, IsBoard}
+use Rattle.boards.specs.Boards.{BoardView, shown_state, blocks_of, IsBoard}
 use Rattle.boards.specs.Turns.{HasNoOwn, IsPicked, IsUnserved, IsDue, HasServed}
 use Rattle.boards.specs.Ends.{IsAlone, AreIdleBelow}
 
@@ -23,7 +23,7 @@ record Changes (s t : State) (b : ℕ) : Type 0 where
   pub others : (c : ℕ) → c ≢ b → t.operation c ≡ s.operation c
   pub counted : t.steps ≡ s.steps + 1
 
-changes : (s t : State) (b : ℕ) (o : Operation Amount) → t.operation ≡ put s.operation b o → t.steps ≡ s.steps + 1 → Changes s t b
+changes : (s t : State) (b : ℕ) (o : Operation Amount) → t.operation ≡ with_value_at s.operation b o → t.steps ≡ s.steps + 1 → Changes s t b
 changes s t b o e k = record {
   others = λ c ne. ap (λ (f : ℕ → Operation Amount). f c) e ∙ put-other s.operation b o c ne;
   counted = k;
@@ -50,11 +50,11 @@ step_changes net s b (TakeDue d port) = changes s _ b _ refl refl
 step_changes net s b (GiveDue d port) = given_changes s b d port port.kind
 step_changes net s b (RaiseDue have best) = changes s _ b _ refl refl
 
-served_changes : (old new : BoardView) (b : ℕ) (more : Bool) → HasServed old b new more → Changes (shown old) (shown new) b
+served_changes : (old new : BoardView) (b : ℕ) (more : Bool) → HasServed old b new more → Changes (shown_state old) (shown_state new) b
 served_changes old new b more h =
-    subst (λ (t : State). Changes (shown old) t b) (sym h.step.after) (step_changes old.net (shown old) b ((shown old).operation b))
+    subst (λ (t : State). Changes (shown_state old) t b) (sym h.step.after) (step_changes old.net (shown_state old) b ((shown_state old).operation b))
 
-pub served_counts : (old new : BoardView) (b : ℕ) (more : Bool) → HasServed old b new more → (shown new).steps ≡ (shown old).steps + 1
+pub served_counts : (old new : BoardView) (b : ℕ) (more : Bool) → HasServed old b new more → (shown_state new).steps ≡ (shown_state old).steps + 1
 served_counts old new b more h = (served_changes old new b more h).counted
 
 -- ---- an operation, or none
@@ -72,24 +72,24 @@ idle_not o h = elim (idle_or o) [
   | inr ne ↦ absurd (h ne)
 ]
 
-no_own_idle : (board : BoardView) (own : Option ℕ) (c : ℕ) → HasNoOwn board own → own ≡ Some c → c < blocks_of board → (shown board).operation c ≡ Idle
-no_own_idle board own c h e l = idle_not ((shown board).operation c) (λ work. h c (record { own_is = e; inside = l; at_work = work }))
+no_own_idle : (board : BoardView) (own : Option ℕ) (c : ℕ) → HasNoOwn board own → own ≡ Some c → c < blocks_of board → (shown_state board).operation c ≡ Idle
+no_own_idle board own c h e l = idle_not ((shown_state board).operation c) (λ work. h c (record { own_is = e; inside = l; at_work = work }))
 
 -- ---- while one block is served to its end
-own_served : (board : BoardView) (from block b : ℕ) → block < blocks_of board → ¬ ((shown board).operation block ≡ Idle) → IsPicked board (Some block) from b → b ≡ block
+own_served : (board : BoardView) (from block b : ℕ) → block < blocks_of board → ¬ ((shown_state board).operation block ≡ Idle) → IsPicked board (Some block) from b → b ≡ block
 own_served board from block b l work p = elim p [
   | inl own ↦ sym (same_Some block b own.own_is)
   | inr none ↦ absurd (work (no_own_idle board (Some block) block none.0 refl l))
 ]
 
-pub still_idle_below : (old new : BoardView) (from steps block b : ℕ) (more : Bool) → block < blocks_of old → ¬ ((shown old).operation block ≡ Idle) → AreIdleBelow old block
+pub still_idle_below : (old new : BoardView) (from steps block b : ℕ) (more : Bool) → block < blocks_of old → ¬ ((shown_state old).operation block ≡ Idle) → AreIdleBelow old block
     → IsDue old (Some block) from steps b × HasServed old b new more → AreIdleBelow new block
 still_idle_below old new from steps block b more l work idle h c below =
     let e = own_served old from block b l work h.0.picked in
     (served_changes old new b more h.1).others c (λ q. (let t : block < block = subst (λ x. x < block) (q ∙ e) below in omega (arith, t))) ∙ idle c below
 
 -- ---- while one operation follows another
-pub all_idle_alone : (board : BoardView) → AreIdleBelow board (blocks_of board) → IsAlone (blocks_of board) (shown board) None
+pub all_idle_alone : (board : BoardView) → AreIdleBelow board (blocks_of board) → IsAlone (blocks_of board) (shown_state board) None
 all_idle_alone board idle = record {
   known = λ b q. absurd (none-some b q);
   others = λ c l ne. idle c l;
@@ -101,7 +101,7 @@ picked_inside board own from b p = elim p [
   | inr none ↦ none.1.inside
 ]
 
-other_idle : (board : BoardView) (own : Option ℕ) (from b c : ℕ) → IsAlone (blocks_of board) (shown board) own → IsPicked board own from b → c < blocks_of board → c ≢ b → ((own ≡ Some c) ⊎ ¬ (own ≡ Some c)) → (shown board).operation c ≡ Idle
+other_idle : (board : BoardView) (own : Option ℕ) (from b c : ℕ) → IsAlone (blocks_of board) (shown_state board) own → IsPicked board own from b → c < blocks_of board → c ≢ b → ((own ≡ Some c) ⊎ ¬ (own ≡ Some c)) → (shown_state board).operation c ≡ Idle
 other_idle board own from b c alone p l ne (inr not) = alone.others c l not
 other_idle board own from b c alone p l ne (inl is) = elim p [
   | inl own ↦ absurd (ne (same_Some c b (sym is ∙ own.own_is)))
@@ -128,27 +128,27 @@ goes_on_alone n s b false l others h = record {
   ];
 }
 
-pub still_alone : (old new : BoardView) (own : Option ℕ) (from steps b : ℕ) (more : Bool) → IsAlone (blocks_of old) (shown old) own → IsDue old own from steps b × HasServed old b new more
-    → IsAlone (blocks_of new) (shown new) (if more then Some b else None)
+pub still_alone : (old new : BoardView) (own : Option ℕ) (from steps b : ℕ) (more : Bool) → IsAlone (blocks_of old) (shown_state old) own → IsDue old own from steps b × HasServed old b new more
+    → IsAlone (blocks_of new) (shown_state new) (if more then Some b else None)
 still_alone old new own from steps b more alone h =
     let n : blocks_of new ≡ blocks_of old = ap (λ (x : BoardView). blocks_of x) h.1.rest in
     let k = served_changes old new b more h.1 in
-    let others : (c : ℕ) → c < blocks_of new → c ≢ b → (shown new).operation c ≡ Idle =
+    let others : (c : ℕ) → c < blocks_of new → c ≢ b → (shown_state new).operation c ≡ Idle =
     λ c l ne. k.others c ne ∙ other_idle old own from b c alone h.0.picked (subst (λ x. c < x) n l) ne (own_or own c) in
-    goes_on_alone (blocks_of new) (shown new) b more (subst (λ x. b < x) (sym n) (picked_inside old own from b h.0.picked)) others h.1.goes_on
+    goes_on_alone (blocks_of new) (shown_state new) b more (subst (λ x. b < x) (sym n) (picked_inside old own from b h.0.picked)) others h.1.goes_on
 
 -- where none has an operation and none waits, all is quiet
-pub unserved_quiet : (board : BoardView) (own : Option ℕ) → IsBoard board → IsAlone (blocks_of board) (shown board) own → IsUnserved board own → IsQuiet board.net (shown board)
+pub unserved_quiet : (board : BoardView) (own : Option ℕ) → IsBoard board → IsAlone (blocks_of board) (shown_state board) own → IsUnserved board own → IsQuiet board.net (shown_state board)
 unserved_quiet board own is alone none =
-    let amounts = (runs_keep_law board.net is.over.reached.events (shown board) is.over.reached.run).amounts in
-    let idle : (b : ℕ) → b < blocks_of board → (shown board).operation b ≡ Idle =
+    let amounts = (runs_keep_law board.net is.over.reached.events (shown_state board) is.over.reached.run).amounts in
+    let idle : (b : ℕ) → b < blocks_of board → (shown_state board).operation b ≡ Idle =
     λ b l. (elim (own_or own b) [
       | inl e ↦ no_own_idle board own b none.no_own e l
       | inr ne ↦ alone.others b l ne
     ]) in
     record {
-      excess = λ b l. elim (most_or_below ((shown board).excess b) zero_amount) [
-        | inl most ↦ AtMost-both ((shown board).excess b) zero_amount most (amounts.excess b)
+      excess = λ b l. elim (most_or_below ((shown_state board).excess b) zero_amount) [
+        | inl most ↦ AtMost-both ((shown_state board).excess b) zero_amount most (amounts.excess b)
         | inr below ↦ absurd (none.none_waits b l (record { excess = below; idle = idle b l }))
       ];
       operation = idle;

@@ -10,10 +10,10 @@ use Rattle.machine_law.proofs.Runs.{run_unique}
 use Rattle.machine_law.proofs.ActiveRuns.{active_is_run}
 use Rattle.async_step.specs.Answers.{Fits}
 use Rattle.boards.specs.Runs.{AreTurnsTo}
-use Rattle.boards.specs.Boards.{BoardView, shown, IsTurnBoard, HasSettled}
+use Rattle.boards.specs.Boards.{BoardView, shown_state, IsTurnBoard, HasSettled}
 use Rattle.boards.specs.Turns.{IsGoing, IsDue, IsAtLimit, IsTurn, IsEnd}
 use Rattle.boards.specs.Ends.{HasEnded}
-use Rattle.boards.specs.Records.{RecordView, written, written_after, Writes, RecordGoesOn}
+use Rattle.boards.specs.Records.{RecordView, events_after, written_after, Writes, RecordGoesOn}
 use Rattle.boards.specs.Audits.{AuditView, audit_of, IsAudited, IsAuditEnd, IsAuditTurn, IsToldAs, HasAuditEnded, AuditGoesOn, HasAuditSettled}
 use Rattle.machine_law.specs.declared.events.TheConstants.{MOST_EVENTS}
 use Rattle.boards.specs.declared.turn.Turn.{Turn}
@@ -24,15 +24,15 @@ use Rattle.boards.proofs.Alone.{served_counts}
 use Rattle.boards.proofs.Ends.{turns_counted, end_same}
 
 -- ---- the type
-pub audited : (r : RecordView) → IsTurnBoard r.board → AreTurnsTo r.board.net r.events (shown r.board) → (shown r.board).steps ≤ r.room → r.room ≤ MOST_EVENTS → IsAudited (audit_of r)
+pub audited : (r : RecordView) → IsTurnBoard r.board → AreTurnsTo r.board.net r.events (shown_state r.board) → (shown_state r.board).steps ≤ r.room → r.room ≤ MOST_EVENTS → IsAudited (audit_of r)
 audited r turns made within few =
-    let k = turns_counted r.board.net r.events (shown r.board) made in
+    let k = turns_counted r.board.net r.events (shown_state r.board) made in
     record { turns = turns; made = made; counted = k; within = omega (arith, k, within); few = few }
 
 -- a turn makes no more steps than there is room for
-pub turn_within : (old new : BoardView) (own : Option ℕ) (from steps room : ℕ) (turn : Turn) → steps ≤ room → (shown old).steps ≤ room → IsTurn old own from steps new turn → (shown new).steps ≤ room
+pub turn_within : (old new : BoardView) (own : Option ℕ) (from steps room : ℕ) (turn : Turn) → steps ≤ room → (shown_state old).steps ≤ room → IsTurn old own from steps new turn → (shown_state new).steps ≤ room
 turn_within old new own from steps room (Stepped block more) most within h = let k = served_counts old new block more h.1 in omega (arith, k, h.0.going.room, most)
-turn_within old new own from steps room Unserved most within h = subst (λ (b : BoardView). (shown b).steps ≤ room) (sym h.2) within
+turn_within old new own from steps room Unserved most within h = subst (λ (b : BoardView). (shown_state b).steps ≤ room) (sym h.2) within
 turn_within old new own from steps room (Ended end) most within h = let same = end_same old new own from steps end h in subst (λ k. k ≤ room) (sym (ap (λ v. v.steps) same.1)) within
 
 -- where the limit and the room are reached, but not the limit, it is the room
@@ -50,7 +50,7 @@ module _ (old new : RecordView) (own : Option ℕ) (from limit : ℕ) (is : IsAu
   due : (b : ℕ) → IsDue old.board own from (min limit old.room) b → IsDue old.board own from limit b
   due b h = record { going = going h.going; picked = h.picked }
 
-  same : (turn : Turn) → written old turn ≡ old.events → Writes old turn new → new.board ≡ old.board → audit_of new ≡ audit_of old
+  same : (turn : Turn) → events_after old turn ≡ old.events → Writes old turn new → new.board ≡ old.board → audit_of new ≡ audit_of old
   same turn none writes board = ap audit_of (writes ∙ ap (λ xs. record old { board = new.board; events = xs }) none ∙ ap (λ b. record old { board = b }) board)
 
   pub stepped : (b : ℕ) (more : Bool) → old.records ≡ true → IsTurn old.board own from (min limit old.room) new.board (Stepped b more) → Writes old (Stepped b more) new → IsAuditTurn (audit_of old) own from limit (audit_of new) (Stepped b more)
@@ -59,7 +59,7 @@ module _ (old new : RecordView) (own : Option ℕ) (from limit : ℕ) (is : IsAu
     record {
       room = has_room h.0.going;
       served = h.1;
-      history = ap (λ (r : RecordView). r.events) writes ∙ ap (λ t. if t then old.events ++ next_event old.board.net (shown old.board) b ∷ [] else old.events) e;
+      history = ap (λ (r : RecordView). r.events) writes ∙ ap (λ t. if t then old.events ++ next_event old.board.net (shown_state old.board) b ∷ [] else old.events) e;
       same_room = ap (λ (r : RecordView). r.room) writes;
     },
   )
@@ -67,19 +67,19 @@ module _ (old new : RecordView) (own : Option ℕ) (from limit : ℕ) (is : IsAu
   pub unserved : IsTurn old.board own from (min limit old.room) new.board Unserved → Writes old Unserved new → IsAuditTurn (audit_of old) own from limit (audit_of new) Unserved
   unserved h writes = (record { going = going h.0; room = has_room h.0 }, h.1, same Unserved refl writes h.2)
 
-  at_most : IsAtLimit old.board (min limit old.room) → (told : End) → IsToldAs (shown old.board).steps limit Limit told → audit_of new ≡ audit_of old → IsAuditEnd (audit_of old) own from limit (audit_of new) told
+  at_most : IsAtLimit old.board (min limit old.room) → (told : End) → IsToldAs (shown_state old.board).steps limit Limit told → audit_of new ≡ audit_of old → IsAuditEnd (audit_of old) own from limit (audit_of new) told
   at_most h told (inl t) e = subst (λ x. IsAuditEnd (audit_of old) own from limit (audit_of new) x) (sym t.1) (record { unquiet = h.unquiet; free = h.free; made = t.0 }, e)
   at_most h told (inr t) e =
-      let r = room_reached limit old.room (shown old.board).steps h.made t.0 in
+      let r = room_reached limit old.room (shown_state old.board).steps h.made t.0 in
       let k = is.counted in
       let w = is.within in
       subst (λ x. IsAuditEnd (audit_of old) own from limit (audit_of new) x) (sym t.1) (record { going = record { unquiet = h.unquiet; free = h.free; room = t.0 }; full = omega (arith, r, k, w) }, e)
 
-  pub ended : (end told : End) → IsEnd old.board own from (min limit old.room) new.board end → Writes old (Ended end) new → IsToldAs (shown new.board).steps limit end told → IsAuditEnd (audit_of old) own from limit (audit_of new) told
+  pub ended : (end told : End) → IsEnd old.board own from (min limit old.room) new.board end → Writes old (Ended end) new → IsToldAs (shown_state new.board).steps limit end told → IsAuditEnd (audit_of old) own from limit (audit_of new) told
   ended Quiet told h writes t = subst (λ x. IsAuditEnd (audit_of old) own from limit (audit_of new) x) (sym t) (h.0, same (Ended Quiet) refl writes h.1)
   ended Stuck told (inl h) writes t = subst (λ x. IsAuditEnd (audit_of old) own from limit (audit_of new) x) (sym t) (inl (h.0, same (Ended Stuck) refl writes h.1))
   ended Stuck told (inr h) writes t = subst (λ x. IsAuditEnd (audit_of old) own from limit (audit_of new) x) (sym t) (inr (h.0, due h.0 h.1, record { room = has_room h.1.going; sticks = h.2; rest = ap audit_of writes }))
-  ended Limit told (inl h, e) writes t = at_most h told (subst (λ (b : BoardView). IsToldAs (shown b).steps limit Limit told) e t) (same (Ended Limit) refl writes e)
+  ended Limit told (inl h, e) writes t = at_most h told (subst (λ (b : BoardView). IsToldAs (shown_state b).steps limit Limit told) e t) (same (Ended Limit) refl writes e)
   ended Limit told (inr h, e) writes t =
       let a = h.2.full in
       let r = has_room h.1.going in
@@ -97,7 +97,7 @@ audit_goes_on old new most limit below e h = record {
   room = h.room;
 }
 
-pub run_ended : (r : RecordView) (limit : ℕ) (end told : End) → IsAudited (audit_of r) → HasEnded r.board (min limit r.room) end → IsToldAs (shown r.board).steps limit end told → HasAuditEnded (audit_of r) limit told
+pub run_ended : (r : RecordView) (limit : ℕ) (end told : End) → IsAudited (audit_of r) → HasEnded r.board (min limit r.room) end → IsToldAs (shown_state r.board).steps limit end told → HasAuditEnded (audit_of r) limit told
 run_ended r limit Quiet told is h t = subst (λ x. HasAuditEnded (audit_of r) limit x) (sym t) h
 run_ended r limit Stuck told is h t = subst (λ x. HasAuditEnded (audit_of r) limit x) (sym t) h
 run_ended r limit Limit told is h (inl t) =
@@ -108,7 +108,7 @@ run_ended r limit Limit told is h (inl t) =
 run_ended r limit Limit told is h (inr t) =
     let c = h.counted in
     let b = t.0 in
-    let m = room_reached limit r.room (shown r.board).steps (omega (arith, c)) b in
+    let m = room_reached limit r.room (shown_state r.board).steps (omega (arith, c)) b in
     let k = is.counted in
     let w = is.within in
     subst (λ x. HasAuditEnded (audit_of r) limit x) (sym t.1) (record { full = omega (arith, m, k, w); below = omega (arith, m, k, w, b); unquiet = h.unquiet })
@@ -117,18 +117,18 @@ run_ended r limit Full told is h t = absurd h
 -- ---- a quiet board's flow, and the replay of its history
 pub audit_settled : (audit : AuditView) (net : NetView) (flow : FlowView) (events : List Event) → IsAudited audit → events ≡ audit.history → HasSettled audit.board net flow → HasAuditSettled audit net flow events
 audit_settled audit net flow events is same h =
-    let run : Run net (opening net) events (shown audit.board) =
-    subst (λ (n : NetView). Run n (opening n) events (shown audit.board)) (sym h.net_is) (subst (λ xs. Run audit.board.net (opening audit.board.net) xs (shown audit.board)) (sym same)
-    (active_is_run (Fits audit.board.net) audit.board.net (opening audit.board.net) audit.history (shown audit.board) is.made)) in
-    let quiet : IsQuiet net (shown audit.board) = subst (λ (n : NetView). IsQuiet n (shown audit.board)) (sym h.net_is) h.quiet in
-    let amounts : IsFlowOf net (shown audit.board) flow = subst (λ (n : NetView). IsFlowOf n (shown audit.board) flow) (sym h.net_is) h.amounts in
+    let run : Run net (opening net) events (shown_state audit.board) =
+    subst (λ (n : NetView). Run n (opening n) events (shown_state audit.board)) (sym h.net_is) (subst (λ xs. Run audit.board.net (opening audit.board.net) xs (shown_state audit.board)) (sym same)
+    (active_is_run (Fits audit.board.net) audit.board.net (opening audit.board.net) audit.history (shown_state audit.board) is.made)) in
+    let quiet : IsQuiet net (shown_state audit.board) = subst (λ (n : NetView). IsQuiet n (shown_state audit.board)) (sym h.net_is) h.quiet in
+    let amounts : IsFlowOf net (shown_state audit.board) flow = subst (λ (n : NetView). IsFlowOf n (shown_state audit.board) flow) (sym h.net_is) h.amounts in
     record {
       settled = h;
       history = same;
       replayed = record {
-        state = shown audit.board;
+        state = shown_state audit.board;
         run = run;
-        only = λ s other. subst (λ (t : State). IsQuiet net t × IsFlowOf net t flow) (run_unique net (opening net) events (shown audit.board) s run other) (quiet, amounts);
+        only = λ s other. subst (λ (t : State). IsQuiet net t × IsFlowOf net t flow) (run_unique net (opening net) events (shown_state audit.board) s run other) (quiet, amounts);
         solved = subst (λ (n : NetView). IsSolved n flow) (sym h.net_is) h.solved;
       };
     }

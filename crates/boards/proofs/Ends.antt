@@ -14,7 +14,7 @@ use Rattle.async_step.specs.declared.limits.TheConstants.{MOST_STEPS}
 use Rattle.async_step.specs.Answers.{Fits}
 use Rattle.async_step.specs.Views.{StateView, state_of}
 use Rattle.boards.specs.Runs.{SomeNextOverflows, IsMadeByTurns, AreTurnsBetween, AreTurnsTo}
-use Rattle.boards.specs.Boards.{BoardView, shown, IsBoard, IsTurnBoard, HasSettled}
+use Rattle.boards.specs.Boards.{BoardView, shown_state, IsBoard, IsTurnBoard, HasSettled}
 use Rattle.boards.specs.Turns.{IsPicked, IsDue, HasNoneDue, HasServed, Sticks, IsStepOf, IsEnd, IsTurn}
 use Rattle.boards.specs.Ends.{HasEnded, GoesOn}
 use Rattle.boards.specs.declared.turn.Turn.{Turn}
@@ -25,12 +25,12 @@ use Rattle.boards.proofs.FurtherTurns.{active_append}
 use Rattle.boards.proofs.Alone.{picked_inside}
 
 -- a quiet board's flow solves its net
-pub settled : (board : BoardView) (flow : FlowView) → IsBoard board → IsNet board.net → IsQuiet board.net (shown board) → IsFlowOf board.net (shown board) flow → HasSettled board board.net flow
+pub settled : (board : BoardView) (flow : FlowView) → IsBoard board → IsNet board.net → IsQuiet board.net (shown_state board) → IsFlowOf board.net (shown_state board) flow → HasSettled board board.net flow
 settled board flow is net quiet amounts = record {
   net_is = refl;
   quiet = quiet;
   amounts = amounts;
-  solved = quiet_solves board.net is.over.reached.events (shown board) flow net.rests.known is.over.reached.run quiet amounts;
+  solved = quiet_solves board.net is.over.reached.events (shown_state board) flow net.rests.known is.over.reached.run quiet amounts;
 }
 
 -- what a test for quiet tells of a board that isn't
@@ -58,25 +58,25 @@ turn_of_step old new own from steps b (Ended Full) due h = absurd h
 -- ---- what turns alone keep
 
 -- the step of a block that is due reads no excess of zero
-due_reads : (board : BoardView) (own : Option ℕ) (from b : ℕ) → IsPicked board own from b → ReadsNoZero (shown board) (next_event board.net (shown board) b)
-due_reads board own from b (inl own_one) kind zero = own_one.at_work (excess_read_idle board.net b ((shown board).operation b) kind)
-due_reads board own from b (inr waits) kind zero = Below-not zero_amount ((shown board).excess b) waits.1.here.excess (AtMost-same ((shown board).excess b) zero_amount zero)
+due_reads : (board : BoardView) (own : Option ℕ) (from b : ℕ) → IsPicked board own from b → ReadsNoZero (shown_state board) (next_event board.net (shown_state board) b)
+due_reads board own from b (inl own_one) kind zero = own_one.at_work (excess_read_idle board.net b ((shown_state board).operation b) kind)
+due_reads board own from b (inr waits) kind zero = Below-not zero_amount ((shown_state board).excess b) waits.1.here.excess (AtMost-same ((shown_state board).excess b) zero_amount zero)
 
 -- the same turns lead to a board with the same net and state
-pub same_turns : (old new : BoardView) (events : List Event) → new.net ≡ old.net → new.state ≡ old.state → AreTurnsTo old.net events (shown old) → AreTurnsTo new.net events (shown new)
-same_turns old new events net_is state_is run = subst (λ (n : NetView). AreTurnsTo n events (shown new)) (sym net_is) (subst (λ (v : StateView). AreTurnsTo old.net events (state_of v)) (sym state_is) run)
+pub same_turns : (old new : BoardView) (events : List Event) → new.net ≡ old.net → new.state ≡ old.state → AreTurnsTo old.net events (shown_state old) → AreTurnsTo new.net events (shown_state new)
+same_turns old new events net_is state_is run = subst (λ (n : NetView). AreTurnsTo n events (shown_state new)) (sym net_is) (subst (λ (v : StateView). AreTurnsTo old.net events (state_of v)) (sym state_is) run)
 
 -- and one turn more, where it makes a step, from whichever state they began
-turns_between : (old new : BoardView) (s : State) (events : List Event) (own : Option ℕ) (from steps b : ℕ) (more : Bool) → IsBoard new → IsDue old own from steps b → HasServed old b new more → AreTurnsBetween old.net s events (shown old)
-    → AreTurnsBetween old.net s (events ++ next_event old.net (shown old) b ∷ []) (shown new)
+turns_between : (old new : BoardView) (s : State) (events : List Event) (own : Option ℕ) (from steps b : ℕ) (more : Bool) → IsBoard new → IsDue old own from steps b → HasServed old b new more → AreTurnsBetween old.net s events (shown_state old)
+    → AreTurnsBetween old.net s (events ++ next_event old.net (shown_state old) b ∷ []) (shown_state new)
 turns_between old new s events own from steps b more is due h run =
-    let fits : Fits old.net (shown new) = subst (λ (n : NetView). Fits n (shown new)) (ap (λ (x : BoardView). x.net) h.rest) is.over.fits in
-    active_more (Fits old.net) old.net s events (next_event old.net (shown old) b) (shown old) (shown new) run h.step (due_reads old own from b due.picked) fits
+    let fits : Fits old.net (shown_state new) = subst (λ (n : NetView). Fits n (shown_state new)) (ap (λ (x : BoardView). x.net) h.rest) is.over.fits in
+    active_more (Fits old.net) old.net s events (next_event old.net (shown_state old) b) (shown_state old) (shown_state new) run h.step (due_reads old own from b due.picked) fits
 
-pub more_turns : (old new : BoardView) (events : List Event) (own : Option ℕ) (from steps b : ℕ) (more : Bool) → IsBoard new → IsDue old own from steps b → HasServed old b new more → AreTurnsTo old.net events (shown old)
-    → AreTurnsTo new.net (events ++ next_event old.net (shown old) b ∷ []) (shown new)
+pub more_turns : (old new : BoardView) (events : List Event) (own : Option ℕ) (from steps b : ℕ) (more : Bool) → IsBoard new → IsDue old own from steps b → HasServed old b new more → AreTurnsTo old.net events (shown_state old)
+    → AreTurnsTo new.net (events ++ next_event old.net (shown_state old) b ∷ []) (shown_state new)
 more_turns old new events own from steps b more is due h run =
-    subst (λ (n : NetView). AreTurnsTo n (events ++ next_event old.net (shown old) b ∷ []) (shown new)) (sym (ap (λ (x : BoardView). x.net) h.rest))
+    subst (λ (n : NetView). AreTurnsTo n (events ++ next_event old.net (shown_state old) b ∷ []) (shown_state new)) (sym (ap (λ (x : BoardView). x.net) h.rest))
     (turns_between old new (opening old.net) events own from steps b more is due h run)
 
 -- turns are as many as the steps that they lead to
@@ -101,7 +101,7 @@ module _ (old new : BoardView) (was : IsTurnBoard old) (is : IsBoard new) where
       record {
         is_board = is;
         made = record {
-          events = was.made.events ++ next_event old.net (shown old) b ∷ [];
+          events = was.made.events ++ next_event old.net (shown_state old) b ∷ [];
           run = more_turns old new was.made.events own from steps b more is due h was.made.run;
         };
         why = λ t. (let z : true ≡ false = sym t ∙ (ap (λ (x : BoardView). x.stuck) h.rest ∙ due.going.free) in absurd cc);
@@ -111,8 +111,8 @@ module _ (old new : BoardView) (was : IsTurnBoard old) (is : IsBoard new) where
   sticks : (own : Option ℕ) (from steps b : ℕ) → IsDue old own from steps b → Sticks old b new → IsTurnBoard new
   sticks own from steps b due h = record {
     is_board = is;
-    made = subst (λ (x : BoardView). IsMadeByTurns x.net (shown x)) (sym h.marked) was.made;
-    why = λ t. subst (λ (x : BoardView). SomeNextOverflows x.net (shown x)) (sym h.marked) (record { block = b; known = picked_inside old own from b due.picked; overflows = h.overflows });
+    made = subst (λ (x : BoardView). IsMadeByTurns x.net (shown_state x)) (sym h.marked) was.made;
+    why = λ t. subst (λ (x : BoardView). SomeNextOverflows x.net (shown_state x)) (sym h.marked) (record { block = b; known = picked_inside old own from b due.picked; overflows = h.overflows });
   }
 
   pub turned : (own : Option ℕ) (from steps : ℕ) (turn : Turn) → IsTurn old own from steps new turn → IsTurnBoard new
@@ -127,26 +127,26 @@ module _ (old new : BoardView) (was : IsTurnBoard old) (is : IsBoard new) where
 -- ---- how a run goes on
 -- by a turn that makes a step
 pub served_run : (first old new : BoardView) (own : Option ℕ) (from steps b : ℕ) (more : Bool) (goes : GoesOn first old steps) → IsBoard new → IsDue old own from steps b × HasServed old b new more
-    → AreTurnsBetween first.net (shown first) (goes.events ++ next_event old.net (shown old) b ∷ []) (shown new)
+    → AreTurnsBetween first.net (shown_state first) (goes.events ++ next_event old.net (shown_state old) b ∷ []) (shown_state new)
 served_run first old new own from steps b more goes is h =
-    subst (λ (n : NetView). AreTurnsBetween n (shown first) (goes.events ++ next_event old.net (shown old) b ∷ []) (shown new)) goes.net_is
-    (turns_between old new (shown first) goes.events own from steps b more is h.0 h.1 (subst (λ (n : NetView). AreTurnsBetween n (shown first) goes.events (shown old)) (sym goes.net_is) goes.run))
+    subst (λ (n : NetView). AreTurnsBetween n (shown_state first) (goes.events ++ next_event old.net (shown_state old) b ∷ []) (shown_state new)) goes.net_is
+    (turns_between old new (shown_state first) goes.events own from steps b more is h.0 h.1 (subst (λ (n : NetView). AreTurnsBetween n (shown_state first) goes.events (shown_state old)) (sym goes.net_is) goes.run))
 
 -- by one that makes none
-pub ended_run : (first old new : BoardView) (own : Option ℕ) (from steps : ℕ) (end : End) (goes : GoesOn first old steps) → IsEnd old own from steps new end → AreTurnsBetween first.net (shown first) goes.events (shown new)
+pub ended_run : (first old new : BoardView) (own : Option ℕ) (from steps : ℕ) (end : End) (goes : GoesOn first old steps) → IsEnd old own from steps new end → AreTurnsBetween first.net (shown_state first) goes.events (shown_state new)
 ended_run first old new own from steps end goes h =
-    subst (λ (v : StateView). AreTurnsBetween first.net (shown first) goes.events (state_of v)) (sym (end_same old new own from steps end h).1) goes.run
+    subst (λ (v : StateView). AreTurnsBetween first.net (shown_state first) goes.events (state_of v)) (sym (end_same old new own from steps end h).1) goes.run
 
 -- by further turns
-pub further_run : (first old new : BoardView) (steps : ℕ) (goes : GoesOn first old steps) (further : GoesOn old new steps) → AreTurnsBetween first.net (shown first) (goes.events ++ further.events) (shown new)
+pub further_run : (first old new : BoardView) (steps : ℕ) (goes : GoesOn first old steps) (further : GoesOn old new steps) → AreTurnsBetween first.net (shown_state first) (goes.events ++ further.events) (shown_state new)
 further_run first old new steps goes further =
-    active_append (Fits first.net) first.net (shown first) goes.events further.events (shown old) (shown new) goes.run
-    (subst (λ (n : NetView). AreTurnsBetween n (shown old) further.events (shown new)) goes.net_is further.run)
+    active_append (Fits first.net) first.net (shown_state first) goes.events further.events (shown_state old) (shown_state new) goes.run
+    (subst (λ (n : NetView). AreTurnsBetween n (shown_state old) further.events (shown_state new)) goes.net_is further.run)
 
 -- ---- how turns end a run
 module _ (first old new : BoardView) (own : Option ℕ) (from steps : ℕ) (small : steps ≤ MOST_STEPS) (goes : GoesOn first old steps) (is : IsTurnBoard new) where
   pub ended : (end : End) → IsEnd old own from steps new end → HasEnded new steps end
-  ended Quiet h = subst (λ (x : BoardView). IsQuiet x.net (shown x)) (sym h.1) h.0
+  ended Quiet h = subst (λ (x : BoardView). IsQuiet x.net (shown_state x)) (sym h.1) h.0
   ended Stuck (inl h) = is.why (ap (λ (x : BoardView). x.stuck) h.1 ∙ h.0.stuck)
   ended Stuck (inr h) = is.why (ap (λ (x : BoardView). x.stuck) h.2.marked)
   ended Limit (inl h, same) = subst (λ (x : BoardView). HasEnded x steps Limit) (sym same) (record { counted = (let a = h.made in let b = goes.within in omega (arith, a, b)); unquiet = h.unquiet })

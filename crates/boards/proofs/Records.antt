@@ -2,9 +2,9 @@
 use Rattle.std.proofs.Common.{◌≡◌, ℕ, ◌<◌, ◌≤◌, arith, length, Bool, true, Option, refl, sym, ap, subst, ◌∙◌, if◌then◌else◌, ◌∷◌, [], ◌++◌}
 use Rattle.machine_law.specs.Steps.{next_event}
 use Rattle.boards.specs.Runs.{AreTurnsTo}
-use Rattle.boards.specs.Boards.{BoardView, shown, IsBoard}
+use Rattle.boards.specs.Boards.{BoardView, shown_state, IsBoard}
 use Rattle.boards.specs.Turns.{IsDue, HasServed, IsStepOf, IsEnd, IsTurn}
-use Rattle.boards.specs.Records.{RecordView, IsRecord, written_by, written, written_after, Writes, RecordGoesOn}
+use Rattle.boards.specs.Records.{RecordView, IsRecord, written_by, events_after, written_after, Writes, RecordGoesOn}
 use Rattle.boards.specs.declared.turn.Turn.{Turn}
 use Rattle.boards.specs.declared.turn.Turn.TheVariants.{Stepped, Idle as Unserved, Ended}
 use Rattle.boards.specs.declared.turn.End.{End}
@@ -15,7 +15,7 @@ use Rattle.boards.proofs.Ends.{turned, same_turns, more_turns, turns_counted, en
 -- ---- a run that goes on
 
 -- by no turn
-pub record_stays : (r : RecordView) (limit : ℕ) → (shown r.board).steps ≤ limit → RecordGoesOn r r limit
+pub record_stays : (r : RecordView) (limit : ℕ) → (shown_state r.board).steps ≤ limit → RecordGoesOn r r limit
 record_stays r limit within = record {
   board = record { net_is = refl; within = within; events = []; run = refl };
   events = written_after_none r.records r.events;
@@ -27,7 +27,7 @@ record_stays r limit within = record {
 pub record_served : (first old new : RecordView) (own : Option ℕ) (from limit b : ℕ) (more : Bool) → IsBoard new.board → RecordGoesOn first old limit → IsDue old.board own from limit b × HasServed old.board b new.board more
     → Writes old (Stepped b more) new → RecordGoesOn first new limit
 record_served first old new own from limit b more is goes h writes =
-    let event = next_event old.board.net (shown old.board) b in
+    let event = next_event old.board.net (shown_state old.board) b in
     let here : new.events ≡ written_after old.records old.events (event ∷ []) = ap (λ (r : RecordView). r.events) writes in
     let same : written_after old.records old.events (event ∷ []) ≡ written_after first.records (written_after first.records first.events goes.board.events) (event ∷ []) =
     ap (λ t. written_after t old.events (event ∷ [])) goes.records ∙ ap (λ xs. written_after first.records xs (event ∷ [])) goes.events in
@@ -76,21 +76,21 @@ record_further first old new limit goes further = record {
 }
 
 -- what is written down of a turn that is the step of a block
-pub written_is : (old : RecordView) (b : ℕ) (new : BoardView) (turn : Turn) → IsStepOf old.board b new turn → written_by old.records old.events (next_event old.board.net (shown old.board) b) turn ≡ written old turn
-written_is old b new (Stepped block more) h = ap (λ x. written_by old.records old.events (next_event old.board.net (shown old.board) x) (Stepped block more)) (sym h.0)
+pub written_is : (old : RecordView) (b : ℕ) (new : BoardView) (turn : Turn) → IsStepOf old.board b new turn → written_by old.records old.events (next_event old.board.net (shown_state old.board) b) turn ≡ events_after old turn
+written_is old b new (Stepped block more) h = ap (λ x. written_by old.records old.events (next_event old.board.net (shown_state old.board) x) (Stepped block more)) (sym h.0)
 written_is old b new Unserved h = refl
 written_is old b new (Ended end) h = refl
 
 -- where a block is due there is room for its event
 pub room_due : (r : RecordView) (own : Option ℕ) (from steps b capacity : ℕ) → IsRecord r capacity → IsDue r.board own from steps b → (r.records ≡ true → steps ≤ r.room) → r.records ≡ true → length r.events < capacity
 room_due r own from steps b capacity is due room e =
-    let k = turns_counted r.board.net r.events (shown r.board) (is.made e) in
+    let k = turns_counted r.board.net r.events (shown_state r.board) (is.made e) in
     omega (arith, k, due.going.room, room e, is.reserved)
 
 -- ---- the events that are written down are the turns
-written_turns : (old : RecordView) (new : BoardView) (own : Option ℕ) (from steps : ℕ) (turn : Turn) → IsBoard new → IsTurn old.board own from steps new turn → old.records ≡ true → AreTurnsTo old.board.net old.events (shown old.board) → AreTurnsTo new.net (written old turn) (shown new)
+written_turns : (old : RecordView) (new : BoardView) (own : Option ℕ) (from steps : ℕ) (turn : Turn) → IsBoard new → IsTurn old.board own from steps new turn → old.records ≡ true → AreTurnsTo old.board.net old.events (shown_state old.board) → AreTurnsTo new.net (events_after old turn) (shown_state new)
 written_turns old new own from steps (Stepped block more) is h e run =
-    subst (λ t. AreTurnsTo new.net (if t then old.events ++ next_event old.board.net (shown old.board) block ∷ [] else old.events) (shown new)) (sym e)
+    subst (λ t. AreTurnsTo new.net (if t then old.events ++ next_event old.board.net (shown_state old.board) block ∷ [] else old.events) (shown_state new)) (sym e)
     (more_turns old.board new old.events own from steps block more is h.0 h.1 run)
 written_turns old new own from steps Unserved is h e run = same_turns old.board new old.events (ap (λ (b : BoardView). b.net) h.2) (ap (λ (b : BoardView). b.state) h.2) run
 written_turns old new own from steps (Ended end) is h e run = let same = end_same old.board new own from steps end h in same_turns old.board new old.events same.0 same.1 run
@@ -99,9 +99,9 @@ pub recorded : (old new : RecordView) (own : Option ℕ) (from steps : ℕ) (tur
 recorded old new own from steps turn capacity was is h writes =
     let records : new.records ≡ old.records = ap (λ (r : RecordView). r.records) writes in
     let room : new.room ≡ old.room = ap (λ (r : RecordView). r.room) writes in
-    let events : new.events ≡ written old turn = ap (λ (r : RecordView). r.events) writes in
+    let events : new.events ≡ events_after old turn = ap (λ (r : RecordView). r.events) writes in
     record {
       turns = turned old.board new.board was.turns is own from steps turn h;
-      made = λ e. subst (λ xs. AreTurnsTo new.board.net xs (shown new.board)) (sym events) (written_turns old new.board own from steps turn is h (sym records ∙ e) (was.made (sym records ∙ e)));
+      made = λ e. subst (λ xs. AreTurnsTo new.board.net xs (shown_state new.board)) (sym events) (written_turns old new.board own from steps turn is h (sym records ∙ e) (was.made (sym records ∙ e)));
       reserved = subst (λ k. k ≤ capacity) (sym room) was.reserved;
     }

@@ -5,7 +5,7 @@ use Rattle.machine_law.specs.declared.events.Event.{Event}
 use Rattle.machine_law.specs.States.{IsQuiet}
 use Rattle.machine_law.specs.Steps.{next_event}
 use Rattle.boards.specs.Runs.{SomeNextOverflows, AreTurnsTo, IsReplayedTo}
-use Rattle.boards.specs.Boards.{BoardView, shown, IsTurnBoard, IsOpened, HasSettled}
+use Rattle.boards.specs.Boards.{BoardView, shown_state, IsTurnBoard, IsOpened, HasSettled}
 use Rattle.boards.specs.Turns.{IsUnserved, IsGoing, IsDue, IsStuck, IsAtLimit, HasServed, Sticks, OfDue}
 use Rattle.boards.specs.Ends.{IsCutOffAt, GoesOn}
 use Rattle.boards.specs.Records.{RecordView}
@@ -30,8 +30,8 @@ audit_of r = record { board = r.board; history = r.events; room = r.room }
 -- block overflows.
 pub record IsAudited (audit : AuditView) : Type 0 where
   pub turns : IsTurnBoard audit.board
-  pub made : AreTurnsTo audit.board.net audit.history (shown audit.board)
-  pub counted : (shown audit.board).steps ≡ length audit.history
+  pub made : AreTurnsTo audit.board.net audit.history (shown_state audit.board)
+  pub counted : (shown_state audit.board).steps ≡ length audit.history
   pub within : length audit.history ≤ audit.room
   pub few : audit.room ≤ MOST_EVENTS
 
@@ -57,7 +57,7 @@ pub record IsFull (audit : AuditView) (steps : ℕ) : Type 0 where
 pub record HasWritten (old : AuditView) (b : ℕ) (new : AuditView) (more : Bool) : Type 0 where
   pub room : length old.history < old.room
   pub served : HasServed old.board b new.board more
-  pub history : new.history ≡ old.history ++ next_event old.board.net (shown old.board) b ∷ []
+  pub history : new.history ≡ old.history ++ next_event old.board.net (shown_state old.board) b ∷ []
   pub same_room : new.room ≡ old.room
 
 -- the step overflows: the board is marked as stuck, and nothing else changes
@@ -68,7 +68,7 @@ pub record Halts (old : AuditView) (b : ℕ) (new : AuditView) : Type 0 where
 
 -- why a turn ends the run
 abbrev pub IsAuditEnd : AuditView → Option ℕ → ℕ → ℕ → AuditView → End → Type 0
-IsAuditEnd old own from steps new Quiet = IsQuiet old.board.net (shown old.board) × (new ≡ old)
+IsAuditEnd old own from steps new Quiet = IsQuiet old.board.net (shown_state old.board) × (new ≡ old)
 IsAuditEnd old own from steps new Stuck = (IsStuck old.board × (new ≡ old)) ⊎ OfDue old.board own from steps (λ b. Halts old b new)
 IsAuditEnd old own from steps new Limit = IsAtLimit old.board steps × (new ≡ old)
 IsAuditEnd old own from steps new Full = IsFull old steps × (new ≡ old)
@@ -94,12 +94,12 @@ IsToldAs made limit Full told = told ≡ Full
 pub record IsFilled (audit : AuditView) (limit : ℕ) : Type 0 where
   pub full : length audit.history ≡ audit.room
   pub below : audit.room < limit
-  pub unquiet : ¬ (IsQuiet audit.board.net (shown audit.board))
+  pub unquiet : ¬ (IsQuiet audit.board.net (shown_state audit.board))
 
 -- why the run of this board ends
 abbrev pub HasAuditEnded : AuditView → ℕ → End → Type 0
-HasAuditEnded audit limit Quiet = IsQuiet audit.board.net (shown audit.board)
-HasAuditEnded audit limit Stuck = SomeNextOverflows audit.board.net (shown audit.board)
+HasAuditEnded audit limit Quiet = IsQuiet audit.board.net (shown_state audit.board)
+HasAuditEnded audit limit Stuck = SomeNextOverflows audit.board.net (shown_state audit.board)
 HasAuditEnded audit limit Limit = IsCutOffAt audit.board limit
 HasAuditEnded audit limit Full = IsFilled audit limit
 

@@ -21,8 +21,8 @@ abbrev pub board_view : NetView → StateView → Bool → BoardView
 board_view net state stuck = record { net = net; state = state; stuck = stuck }
 
 -- the state that a board shows
-abbrev pub shown : BoardView → State
-shown board = state_of board.state
+abbrev pub shown_state : BoardView → State
+shown_state board = state_of board.state
 
 -- how many blocks it is over
 abbrev pub blocks_of : BoardView → ℕ
@@ -37,13 +37,13 @@ pub record IsBoard (board : BoardView) : Type 0 where
 -- Turns alone made its steps; and it is stuck only where a number of the state after its own next step of some block doesn't fit.
 pub record IsTurnBoard (board : BoardView) : Type 0 where
   pub is_board : IsBoard board
-  pub made : IsMadeByTurns board.net (shown board)
-  pub why : board.stuck ≡ true → SomeNextOverflows board.net (shown board)
+  pub made : IsMadeByTurns board.net (shown_state board)
+  pub why : board.stuck ≡ true → SomeNextOverflows board.net (shown_state board)
 
 -- a board as it opens over a net
 pub record IsOpened (net : NetView) (board : BoardView) : Type 0 where
   pub net_is : board.net ≡ net
-  pub state : shown board ≡ opening net
+  pub state : shown_state board ≡ opening net
   pub free : board.stuck ≡ false
 
 -- one step was made on it, and this is what the step saw, moved or raised
@@ -54,11 +54,11 @@ pub record HasStepped (old : BoardView) (event : Event) (new : BoardView) (saw :
 -- a step was refused, and it is as before
 pub record HasRefused (old : BoardView) (event : Event) (new : BoardView) (refusal : StepRefusal) : Type 0 where
   pub same : new ≡ old
-  pub stands : RefusalStands old.net (shown old) event refusal
+  pub stands : RefusalStands old.net (shown_state old) event refusal
 
 -- the flow that a quiet board gives, with its own net
 pub record HasSettled (board : BoardView) (net : NetView) (flow : FlowView) : Type 0 where
   pub net_is : net ≡ board.net
-  pub quiet : IsQuiet board.net (shown board)
-  pub amounts : IsFlowOf board.net (shown board) flow
+  pub quiet : IsQuiet board.net (shown_state board)
+  pub amounts : IsFlowOf board.net (shown_state board) flow
   pub solved : IsSolved board.net flow

@@ -4,7 +4,7 @@ use Rattle.closure_net.specs.Network.{NetView}
 use Rattle.machine_law.specs.declared.events.Event.{Event}
 use Rattle.machine_law.specs.Steps.{next_event}
 use Rattle.boards.specs.Runs.{AreTurnsTo}
-use Rattle.boards.specs.Boards.{BoardView, shown, IsTurnBoard, IsOpened}
+use Rattle.boards.specs.Boards.{BoardView, shown_state, IsTurnBoard, IsOpened}
 use Rattle.boards.specs.Ends.{GoesOn}
 use Rattle.boards.specs.declared.turn.Turn.{Turn}
 use Rattle.boards.specs.declared.turn.Turn.TheVariants.{Stepped, Idle as Unserved, Ended}
@@ -22,7 +22,7 @@ record_view board events records room = record { board = board; events = events;
 -- turns alone made its steps, and where they are written down these are they; there is memory for as many as there is room for
 pub record IsRecord (r : RecordView) (capacity : ℕ) : Type 0 where
   pub turns : IsTurnBoard r.board
-  pub made : r.records ≡ true → AreTurnsTo r.board.net r.events (shown r.board)
+  pub made : r.records ≡ true → AreTurnsTo r.board.net r.events (shown_state r.board)
   pub reserved : r.room ≤ capacity
 
 -- as it opens over a net
@@ -39,14 +39,14 @@ written_by records events event Unserved = events
 written_by records events event (Ended end) = events
 
 -- the same, of a turn at this board
-abbrev pub written : RecordView → Turn → List Event
-written r (Stepped block more) = written_by r.records r.events (next_event r.board.net (shown r.board) block) (Stepped block more)
-written r Unserved = r.events
-written r (Ended end) = r.events
+abbrev pub events_after : RecordView → Turn → List Event
+events_after r (Stepped block more) = written_by r.records r.events (next_event r.board.net (shown_state r.board) block) (Stepped block more)
+events_after r Unserved = r.events
+events_after r (Ended end) = r.events
 
 -- a turn leaves this board, and writes down the step that it made
 abbrev pub Writes : RecordView → Turn → RecordView → Type 0
-Writes old turn new = new ≡ record old { board = new.board; events = written old turn }
+Writes old turn new = new ≡ record old { board = new.board; events = events_after old turn }
 
 -- what is written down after all of these further turns
 abbrev pub written_after : Bool → List Event → List Event → List Event

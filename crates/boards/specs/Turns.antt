@@ -6,7 +6,7 @@ use Rattle.machine_law.specs.Steps.{Step, advance, next_event}
 use Rattle.async_step.specs.declared.limits.TheConstants.{MOST_STEPS}
 use Rattle.async_step.specs.Marks.{IsFirstRound}
 use Rattle.async_step.specs.Answers.{Fits, IsWaiting}
-use Rattle.boards.specs.Boards.{BoardView, shown, blocks_of}
+use Rattle.boards.specs.Boards.{BoardView, shown_state, blocks_of}
 use Rattle.boards.specs.declared.turn.Turn.{Turn}
 use Rattle.boards.specs.declared.turn.Turn.TheVariants.{Stepped, Idle as Unserved, Ended}
 use Rattle.boards.specs.declared.turn.End.{End}
@@ -18,7 +18,7 @@ use Rattle.boards.specs.declared.turn.End.TheVariants.{Quiet, Stuck, Limit, Full
 pub record IsOwn (board : BoardView) (own : Option ℕ) (b : ℕ) : Type 0 where
   pub own_is : own ≡ Some b
   pub inside : b < blocks_of board
-  pub at_work : ¬ ((shown board).operation b ≡ Idle)
+  pub at_work : ¬ ((shown_state board).operation b ≡ Idle)
 
 -- the worker has no own block with an operation
 abbrev pub HasNoOwn : BoardView → Option ℕ → Type 0
@@ -27,20 +27,20 @@ HasNoOwn board own = (b : ℕ) → ¬ (IsOwn board own b)
 -- The turn serves block b: the worker's own while its operation goes on, and else the first block at or after one, going round, that
 -- has excess and no operation.
 abbrev pub IsPicked : BoardView → Option ℕ → ℕ → ℕ → Type 0
-IsPicked board own from b = IsOwn board own b ⊎ (HasNoOwn board own × IsFirstRound (IsWaiting (shown board)) (blocks_of board) from b)
+IsPicked board own from b = IsOwn board own b ⊎ (HasNoOwn board own × IsFirstRound (IsWaiting (shown_state board)) (blocks_of board) from b)
 
 -- there is no block to serve
 pub record IsUnserved (board : BoardView) (own : Option ℕ) : Type 0 where
   pub no_own : HasNoOwn board own
-  pub none_waits : (b : ℕ) → b < blocks_of board → ¬ (IsWaiting (shown board) b)
+  pub none_waits : (b : ℕ) → b < blocks_of board → ¬ (IsWaiting (shown_state board) b)
 
 -- ---- which block is due, or why none is
 
 -- the run isn't quiet, isn't stuck, and may make another step
 pub record IsGoing (board : BoardView) (steps : ℕ) : Type 0 where
-  pub unquiet : ¬ (IsQuiet board.net (shown board))
+  pub unquiet : ¬ (IsQuiet board.net (shown_state board))
   pub free : board.stuck ≡ false
-  pub room : (shown board).steps < steps
+  pub room : (shown_state board).steps < steps
 
 -- the run goes on, and the turn serves block b
 pub record IsDue (board : BoardView) (own : Option ℕ) (from steps b : ℕ) : Type 0 where
@@ -49,18 +49,18 @@ pub record IsDue (board : BoardView) (own : Option ℕ) (from steps b : ℕ) : T
 
 -- it is stuck, and not quiet
 pub record IsStuck (board : BoardView) : Type 0 where
-  pub unquiet : ¬ (IsQuiet board.net (shown board))
+  pub unquiet : ¬ (IsQuiet board.net (shown_state board))
   pub stuck : board.stuck ≡ true
 
 -- as many steps were made as the run may make
 pub record IsAtLimit (board : BoardView) (steps : ℕ) : Type 0 where
-  pub unquiet : ¬ (IsQuiet board.net (shown board))
+  pub unquiet : ¬ (IsQuiet board.net (shown_state board))
   pub free : board.stuck ≡ false
-  pub made : steps ≤ (shown board).steps
+  pub made : steps ≤ (shown_state board).steps
 
 -- why the run is at its end before a step
 abbrev pub IsOver : BoardView → ℕ → End → Type 0
-IsOver board steps Quiet = IsQuiet board.net (shown board)
+IsOver board steps Quiet = IsQuiet board.net (shown_state board)
 IsOver board steps Stuck = IsStuck board
 IsOver board steps Limit = IsAtLimit board steps
 IsOver board steps Full = ⊥
@@ -75,20 +75,20 @@ HasNoneDue board own steps (Ended end) = IsOver board steps end
 
 -- the one step that is next for the block was made; more tells whether its operation goes on
 pub record HasServed (old : BoardView) (b : ℕ) (new : BoardView) (more : Bool) : Type 0 where
-  pub counted : (shown old).steps < MOST_STEPS
-  pub step : Step old.net (shown old) (next_event old.net (shown old) b) (shown new)
+  pub counted : (shown_state old).steps < MOST_STEPS
+  pub step : Step old.net (shown_state old) (next_event old.net (shown_state old) b) (shown_state new)
   pub rest : new ≡ record old { state = new.state }
-  pub goes_on : IsTrue more ↔ ¬ ((shown new).operation b ≡ Idle)
+  pub goes_on : IsTrue more ↔ ¬ ((shown_state new).operation b ≡ Idle)
 
 -- the step overflows: the board is marked as stuck, and nothing else changes
 pub record Sticks (old : BoardView) (b : ℕ) (new : BoardView) : Type 0 where
-  pub overflows : ¬ (Fits old.net (advance old.net (shown old) b))
+  pub overflows : ¬ (Fits old.net (advance old.net (shown_state old) b))
   pub marked : new ≡ record old { stuck = true }
 
 -- the step would fit, but as many were made as are counted
 pub record IsUncounted (board : BoardView) (b : ℕ) : Type 0 where
-  pub fits : Fits board.net (advance board.net (shown board) b)
-  pub full : MOST_STEPS ≤ (shown board).steps
+  pub fits : Fits board.net (advance board.net (shown_state board) b)
+  pub full : MOST_STEPS ≤ (shown_state board).steps
 
 -- what is answered of the step that is next for block b, and what it leaves
 abbrev pub IsStepOf : BoardView → ℕ → BoardView → Turn → Type 0
@@ -107,7 +107,7 @@ OfDue old own from steps P = (b : ℕ) × IsDue old own from steps b × P b
 
 -- why a turn ends the run
 abbrev pub IsEnd : BoardView → Option ℕ → ℕ → ℕ → BoardView → End → Type 0
-IsEnd old own from steps new Quiet = IsQuiet old.net (shown old) × (new ≡ old)
+IsEnd old own from steps new Quiet = IsQuiet old.net (shown_state old) × (new ≡ old)
 IsEnd old own from steps new Stuck = (IsStuck old × (new ≡ old)) ⊎ OfDue old own from steps (λ b. Sticks old b new)
 IsEnd old own from steps new Limit = (IsAtLimit old steps ⊎ OfDue old own from steps (λ b. IsUncounted old b)) × (new ≡ old)
 IsEnd old own from steps new Full = ⊥

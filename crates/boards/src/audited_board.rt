@@ -6,7 +6,7 @@ ghost use Rattle.machine_law.specs.declared.events.TheConstants.{MOST_EVENTS};
 ghost use Rattle.machine_law.specs.declared.operations.Operation.TheVariants.{Idle};
 ghost use Rattle.machine_law.specs.States.{IsQuiet};
 ghost use Rattle.async_step.specs.declared.limits.TheConstants.{MOST_STEPS};
-ghost use Rattle.boards.specs.Boards.{shown, blocks_of};
+ghost use Rattle.boards.specs.Boards.{shown_state, blocks_of};
 ghost use Rattle.boards.specs.Audits.{IsAudited, IsAuditOpened, IsAuditTurn, IsToldAs, HasAuditEnded, AuditGoesOn, HasAuditSettled};
 
 use crate::finishing::finish_recorded;
@@ -71,7 +71,7 @@ impl<G: OrderedGroup> Audited<G> {
 
     /// How many steps were made.
     pub fn count(&self) -> u64
-        ensures { result ≡ (shown self.now.board).steps }
+        ensures { result ≡ (shown_state self.now.board).steps }
     {
         self.board.count()
     }
@@ -79,7 +79,7 @@ impl<G: OrderedGroup> Audited<G> {
     /// Whether block b has an operation.
     pub fn has_operation(&self, b: u32) -> bool
         requires { b < blocks_of self.now.board }
-        ensures { IsTrue result ↔ ¬ ((shown self.now.board).operation b ≡ Idle) }
+        ensures { IsTrue result ↔ ¬ ((shown_state self.now.board).operation b ≡ Idle) }
     {
         self.board.has_operation(b)
     }
@@ -126,7 +126,7 @@ impl<G: OrderedGroup> Audited<G> {
     /// to the history.
     pub fn finish(&mut self, steps: u64) -> End
         requires counted { steps ≤ MOST_STEPS }
-        requires within { (shown self.old.board).steps ≤ steps }
+        requires within { (shown_state self.old.board).steps ≤ steps }
         ensures goes_on { AuditGoesOn self.old self.new steps }
         ensures end { HasAuditEnded self.new steps result }
         ensures audited { IsAudited self.new }
@@ -145,7 +145,7 @@ impl<G: OrderedGroup> Audited<G> {
     pub fn settle(self) -> Result<(Net<G>, Flow<G>, Vec<Event>), Audited<G>>
         ensures { MatchResult result
             (λ settled. HasAuditSettled self settled.0 settled.1 settled.2.items)
-            (λ audit. (audit ≡ self) × ¬ (IsQuiet self.board.net (shown self.board))) }
+            (λ audit. (audit ≡ self) × ¬ (IsQuiet self.board.net (shown_state self.board))) }
     {
         if !self.board.quiet() {
             return Err(self);

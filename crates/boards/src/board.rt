@@ -6,7 +6,7 @@ ghost use Rattle.machine_law.specs.declared.operations.Operation.TheVariants.{Id
 ghost use Rattle.machine_law.specs.States.{IsQuiet};
 ghost use Rattle.machine_law.specs.Steps.{next_event};
 ghost use Rattle.async_step.specs.Answers.{saw_as};
-ghost use Rattle.boards.specs.Boards.{shown, blocks_of, IsBoard, IsOpened, HasStepped, HasRefused, HasSettled};
+ghost use Rattle.boards.specs.Boards.{shown_state, blocks_of, IsBoard, IsOpened, HasStepped, HasRefused, HasSettled};
 ghost use Rattle.boards.specs.Turns.{IsPicked, IsUnserved, IsDue, HasNoneDue, IsStepOf, IsTurn};
 
 use crate::turn::{End, Turn};
@@ -68,14 +68,14 @@ impl<G: OrderedGroup> Board<G> {
 
     /// How many steps were made.
     pub fn count(&self) -> u64
-        ensures { result ≡ (shown self.now).steps }
+        ensures { result ≡ (shown_state self.now).steps }
     {
         self.state.count()
     }
 
     /// Whether no block has excess or an operation. In constant time.
     pub fn quiet(&self) -> bool
-        ensures { IsTrue result ↔ IsQuiet self.now.net (shown self.now) }
+        ensures { IsTrue result ↔ IsQuiet self.now.net (shown_state self.now) }
     {
         self.state.quiet()
     }
@@ -83,7 +83,7 @@ impl<G: OrderedGroup> Board<G> {
     /// Whether block b has an operation.
     pub fn has_operation(&self, b: u32) -> bool
         requires { b < blocks_of self.now }
-        ensures { IsTrue result ↔ ¬ ((shown self.now).operation b ≡ Idle) }
+        ensures { IsTrue result ↔ ¬ ((shown_state self.now).operation b ≡ Idle) }
     {
         self.state.has_operation(b)
     }
@@ -132,7 +132,7 @@ impl<G: OrderedGroup> Board<G> {
     // The event of the step that is next for a block.
     pub(crate) fn next_event(&self, block: u32) -> Event
         requires { block < blocks_of self.now }
-        ensures { result ≡ next_event self.now.net (shown self.now) block }
+        ensures { result ≡ next_event self.now.net (shown_state self.now) block }
     {
         Event {
             block,
@@ -186,7 +186,7 @@ impl<G: OrderedGroup> Board<G> {
     pub fn settle(self) -> Result<(Net<G>, Flow<G>), Board<G>>
         ensures { MatchResult result
             (λ settled. HasSettled self settled.0 settled.1)
-            (λ board. (board ≡ self) × ¬ (IsQuiet self.net (shown self))) }
+            (λ board. (board ≡ self) × ¬ (IsQuiet self.net (shown_state self))) }
     {
         let Board { net, state, stuck } = self;
         // proof: in a `Net` the pairs are in order and the sums of the worths fit

@@ -1,7 +1,7 @@
 //! Makes all steps that are left of a run, on the caller's thread, and tells why the run ends.
 
 ghost use Rattle.std.specs.Prelude.{◌≡◌, ◌+◌, ◌<◌, ◌≤◌, true, MatchOption};
-ghost use Rattle.boards.specs.Boards.{shown, blocks_of, IsTurnBoard};
+ghost use Rattle.boards.specs.Boards.{shown_state, blocks_of, IsTurnBoard};
 ghost use Rattle.boards.specs.Runs.{AreTurnsTo};
 ghost use Rattle.boards.specs.Records.{RecordGoesOn};
 ghost use Rattle.boards.specs.Ends.{AreIdleBelow, HasEnded, GoesOn};
@@ -17,7 +17,7 @@ fn end_operation<G: OrderedGroup>(board: &mut Recorded<G>, block: u32, steps: u6
     requires inside { block < blocks_of board.old.board }
     requires counted { steps ≤ MOST_STEPS }
     requires room { board.old.records ≡ true → steps ≤ board.old.room }
-    requires within { (shown board.old.board).steps ≤ steps }
+    requires within { (shown_state board.old.board).steps ≤ steps }
     requires idle { AreIdleBelow board.old.board block }
     ensures goes_on { RecordGoesOn board.old board.new steps }
     ensures end { MatchOption result (AreIdleBelow board.new.board (block + 1)) (λ end. HasEnded board.new.board steps end) }
@@ -38,7 +38,7 @@ fn end_operation<G: OrderedGroup>(board: &mut Recorded<G>, block: u32, steps: u6
 fn end_operations<G: OrderedGroup>(board: &mut Recorded<G>, steps: u64) -> Option<End>
     requires counted { steps ≤ MOST_STEPS }
     requires room { board.old.records ≡ true → steps ≤ board.old.room }
-    requires within { (shown board.old.board).steps ≤ steps }
+    requires within { (shown_state board.old.board).steps ≤ steps }
     ensures goes_on { RecordGoesOn board.old board.new steps }
     ensures end { MatchOption result (AreIdleBelow board.new.board (blocks_of board.new.board)) (λ end. HasEnded board.new.board steps end) }
 {
@@ -54,7 +54,7 @@ fn end_operations<G: OrderedGroup>(board: &mut Recorded<G>, steps: u64) -> Optio
 fn take_turns<G: OrderedGroup>(board: &mut Recorded<G>, steps: u64) -> End
     requires counted { steps ≤ MOST_STEPS }
     requires room { board.old.records ≡ true → steps ≤ board.old.room }
-    requires within { (shown board.old.board).steps ≤ steps }
+    requires within { (shown_state board.old.board).steps ≤ steps }
     requires idle { AreIdleBelow board.old.board (blocks_of board.old.board) }
     ensures goes_on { RecordGoesOn board.old board.new steps }
     ensures end { HasEnded board.new.board steps result }
@@ -80,11 +80,11 @@ fn take_turns<G: OrderedGroup>(board: &mut Recorded<G>, steps: u64) -> End
 pub(crate) fn finish_recorded<G: OrderedGroup>(board: &mut Recorded<G>, steps: u64) -> End
     requires counted { steps ≤ MOST_STEPS }
     requires room { board.old.records ≡ true → steps ≤ board.old.room }
-    requires within { (shown board.old.board).steps ≤ steps }
+    requires within { (shown_state board.old.board).steps ≤ steps }
     ensures goes_on { RecordGoesOn board.old board.new steps }
     ensures end { HasEnded board.new.board steps result }
     ensures made { IsTurnBoard board.new.board }
-    ensures events { board.new.records ≡ true → AreTurnsTo board.new.board.net board.new.events (shown board.new.board) }
+    ensures events { board.new.records ≡ true → AreTurnsTo board.new.board.net board.new.events (shown_state board.new.board) }
 {
     let end = match end_operations(board, steps) {
         Some(end) => end,
@@ -100,7 +100,7 @@ pub(crate) fn finish_recorded<G: OrderedGroup>(board: &mut Recorded<G>, steps: u
 /// first block that has an operation, or where none has of the next one that waits.
 pub fn finish<G: OrderedGroup>(board: &mut TurnBoard<G>, steps: u64) -> End
     requires counted { steps ≤ MOST_STEPS }
-    requires within { (shown board.old).steps ≤ steps }
+    requires within { (shown_state board.old).steps ≤ steps }
     ensures goes_on { GoesOn board.old board.new steps }
     ensures end { HasEnded board.new steps result }
     ensures board { IsTurnBoard board.new }

@@ -4,7 +4,7 @@
 ghost use Rattle.std.specs.Prelude.{◌≡◌, ◌↔◌, ◌<◌, ◌≤◌, true, IsTrue, IfOk, vec_len, vec_capacity};
 ghost use Rattle.machine_law.specs.declared.operations.Operation.TheVariants.{Idle};
 ghost use Rattle.machine_law.specs.States.{IsQuiet};
-ghost use Rattle.boards.specs.Boards.{shown, blocks_of, IsTurnBoard};
+ghost use Rattle.boards.specs.Boards.{shown_state, blocks_of, IsTurnBoard};
 ghost use Rattle.boards.specs.Turns.{IsTurn};
 ghost use Rattle.boards.specs.Runs.{AreTurnsTo};
 ghost use Rattle.boards.specs.Records.{IsRecordOpened, written_by, Writes};
@@ -65,7 +65,7 @@ impl<G: OrderedGroup> Recorded<G> {
     pub(crate) fn len(&self) -> u32
         ensures is { result ≡ blocks_of self.now.board }
         ensures made { IsTurnBoard self.now.board }
-        ensures events { self.now.records ≡ true → AreTurnsTo self.now.board.net self.now.events (shown self.now.board) }
+        ensures events { self.now.records ≡ true → AreTurnsTo self.now.board.net self.now.events (shown_state self.now.board) }
     {
         self.board.len()
     }
@@ -77,20 +77,20 @@ impl<G: OrderedGroup> Recorded<G> {
     }
 
     pub(crate) fn count(&self) -> u64
-        ensures { result ≡ (shown self.now.board).steps }
+        ensures { result ≡ (shown_state self.now.board).steps }
     {
         self.board.count()
     }
 
     pub(crate) fn quiet(&self) -> bool
-        ensures { IsTrue result ↔ IsQuiet self.now.board.net (shown self.now.board) }
+        ensures { IsTrue result ↔ IsQuiet self.now.board.net (shown_state self.now.board) }
     {
         self.board.quiet()
     }
 
     pub(crate) fn has_operation(&self, b: u32) -> bool
         requires { b < blocks_of self.now.board }
-        ensures { IsTrue result ↔ ¬ ((shown self.now.board).operation b ≡ Idle) }
+        ensures { IsTrue result ↔ ¬ ((shown_state self.now.board).operation b ≡ Idle) }
     {
         self.board.has_operation(b)
     }
@@ -115,7 +115,7 @@ impl<G: OrderedGroup> Recorded<G> {
         ensures turn { IsTurn self.old.board own from steps self.new.board result }
         ensures writes { Writes self.old result self.new }
         ensures made { IsTurnBoard self.new.board }
-        ensures events { self.new.records ≡ true → AreTurnsTo self.new.board.net self.new.events (shown self.new.board) }
+        ensures events { self.new.records ≡ true → AreTurnsTo self.new.board.net self.new.events (shown_state self.new.board) }
     {
         let block = match self.board.due(own, from, steps) {
             Ok(block) => block,

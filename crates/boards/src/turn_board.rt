@@ -4,7 +4,7 @@
 ghost use Rattle.std.specs.Prelude.{◌≡◌, ◌↔◌, ◌<◌, ◌≤◌, IsTrue, IfOk};
 ghost use Rattle.machine_law.specs.declared.operations.Operation.TheVariants.{Idle};
 ghost use Rattle.async_step.specs.declared.limits.TheConstants.{MOST_STEPS};
-ghost use Rattle.boards.specs.Boards.{shown, blocks_of, IsTurnBoard, IsOpened};
+ghost use Rattle.boards.specs.Boards.{shown_state, blocks_of, IsTurnBoard, IsOpened};
 ghost use Rattle.boards.specs.Turns.{IsTurn};
 ghost use Rattle.boards.specs.Ends.{HasEnded, GoesOn};
 
@@ -67,7 +67,7 @@ impl<G: OrderedGroup> TurnBoard<G> {
 
     /// How many steps were made.
     pub fn count(&self) -> u64
-        ensures { result ≡ (shown self.now).steps }
+        ensures { result ≡ (shown_state self.now).steps }
     {
         self.board.count()
     }
@@ -75,7 +75,7 @@ impl<G: OrderedGroup> TurnBoard<G> {
     /// Whether block b has an operation.
     pub fn has_operation(&self, b: u32) -> bool
         requires { b < blocks_of self.now }
-        ensures { IsTrue result ↔ ¬ ((shown self.now).operation b ≡ Idle) }
+        ensures { IsTrue result ↔ ¬ ((shown_state self.now).operation b ≡ Idle) }
     {
         self.board.has_operation(b)
     }
@@ -91,7 +91,7 @@ impl<G: OrderedGroup> TurnBoard<G> {
     // The turns that are left, as `finish`.
     pub(crate) fn finish(&mut self, steps: u64) -> End
         requires counted { steps ≤ MOST_STEPS }
-        requires within { (shown self.old).steps ≤ steps }
+        requires within { (shown_state self.old).steps ≤ steps }
         ensures goes_on { GoesOn self.old self.new steps }
         ensures end { HasEnded self.new steps result }
         ensures made { IsTurnBoard self.new }

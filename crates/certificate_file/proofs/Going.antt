@@ -17,7 +17,7 @@ use Rattle.certificate_file.specs.declared.body_lines.LineKind.TheVariants.{Pit,
 use Rattle.certificate_file.specs.declared.body_lines.BodyLine.{BodyLine}
 use Rattle.certificate_file.specs.Pieces.{Piece, Unread, Passed, read_line, in_line, no_line, unless_fault, within, number_below, words_of}
 use Rattle.certificate_file.specs.BodyLines.{kind_of, amount_said, amount_in, is_amount, numbered_line, pit_line, block_line, rest_line, end_line, line_with, line_of_words, line_of, is_end, is_of_model, may_follow, line_behind, next_line, end_fault, fault_from, body_fault, lines_in}
-use Rattle.certificate_file.specs.Certificate.{Covers, UnlessMemory, has_pair, pit_of, block_if_pit, given, gives_source, gives_rest, gives_sink, is_rest, amount_of}
+use Rattle.certificate_file.specs.Certificate.{Covers, UnlessMemory, has_pair, pit_of, block_if_pit, given_amount, gives_source, gives_rest, gives_sink, is_rest, amount_of}
 use Rattle.certificate_file.specs.Gathered.{Gathered, Adds}
 
 -- A line that is read has what its text gives.
@@ -192,9 +192,9 @@ sound counts n text line h = sound_words counts n (words_of text) line h
 pub record Going (counts : Bool) (n : ℕ) (pairs : List (ℕ × ℕ)) (all : Unread) (start : Gathered) (previous : Option BodyLine) (left : Unread) (so : Gathered) : Type 0 where
   pub same_fault : body_fault counts n (has_pair pairs) previous left.number left.pieces ≡ body_fault counts n (has_pair pairs) None all.number all.pieces
   pub pit : so.pit ++ pit_of (lines_in counts n left.pieces) ≡ start.pit ++ pit_of (lines_in counts n all.pieces)
-  pub source : (b : ℕ) → b < n → given (gives_source b) (amount_at so.flow.source b) (lines_in counts n left.pieces) ≡ given (gives_source b) (amount_at start.flow.source b) (lines_in counts n all.pieces)
-  pub rest : (k : ℕ) → k < length pairs → given (gives_rest (get_or pairs k (0, 0))) (amount_at so.flow.rest k) (lines_in counts n left.pieces) ≡ given (gives_rest (get_or pairs k (0, 0))) (amount_at start.flow.rest k) (lines_in counts n all.pieces)
-  pub sink : (b : ℕ) → b < n → given (gives_sink b) (amount_at so.flow.sink b) (lines_in counts n left.pieces) ≡ given (gives_sink b) (amount_at start.flow.sink b) (lines_in counts n all.pieces)
+  pub source : (b : ℕ) → b < n → given_amount (gives_source b) (amount_at so.flow.source b) (lines_in counts n left.pieces) ≡ given_amount (gives_source b) (amount_at start.flow.source b) (lines_in counts n all.pieces)
+  pub rest : (k : ℕ) → k < length pairs → given_amount (gives_rest (get_or pairs k (0, 0))) (amount_at so.flow.rest k) (lines_in counts n left.pieces) ≡ given_amount (gives_rest (get_or pairs k (0, 0))) (amount_at start.flow.rest k) (lines_in counts n all.pieces)
+  pub sink : (b : ℕ) → b < n → given_amount (gives_sink b) (amount_at so.flow.sink b) (lines_in counts n left.pieces) ≡ given_amount (gives_sink b) (amount_at start.flow.sink b) (lines_in counts n all.pieces)
   pub covers : Covers n (length pairs) so.flow
 
 -- One line on.
@@ -233,9 +233,9 @@ goes_on counts n pairs all start previous left next so later line g p f e m c a 
       same_fault = ap (λ (k : ℕ). body_fault counts n has (Some line) k next.pieces) p.number ∙ sym now ∙ g.same_fault;
       pit = ap (λ (bs : List ℕ). bs ++ pit_of (lines_in counts n next.pieces)) a.pit ∙ append_assoc so.pit (block_if_pit line.kind line.block []) (pit_of (lines_in counts n next.pieces)) ∙ ap (λ (bs : List ℕ). so.pit ++ bs) (pit_joins line.kind line.block (pit_of (lines_in counts n next.pieces)))
           ∙ sym (ap (λ (ls : List BodyLine). so.pit ++ pit_of ls) lines) ∙ g.pit;
-      source = λ b h. ap (λ (x : Amount). given (gives_source b) x (lines_in counts n next.pieces)) (a.source b h) ∙ sym (ap (given (gives_source b) (amount_at so.flow.source b)) lines) ∙ g.source b h;
-      rest = λ k h. ap (λ (x : Amount). given (gives_rest (get_or pairs k (0, 0))) x (lines_in counts n next.pieces)) (a.rest k h) ∙ sym (ap (given (gives_rest (get_or pairs k (0, 0))) (amount_at so.flow.rest k)) lines) ∙ g.rest k h;
-      sink = λ b h. ap (λ (x : Amount). given (gives_sink b) x (lines_in counts n next.pieces)) (a.sink b h) ∙ sym (ap (given (gives_sink b) (amount_at so.flow.sink b)) lines) ∙ g.sink b h;
+      source = λ b h. ap (λ (x : Amount). given_amount (gives_source b) x (lines_in counts n next.pieces)) (a.source b h) ∙ sym (ap (given_amount (gives_source b) (amount_at so.flow.source b)) lines) ∙ g.source b h;
+      rest = λ k h. ap (λ (x : Amount). given_amount (gives_rest (get_or pairs k (0, 0))) x (lines_in counts n next.pieces)) (a.rest k h) ∙ sym (ap (given_amount (gives_rest (get_or pairs k (0, 0))) (amount_at so.flow.rest k)) lines) ∙ g.rest k h;
+      sink = λ b h. ap (λ (x : Amount). given_amount (gives_sink b) x (lines_in counts n next.pieces)) (a.sink b h) ∙ sym (ap (given_amount (gives_sink b) (amount_at so.flow.sink b)) lines) ∙ g.sink b h;
       covers = c;
     }
 

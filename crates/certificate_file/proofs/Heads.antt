@@ -20,7 +20,7 @@ use Rattle.certificate_file.specs.declared.cert_fault.LineFault.{LineFault}
 use Rattle.certificate_file.specs.declared.cert_fault.LineFault.TheVariants.{Text}
 use Rattle.certificate_file.specs.Pieces.{Piece, piece_at, read_line, words_of, number_below}
 use Rattle.certificate_file.specs.Header.{header_for, version_in, value_behind, value_behind_both, or_number, wanted_blocks, blocks_said, blocks_in, factor_of, price_said, mill_of, mill_said, price_in, is_same_group, wanted_group, group_named, group_said, group_in}
-use Rattle.certificate_file.specs.Written.{spaced, lines_text, version_for, version_word, price_words, header_words}
+use Rattle.certificate_file.specs.Written.{spaced_words, lines_text, version_for, version_word, price_words, header_words}
 use Rattle.certificate_file.proofs.Texts.{pieces_text, words_make_line}
 use Rattle.certificate_file.proofs.Going.{text_read}
 use Rattle.certificate_file.proofs.Spelling.{number_is, read_ends, piece_text}
@@ -37,8 +37,8 @@ behind_is key w (k ∷ []) h = absurd cc
 behind_is key w (k ∷ v ∷ []) h = behind_at key k v w (bytes_eq k key) (bytes_eq-Decides k key).0 h
 behind_is key w (k ∷ v ∷ u ∷ us) h = absurd cc
 
-keyed : (key w text : List ℕ) → value_behind key (words_of text) ≡ Some w → text ≡ spaced (key ∷ w ∷ [])
-keyed key w text h = sym (words_make_line text) ∙ ap spaced (behind_is key w (words_of text) h)
+keyed : (key w text : List ℕ) → value_behind key (words_of text) ≡ Some w → text ≡ spaced_words (key ∷ w ∷ [])
+keyed key w text h = sym (words_make_line text) ∙ ap spaced_words (behind_is key w (words_of text) h)
 
 -- What stands behind two keys.
 both_at : (key other k o v w : List ℕ) (s t : Bool) → (s ≡ true → k ≡ key) → (t ≡ true → o ≡ other) → cond (s && t) (Some v) None ≡ Some w → k ∷ o ∷ v ∷ [] ≡ key ∷ other ∷ w ∷ []
@@ -55,7 +55,7 @@ both_is key other w (k ∷ o ∷ v ∷ u ∷ us) h = absurd cc
 
 -- The version.
 abbrev pub version_text : Version → List ℕ
-version_text v = spaced (codes "PITCERT" ∷ version_word v ∷ [])
+version_text v = spaced_words (codes "PITCERT" ∷ version_word v ∷ [])
 
 version_at : (text : List ℕ) (v : Version) (s t : Bool) → (s ≡ true → text ≡ codes "PITCERT 1") → (t ≡ true → text ≡ codes "PITCERT 2") → cond s (Ok One) (cond t (Ok Two) (Err Text)) ≡ Ok v → text ≡ version_text v
 version_at text v true t d e h = d refl ∙ ap (λ (r : Result Version LineFault). version_text (result_unwrap_or r v)) h
@@ -76,8 +76,8 @@ number_wanted None None n h = absurd cc
 number_wanted (Some w) (Some k) n h = number_kept w k n (eqb k w.blocks) h
 number_wanted (Some w) None n h = absurd cc
 
-blocks_at : (wanted : Option Wanted) (text : List ℕ) (o : Option (List ℕ)) (n : ℕ) → value_behind (codes "BLOCKS") (words_of text) ≡ o → blocks_said wanted o ≡ Ok n → text ≡ spaced (codes "BLOCKS" ∷ decimal n ∷ [])
-blocks_at wanted text (Some w) n e h = keyed (codes "BLOCKS") w text e ∙ ap (λ (x : List ℕ). spaced (codes "BLOCKS" ∷ x ∷ [])) (number_is w (MOST_BLOCKS + 1) n (number_wanted wanted (number_below (MOST_BLOCKS + 1) w) n h))
+blocks_at : (wanted : Option Wanted) (text : List ℕ) (o : Option (List ℕ)) (n : ℕ) → value_behind (codes "BLOCKS") (words_of text) ≡ o → blocks_said wanted o ≡ Ok n → text ≡ spaced_words (codes "BLOCKS" ∷ decimal n ∷ [])
+blocks_at wanted text (Some w) n e h = keyed (codes "BLOCKS") w text e ∙ ap (λ (x : List ℕ). spaced_words (codes "BLOCKS" ∷ x ∷ [])) (number_is w (MOST_BLOCKS + 1) n (number_wanted wanted (number_below (MOST_BLOCKS + 1) w) n h))
 blocks_at wanted text None n e h = absurd cc
 
 -- The price.
@@ -116,8 +116,8 @@ price_at : (v : Version) (text : List ℕ) (price : Price) → price_in v text �
 price_at One text price h = plain_at (words_of text) (value_behind (codes "PRICE") (words_of text)) price refl h
 price_at Two text price h = milled_at (words_of text) (value_behind_both (codes "PRICE") (codes "MILL") (words_of text)) price refl h
 
-price_text : (v : Version) (text : List ℕ) (price : Price) → price_in v text ≡ Ok price → text ≡ spaced (price_words price)
-price_text v text price h = sym (words_make_line text) ∙ ap spaced (price_at v text price h).words_are
+price_text : (v : Version) (text : List ℕ) (price : Price) → price_in v text ≡ Ok price → text ≡ spaced_words (price_words price)
+price_text v text price h = sym (words_make_line text) ∙ ap spaced_words (price_at v text price h).words_are
 
 -- The group.
 group_kept : (a b g : Group) (t : Bool) → cond t (Ok b) (Err Text) ≡ Ok g → b ≡ g
@@ -132,8 +132,8 @@ group_kind : (wanted : Option Wanted) (w : List ℕ) (o : Option Group) (g : Gro
 group_kind wanted w (Some b) g e h = group_spelled w b e ∙ ap group_name (group_same wanted b g h)
 group_kind wanted w None g e h = absurd cc
 
-group_at : (wanted : Option Wanted) (text : List ℕ) (o : Option (List ℕ)) (g : Group) → value_behind (codes "GROUP") (words_of text) ≡ o → group_said wanted o ≡ Ok g → text ≡ spaced (codes "GROUP" ∷ group_name g ∷ [])
-group_at wanted text (Some w) g e h = keyed (codes "GROUP") w text e ∙ ap (λ (x : List ℕ). spaced (codes "GROUP" ∷ x ∷ [])) (group_kind wanted w (group_of w) g refl h)
+group_at : (wanted : Option Wanted) (text : List ℕ) (o : Option (List ℕ)) (g : Group) → value_behind (codes "GROUP") (words_of text) ≡ o → group_said wanted o ≡ Ok g → text ≡ spaced_words (codes "GROUP" ∷ group_name g ∷ [])
+group_at wanted text (Some w) g e h = keyed (codes "GROUP") w text e ∙ ap (λ (x : List ℕ). spaced_words (codes "GROUP" ∷ x ∷ [])) (group_kind wanted w (group_of w) g refl h)
 group_at wanted text None g e h = absurd cc
 
 -- A text that has no more lines can't be read.
@@ -152,9 +152,9 @@ four (p ∷ q ∷ r ∷ []) wanted h v a b c d = no_piece (group_in wanted) 4 h.
 four (p ∷ q ∷ r ∷ s ∷ ps) wanted h v a b c d =
     let said = text_read (price_in v) 3 r h.price c in
     let first = version_text (version_for h.price) in
-    let second = spaced (codes "BLOCKS" ∷ decimal h.blocks ∷ []) in
-    let third = spaced (price_words h.price) in
-    let fourth = spaced (codes "GROUP" ∷ group_name h.group ∷ []) in
+    let second = spaced_words (codes "BLOCKS" ∷ decimal h.blocks ∷ []) in
+    let third = spaced_words (price_words h.price) in
+    let fourth = spaced_words (codes "GROUP" ∷ group_name h.group ∷ []) in
     let one = piece_text p (q ∷ r ∷ s ∷ ps) first (read_ends version_in 1 p v a) (version_is p.text v (text_read version_in 1 p v a) ∙ ap version_text (price_at v r.text h.price said).version) in
     let two = piece_text q (r ∷ s ∷ ps) second (read_ends (blocks_in wanted) 2 q h.blocks b) (blocks_at wanted q.text (value_behind (codes "BLOCKS") (words_of q.text)) h.blocks refl (text_read (blocks_in wanted) 2 q h.blocks b)) in
     let three = piece_text r (s ∷ ps) third (read_ends (price_in v) 3 r h.price c) (price_text v r.text h.price said) in

@@ -10,7 +10,7 @@ use Rattle.ordered_group.specs.Amount.{Amount, zero_amount, is_zero}
 use Rattle.certificate_file.specs.declared.body_lines.LineKind.TheVariants.{Pit}
 use Rattle.certificate_file.specs.declared.body_lines.BodyLine.{BodyLine}
 use Rattle.certificate_file.specs.BodyLines.{rank, is_end, is_above, is_of_model}
-use Rattle.certificate_file.specs.Certificate.{amount_of, given, is_rest}
+use Rattle.certificate_file.specs.Certificate.{amount_of, given_amount, is_rest}
 use Rattle.certificate_file.proofs.Amounts.{zero_numbers}
 use Rattle.certificate_file.proofs.Going.{carries}
 use Rattle.certificate_file.proofs.Order.{InOrder, Good}
@@ -111,17 +111,17 @@ pub record Found (gives : BodyLine → Bool) (a : Amount) (ls : List BodyLine) :
 later : (gives : BodyLine → Bool) (a : Amount) (m : BodyLine) (ms : List BodyLine) → Found gives a ms → Found gives a (m ∷ ms)
 later gives a m ms f = record { line = f.line; held = inr f.held; so = f.so; amount = f.amount }
 
-found_at : (gives : BodyLine → Bool) (x : Amount) (m : BodyLine) (ms : List BodyLine) (t : Bool) → gives m ≡ t → ((y : Amount) → (given gives y ms ≡ y) ⊎ Found gives (given gives y ms) ms) → (given gives (cond t (amount_of m) x) ms ≡ x) ⊎ Found gives (given gives (cond t (amount_of m) x) ms) (m ∷ ms)
+found_at : (gives : BodyLine → Bool) (x : Amount) (m : BodyLine) (ms : List BodyLine) (t : Bool) → gives m ≡ t → ((y : Amount) → (given_amount gives y ms ≡ y) ⊎ Found gives (given_amount gives y ms) ms) → (given_amount gives (cond t (amount_of m) x) ms ≡ x) ⊎ Found gives (given_amount gives (cond t (amount_of m) x) ms) (m ∷ ms)
 found_at gives x m ms true e ih = elim (ih (amount_of m)) [
   | inl f ↦ inr (record { line = m; held = inl refl; so = e; amount = sym f })
-  | inr f ↦ inr (later gives (given gives (amount_of m) ms) m ms f)
+  | inr f ↦ inr (later gives (given_amount gives (amount_of m) ms) m ms f)
 ]
 found_at gives x m ms false e ih = elim (ih x) [
   | inl f ↦ inl f
-  | inr f ↦ inr (later gives (given gives x ms) m ms f)
+  | inr f ↦ inr (later gives (given_amount gives x ms) m ms f)
 ]
 
-pub found : (gives : BodyLine → Bool) (ls : List BodyLine) (x : Amount) → (given gives x ls ≡ x) ⊎ Found gives (given gives x ls) ls
+pub found : (gives : BodyLine → Bool) (ls : List BodyLine) (x : Amount) → (given_amount gives x ls ≡ x) ⊎ Found gives (given_amount gives x ls) ls
 found gives [] x = inl refl
 found gives (m ∷ ms) x = found_at gives x m ms (gives m) refl (λ y. found gives ms y)
 
@@ -129,14 +129,14 @@ found gives (m ∷ ms) x = found_at gives x m ms (gives m) refl (λ y. found giv
 abbrev pub Tells : (BodyLine → Type 0) → (BodyLine → Bool) → Type 0
 Tells P gives = (a b : BodyLine) → P a → P b → gives a ≡ true → gives b ≡ true → Above a b → ⊥
 
-pub none_gives : (gives : BodyLine → Bool) (ms : List BodyLine) (x : Amount) → ((m : BodyLine) → Has m ms → gives m ≡ true → ⊥) → given gives x ms ≡ x
+pub none_gives : (gives : BodyLine → Bool) (ms : List BodyLine) (x : Amount) → ((m : BodyLine) → Has m ms → gives m ≡ true → ⊥) → given_amount gives x ms ≡ x
 none_gives gives ms x f = elim (found gives ms x) [ inl e ↦ e | inr y ↦ absurd (f y.line y.held y.so) ]
 
-pub given_by : (P : BodyLine → Type 0) (gives : BodyLine → Bool) (previous : Option BodyLine) (ls : List BodyLine) (x : Amount) (l : BodyLine) → Tells P gives → InOrder P previous ls → Has l ls → gives l ≡ true → given gives x ls ≡ amount_of l
+pub given_by : (P : BodyLine → Type 0) (gives : BodyLine → Bool) (previous : Option BodyLine) (ls : List BodyLine) (x : Amount) (l : BodyLine) → Tells P gives → InOrder P previous ls → Has l ls → gives l ≡ true → given_amount gives x ls ≡ amount_of l
 given_by P gives previous [] x l t o h g = absurd h
 given_by P gives previous (m ∷ ms) x l t o h g = elim h [
   | inl e ↦
       let gm : gives m ≡ true = ap gives e ∙ g in
-      ap (λ (b : Bool). given gives (cond b (amount_of m) x) ms) gm ∙ none_gives gives ms (amount_of m) (λ k i j. t m k o.1 (has_good P (Some m) ms o.2 k i) gm j (all_above P m ms o.2 k i)) ∙ ap amount_of e
+      ap (λ (b : Bool). given_amount gives (cond b (amount_of m) x) ms) gm ∙ none_gives gives ms (amount_of m) (λ k i j. t m k o.1 (has_good P (Some m) ms o.2 k i) gm j (all_above P m ms o.2 k i)) ∙ ap amount_of e
   | inr i ↦ given_by P gives (Some m) ms (cond (gives m) (amount_of m) x) l t o.2 i g
 ]

@@ -8,7 +8,7 @@ use Rattle.closure_net.specs.Network.{FlowView}
 use Rattle.certificate_file.specs.declared.body_lines.LineKind.TheVariants.{Source, Rest, Sink}
 use Rattle.certificate_file.specs.declared.body_lines.LineKind.{LineKind}
 use Rattle.certificate_file.specs.declared.body_lines.BodyLine.{BodyLine}
-use Rattle.certificate_file.specs.Written.{spaced, line_words, body_text, amount_lines, pit_at, block_at, pair_at, line_at, flow_lines}
+use Rattle.certificate_file.specs.Written.{spaced_words, line_words, body_text, amount_lines, pit_at, block_at, pair_at, line_at, flow_lines}
 
 -- Of all that is to be put, behind what was held at first, this is left.
 pub record Put (a b : Option (List ℕ)) (first now left all : List ℕ) : Type 0 where
@@ -34,53 +34,53 @@ put_failed a b c first now piece left all p h =
     subst (ReceivedPrefix a c) same more
 
 -- What is left to put, one line on.
-pub line_first : (l : BodyLine) (ls : List BodyLine) → body_text (l ∷ ls) ≡ (spaced (line_words l) ++ (10 ∷ [])) ++ body_text ls
-line_first l ls = sym (append_assoc (spaced (line_words l)) (10 ∷ []) (body_text ls))
+pub line_first : (l : BodyLine) (ls : List BodyLine) → body_text (l ∷ ls) ≡ (spaced_words (line_words l) ++ (10 ∷ [])) ++ body_text ls
+line_first l ls = sym (append_assoc (spaced_words (line_words l)) (10 ∷ []) (body_text ls))
 
 pub none_written : (line : ℕ → Amount → BodyLine) (k : ℕ) (xs : List Amount) (x : Amount) → k < length xs → get_or xs k zero_amount ≡ x → is_zero x ≡ true → body_text (amount_lines line k (drop k xs)) ≡ body_text (amount_lines line (k + 1) (drop (k + 1) xs))
 none_written line k xs x h e z =
     let d : drop k xs ≡ x ∷ drop (k + 1) xs = drop-cons xs k zero_amount h ∙ ap (λ (y : Amount). y ∷ drop (suc k) xs) e ∙ ap (λ (n : ℕ). x ∷ drop n xs) (sym (add-one k)) in
     ap (λ (ys : List Amount). body_text (amount_lines line k ys)) d ∙ ap (λ (t : Bool). body_text (cond t (amount_lines line (k + 1) (drop (k + 1) xs)) (line k x ∷ amount_lines line (k + 1) (drop (k + 1) xs)))) z
 
-pub one_written : (line : ℕ → Amount → BodyLine) (k : ℕ) (xs : List Amount) (x : Amount) → k < length xs → get_or xs k zero_amount ≡ x → is_zero x ≡ false → body_text (amount_lines line k (drop k xs)) ≡ (spaced (line_words (line k x)) ++ (10 ∷ [])) ++ body_text (amount_lines line (k + 1) (drop (k + 1) xs))
+pub one_written : (line : ℕ → Amount → BodyLine) (k : ℕ) (xs : List Amount) (x : Amount) → k < length xs → get_or xs k zero_amount ≡ x → is_zero x ≡ false → body_text (amount_lines line k (drop k xs)) ≡ (spaced_words (line_words (line k x)) ++ (10 ∷ [])) ++ body_text (amount_lines line (k + 1) (drop (k + 1) xs))
 one_written line k xs x h e z =
     let d : drop k xs ≡ x ∷ drop (k + 1) xs = drop-cons xs k zero_amount h ∙ ap (λ (y : Amount). y ∷ drop (suc k) xs) e ∙ ap (λ (n : ℕ). x ∷ drop n xs) (sym (add-one k)) in
     ap (λ (ys : List Amount). body_text (amount_lines line k ys)) d ∙ ap (λ (t : Bool). body_text (cond t (amount_lines line (k + 1) (drop (k + 1) xs)) (line k x ∷ amount_lines line (k + 1) (drop (k + 1) xs)))) z
     ∙ line_first (line k x) (amount_lines line (k + 1) (drop (k + 1) xs))
 
 pub line_put : (line : ℕ → Amount → BodyLine) (xs : List Amount) (k : ℕ) (x : Amount) (l : BodyLine) (a b c : Option (List ℕ)) (first now next all : List ℕ) → k < length xs → get_or xs k zero_amount ≡ x → is_zero x ≡ false → l ≡ line k x
-    → Put a b first now (body_text (amount_lines line k (drop k xs))) all → SentOrHeld b c next (now ++ (spaced (line_words l) ++ (10 ∷ []))) → Put a c first next (body_text (amount_lines line (k + 1) (drop (k + 1) xs))) all
+    → Put a b first now (body_text (amount_lines line k (drop k xs))) all → SentOrHeld b c next (now ++ (spaced_words (line_words l) ++ (10 ∷ []))) → Put a c first next (body_text (amount_lines line (k + 1) (drop (k + 1) xs))) all
 line_put line xs k x l a b c first now next all h e z same p s =
-    put_more a b c first now next (spaced (line_words (line k x)) ++ (10 ∷ [])) (body_text (amount_lines line (k + 1) (drop (k + 1) xs))) all
+    put_more a b c first now next (spaced_words (line_words (line k x)) ++ (10 ∷ [])) (body_text (amount_lines line (k + 1) (drop (k + 1) xs))) all
     (subst (λ (t : List ℕ). Put a b first now t all) (one_written line k xs x h e z) p)
-    (subst (λ (m : BodyLine). SentOrHeld b c next (now ++ (spaced (line_words m) ++ (10 ∷ [])))) same s)
+    (subst (λ (m : BodyLine). SentOrHeld b c next (now ++ (spaced_words (line_words m) ++ (10 ∷ [])))) same s)
 
 pub line_failed : (line : ℕ → Amount → BodyLine) (xs : List Amount) (k : ℕ) (x : Amount) (l : BodyLine) (a b c : Option (List ℕ)) (first now all : List ℕ) → k < length xs → get_or xs k zero_amount ≡ x → is_zero x ≡ false → l ≡ line k x
-    → Put a b first now (body_text (amount_lines line k (drop k xs))) all → ReceivedPrefix b c (now ++ (spaced (line_words l) ++ (10 ∷ []))) → ReceivedPrefix a c (first ++ all)
+    → Put a b first now (body_text (amount_lines line k (drop k xs))) all → ReceivedPrefix b c (now ++ (spaced_words (line_words l) ++ (10 ∷ []))) → ReceivedPrefix a c (first ++ all)
 line_failed line xs k x l a b c first now all h e z same p s =
-    put_failed a b c first now (spaced (line_words (line k x)) ++ (10 ∷ [])) (body_text (amount_lines line (k + 1) (drop (k + 1) xs))) all
+    put_failed a b c first now (spaced_words (line_words (line k x)) ++ (10 ∷ [])) (body_text (amount_lines line (k + 1) (drop (k + 1) xs))) all
     (subst (λ (t : List ℕ). Put a b first now t all) (one_written line k xs x h e z) p)
-    (subst (λ (m : BodyLine). ReceivedPrefix b c (now ++ (spaced (line_words m) ++ (10 ∷ [])))) same s)
+    (subst (λ (m : BodyLine). ReceivedPrefix b c (now ++ (spaced_words (line_words m) ++ (10 ∷ [])))) same s)
 
 pub line_skipped : (line : ℕ → Amount → BodyLine) (xs : List Amount) (k : ℕ) (x : Amount) (a b : Option (List ℕ)) (first now all : List ℕ) → k < length xs → get_or xs k zero_amount ≡ x → is_zero x ≡ true
     → Put a b first now (body_text (amount_lines line k (drop k xs))) all → Put a b first now (body_text (amount_lines line (k + 1) (drop (k + 1) xs))) all
 line_skipped line xs k x a b first now all h e z p = subst (λ (t : List ℕ). Put a b first now t all) (none_written line k xs x h e z) p
 
 -- The steps of the loop over the blocks of the pit.
-block_written : (bs : List ℕ) (k : ℕ) → k < length bs → body_text (map pit_at (drop k bs)) ≡ (spaced (line_words (pit_at (get_or bs k 0))) ++ (10 ∷ [])) ++ body_text (map pit_at (drop (k + 1) bs))
+block_written : (bs : List ℕ) (k : ℕ) → k < length bs → body_text (map pit_at (drop k bs)) ≡ (spaced_words (line_words (pit_at (get_or bs k 0))) ++ (10 ∷ [])) ++ body_text (map pit_at (drop (k + 1) bs))
 block_written bs k h =
     let d : drop k bs ≡ get_or bs k 0 ∷ drop (k + 1) bs = drop-cons bs k 0 h ∙ ap (λ (n : ℕ). get_or bs k 0 ∷ drop n bs) (sym (add-one k)) in
     ap (λ (xs : List ℕ). body_text (map pit_at xs)) d ∙ line_first (pit_at (get_or bs k 0)) (map pit_at (drop (k + 1) bs))
 
 pub block_put : (bs : List ℕ) (k : ℕ) (a b c : Option (List ℕ)) (first now next all : List ℕ) → k < length bs → Put a b first now (body_text (map pit_at (drop k bs))) all
-    → SentOrHeld b c next (now ++ (spaced (line_words (pit_at (get_or bs k 0))) ++ (10 ∷ []))) → Put a c first next (body_text (map pit_at (drop (k + 1) bs))) all
+    → SentOrHeld b c next (now ++ (spaced_words (line_words (pit_at (get_or bs k 0))) ++ (10 ∷ []))) → Put a c first next (body_text (map pit_at (drop (k + 1) bs))) all
 block_put bs k a b c first now next all h p s =
-    put_more a b c first now next (spaced (line_words (pit_at (get_or bs k 0))) ++ (10 ∷ [])) (body_text (map pit_at (drop (k + 1) bs))) all (subst (λ (t : List ℕ). Put a b first now t all) (block_written bs k h) p) s
+    put_more a b c first now next (spaced_words (line_words (pit_at (get_or bs k 0))) ++ (10 ∷ [])) (body_text (map pit_at (drop (k + 1) bs))) all (subst (λ (t : List ℕ). Put a b first now t all) (block_written bs k h) p) s
 
 pub block_failed : (bs : List ℕ) (k : ℕ) (a b c : Option (List ℕ)) (first now all : List ℕ) → k < length bs → Put a b first now (body_text (map pit_at (drop k bs))) all
-    → ReceivedPrefix b c (now ++ (spaced (line_words (pit_at (get_or bs k 0))) ++ (10 ∷ []))) → ReceivedPrefix a c (first ++ all)
+    → ReceivedPrefix b c (now ++ (spaced_words (line_words (pit_at (get_or bs k 0))) ++ (10 ∷ []))) → ReceivedPrefix a c (first ++ all)
 block_failed bs k a b c first now all h p s =
-    put_failed a b c first now (spaced (line_words (pit_at (get_or bs k 0))) ++ (10 ∷ [])) (body_text (map pit_at (drop (k + 1) bs))) all (subst (λ (t : List ℕ). Put a b first now t all) (block_written bs k h) p) s
+    put_failed a b c first now (spaced_words (line_words (pit_at (get_or bs k 0))) ++ (10 ∷ [])) (body_text (map pit_at (drop (k + 1) bs))) all (subst (λ (t : List ℕ). Put a b first now t all) (block_written bs k h) p) s
 
 -- Three texts, put one behind the other.
 pub three_held : (a b c d : Option (List ℕ)) (p q r s x y z all : List ℕ) → x ++ (y ++ z) ≡ all → SentOrHeld a b q (p ++ x) → SentOrHeld b c r (q ++ y) → SentOrHeld c d s (r ++ z) → SentOrHeld a d s (p ++ all)
@@ -101,7 +101,7 @@ third_failed a b c d p q r x y z all e h i j =
 -- The text of lines that stand behind others.
 pub body_append : (ls ms : List BodyLine) → body_text (ls ++ ms) ≡ body_text ls ++ body_text ms
 body_append [] ms = refl
-body_append (l ∷ ls) ms = ap (λ (t : List ℕ). spaced (line_words l) ++ (10 ∷ t)) (body_append ls ms) ∙ sym (append_assoc (spaced (line_words l)) (10 ∷ body_text ls) (body_text ms))
+body_append (l ∷ ls) ms = ap (λ (t : List ℕ). spaced_words (line_words l) ++ (10 ∷ t)) (body_append ls ms) ∙ sym (append_assoc (spaced_words (line_words l)) (10 ∷ body_text ls) (body_text ms))
 
 pub flow_parts : (ls ms ns : List BodyLine) → body_text ls ++ (body_text ms ++ body_text ns) ≡ body_text (ls ++ (ms ++ ns))
 flow_parts ls ms ns = ap (λ (t : List ℕ). body_text ls ++ t) (sym (body_append ms ns)) ∙ sym (body_append ls (ms ++ ns))

@@ -26,7 +26,7 @@ use Rattle.certificate_file.specs.Header.{header_for, version_in, value_behind, 
 use Rattle.certificate_file.specs.BodyLines.{line_of, is_end, rank, is_of_model, may_follow, next_line, end_fault, fault_from, body_fault, lines_from, lines_in}
 use Rattle.certificate_file.specs.Certificate.{wanted_for}
 use Rattle.certificate_file.specs.ReadBack.{IsPrice}
-use Rattle.certificate_file.specs.Written.{spaced, lines_text, line_words, version_for, price_words, header_words, header_with, body_text, end_text}
+use Rattle.certificate_file.specs.Written.{spaced_words, lines_text, line_words, version_for, price_words, header_words, header_with, body_text, end_text}
 use Rattle.certificate_file.proofs.Texts.{is_word, are_words, has_no_feed, words_read, spaced_no_feed, line_before, decimal_is_word}
 use Rattle.certificate_file.proofs.HeaderLines.{all_ok}
 use Rattle.certificate_file.proofs.Heads.{version_text, regroup}
@@ -45,9 +45,9 @@ short_line k text h = let t : ltb LINE_BYTES (length text) ≡ false = grind (ar
 pub line_read : {A : Type 0} (f : List ℕ → Result A LineFault) (k : ℕ) (text : List ℕ) (x : A) → length text ≤ LINE_BYTES → f text ≡ Ok x → read_line f k (line_piece text) ≡ Ok x
 line_read f k text x h e = rw (short_line k text h, e) refl
 
-next_read : (counts : Bool) (n : ℕ) (has : ℕ → ℕ → Bool) (previous : Option BodyLine) (k : ℕ) (l : BodyLine) → Readable counts n l → may_follow previous l ≡ true → is_of_model has l.kind l ≡ true → next_line counts n has previous k (line_piece (spaced (line_words l))) ≡ Ok l
+next_read : (counts : Bool) (n : ℕ) (has : ℕ → ℕ → Bool) (previous : Option BodyLine) (k : ℕ) (l : BodyLine) → Readable counts n l → may_follow previous l ≡ true → is_of_model has l.kind l ≡ true → next_line counts n has previous k (line_piece (spaced_words (line_words l))) ≡ Ok l
 next_read counts n has previous k l r f m =
-    let e : read_line (line_of counts n) k (line_piece (spaced (line_words l))) ≡ Ok l = line_read (line_of counts n) k (spaced (line_words l)) l r.short r.read in
+    let e : read_line (line_of counts n) k (line_piece (spaced_words (line_words l))) ≡ Ok l = line_read (line_of counts n) k (spaced_words (line_words l)) l r.short r.read in
     rw (e, f, m) refl
 
 -- The body.
@@ -75,9 +75,9 @@ last_follows p u = higher 3 p end_line u (omega arith)
 read_end : (counts : Bool) (n : ℕ) (has : ℕ → ℕ → Bool) (previous : Option BodyLine) (k : ℕ) → UpTo 3 previous → ReadAs counts n has previous k end_text []
 read_end counts n has previous k u = let f : may_follow previous end_line ≡ true = last_follows previous u in record { none = rw f refl; lines = refl }
 
-read_more : (counts : Bool) (n : ℕ) (has : ℕ → ℕ → Bool) (previous : Option BodyLine) (k : ℕ) (l : BodyLine) (ls : List BodyLine) (rest : List ℕ) → Both counts n has l → may_follow previous l ≡ true → ReadAs counts n has (Some l) (k + 1) rest ls → ReadAs counts n has previous k (spaced (line_words l) ++ (10 ∷ rest)) (l ∷ ls)
+read_more : (counts : Bool) (n : ℕ) (has : ℕ → ℕ → Bool) (previous : Option BodyLine) (k : ℕ) (l : BodyLine) (ls : List BodyLine) (rest : List ℕ) → Both counts n has l → may_follow previous l ≡ true → ReadAs counts n has (Some l) (k + 1) rest ls → ReadAs counts n has previous k (spaced_words (line_words l) ++ (10 ∷ rest)) (l ∷ ls)
 read_more counts n has previous k l ls rest b f r =
-    let pieces : pieces_of (spaced (line_words l) ++ (10 ∷ rest)) ≡ line_piece (spaced (line_words l)) ∷ pieces_of rest = line_before (spaced (line_words l)) rest b.0.feed in
+    let pieces : pieces_of (spaced_words (line_words l) ++ (10 ∷ rest)) ≡ line_piece (spaced_words (line_words l)) ∷ pieces_of rest = line_before (spaced_words (line_words l)) rest b.0.feed in
     let next = next_read counts n has previous (k + 1) l b.0 f b.1.pair in
     record {
       none = ap (body_fault counts n has previous k) pieces
@@ -89,24 +89,24 @@ read_more counts n has previous k l ls rest b f r =
 pub body_read : (counts : Bool) (n : ℕ) (has : ℕ → ℕ → Bool) (ls : List BodyLine) (previous : Option BodyLine) (k : ℕ) → UpTo 3 previous → InOrder (Both counts n has) previous ls → ReadAs counts n has previous k (body_text ls ++ end_text) ls
 body_read counts n has [] previous k u o = read_end counts n has previous k u
 body_read counts n has (l ∷ ls) previous k u o =
-    subst (λ (t : List ℕ). ReadAs counts n has previous k t (l ∷ ls)) (sym (append_assoc (spaced (line_words l)) (10 ∷ body_text ls) end_text))
+    subst (λ (t : List ℕ). ReadAs counts n has previous k t (l ∷ ls)) (sym (append_assoc (spaced_words (line_words l)) (10 ∷ body_text ls) end_text))
     (read_more counts n has previous k l ls (body_text ls ++ end_text) o.1 o.0 (body_read counts n has ls (Some l) (k + 1) (rank_most l.kind o.1.1.last) o.2))
 
-keyed_read : (key w : List ℕ) → is_word key ≡ true → is_word w ≡ true → bytes_eq key key ≡ true → value_behind key (words_of (spaced (key ∷ w ∷ []))) ≡ Some w
+keyed_read : (key w : List ℕ) → is_word key ≡ true → is_word w ≡ true → bytes_eq key key ≡ true → value_behind key (words_of (spaced_words (key ∷ w ∷ []))) ≡ Some w
 keyed_read key w k h e =
     let both : are_words (key ∷ w ∷ []) ≡ true = rw (k, h) refl in
     ap (value_behind key) (words_read key (w ∷ []) both) ∙ ap (λ (t : Bool). cond t (Some w) None) e
 
-keyed_feed : (key w : List ℕ) → is_word key ≡ true → is_word w ≡ true → has_no_feed (spaced (key ∷ w ∷ [])) ≡ true
+keyed_feed : (key w : List ℕ) → is_word key ≡ true → is_word w ≡ true → has_no_feed (spaced_words (key ∷ w ∷ [])) ≡ true
 keyed_feed key w k h = let both : are_words (key ∷ w ∷ []) ≡ true = rw (k, h) refl in spaced_no_feed key (w ∷ []) both
 
-blocks_read : (n : ℕ) (name : Group) → n ≤ MOST_BLOCKS → blocks_in (wanted_for n name) (spaced (codes "BLOCKS" ∷ decimal n ∷ [])) ≡ Ok n
+blocks_read : (n : ℕ) (name : Group) → n ≤ MOST_BLOCKS → blocks_in (wanted_for n name) (spaced_words (codes "BLOCKS" ∷ decimal n ∷ [])) ≡ Ok n
 blocks_read n name h =
     ap (blocks_said (wanted_for n name)) (keyed_read (codes "BLOCKS") (decimal n) refl (decimal_is_word n (omega arith)) refl)
     ∙ ap (λ (o : Option ℕ). or_number (wanted_blocks (wanted_for n name) o)) (number_read (MOST_BLOCKS + 1) n (omega arith) (omega arith))
     ∙ ap (λ (t : Bool). or_number (cond t (Some n) None)) (eq-eqb n n refl)
 
-price_length : (price : Price) → IsPrice price → length (spaced (price_words price)) ≤ 20
+price_length : (price : Price) → IsPrice price → length (spaced_words (price_words price)) ≤ 20
 price_length Objective h = omega arith
 price_length (Factor k) h = let few = length-decimal-le_wide 5 k (omega arith) (omega arith) (omega arith) in omega arith
 price_length (Mill k) h = let few = length-decimal-le_wide 5 k (omega arith) (omega arith) (omega arith) in omega arith
@@ -114,7 +114,7 @@ price_length (Mill k) h = let few = length-decimal-le_wide 5 k (omega arith) (om
 mill_words : (k : ℕ) → k ≤ MOST_FACTOR → are_words (codes "PRICE" ∷ codes "MILL" ∷ decimal k ∷ []) ≡ true
 mill_words k h = let w : is_word (decimal k) ≡ true = decimal_is_word k (omega arith) in rw w refl
 
-price_feed : (price : Price) → IsPrice price → has_no_feed (spaced (price_words price)) ≡ true
+price_feed : (price : Price) → IsPrice price → has_no_feed (spaced_words (price_words price)) ≡ true
 price_feed Objective h = refl
 price_feed (Factor k) h = keyed_feed (codes "PRICE") (decimal k) refl (decimal_is_word k (omega arith))
 price_feed (Mill k) h = spaced_no_feed (codes "PRICE") (codes "MILL" ∷ decimal k ∷ []) (mill_words k h)
@@ -138,7 +138,7 @@ factor_read k true h e =
     absurd (omega (arith, few, long))
 factor_read k false h e = ap (λ (o : Option ℕ). or_number (factor_of o)) (number_read (MOST_FACTOR + 1) k (omega arith) (omega arith))
 
-price_read : (price : Price) → IsPrice price → price_in (version_for price) (spaced (price_words price)) ≡ Ok price
+price_read : (price : Price) → IsPrice price → price_in (version_for price) (spaced_words (price_words price)) ≡ Ok price
 price_read Objective h = refl
 price_read (Factor k) h =
     ap price_said (keyed_read (codes "PRICE") (decimal k) refl (decimal_is_word k (omega arith)) refl)
@@ -147,7 +147,7 @@ price_read (Mill k) h =
     ap (λ (ws : List (List ℕ)). mill_said (value_behind_both (codes "PRICE") (codes "MILL") ws)) (words_read (codes "PRICE") (codes "MILL" ∷ decimal k ∷ []) (mill_words k h))
     ∙ ap (λ (o : Option ℕ). or_number (mill_of o)) (number_read (MOST_FACTOR + 1) k (omega arith) (omega arith))
 
-kind_read : (n : ℕ) (name : Group) → group_in (wanted_for n name) (spaced (codes "GROUP" ∷ group_name name ∷ [])) ≡ Ok name
+kind_read : (n : ℕ) (name : Group) → group_in (wanted_for n name) (spaced_words (codes "GROUP" ∷ group_name name ∷ [])) ≡ Ok name
 kind_read n name =
     let same : bytes_eq (group_name name) (group_name name) ≡ true = (bytes_eq-Decides (group_name name) (group_name name)).1 refl in
     ap (group_said (wanted_for n name)) (keyed_read (codes "GROUP") (group_name name) refl (group_name-one_word name) refl)
@@ -159,21 +159,21 @@ head_of n price name = lines_text (header_words (header_with n price name))
 
 -- the pieces of a header with these, before others
 abbrev headed : ℕ → Price → Group → List Piece → List Piece
-headed n price name ps = line_piece (version_text (version_for price)) ∷ line_piece (spaced (codes "BLOCKS" ∷ decimal n ∷ [])) ∷ line_piece (spaced (price_words price)) ∷ line_piece (spaced (codes "GROUP" ∷ group_name name ∷ [])) ∷ ps
+headed n price name ps = line_piece (version_text (version_for price)) ∷ line_piece (spaced_words (codes "BLOCKS" ∷ decimal n ∷ [])) ∷ line_piece (spaced_words (price_words price)) ∷ line_piece (spaced_words (codes "GROUP" ∷ group_name name ∷ [])) ∷ ps
 
 pieces_four : (n : ℕ) (price : Price) (name : Group) (rest : List ℕ) → n ≤ MOST_BLOCKS → IsPrice price → pieces_of (head_of n price name ++ rest) ≡ headed n price name (pieces_of rest)
 pieces_four n price name rest h p =
     let a = version_text (version_for price) in
-    let b = spaced (codes "BLOCKS" ∷ decimal n ∷ []) in
-    let c = spaced (price_words price) in
-    let d = spaced (codes "GROUP" ∷ group_name name ∷ []) in
+    let b = spaced_words (codes "BLOCKS" ∷ decimal n ∷ []) in
+    let c = spaced_words (price_words price) in
+    let d = spaced_words (codes "GROUP" ∷ group_name name ∷ []) in
     ap pieces_of (regroup a b c d rest)
     ∙ line_before a (b ++ (10 ∷ (c ++ (10 ∷ (d ++ (10 ∷ rest)))))) (version_feed (version_for price))
     ∙ ap (λ (ps : List Piece). line_piece a ∷ ps) (line_before b (c ++ (10 ∷ (d ++ (10 ∷ rest)))) (keyed_feed (codes "BLOCKS") (decimal n) refl (decimal_is_word n (omega arith))))
     ∙ ap (λ (ps : List Piece). line_piece a ∷ line_piece b ∷ ps) (line_before c (d ++ (10 ∷ rest)) (price_feed price p))
     ∙ ap (λ (ps : List Piece). line_piece a ∷ line_piece b ∷ line_piece c ∷ ps) (line_before d rest (keyed_feed (codes "GROUP") (group_name name) refl (group_name-one_word name)))
 
-short_pair : (key w : List ℕ) → length key ≤ 100 → length w ≤ 100 → length (spaced (key ∷ w ∷ [])) ≤ LINE_BYTES
+short_pair : (key w : List ℕ) → length key ≤ 100 → length w ≤ 100 → length (spaced_words (key ∷ w ∷ [])) ≤ LINE_BYTES
 short_pair key w h i = omega (arith, length-append key (32 ∷ w))
 
 header_steps : (n : ℕ) (price : Price) (name : Group) (ps qs : List Piece) → n ≤ MOST_BLOCKS → IsPrice price → ps ≡ headed n price name qs → header_for (wanted_for n name) ps ≡ Ok (header_with n price name)
@@ -181,11 +181,11 @@ header_steps n price name ps qs h p e =
     let few = length-decimal-le_wide 8 n (omega arith) (omega arith) (omega arith) in
     let v = version_for price in
     let a : read_line version_in 1 (line_piece (version_text v)) ≡ Ok v = line_read version_in 1 (version_text v) v (version_short v) (version_read v) in
-    let b : read_line (blocks_in (wanted_for n name)) 2 (line_piece (spaced (codes "BLOCKS" ∷ decimal n ∷ []))) ≡ Ok n = line_read (blocks_in (wanted_for n name)) 2 (spaced (codes "BLOCKS" ∷ decimal n ∷ [])) n (short_pair (codes "BLOCKS") (decimal n) (omega arith) (omega arith)) (blocks_read n name h) in
+    let b : read_line (blocks_in (wanted_for n name)) 2 (line_piece (spaced_words (codes "BLOCKS" ∷ decimal n ∷ []))) ≡ Ok n = line_read (blocks_in (wanted_for n name)) 2 (spaced_words (codes "BLOCKS" ∷ decimal n ∷ [])) n (short_pair (codes "BLOCKS") (decimal n) (omega arith) (omega arith)) (blocks_read n name h) in
     let long = price_length price p in
-    let c : read_line (price_in v) 3 (line_piece (spaced (price_words price))) ≡ Ok price = line_read (price_in v) 3 (spaced (price_words price)) price (omega (arith, long)) (price_read price p) in
-    let d : read_line (group_in (wanted_for n name)) 4 (line_piece (spaced (codes "GROUP" ∷ group_name name ∷ []))) ≡ Ok name = line_read (group_in (wanted_for n name)) 4 (spaced (codes "GROUP" ∷ group_name name ∷ [])) name (short_pair (codes "GROUP") (group_name name) (omega arith) (omega (arith, group_name-few name))) (kind_read n name) in
-    ap (header_for (wanted_for n name)) e ∙ all_ok (read_line version_in 1 (line_piece (version_text v))) (read_line (blocks_in (wanted_for n name)) 2 (line_piece (spaced (codes "BLOCKS" ∷ decimal n ∷ [])))) (λ x. read_line (price_in x) 3 (line_piece (spaced (price_words price)))) (read_line (group_in (wanted_for n name)) 4 (line_piece (spaced (codes "GROUP" ∷ group_name name ∷ [])))) v n price name a b c d
+    let c : read_line (price_in v) 3 (line_piece (spaced_words (price_words price))) ≡ Ok price = line_read (price_in v) 3 (spaced_words (price_words price)) price (omega (arith, long)) (price_read price p) in
+    let d : read_line (group_in (wanted_for n name)) 4 (line_piece (spaced_words (codes "GROUP" ∷ group_name name ∷ []))) ≡ Ok name = line_read (group_in (wanted_for n name)) 4 (spaced_words (codes "GROUP" ∷ group_name name ∷ [])) name (short_pair (codes "GROUP") (group_name name) (omega arith) (omega (arith, group_name-few name))) (kind_read n name) in
+    ap (header_for (wanted_for n name)) e ∙ all_ok (read_line version_in 1 (line_piece (version_text v))) (read_line (blocks_in (wanted_for n name)) 2 (line_piece (spaced_words (codes "BLOCKS" ∷ decimal n ∷ [])))) (λ x. read_line (price_in x) 3 (line_piece (spaced_words (price_words price)))) (read_line (group_in (wanted_for n name)) 4 (line_piece (spaced_words (codes "GROUP" ∷ group_name name ∷ [])))) v n price name a b c d
 
 pub header_read : (n : ℕ) (price : Price) (name : Group) (rest : List ℕ) → n ≤ MOST_BLOCKS → IsPrice price → header_for (wanted_for n name) (pieces_of (head_of n price name ++ rest)) ≡ Ok (header_with n price name)
 header_read n price name rest h p = header_steps n price name (pieces_of (head_of n price name ++ rest)) (pieces_of rest) h p (pieces_four n price name rest h p)

@@ -19,16 +19,16 @@ use Rattle.certificate_file.specs.declared.body_lines.BodyLine.{BodyLine}
 use Rattle.certificate_file.specs.Pieces.{within, number_below}
 use Rattle.certificate_file.specs.BodyLines.{is_amount, amount_said, amount_in, numbered_line, block_line, line_of_words, line_of}
 use Rattle.certificate_file.specs.ReadBack.{Writable}
-use Rattle.certificate_file.specs.Written.{spaced, words_with, line_words, pit_at, block_at}
+use Rattle.certificate_file.specs.Written.{spaced_words, words_with, line_words, pit_at, block_at}
 use Rattle.certificate_file.proofs.Amounts.{zero_numbers}
 use Rattle.certificate_file.proofs.Texts.{is_word, are_words, has_no_feed, words_read, spaced_no_feed, decimal_is_word, signed_is_word}
 use Rattle.certificate_file.proofs.Going.{Counted}
 
 -- A line whose text is read as the line.
 pub record Readable (counts : Bool) (n : ℕ) (l : BodyLine) : Type 0 where
-  pub read : line_of counts n (spaced (line_words l)) ≡ Ok l
-  pub feed : has_no_feed (spaced (line_words l)) ≡ true
-  pub short : length (spaced (line_words l)) ≤ LINE_BYTES
+  pub read : line_of counts n (spaced_words (line_words l)) ≡ Ok l
+  pub feed : has_no_feed (spaced_words (line_words l)) ≡ true
+  pub short : length (spaced_words (line_words l)) ≤ LINE_BYTES
 
 -- Numbers.
 below_read : (limit b : ℕ) → b < limit → within limit (Ok (pos b)) ≡ Some b
@@ -63,15 +63,15 @@ amount_read counts x h k f =
 all_words : (w : List ℕ) (ws : List (List ℕ)) → is_word w ≡ true → are_words ws ≡ true → are_words (w ∷ ws) ≡ true
 all_words w ws e f = rw (e, f) refl
 
-spaced_length : (w v : List ℕ) (ws : List (List ℕ)) (m k : ℕ) → length w ≤ m → length (spaced (v ∷ ws)) ≤ k → length (spaced (w ∷ v ∷ ws)) ≤ m + 1 + k
-spaced_length w v ws m k e f = omega (arith, length-append w (32 ∷ spaced (v ∷ ws)))
+spaced_length : (w v : List ℕ) (ws : List (List ℕ)) (m k : ℕ) → length w ≤ m → length (spaced_words (v ∷ ws)) ≤ k → length (spaced_words (w ∷ v ∷ ws)) ≤ m + 1 + k
+spaced_length w v ws m k e f = omega (arith, length-append w (32 ∷ spaced_words (v ∷ ws)))
 
 -- From what is said of its words, a line is readable.
-readable : (counts : Bool) (n : ℕ) (l : BodyLine) (w : List ℕ) (ws : List (List ℕ)) → line_words l ≡ w ∷ ws → are_words (w ∷ ws) ≡ true → line_of_words counts n (w ∷ ws) ≡ Ok l → length (spaced (w ∷ ws)) ≤ LINE_BYTES → Readable counts n l
+readable : (counts : Bool) (n : ℕ) (l : BodyLine) (w : List ℕ) (ws : List (List ℕ)) → line_words l ≡ w ∷ ws → are_words (w ∷ ws) ≡ true → line_of_words counts n (w ∷ ws) ≡ Ok l → length (spaced_words (w ∷ ws)) ≤ LINE_BYTES → Readable counts n l
 readable counts n l w ws e a r s = record {
-  read = ap (λ (us : List (List ℕ)). line_of counts n (spaced us)) e ∙ ap (line_of_words counts n) (words_read w ws a) ∙ r;
-  feed = ap (λ (us : List (List ℕ)). has_no_feed (spaced us)) e ∙ spaced_no_feed w ws a;
-  short = subst (λ (us : List (List ℕ)). length (spaced us) ≤ LINE_BYTES) (sym e) s;
+  read = ap (λ (us : List (List ℕ)). line_of counts n (spaced_words us)) e ∙ ap (line_of_words counts n) (words_read w ws a) ∙ r;
+  feed = ap (λ (us : List (List ℕ)). has_no_feed (spaced_words us)) e ∙ spaced_no_feed w ws a;
+  short = subst (λ (us : List (List ℕ)). length (spaced_words us) ≤ LINE_BYTES) (sym e) s;
 }
 
 pub pit_readable : (counts : Bool) (n b : ℕ) → n ≤ MOST_BLOCKS → b < n → Readable counts n (pit_at b)
@@ -83,7 +83,7 @@ pit_readable counts n b h l =
 amount_words : (x : Amount) → FitsPair x → are_words (signed_decimal x.w ∷ signed_decimal x.c ∷ []) ≡ true
 amount_words x f = all_words (signed_decimal x.w) (signed_decimal x.c ∷ []) (signed_is_word x.w f.0) (all_words (signed_decimal x.c) [] (signed_is_word x.c f.1) refl)
 
-amount_short : (x : Amount) → FitsPair x → length (spaced (signed_decimal x.w ∷ signed_decimal x.c ∷ [])) ≤ 81
+amount_short : (x : Amount) → FitsPair x → length (spaced_words (signed_decimal x.w ∷ signed_decimal x.c ∷ [])) ≤ 81
 amount_short x f = let a = signed_short x.w f.0 in let b = signed_short x.c f.1 in omega (arith, length-append (signed_decimal x.w) (32 ∷ signed_decimal x.c))
 
 block_made : (counts : Bool) (n b : ℕ) (kind : LineKind) (x : Amount) → n ≤ MOST_BLOCKS → b < n → is_zero x ≡ false → Writable counts x → block_line counts n kind (decimal b ∷ signed_decimal x.w ∷ signed_decimal x.c ∷ []) ≡ Ok (block_at kind b x)

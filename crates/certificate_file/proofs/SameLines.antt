@@ -11,7 +11,7 @@ use Rattle.certificate_file.specs.declared.body_lines.LineKind.{LineKind}
 use Rattle.certificate_file.specs.declared.body_lines.LineKind.TheVariants.{Pit, Source, Rest, Sink, End}
 use Rattle.certificate_file.specs.declared.body_lines.BodyLine.{BodyLine}
 use Rattle.certificate_file.specs.BodyLines.{rank, is_end, is_of_model}
-use Rattle.certificate_file.specs.Certificate.{Denotes, has_pair, pit_of, block_if_pit, amount_of, given, gives_source, gives_rest, gives_sink, is_source, is_rest, is_sink}
+use Rattle.certificate_file.specs.Certificate.{Denotes, has_pair, pit_of, block_if_pit, amount_of, given_amount, gives_source, gives_rest, gives_sink, is_source, is_rest, is_sink}
 use Rattle.certificate_file.proofs.Going.{carries}
 use Rattle.certificate_file.proofs.Order.{InOrder}
 use Rattle.certificate_file.proofs.LineOrder.{line_cmp, Above, not_itself, Has, has_good, same_lines, Proper, Found, found, Tells, given_by}
@@ -86,9 +86,9 @@ same_line l m a b c d = λ i. record { kind = a i; block = b i; other = c i; wor
 
 -- An amount that one list gives, the other gives.
 given_too : (n : ℕ) (has : ℕ → ℕ → Bool) (gives : BodyLine → Bool) (p q : Option BodyLine) (ls ms : List BodyLine) (l : BodyLine) (x : Amount) → Tells (Proper n has) gives → InOrder (Proper n has) p ls → InOrder (Proper n has) q ms → Has l ls → gives l ≡ true → carries l.kind ≡ true
-    → x ≡ given gives zero_amount ls → x ≡ given gives zero_amount ms → Found gives (amount_of l) ms
+    → x ≡ given_amount gives zero_amount ls → x ≡ given_amount gives zero_amount ms → Found gives (amount_of l) ms
 given_too n has gives p q ls ms l x t o r h g c e f =
-    let mine : given gives zero_amount ms ≡ amount_of l = sym f ∙ e ∙ given_by (Proper n has) gives p ls zero_amount l t o h g in
+    let mine : given_amount gives zero_amount ms ≡ amount_of l = sym f ∙ e ∙ given_by (Proper n has) gives p ls zero_amount l t o h g in
     let some : is_zero (amount_of l) ≡ false = (has_good (Proper n has) p ls o l h).some c in
     elim (found gives ms zero_amount) [
       | inl z ↦ absurd (let y : true ≡ false = ap is_zero (sym z ∙ mine) ∙ some in cc)

@@ -18,7 +18,7 @@ use Rattle.certificate_file.specs.declared.body_lines.LineKind.TheVariants.{Pit,
 use Rattle.certificate_file.specs.declared.body_lines.BodyLine.{BodyLine}
 use Rattle.certificate_file.specs.Pieces.{Piece, within, number_below, words_of, read_line, no_line, in_line, unless_fault}
 use Rattle.certificate_file.specs.BodyLines.{kind_of, is_amount, amount_said, amount_in, pit_line, block_line, rest_line, end_line, line_with, line_of_words, line_of, is_end, next_line, end_fault, fault_from, body_fault, lines_from, lines_in}
-use Rattle.certificate_file.specs.Written.{spaced, words_with, line_words, body_text, end_text}
+use Rattle.certificate_file.specs.Written.{spaced_words, words_with, line_words, body_text, end_text}
 use Rattle.certificate_file.proofs.Texts.{pieces_text, words_make_line}
 use Rattle.certificate_file.proofs.Going.{numbered, text_read, no_line_is}
 use Rattle.certificate_file.proofs.Order.{met}
@@ -126,8 +126,8 @@ line_words_are : (counts : Bool) (n : ℕ) (words : List (List ℕ)) (l : BodyLi
 line_words_are counts n [] l h = no_line_is l h
 line_words_are counts n (key ∷ words) l h = keyed_words counts n key words l (kind_of key) refl h
 
-pub line_is : (counts : Bool) (n : ℕ) (text : List ℕ) (l : BodyLine) → line_of counts n text ≡ Ok l → text ≡ spaced (line_words l)
-line_is counts n text l h = sym (words_make_line text) ∙ ap spaced (line_words_are counts n (words_of text) l h)
+pub line_is : (counts : Bool) (n : ℕ) (text : List ℕ) (l : BodyLine) → line_of counts n text ≡ Ok l → text ≡ spaced_words (line_words l)
+line_is counts n text l h = sym (words_make_line text) ∙ ap spaced_words (line_words_are counts n (words_of text) l h)
 
 -- A line that is read ends in a line feed.
 ends_so : (k : ℕ) (p : Piece) (long ended : Bool) → cond long (Some (fault.Text k)) (cond ended None (Some fault.Truncated)) ≡ None → ended ≡ true
@@ -157,14 +157,14 @@ nothing_left : (k : ℕ) (ps : List Piece) → end_fault k ps ≡ None → ps �
 nothing_left k [] h = refl
 nothing_left k (p ∷ ps) h = absurd cc
 
-on : (counts : Bool) (n : ℕ) (has : ℕ → ℕ → Bool) (k : ℕ) (p : Piece) (ps : List Piece) (line : BodyLine) (t : Bool) → is_end line.kind ≡ t → p.ended ≡ true → p.text ≡ spaced (line_words line)
+on : (counts : Bool) (n : ℕ) (has : ℕ → ℕ → Bool) (k : ℕ) (p : Piece) (ps : List Piece) (line : BodyLine) (t : Bool) → is_end line.kind ≡ t → p.ended ≡ true → p.text ≡ spaced_words (line_words line)
     → cond t (end_fault (k + 1) ps) (body_fault counts n has (Some line) (k + 1) ps) ≡ None → (body_fault counts n has (Some line) (k + 1) ps ≡ None → pieces_text ps ≡ body_text (lines_in counts n ps) ++ end_text)
     → pieces_text (p ∷ ps) ≡ body_text (cond t [] (line ∷ lines_in counts n ps)) ++ end_text
 on counts n has k p ps line true e f g h ih =
-    let last : spaced (line_words line) ≡ codes "END" = ap (λ (x : LineKind). spaced (words_with x line)) (is_last line.kind e) in
+    let last : spaced_words (line_words line) ≡ codes "END" = ap (λ (x : LineKind). spaced_words (words_with x line)) (is_last line.kind e) in
     piece_text p ps (codes "END") f (g ∙ last) ∙ ap (λ (qs : List Piece). codes "END" ++ (10 ∷ pieces_text qs)) (nothing_left (k + 1) ps h)
 on counts n has k p ps line false e f g h ih =
-    piece_text p ps (spaced (line_words line)) f g ∙ ap (λ (t : List ℕ). spaced (line_words line) ++ (10 ∷ t)) (ih h) ∙ sym (append_assoc (spaced (line_words line)) (10 ∷ body_text (lines_in counts n ps)) end_text)
+    piece_text p ps (spaced_words (line_words line)) f g ∙ ap (λ (t : List ℕ). spaced_words (line_words line) ++ (10 ∷ t)) (ih h) ∙ sym (append_assoc (spaced_words (line_words line)) (10 ∷ body_text (lines_in counts n ps)) end_text)
 
 read_on : (counts : Bool) (n : ℕ) (has : ℕ → ℕ → Bool) (previous : Option BodyLine) (k : ℕ) (p : Piece) (ps : List Piece) (r : Result BodyLine CertFault) → next_line counts n has previous (k + 1) p ≡ r
     → fault_from (end_fault (k + 1) ps) (λ line. body_fault counts n has (Some line) (k + 1) ps) r ≡ None → ((line : BodyLine) → body_fault counts n has (Some line) (k + 1) ps ≡ None → pieces_text ps ≡ body_text (lines_in counts n ps) ++ end_text)

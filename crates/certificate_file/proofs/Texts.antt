@@ -11,7 +11,7 @@ use Rattle.std.proofs.lemmas.List.Folds.{list_all-append}
 use Rattle.std.proofs.lemmas.Fmt.{decimal_by_steps_wide}
 use Rattle.fixed_worth.proofs.Parts.{some_part}
 use Rattle.certificate_file.specs.Pieces.{Piece, onto_piece, pieces_of, words_of}
-use Rattle.certificate_file.specs.Written.{spaced}
+use Rattle.certificate_file.specs.Written.{spaced_words}
 
 -- The text that pieces make.
 abbrev pub pieces_text : List Piece → List ℕ
@@ -30,20 +30,20 @@ pub pieces_make_text : (bs : List ℕ) → pieces_text (pieces_of bs) ≡ bs
 pieces_make_text [] = refl
 pieces_make_text (b ∷ bs) = pieces_at b bs (eqb b 10) refl (pieces_make_text bs)
 
-onto_spaced : (b : ℕ) (ws : List (List ℕ)) → spaced (onto_first b ws) ≡ b ∷ spaced ws
+onto_spaced : (b : ℕ) (ws : List (List ℕ)) → spaced_words (onto_first b ws) ≡ b ∷ spaced_words ws
 onto_spaced b [] = refl
 onto_spaced b (w ∷ []) = refl
 onto_spaced b (w ∷ v ∷ ws) = refl
 
-spaced_behind : (w : List ℕ) (ws : List (List ℕ)) → 0 < length ws → spaced (w ∷ ws) ≡ w ++ (32 ∷ spaced ws)
+spaced_behind : (w : List ℕ) (ws : List (List ℕ)) → 0 < length ws → spaced_words (w ∷ ws) ≡ w ++ (32 ∷ spaced_words ws)
 spaced_behind w [] h = absurd (omega arith)
 spaced_behind w (v ∷ ws) h = refl
 
-words_at : (b : ℕ) (bs : List ℕ) (t : Bool) → eqb b 32 ≡ t → spaced (words_of bs) ≡ bs → spaced (cond t ([] ∷ words_of bs) (onto_first b (words_of bs))) ≡ b ∷ bs
+words_at : (b : ℕ) (bs : List ℕ) (t : Bool) → eqb b 32 ≡ t → spaced_words (words_of bs) ≡ bs → spaced_words (cond t ([] ∷ words_of bs) (onto_first b (words_of bs))) ≡ b ∷ bs
 words_at b bs true e ih = let s : b ≡ 32 = grind (arith, nat_tests) in spaced_behind [] (words_of bs) (some_part 32 bs) ∙ ap (λ (xs : List ℕ). 32 ∷ xs) ih ∙ ap (λ (x : ℕ). x ∷ bs) (sym s)
 words_at b bs false e ih = onto_spaced b (words_of bs) ∙ ap (λ (xs : List ℕ). b ∷ xs) ih
 
-pub words_make_line : (bs : List ℕ) → spaced (words_of bs) ≡ bs
+pub words_make_line : (bs : List ℕ) → spaced_words (words_of bs) ≡ bs
 words_make_line [] = refl
 words_make_line (b ∷ bs) = words_at b bs (eqb b 32) refl (words_make_line bs)
 
@@ -75,11 +75,11 @@ word_alone (b ∷ w) h =
     let e : eqb b 32 ≡ false = q.1 in
     rw e (ap (onto_first b) (word_alone w q.2))
 
-pub words_read : (w : List ℕ) (ws : List (List ℕ)) → are_words (w ∷ ws) ≡ true → words_of (spaced (w ∷ ws)) ≡ w ∷ ws
+pub words_read : (w : List ℕ) (ws : List (List ℕ)) → are_words (w ∷ ws) ≡ true → words_of (spaced_words (w ∷ ws)) ≡ w ∷ ws
 words_read w [] h = word_alone w (and_parts (is_word w) true h).0
 words_read w (v ∷ ws) h =
     let q = and_parts (is_word w) (are_words (v ∷ ws)) h in
-    word_before w (spaced (v ∷ ws)) q.0 ∙ ap (λ (us : List (List ℕ)). w ∷ us) (words_read v ws q.1)
+    word_before w (spaced_words (v ∷ ws)) q.0 ∙ ap (λ (us : List (List ℕ)). w ∷ us) (words_read v ws q.1)
 
 -- A line has no line feed.
 abbrev pub has_no_feed : List ℕ → Bool
@@ -105,11 +105,11 @@ word_no_feed : (w : List ℕ) → is_word w ≡ true → has_no_feed w ≡ true
 word_no_feed [] h = refl
 word_no_feed (b ∷ w) h = word_feed_at b (is_word w) (has_no_feed w) h (word_no_feed w)
 
-pub spaced_no_feed : (w : List ℕ) (ws : List (List ℕ)) → are_words (w ∷ ws) ≡ true → has_no_feed (spaced (w ∷ ws)) ≡ true
+pub spaced_no_feed : (w : List ℕ) (ws : List (List ℕ)) → are_words (w ∷ ws) ≡ true → has_no_feed (spaced_words (w ∷ ws)) ≡ true
 spaced_no_feed w [] h = word_no_feed w (and_parts (is_word w) true h).0
 spaced_no_feed w (v ∷ ws) h =
     let q = and_parts (is_word w) (are_words (v ∷ ws)) h in
-    list_all-append (λ b. not (eqb b 10)) w (32 ∷ spaced (v ∷ ws)) ∙ rw (word_no_feed w q.0) (spaced_no_feed v ws q.1)
+    list_all-append (λ b. not (eqb b 10)) w (32 ∷ spaced_words (v ∷ ws)) ∙ rw (word_no_feed w q.0) (spaced_no_feed v ws q.1)
 
 -- Printed numbers are words.
 digit_is : (n : ℕ) → n < 10 → is_word ((48 + n) ∷ []) ≡ true

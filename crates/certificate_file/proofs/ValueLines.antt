@@ -17,7 +17,7 @@ use Rattle.certificate_file.specs.declared.body_lines.LineKind.{LineKind}
 use Rattle.certificate_file.specs.declared.body_lines.LineKind.TheVariants.{Pit, Source, Rest, Sink, End}
 use Rattle.certificate_file.specs.declared.body_lines.BodyLine.{BodyLine}
 use Rattle.certificate_file.specs.BodyLines.{rank, is_end, may_follow, is_of_model}
-use Rattle.certificate_file.specs.Certificate.{Covers, Denotes, has_pair, pit_of, block_if_pit, amount_of, given, gives_source, gives_rest, gives_sink}
+use Rattle.certificate_file.specs.Certificate.{Covers, Denotes, has_pair, pit_of, block_if_pit, amount_of, given_amount, gives_source, gives_rest, gives_sink}
 use Rattle.certificate_file.specs.Written.{pit_at, block_at, pair_at, amount_lines, flow_lines, value_lines}
 use Rattle.certificate_file.proofs.Additions.{present, one_place}
 use Rattle.certificate_file.proofs.Order.{InOrder}
@@ -125,16 +125,16 @@ value_in_order P n pairs pit flow a r c e =
     pits P pit None (flow_lines pairs flow) a (first_of_all pit) e.pit tt first
 
 -- What lines give, part by part.
-given_append : (gives : BodyLine → Bool) (x : Amount) (ls ms : List BodyLine) → given gives x (ls ++ ms) ≡ given gives (given gives x ls) ms
+given_append : (gives : BodyLine → Bool) (x : Amount) (ls ms : List BodyLine) → given_amount gives x (ls ++ ms) ≡ given_amount gives (given_amount gives x ls) ms
 given_append gives x [] ms = refl
 given_append gives x (l ∷ ls) ms = given_append gives (cond (gives l) (amount_of l) x) ls ms
 
-pits_give_nothing : (gives : BodyLine → Bool) (x : Amount) (bs : List ℕ) → ((b : ℕ) → gives (pit_at b) ≡ false) → given gives x (map pit_at bs) ≡ x
+pits_give_nothing : (gives : BodyLine → Bool) (x : Amount) (bs : List ℕ) → ((b : ℕ) → gives (pit_at b) ≡ false) → given_amount gives x (map pit_at bs) ≡ x
 pits_give_nothing gives x [] f = refl
-pits_give_nothing gives x (b ∷ bs) f = ap (λ (t : Bool). given gives (cond t (amount_of (pit_at b)) x) (map pit_at bs)) (f b) ∙ pits_give_nothing gives x bs f
+pits_give_nothing gives x (b ∷ bs) f = ap (λ (t : Bool). given_amount gives (cond t (amount_of (pit_at b)) x) (map pit_at bs)) (f b) ∙ pits_give_nothing gives x bs f
 
 -- One line of amounts, by whether it is written.
-line_given : (gives : BodyLine → Bool) (line : ℕ → Amount → BodyLine) (k : ℕ) (x y : Amount) (ls : List BodyLine) (t : Bool) → given gives y (cond t ls (line k x ∷ ls)) ≡ given gives (cond t y (cond (gives (line k x)) (amount_of (line k x)) y)) ls
+line_given : (gives : BodyLine → Bool) (line : ℕ → Amount → BodyLine) (k : ℕ) (x y : Amount) (ls : List BodyLine) (t : Bool) → given_amount gives y (cond t ls (line k x ∷ ls)) ≡ given_amount gives (cond t y (cond (gives (line k x)) (amount_of (line k x)) y)) ls
 line_given gives line k x y ls true = refl
 line_given gives line k x y ls false = refl
 
@@ -143,11 +143,11 @@ not_given true u a y h = refl
 not_given false true a y h = absurd (let z : true ≡ false = h in cc)
 not_given false false a y h = refl
 
-amounts_give_nothing : (gives : BodyLine → Bool) (line : ℕ → Amount → BodyLine) (top : ℕ) (xs : List Amount) (k : ℕ) (y : Amount) → k + length xs ≤ top → ((j : ℕ) (x : Amount) → k ≤ j → j < top → gives (line j x) ≡ false) → given gives y (amount_lines line k xs) ≡ y
+amounts_give_nothing : (gives : BodyLine → Bool) (line : ℕ → Amount → BodyLine) (top : ℕ) (xs : List Amount) (k : ℕ) (y : Amount) → k + length xs ≤ top → ((j : ℕ) (x : Amount) → k ≤ j → j < top → gives (line j x) ≡ false) → given_amount gives y (amount_lines line k xs) ≡ y
 amounts_give_nothing gives line top [] k y l f = refl
 amounts_give_nothing gives line top (x ∷ xs) k y l f =
     line_given gives line k x y (amount_lines line (k + 1) xs) (is_zero x)
-    ∙ ap (λ (a : Amount). given gives a (amount_lines line (k + 1) xs)) (not_given (is_zero x) (gives (line k x)) (amount_of (line k x)) y (f k x (omega arith) (omega arith)))
+    ∙ ap (λ (a : Amount). given_amount gives a (amount_lines line (k + 1) xs)) (not_given (is_zero x) (gives (line k x)) (amount_of (line k x)) y (f k x (omega arith) (omega arith)))
     ∙ amounts_give_nothing gives line top xs (k + 1) y (omega arith) (λ j a g h. f j a (omega arith) h)
 
 own_given : (x : Amount) (t u : Bool) (a : Amount) → is_zero x ≡ t → u ≡ true → a ≡ x → cond t zero_amount (cond u a zero_amount) ≡ x
@@ -161,17 +161,17 @@ pub record Owns (gives : BodyLine → Bool) (line : ℕ → Amount → BodyLine)
   pub others : (j : ℕ) (x : Amount) → j ≢ i → j < top → gives (line j x) ≡ false
   pub same : (j : ℕ) (x : Amount) → amount_of (line j x) ≡ x
 
-amount_given : (gives : BodyLine → Bool) (line : ℕ → Amount → BodyLine) (top i : ℕ) → Owns gives line top i → (xs : List Amount) (k j : ℕ) → k + length xs ≤ top → i ≡ k + j → j < length xs → given gives zero_amount (amount_lines line k xs) ≡ get_or xs j zero_amount
+amount_given : (gives : BodyLine → Bool) (line : ℕ → Amount → BodyLine) (top i : ℕ) → Owns gives line top i → (xs : List Amount) (k j : ℕ) → k + length xs ≤ top → i ≡ k + j → j < length xs → given_amount gives zero_amount (amount_lines line k xs) ≡ get_or xs j zero_amount
 amount_given gives line top i o [] k j l e h = absurd (omega arith)
 amount_given gives line top i o (x ∷ xs) k zero l e h =
     let here : i ≡ k = omega arith in
     let so : gives (line k x) ≡ true = subst (λ (m : ℕ). gives (line m x) ≡ true) here (o.mine x) in
     line_given gives line k x zero_amount (amount_lines line (k + 1) xs) (is_zero x)
-    ∙ ap (λ (a : Amount). given gives a (amount_lines line (k + 1) xs)) (own_given x (is_zero x) (gives (line k x)) (amount_of (line k x)) refl so (o.same k x))
+    ∙ ap (λ (a : Amount). given_amount gives a (amount_lines line (k + 1) xs)) (own_given x (is_zero x) (gives (line k x)) (amount_of (line k x)) refl so (o.same k x))
     ∙ amounts_give_nothing gives line top xs (k + 1) x (omega arith) (λ m y g f. o.others m y (λ s. omega (arith, s)) f)
 amount_given gives line top i o (x ∷ xs) k (suc j) l e h =
     line_given gives line k x zero_amount (amount_lines line (k + 1) xs) (is_zero x)
-    ∙ ap (λ (a : Amount). given gives a (amount_lines line (k + 1) xs)) (not_given (is_zero x) (gives (line k x)) (amount_of (line k x)) zero_amount (o.others k x (λ s. omega (arith, s)) (omega arith)))
+    ∙ ap (λ (a : Amount). given_amount gives a (amount_lines line (k + 1) xs)) (not_given (is_zero x) (gives (line k x)) (amount_of (line k x)) zero_amount (o.others k x (λ s. omega (arith, s)) (omega arith)))
     ∙ amount_given gives line top i o xs (k + 1) j (omega arith) (omega arith) (omega arith)
 
 -- The blocks of the pit.
@@ -207,8 +207,8 @@ pit_is pairs pit flow =
     ∙ no_pit (block_at Sink) (λ k x bs. refl) 0 flow.sink in
     sym (pit_append (map pit_at pit) (flow_lines pairs flow) ∙ ap (λ (xs : List ℕ). pit_of (map pit_at pit) ++ xs) none ∙ append-nil (pit_of (map pit_at pit)) ∙ pit_of_pits pit)
 
-four_parts : (gives : BodyLine → Bool) (hs ls ms ns : List BodyLine) → given gives zero_amount (hs ++ (ls ++ (ms ++ ns))) ≡ given gives (given gives (given gives (given gives zero_amount hs) ls) ms) ns
-four_parts gives hs ls ms ns = given_append gives zero_amount hs (ls ++ (ms ++ ns)) ∙ given_append gives (given gives zero_amount hs) ls (ms ++ ns) ∙ given_append gives (given gives (given gives zero_amount hs) ls) ms ns
+four_parts : (gives : BodyLine → Bool) (hs ls ms ns : List BodyLine) → given_amount gives zero_amount (hs ++ (ls ++ (ms ++ ns))) ≡ given_amount gives (given_amount gives (given_amount gives (given_amount gives zero_amount hs) ls) ms) ns
+four_parts gives hs ls ms ns = given_append gives zero_amount hs (ls ++ (ms ++ ns)) ∙ given_append gives (given_amount gives zero_amount hs) ls (ms ++ ns) ∙ given_append gives (given_amount gives (given_amount gives zero_amount hs) ls) ms ns
 
 owns_source : (n b : ℕ) → Owns (gives_source b) (block_at Source) n b
 owns_source n b = record { mine = λ x. eq-eqb b b refl; others = λ j x h l. ne_eqb j b h; same = λ j x. refl }
@@ -237,25 +237,25 @@ value_says n pairs pit flow r c =
       covers = c;
       source = λ b h.
           let g = gives_source b in
-          let one : given g zero_amount (map pit_at pit) ≡ zero_amount = pits_give_nothing g zero_amount pit (λ a. refl) in
-          let two : given g zero_amount s ≡ amount_at flow.source b = amount_given g (block_at Source) n b (owns_source n b) flow.source 0 b (omega (arith, c.sources)) (omega arith) (omega (arith, c.sources)) in
-          let three : (y : Amount) → given g y m ≡ y = λ y. amounts_give_nothing g (pair_at pairs) (length pairs) flow.rest 0 y (omega (arith, c.rests)) (λ j x k l. refl) in
-          let last : (y : Amount) → given g y t ≡ y = λ y. amounts_give_nothing g (block_at Sink) n flow.sink 0 y (omega (arith, c.sinks)) (λ j x k l. refl) in
-          sym (four_parts g (map pit_at pit) s m t ∙ ap (λ (y : Amount). given g (given g (given g y s) m) t) one ∙ ap (λ (y : Amount). given g (given g y m) t) two ∙ ap (λ (y : Amount). given g y t) (three (amount_at flow.source b)) ∙ last (amount_at flow.source b));
+          let one : given_amount g zero_amount (map pit_at pit) ≡ zero_amount = pits_give_nothing g zero_amount pit (λ a. refl) in
+          let two : given_amount g zero_amount s ≡ amount_at flow.source b = amount_given g (block_at Source) n b (owns_source n b) flow.source 0 b (omega (arith, c.sources)) (omega arith) (omega (arith, c.sources)) in
+          let three : (y : Amount) → given_amount g y m ≡ y = λ y. amounts_give_nothing g (pair_at pairs) (length pairs) flow.rest 0 y (omega (arith, c.rests)) (λ j x k l. refl) in
+          let last : (y : Amount) → given_amount g y t ≡ y = λ y. amounts_give_nothing g (block_at Sink) n flow.sink 0 y (omega (arith, c.sinks)) (λ j x k l. refl) in
+          sym (four_parts g (map pit_at pit) s m t ∙ ap (λ (y : Amount). given_amount g (given_amount g (given_amount g y s) m) t) one ∙ ap (λ (y : Amount). given_amount g (given_amount g y m) t) two ∙ ap (λ (y : Amount). given_amount g y t) (three (amount_at flow.source b)) ∙ last (amount_at flow.source b));
       rest = λ i h.
           let g = gives_rest (get_or pairs i (0, 0)) in
-          let one : given g zero_amount (map pit_at pit) ≡ zero_amount = pits_give_nothing g zero_amount pit (λ a. refl) in
-          let two : given g zero_amount s ≡ zero_amount = amounts_give_nothing g (block_at Source) n flow.source 0 zero_amount (omega (arith, c.sources)) (λ j x k l. refl) in
-          let three : given g zero_amount m ≡ amount_at flow.rest i = amount_given g (pair_at pairs) (length pairs) i (owns_pair pairs i r h) flow.rest 0 i (omega (arith, c.rests)) (omega arith) (omega (arith, c.rests)) in
-          let last : (y : Amount) → given g y t ≡ y = λ y. amounts_give_nothing g (block_at Sink) n flow.sink 0 y (omega (arith, c.sinks)) (λ j x k l. refl) in
-          sym (four_parts g (map pit_at pit) s m t ∙ ap (λ (y : Amount). given g (given g (given g y s) m) t) one ∙ ap (λ (y : Amount). given g (given g y m) t) two ∙ ap (λ (y : Amount). given g y t) three ∙ last (amount_at flow.rest i));
+          let one : given_amount g zero_amount (map pit_at pit) ≡ zero_amount = pits_give_nothing g zero_amount pit (λ a. refl) in
+          let two : given_amount g zero_amount s ≡ zero_amount = amounts_give_nothing g (block_at Source) n flow.source 0 zero_amount (omega (arith, c.sources)) (λ j x k l. refl) in
+          let three : given_amount g zero_amount m ≡ amount_at flow.rest i = amount_given g (pair_at pairs) (length pairs) i (owns_pair pairs i r h) flow.rest 0 i (omega (arith, c.rests)) (omega arith) (omega (arith, c.rests)) in
+          let last : (y : Amount) → given_amount g y t ≡ y = λ y. amounts_give_nothing g (block_at Sink) n flow.sink 0 y (omega (arith, c.sinks)) (λ j x k l. refl) in
+          sym (four_parts g (map pit_at pit) s m t ∙ ap (λ (y : Amount). given_amount g (given_amount g (given_amount g y s) m) t) one ∙ ap (λ (y : Amount). given_amount g (given_amount g y m) t) two ∙ ap (λ (y : Amount). given_amount g y t) three ∙ last (amount_at flow.rest i));
       sink = λ b h.
           let g = gives_sink b in
-          let one : given g zero_amount (map pit_at pit) ≡ zero_amount = pits_give_nothing g zero_amount pit (λ a. refl) in
-          let two : given g zero_amount s ≡ zero_amount = amounts_give_nothing g (block_at Source) n flow.source 0 zero_amount (omega (arith, c.sources)) (λ j x k l. refl) in
-          let three : given g zero_amount m ≡ zero_amount = amounts_give_nothing g (pair_at pairs) (length pairs) flow.rest 0 zero_amount (omega (arith, c.rests)) (λ j x k l. refl) in
-          let last : given g zero_amount t ≡ amount_at flow.sink b = amount_given g (block_at Sink) n b (owns_sink n b) flow.sink 0 b (omega (arith, c.sinks)) (omega arith) (omega (arith, c.sinks)) in
-          sym (four_parts g (map pit_at pit) s m t ∙ ap (λ (y : Amount). given g (given g (given g y s) m) t) one ∙ ap (λ (y : Amount). given g (given g y m) t) two ∙ ap (λ (y : Amount). given g y t) three ∙ last);
+          let one : given_amount g zero_amount (map pit_at pit) ≡ zero_amount = pits_give_nothing g zero_amount pit (λ a. refl) in
+          let two : given_amount g zero_amount s ≡ zero_amount = amounts_give_nothing g (block_at Source) n flow.source 0 zero_amount (omega (arith, c.sources)) (λ j x k l. refl) in
+          let three : given_amount g zero_amount m ≡ zero_amount = amounts_give_nothing g (pair_at pairs) (length pairs) flow.rest 0 zero_amount (omega (arith, c.rests)) (λ j x k l. refl) in
+          let last : given_amount g zero_amount t ≡ amount_at flow.sink b = amount_given g (block_at Sink) n b (owns_sink n b) flow.sink 0 b (omega (arith, c.sinks)) (omega arith) (omega (arith, c.sinks)) in
+          sym (four_parts g (map pit_at pit) s m t ∙ ap (λ (y : Amount). given_amount g (given_amount g (given_amount g y s) m) t) one ∙ ap (λ (y : Amount). given_amount g (given_amount g y m) t) two ∙ ap (λ (y : Amount). given_amount g y t) three ∙ last);
     }
 
 -- P holds of each line of amounts, where it does of each place and amount of a kind.

@@ -17,7 +17,7 @@ use Rattle.certificate_file.specs.Pieces.{Piece, Unread, pieces_of}
 use Rattle.certificate_file.specs.Header.{header_for}
 use Rattle.certificate_file.specs.BodyLines.{body_fault, lines_in}
 use Rattle.certificate_file.specs.Written.{lines_text, header_words, header_with, body_text, end_text, value_lines, text_of, block_at, pair_at}
-use Rattle.certificate_file.specs.Certificate.{Covers, IsRead, Denotes, has_pair, fault_of, fault_behind, wanted_for, given, gives_source, gives_rest, gives_sink, pit_of}
+use Rattle.certificate_file.specs.Certificate.{Covers, IsRead, Denotes, has_pair, fault_of, fault_behind, wanted_for, given_amount, gives_source, gives_rest, gives_sink, pit_of}
 use Rattle.certificate_file.specs.ReadBack.{Writable, AreWritable, IsPrice, IsReadBack}
 use Rattle.certificate_file.specs.Gathered.{Gathered, Adds}
 use Rattle.certificate_file.proofs.Order.{InOrder, Good, in_order_weaker, stands_in_order, ascending, known}
@@ -79,9 +79,9 @@ all_read counts name n pairs text w h left start later b g e p k z r f c a =
     let says : Denotes n pairs (lines_in counts n (drop 4 (pieces_of text))) later.pit later.flow = record {
       pit = is ∙ ap pit_of lines;
       covers = c;
-      source = λ i j. a.source i j ∙ ap (λ (x : Amount). given (gives_source i) x (lines_in counts n left.pieces)) (z.source i) ∙ ap (given (gives_source i) zero_amount) lines;
-      rest = λ i j. a.rest i j ∙ ap (λ (x : Amount). given (gives_rest (get_or pairs i (0, 0))) x (lines_in counts n left.pieces)) (z.rest i) ∙ ap (given (gives_rest (get_or pairs i (0, 0))) zero_amount) lines;
-      sink = λ i j. a.sink i j ∙ ap (λ (x : Amount). given (gives_sink i) x (lines_in counts n left.pieces)) (z.sink i) ∙ ap (given (gives_sink i) zero_amount) lines;
+      source = λ i j. a.source i j ∙ ap (λ (x : Amount). given_amount (gives_source i) x (lines_in counts n left.pieces)) (z.source i) ∙ ap (given_amount (gives_source i) zero_amount) lines;
+      rest = λ i j. a.rest i j ∙ ap (λ (x : Amount). given_amount (gives_rest (get_or pairs i (0, 0))) x (lines_in counts n left.pieces)) (z.rest i) ∙ ap (given_amount (gives_rest (get_or pairs i (0, 0))) zero_amount) lines;
+      sink = λ i j. a.sink i j ∙ ap (λ (x : Amount). given_amount (gives_sink i) x (lines_in counts n left.pieces)) (z.sink i) ∙ ap (given_amount (gives_sink i) zero_amount) lines;
     } in
     let rises = none_ascends counts n pairs left start later z.pit f a in
     let below : All (λ x. x < n) later.pit = subst (All (λ x. x < n)) (sym is) (known counts n (has_pair pairs) None (lines_in counts n left.pieces) order) in (

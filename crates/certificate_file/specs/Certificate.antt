@@ -89,9 +89,9 @@ abbrev pub gives_sink : ℕ → BodyLine → Bool
 gives_sink b l = is_sink l.kind && (l.block == b)
 
 -- the amount that the lines give, or this one where none does; of lines in order at most one gives it
-abbrev pub given : (BodyLine → Bool) → Amount → List BodyLine → Amount
-given gives x [] = x
-given gives x (l ∷ ls) = given gives (cond (gives l) (amount_of l) x) ls
+abbrev pub given_amount : (BodyLine → Bool) → Amount → List BodyLine → Amount
+given_amount gives x [] = x
+given_amount gives x (l ∷ ls) = given_amount gives (cond (gives l) (amount_of l) x) ls
 
 -- the flow has an amount for each of n blocks and m pairs
 pub record Covers (n m : ℕ) (flow : FlowView) : Type 0 where
@@ -103,9 +103,9 @@ pub record Covers (n m : ℕ) (flow : FlowView) : Type 0 where
 pub record Denotes (n : ℕ) (pairs : List (ℕ × ℕ)) (lines : List BodyLine) (blocks : List ℕ) (flow : FlowView) : Type 0 where
   pub pit : blocks ≡ pit_of lines
   pub covers : Covers n (length pairs) flow
-  pub source : (b : ℕ) → b < n → amount_at flow.source b ≡ given (gives_source b) zero_amount lines
-  pub rest : (k : ℕ) → k < length pairs → amount_at flow.rest k ≡ given (gives_rest (slice_index_or pairs k (0, 0))) zero_amount lines
-  pub sink : (b : ℕ) → b < n → amount_at flow.sink b ≡ given (gives_sink b) zero_amount lines
+  pub source : (b : ℕ) → b < n → amount_at flow.source b ≡ given_amount (gives_source b) zero_amount lines
+  pub rest : (k : ℕ) → k < length pairs → amount_at flow.rest k ≡ given_amount (gives_rest (slice_index_or pairs k (0, 0))) zero_amount lines
+  pub sink : (b : ℕ) → b < n → amount_at flow.sink b ≡ given_amount (gives_sink b) zero_amount lines
 
 -- the lines of a text behind its header, before END
 abbrev pub lines_of_text : Bool → ℕ → List ℕ → List BodyLine

@@ -16,15 +16,15 @@ use Rattle.certificate_file.specs.declared.body_lines.LineKind.TheVariants.{Pit,
 use Rattle.certificate_file.specs.declared.body_lines.BodyLine.{BodyLine}
 
 -- words with a single space between two
-abbrev pub spaced : List (List ℕ) → List ℕ
-spaced [] = []
-spaced (w ∷ []) = w
-spaced (w ∷ v ∷ ws) = w ++ (32 ∷ spaced (v ∷ ws))
+abbrev pub spaced_words : List (List ℕ) → List ℕ
+spaced_words [] = []
+spaced_words (w ∷ []) = w
+spaced_words (w ∷ v ∷ ws) = w ++ (32 ∷ spaced_words (v ∷ ws))
 
 -- lines of words, with a line feed behind each
 abbrev pub lines_text : List (List (List ℕ)) → List ℕ
 lines_text [] = []
-lines_text (words ∷ lines) = spaced words ++ (10 ∷ lines_text lines)
+lines_text (words ∷ lines) = spaced_words words ++ (10 ∷ lines_text lines)
 
 -- the version of a text with this price: the second one exactly where there is a mill
 abbrev pub version_for : Price → Version

@@ -8,7 +8,7 @@ ghost use Rattle.fixed_worth.specs.Device.{ReceivedPrefix, SentOrHeld};
 ghost use Rattle.ordered_group.specs.Group.{group_name};
 ghost use Rattle.ordered_group.specs.Sums.{amount_at};
 ghost use Rattle.certificate_file.specs.Written as spec;
-ghost use Rattle.certificate_file.specs.Written.{spaced, line_words, lines_text, header_words, body_text, end_text, amount_lines, line_at, pit_at, flow_lines, value_lines, certificate_bytes};
+ghost use Rattle.certificate_file.specs.Written.{spaced_words, line_words, lines_text, header_words, body_text, end_text, amount_lines, line_at, pit_at, flow_lines, value_lines, certificate_bytes};
 ghost use Rattle.certificate_file.specs.Certificate.{Covers};
 ghost use Rattle.certificate_file.specs.ReadBack.{Writable, AreWritable, IsPrice, IsReadBack};
 
@@ -46,7 +46,7 @@ fn push_amount(text: &mut ShortLine, line: &BodyLine)
 
 // The line with a line feed.
 fn written(line: &BodyLine) -> ShortLine
-    ensures { result ≡ spaced (line_words line.now) ++ (10 ∷ []) }
+    ensures { result ≡ spaced_words (line_words line.now) ++ (10 ∷ []) }
 {
     let mut text = ShortLine::new();
     match line.kind {
@@ -91,7 +91,7 @@ fn version_word(price: Price) -> &'static [u8]
 // Adds the line of a price, without its line feed.
 fn push_price(text: &mut ShortLine, price: Price)
     requires { length text.old + 50 ≤ 192 }
-    ensures text { text.new ≡ text.old ++ spaced (spec.price_words price) }
+    ensures text { text.new ≡ text.old ++ spaced_words (spec.price_words price) }
     ensures length { length text.new ≤ length text.old + 50 }
 {
     match price {
@@ -172,9 +172,9 @@ fn put_line<W: CountedWrite>(
     line: &BodyLine,
 ) -> Result<(), WriteFault>
     requires { W.failed out.old < 2 ^ 64 - 1 }
-    ensures held { OnOk result (SentOrHeld (W.contents out.old) (W.contents out.new) page.new (page.old ++ (spaced (line_words line.now) ++ (10 ∷ [])))) }
+    ensures held { OnOk result (SentOrHeld (W.contents out.old) (W.contents out.new) page.new (page.old ++ (spaced_words (line_words line.now) ++ (10 ∷ [])))) }
     ensures kept { OnOk result (W.failed out.new ≡ W.failed out.old) }
-    ensures prefix { OnErr result (ReceivedPrefix (W.contents out.old) (W.contents out.new) (page.old ++ (spaced (line_words line.now) ++ (10 ∷ [])))) }
+    ensures prefix { OnErr result (ReceivedPrefix (W.contents out.old) (W.contents out.new) (page.old ++ (spaced_words (line_words line.now) ++ (10 ∷ [])))) }
     ensures counted { OnErr result (W.failed out.new ≡ W.failed out.old + 1) }
 {
     let text = written(line);

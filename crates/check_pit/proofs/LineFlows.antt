@@ -19,7 +19,7 @@ use Rattle.certificate_file.specs.declared.body_lines.LineKind.{LineKind}
 use Rattle.certificate_file.specs.declared.body_lines.LineKind.TheVariants.{Source, Rest, Sink}
 use Rattle.certificate_file.specs.declared.body_lines.BodyLine.{BodyLine}
 use Rattle.certificate_file.specs.BodyLines.{lines_in, is_of_model}
-use Rattle.certificate_file.specs.Certificate.{Denotes, has_pair, pit_of, amount_of, given, gives_source, gives_rest, gives_sink}
+use Rattle.certificate_file.specs.Certificate.{Denotes, has_pair, pit_of, amount_of, given_amount, gives_source, gives_rest, gives_sink}
 use Rattle.check_pit.specs.Checks.{NoneBelowZero, AllWithin}
 use Rattle.check_pit.specs.LineSums.{balance_of, residual_behind, worth_of_blocks, flow_of, keeps_by, KeepLimits}
 use Rattle.check_pit.specs.LineLaws.{LineSumsTell}
@@ -67,22 +67,22 @@ worth_is ws (b ∷ bs) a k =
 
 -- the amounts of the flow, one by one
 
-source_at : (n : ℕ) (pairs : List (ℕ × ℕ)) (ls : List BodyLine) (b : ℕ) → b < n → amount_at (flow_of n pairs ls).source b ≡ given (gives_source b) zero_amount ls
-source_at n pairs ls b h = get_or-map-range_with_len (λ i. given (gives_source i) zero_amount ls) 0 n b b zero_amount h (omega arith)
+source_at : (n : ℕ) (pairs : List (ℕ × ℕ)) (ls : List BodyLine) (b : ℕ) → b < n → amount_at (flow_of n pairs ls).source b ≡ given_amount (gives_source b) zero_amount ls
+source_at n pairs ls b h = get_or-map-range_with_len (λ i. given_amount (gives_source i) zero_amount ls) 0 n b b zero_amount h (omega arith)
 
-rest_at : (n : ℕ) (pairs : List (ℕ × ℕ)) (ls : List BodyLine) (k : ℕ) → k < length pairs → amount_at (flow_of n pairs ls).rest k ≡ given (gives_rest (get_or pairs k (0, 0))) zero_amount ls
-rest_at n pairs ls k h = get_or-map-range_with_len (λ i. given (gives_rest (get_or pairs i (0, 0))) zero_amount ls) 0 (length pairs) k k zero_amount h (omega arith)
+rest_at : (n : ℕ) (pairs : List (ℕ × ℕ)) (ls : List BodyLine) (k : ℕ) → k < length pairs → amount_at (flow_of n pairs ls).rest k ≡ given_amount (gives_rest (get_or pairs k (0, 0))) zero_amount ls
+rest_at n pairs ls k h = get_or-map-range_with_len (λ i. given_amount (gives_rest (get_or pairs i (0, 0))) zero_amount ls) 0 (length pairs) k k zero_amount h (omega arith)
 
-sink_at : (n : ℕ) (pairs : List (ℕ × ℕ)) (ls : List BodyLine) (b : ℕ) → b < n → amount_at (flow_of n pairs ls).sink b ≡ given (gives_sink b) zero_amount ls
-sink_at n pairs ls b h = get_or-map-range_with_len (λ i. given (gives_sink i) zero_amount ls) 0 n b b zero_amount h (omega arith)
+sink_at : (n : ℕ) (pairs : List (ℕ × ℕ)) (ls : List BodyLine) (b : ℕ) → b < n → amount_at (flow_of n pairs ls).sink b ≡ given_amount (gives_sink b) zero_amount ls
+sink_at n pairs ls b h = get_or-map-range_with_len (λ i. given_amount (gives_sink i) zero_amount ls) 0 n b b zero_amount h (omega arith)
 
 pub denoted : (n : ℕ) (pairs : List (ℕ × ℕ)) (ls : List BodyLine) → Denotes n pairs ls (pit_of ls) (flow_of n pairs ls)
 denoted n pairs ls = record {
   pit = refl;
   covers = record {
-    sources = length-map-range_with_len (λ b. given (gives_source b) zero_amount ls) 0 n;
-    rests = length-map-range_with_len (λ k. given (gives_rest (get_or pairs k (0, 0))) zero_amount ls) 0 (length pairs);
-    sinks = length-map-range_with_len (λ b. given (gives_sink b) zero_amount ls) 0 n;
+    sources = length-map-range_with_len (λ b. given_amount (gives_source b) zero_amount ls) 0 n;
+    rests = length-map-range_with_len (λ k. given_amount (gives_rest (get_or pairs k (0, 0))) zero_amount ls) 0 (length pairs);
+    sinks = length-map-range_with_len (λ b. given_amount (gives_sink b) zero_amount ls) 0 n;
   };
   source = λ b h. source_at n pairs ls b h;
   rest = λ k h. rest_at n pairs ls k h;
@@ -139,23 +139,23 @@ all_has : (P : BodyLine → Type 0) (ls : List BodyLine) → All P ls → (l : B
 all_has P [] a l h = absurd h
 all_has P (m ∷ ms) a l h = elim h [ inl e ↦ subst P e (a 0 m (omega arith)) | inr i ↦ all_has P ms (λ k d j. a (suc k) d (omega arith)) l i ]
 
-amount_so : (P : Amount → Type 0) (gives : BodyLine → Bool) (ls : List BodyLine) → P zero_amount → ((l : BodyLine) → Has l ls → gives l ≡ true → P (amount_of l)) → P (given gives zero_amount ls)
+amount_so : (P : Amount → Type 0) (gives : BodyLine → Bool) (ls : List BodyLine) → P zero_amount → ((l : BodyLine) → Has l ls → gives l ≡ true → P (amount_of l)) → P (given_amount gives zero_amount ls)
 amount_so P gives ls z f = elim (found gives ls zero_amount) [ inl e ↦ subst P (sym e) z | inr y ↦ subst P y.amount (f y.line y.held y.so) ]
 
 kept_as : (ws : List Amount) (l : BodyLine) (k : LineKind) → l.kind ≡ k → keeps_by l.kind ws l → keeps_by k ws l
 kept_as ws l k e h = subst (λ (x : LineKind). keeps_by x ws l) e h
 
-source_kept : (ws : List Amount) (ls : List BodyLine) (b : ℕ) → KeepLimits ws ls → AtMost zero_amount (given (gives_source b) zero_amount ls) × AtMost (given (gives_source b) zero_amount ls) (positive (amount_at ws b))
+source_kept : (ws : List Amount) (ls : List BodyLine) (b : ℕ) → KeepLimits ws ls → AtMost zero_amount (given_amount (gives_source b) zero_amount ls) × AtMost (given_amount (gives_source b) zero_amount ls) (positive (amount_at ws b))
 source_kept ws ls b a =
     amount_so (λ x. AtMost zero_amount x × AtMost x (positive (amount_at ws b))) (gives_source b) ls (AtMost-refl zero_amount, NonNeg-positive (amount_at ws b))
     (λ l h g. let q = source_so b l g in let r = kept_as ws l Source q.0 (all_has (λ x. keeps_by x.kind ws x) ls a l h) in (r.0, subst (λ (i : ℕ). AtMost (amount_of l) (positive (amount_at ws i))) q.1 r.1))
 
-rest_kept : (ws : List Amount) (ls : List BodyLine) (x : ℕ × ℕ) → KeepLimits ws ls → AtMost zero_amount (given (gives_rest x) zero_amount ls)
+rest_kept : (ws : List Amount) (ls : List BodyLine) (x : ℕ × ℕ) → KeepLimits ws ls → AtMost zero_amount (given_amount (gives_rest x) zero_amount ls)
 rest_kept ws ls x a =
     amount_so (AtMost zero_amount) (gives_rest x) ls (AtMost-refl zero_amount)
     (λ l h g. kept_as ws l Rest (rest_so x l g).0 (all_has (λ y. keeps_by y.kind ws y) ls a l h))
 
-sink_kept : (ws : List Amount) (ls : List BodyLine) (b : ℕ) → KeepLimits ws ls → AtMost zero_amount (given (gives_sink b) zero_amount ls) × AtMost (given (gives_sink b) zero_amount ls) (negative (amount_at ws b))
+sink_kept : (ws : List Amount) (ls : List BodyLine) (b : ℕ) → KeepLimits ws ls → AtMost zero_amount (given_amount (gives_sink b) zero_amount ls) × AtMost (given_amount (gives_sink b) zero_amount ls) (negative (amount_at ws b))
 sink_kept ws ls b a =
     amount_so (λ x. AtMost zero_amount x × AtMost x (negative (amount_at ws b))) (gives_sink b) ls (AtMost-refl zero_amount, NonNeg-negative (amount_at ws b))
     (λ l h g. let q = sink_so b l g in let r = kept_as ws l Sink q.0 (all_has (λ x. keeps_by x.kind ws x) ls a l h) in (r.0, subst (λ (i : ℕ). AtMost (amount_of l) (negative (amount_at ws i))) q.1 r.1))

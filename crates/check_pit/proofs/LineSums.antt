@@ -12,7 +12,7 @@ use Rattle.certificate_file.specs.declared.body_lines.LineKind.{LineKind}
 use Rattle.certificate_file.specs.declared.body_lines.LineKind.TheVariants.{Pit, Source, Rest, Sink, End}
 use Rattle.certificate_file.specs.declared.body_lines.BodyLine.{BodyLine}
 use Rattle.certificate_file.specs.BodyLines.{is_of_model}
-use Rattle.certificate_file.specs.Certificate.{has_pair, amount_of, given, gives_source, gives_rest, gives_sink, is_source, is_rest, is_sink}
+use Rattle.certificate_file.specs.Certificate.{has_pair, amount_of, given_amount, gives_source, gives_rest, gives_sink, is_source, is_rest, is_sink}
 use Rattle.check_pit.specs.LineSums.{brings_by, balance_of, source_by, source_sum}
 use Rattle.certificate_file.proofs.Additions.{one_place}
 use Rattle.certificate_file.proofs.Order.{InOrder}
@@ -23,10 +23,10 @@ abbrev pub sum_giving : (BodyLine → Bool) → List BodyLine → Amount
 sum_giving gives [] = zero_amount
 sum_giving gives (l ∷ ls) = plus (where_so (gives l) (amount_of l)) (sum_giving gives ls)
 
-given_on : (P : BodyLine → Type 0) (gives : BodyLine → Bool) (m : BodyLine) (ms : List BodyLine) (t : Bool) → gives m ≡ t → Tells P gives → P m → InOrder P (Some m) ms → sum_giving gives ms ≡ given gives zero_amount ms
-    → plus (where_so t (amount_of m)) (sum_giving gives ms) ≡ given gives (cond t (amount_of m) zero_amount) ms
+given_on : (P : BodyLine → Type 0) (gives : BodyLine → Bool) (m : BodyLine) (ms : List BodyLine) (t : Bool) → gives m ≡ t → Tells P gives → P m → InOrder P (Some m) ms → sum_giving gives ms ≡ given_amount gives zero_amount ms
+    → plus (where_so t (amount_of m)) (sum_giving gives ms) ≡ given_amount gives (cond t (amount_of m) zero_amount) ms
 given_on P gives m ms true e t p o ih =
-    let none : (x : Amount) → given gives x ms ≡ x = λ x. none_gives gives ms x (λ k i j. t m k p (has_good P (Some m) ms o k i) e j (all_above P m ms o k i)) in
+    let none : (x : Amount) → given_amount gives x ms ≡ x = λ x. none_gives gives ms x (λ k i j. t m k p (has_good P (Some m) ms o k i) e j (all_above P m ms o k i)) in
     let rest : sum_giving gives ms ≡ zero_amount = ih ∙ none zero_amount in
     let w = ap (λ (x : Amount). x.w) rest in
     let c = ap (λ (x : Amount). x.c) rest in
@@ -34,7 +34,7 @@ given_on P gives m ms true e t p o ih =
 given_on P gives m ms false e t p o ih = plus-zero_left (sum_giving gives ms) ∙ ih
 
 -- of lines in order one at most gives, and its amount is the sum
-pub sum_given : (P : BodyLine → Type 0) (gives : BodyLine → Bool) (previous : Option BodyLine) (ls : List BodyLine) → Tells P gives → InOrder P previous ls → sum_giving gives ls ≡ given gives zero_amount ls
+pub sum_given : (P : BodyLine → Type 0) (gives : BodyLine → Bool) (previous : Option BodyLine) (ls : List BodyLine) → Tells P gives → InOrder P previous ls → sum_giving gives ls ≡ given_amount gives zero_amount ls
 sum_given P gives previous [] t o = refl
 sum_given P gives previous (m ∷ ms) t o = given_on P gives m ms (gives m) refl t o.1 o.2 (sum_given P gives (Some m) ms t o.2)
 

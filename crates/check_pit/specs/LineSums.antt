@@ -7,7 +7,7 @@ use Rattle.closure_net.specs.Network.{NetView, FlowView, flow_view}
 use Rattle.certificate_file.specs.declared.body_lines.LineKind.{LineKind}
 use Rattle.certificate_file.specs.declared.body_lines.LineKind.TheVariants.{Pit, Source, Rest, Sink, End}
 use Rattle.certificate_file.specs.declared.body_lines.BodyLine.{BodyLine}
-use Rattle.certificate_file.specs.Certificate.{pit_of, amount_of, given, gives_source, gives_rest, gives_sink}
+use Rattle.certificate_file.specs.Certificate.{pit_of, amount_of, given_amount, gives_source, gives_rest, gives_sink}
 
 -- what a line of a kind brings block b, less what it takes from it
 abbrev pub brings_by : LineKind → BodyLine → ℕ → Amount
@@ -59,9 +59,9 @@ KeepLimits ws ls = All (λ l. keeps_by l.kind ws l) ls
 -- the flow that lines say: an amount without a line is zero
 abbrev pub flow_of : ℕ → List (ℕ × ℕ) → List BodyLine → FlowView
 flow_of n pairs ls =
-    flow_view (map (λ b. given (gives_source b) zero_amount ls) (range_with_len 0 n))
-    (map (λ k. given (gives_rest (slice_index_or pairs k (0, 0))) zero_amount ls) (range_with_len 0 (length pairs)))
-    (map (λ b. given (gives_sink b) zero_amount ls) (range_with_len 0 n))
+    flow_view (map (λ b. given_amount (gives_source b) zero_amount ls) (range_with_len 0 n))
+    (map (λ k. given_amount (gives_rest (slice_index_or pairs k (0, 0))) zero_amount ls) (range_with_len 0 (length pairs)))
+    (map (λ b. given_amount (gives_sink b) zero_amount ls) (range_with_len 0 n))
 
 -- a sum over the lines doesn't fit: the balance of a block, the worth of the pit, or what the source could still give
 abbrev pub SomeLineSumOverflows : NetView → List BodyLine → Type 0

@@ -5,24 +5,24 @@ use Rattle.std.proofs.lemmas.List.{map-set, get_or_append_left, get_or-map, get_
 use Rattle.std.proofs.lemmas.Grind.{get_or-set_at}
 use Rattle.std.proofs.Math.Seq.{get_or-append_seam}
 use Rattle.ordered_group.specs.Amount.{Amount, zero_amount}
-use Rattle.closure_net.specs.Carrying.{amount_of_place, carried_by, placed, ArePlaces}
+use Rattle.closure_net.specs.Carrying.{amount_of_place, carried_by, placed_count, ArePlaces}
 
 -- ---- places
 
-placed_most : (ps : List ℕ) → placed ps ≤ length ps
+placed_most : (ps : List ℕ) → placed_count ps ≤ length ps
 placed_most [] = omega arith
 placed_most (zero ∷ ps) = omega (arith, placed_most ps)
 placed_most (suc p ∷ ps) = omega (arith, placed_most ps)
 
 -- one more pair has a place where one had none
-placed_set : (ps : List ℕ) (k n : ℕ) → k < length ps → get_or ps k 0 ≡ 0 → placed (set ps k (suc n)) ≡ suc (placed ps)
+placed_set : (ps : List ℕ) (k n : ℕ) → k < length ps → get_or ps k 0 ≡ 0 → placed_count (set ps k (suc n)) ≡ suc (placed_count ps)
 placed_set [] k n l e = absurd (omega arith)
 placed_set (zero ∷ ps) zero n l e = refl
 placed_set (suc p ∷ ps) zero n l e = absurd cc
 placed_set (zero ∷ ps) (suc k) n l e = placed_set ps k n (omega arith) e
 placed_set (suc p ∷ ps) (suc k) n l e = ap suc (placed_set ps k n (omega arith) e)
 
-placed_none : (n : ℕ) → placed (replicate n 0) ≡ 0
+placed_none : (n : ℕ) → placed_count (replicate n 0) ≡ 0
 placed_none zero = refl
 placed_none (suc n) = placed_none n
 

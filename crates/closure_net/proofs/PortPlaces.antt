@@ -8,14 +8,14 @@ use Rattle.prec_file.proofs.Passing.{passing_at, passing_most}
 use Rattle.prec_file.proofs.Order.{own_at}
 use Rattle.closure_net.specs.declared.port.Port.{Port}
 use Rattle.closure_net.specs.declared.port.PortKind.TheVariants.{Forward}
-use Rattle.closure_net.specs.Ports.{forward_port, backward_port, forwards, backwards}
+use Rattle.closure_net.specs.Ports.{forward_port, backward_port, forward_ports, backward_ports}
 
 -- the ports of these pairs to the blocks that b rests on, and to those that rest on b
 abbrev pub fore : List (ℕ × ℕ) → ℕ → List Port
-fore ps b = forwards (from_at ps) (to_at ps) (length ps) b
+fore ps b = forward_ports (from_at ps) (to_at ps) (length ps) b
 
 abbrev pub back : List (ℕ × ℕ) → ℕ → List Port
-back ps b = backwards (from_at ps) (to_at ps) (length ps) b
+back ps b = backward_ports (from_at ps) (to_at ps) (length ps) b
 
 -- as many as the index has blocks, or numbers
 pub length_fore : (ps : List (ℕ × ℕ)) (b : ℕ) (ts : List ℕ) → ts ≡ above_of ps b → length (fore ps b) ≡ length ts

@@ -2,7 +2,7 @@
 use Rattle.std.proofs.Common.{◌≡◌, ℕ, ◌+◌, ◌<◌, ◌≤◌, ◌==◌, nat_lt, Bool, true, inl, inr, List, length, get_or, sym, ap, subst, ◌∙◌, arith, All}
 use Rattle.std.proofs.lemmas.Bool.{cases_eq, cases_lt, eq-eqb, eqb-true, lt-ltb, ltb-true}
 use Rattle.std.proofs.lemmas.List.{get_or-map, get_or_default, length-map}
-use Rattle.prec_file.specs.Rests.{from_at, to_at, passing, numbers, above_of, below_of, IsKnown}
+use Rattle.prec_file.specs.Rests.{from_at, to_at, numbers_passing, numbers, above_of, below_of, IsKnown}
 use Rattle.prec_file.proofs.Passing.{passing_at, passing_here, passing_after, passing_grows}
 use Rattle.closure_net.specs.Reached.{HasSourceResidual, Carries, Reaches, IsReached}
 use Rattle.closure_net.specs.Network.{NetView, FlowView, holds_of, IsAscending}
@@ -105,26 +105,26 @@ all_reach net flow h = record {
 }
 
 -- a list of all that pass below n holds what passes
-passing_holds : (e : ℕ → Bool) (n x : ℕ) → x < n → e x ≡ true → holds_of (passing e n) x ≡ true
+passing_holds : (e : ℕ → Bool) (n x : ℕ) → x < n → e x ≡ true → holds_of (numbers_passing e n) x ≡ true
 passing_holds e n x l t =
     let at = passing_here e x n l t in
-    ap (holds_of (passing e n)) (sym at) ∙ holds_at (passing e n) (length (passing e x)) (passing_after e x n l t)
+    ap (holds_of (numbers_passing e n)) (sym at) ∙ holds_at (numbers_passing e n) (length (numbers_passing e x)) (passing_after e x n l t)
 
-passing_held : (e : ℕ → Bool) (n x : ℕ) → holds_of (passing e n) x ≡ true → e x ≡ true
+passing_held : (e : ℕ → Bool) (n x : ℕ) → holds_of (numbers_passing e n) x ≡ true → e x ≡ true
 passing_held e n x t =
-    let a = place_of (passing e n) x t in
+    let a = place_of (numbers_passing e n) x t in
     let p = passing_at e n a.0 a.1 in
     ap e (sym a.2) ∙ p.passes
 
 -- the search's end
-pub reached : (net : NetView) (flow : FlowView) (found : List ℕ) (h n : ℕ) (pit : List ℕ) → n ≡ length net.worths → All (IsKnown (length net.worths)) net.pairs → Searched net flow found h → length found ≤ h → pit ≡ passing (holds_of found) n → IsReached net flow (holds_of pit)
+pub reached : (net : NetView) (flow : FlowView) (found : List ℕ) (h n : ℕ) (pit : List ℕ) → n ≡ length net.worths → All (IsKnown (length net.worths)) net.pairs → Searched net flow found h → length found ≤ h → pit ≡ numbers_passing (holds_of found) n → IsReached net flow (holds_of pit)
 reached net flow found h n pit e k s l q =
     let r = searched_reaches net flow found h s l in
     let e' = holds_of found in
     let known : (x : ℕ) → e' x ≡ true → x < n = λ x t. let z = ltb-true x (length net.worths) (s.sound _ (all_reach net flow k) x t) in omega (arith, z, e) in
     let P : List ℕ → Type 0 = λ xs. IsReached net flow (holds_of xs) in
     let known_to : (i : ℕ) → i < length net.pairs → (from_at net.pairs i < length net.worths) × (to_at net.pairs i < length net.worths) = λ i z. k i (0, 0) z in
-    let all : IsReached net flow (holds_of (passing e' n)) = (
+    let all : IsReached net flow (holds_of (numbers_passing e' n)) = (
       record {
         begins = λ b z w. passing_holds e' n b (omega (arith, e)) (r.begins b z w);
         down = λ i z t. passing_holds e' n (to_at net.pairs i) (omega (arith, e, (known_to i z).1)) (r.down i z (passing_held e' n (from_at net.pairs i) t));
@@ -135,21 +135,21 @@ reached net flow found h n pit e k s l q =
     subst P (sym q) all
 
 -- a list of all that pass below n ascends, and is of numbers below n
-pub ascends : (e : ℕ → Bool) (n : ℕ) (pit : List ℕ) → pit ≡ passing e n → IsAscending pit
+pub ascends : (e : ℕ → Bool) (n : ℕ) (pit : List ℕ) → pit ≡ numbers_passing e n → IsAscending pit
 ascends e n pit q =
     let P : List ℕ → Type 0 = λ xs. IsAscending xs in
     subst P (sym q) (λ i j l r.
     let a = passing_at e n i (omega arith) in
     let b = passing_at e n j r in
-    elim (cases_lt (get_or (passing e n) i 0) (get_or (passing e n) j 0)) [
+    elim (cases_lt (get_or (numbers_passing e n) i 0) (get_or (numbers_passing e n) j 0)) [
       | inl y ↦ y
-      | inr y ↦ absurd (omega (arith, passing_grows e (get_or (passing e n) j 0) (get_or (passing e n) i 0) y, a.place, b.place))
+      | inr y ↦ absurd (omega (arith, passing_grows e (get_or (numbers_passing e n) j 0) (get_or (numbers_passing e n) i 0) y, a.place, b.place))
     ])
 
-pub passing_known : (e : ℕ → Bool) (n : ℕ) (pit : List ℕ) → pit ≡ passing e n → All (λ b. b < n) pit
+pub passing_known : (e : ℕ → Bool) (n : ℕ) (pit : List ℕ) → pit ≡ numbers_passing e n → All (λ b. b < n) pit
 passing_known e n pit q =
     let P : List ℕ → Type 0 = λ xs. All (λ b. b < n) xs in
     subst P (sym q) (λ k d l.
     let p = passing_at e n k l in
-    let z : get_or (passing e n) k 0 ≡ get_or (passing e n) k d = get_or_default (passing e n) k 0 d l in
+    let z : get_or (numbers_passing e n) k 0 ≡ get_or (numbers_passing e n) k d = get_or_default (numbers_passing e n) k 0 d l in
     omega (arith, p.below, z))

@@ -5,7 +5,7 @@ use Rattle.std.proofs.lemmas.List.{get_or-map, length-map}
 use Rattle.closure_net.specs.Network.{holds_of}
 use Rattle.prec_file.specs.Rests.{from_at, to_at, RestsView, IsRests, numbers, above_of, below_of}
 use Rattle.prec_file.proofs.Passing.{passing_at}
-use Rattle.closure_net.specs.Searches.{added, Extends, Passed}
+use Rattle.closure_net.specs.Searches.{list_with, Extends, Passed}
 use Rattle.closure_net.proofs.Finds.{added_extends, added_holds, added_only, holds_grows}
 
 extends-trans : (xs ys zs : List ℕ) → Extends xs ys → Extends ys zs → Extends xs zs
@@ -26,15 +26,15 @@ passed_skip W g old cur i h n = record {
 }
 
 -- a place that counts
-pub passed_add : (W : ℕ → Type 0) (g : ℕ → ℕ) (old cur new : List ℕ) (i y : ℕ) → Passed W g old cur i → W i → g i ≡ y → new ≡ added cur y → Passed W g old new (i + 1)
+pub passed_add : (W : ℕ → Type 0) (g : ℕ → ℕ) (old cur new : List ℕ) (i y : ℕ) → Passed W g old cur i → W i → g i ≡ y → new ≡ list_with cur y → Passed W g old new (i + 1)
 passed_add W g old cur new i y h w q e =
     let P : List ℕ → Type 0 = λ xs. Passed W g old xs (i + 1) in
-    let Q : ℕ → Type 0 = λ x. Passed W g old (added cur x) (i + 1) in
+    let Q : ℕ → Type 0 = λ x. Passed W g old (list_with cur x) (i + 1) in
     subst P (sym e) (subst Q q (record {
-      grown = extends-trans old cur (added cur (g i)) h.grown (added_extends cur (g i));
+      grown = extends-trans old cur (list_with cur (g i)) h.grown (added_extends cur (g i));
       upto = λ j l v. elim (cases_eq j i) [
-        | inl z ↦ let R : ℕ → Type 0 = λ x. holds_of (added cur (g i)) (g x) ≡ true in subst R (sym z) (added_holds cur (g i))
-        | inr d ↦ holds_grows cur (added cur (g i)) (g j) (added_extends cur (g i)) (h.upto j (omega arith) v)
+        | inl z ↦ let R : ℕ → Type 0 = λ x. holds_of (list_with cur (g i)) (g x) ≡ true in subst R (sym z) (added_holds cur (g i))
+        | inr d ↦ holds_grows cur (list_with cur (g i)) (g j) (added_extends cur (g i)) (h.upto j (omega arith) v)
       ];
       only = λ x t. elim (added_only cur (g i) x t) [
         | inl a ↦ elim (h.only x a) [ inl b ↦ inl b | inr b ↦ inr (b.0, omega (arith, b.1), b.2, b.3) ]

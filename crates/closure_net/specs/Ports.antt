@@ -28,17 +28,17 @@ abbrev pub backward_port : (ℕ → ℕ) → ℕ → Port
 backward_port from k = record { kind = Backward; other = from k; slot = k }
 
 -- of m pairs, the ports to the blocks that b rests on
-abbrev pub forwards : (ℕ → ℕ) → (ℕ → ℕ) → ℕ → ℕ → List Port
-forwards from to m b = map (forward_port to) (numbers from b m)
+abbrev pub forward_ports : (ℕ → ℕ) → (ℕ → ℕ) → ℕ → ℕ → List Port
+forward_ports from to m b = map (forward_port to) (numbers from b m)
 
 -- and those to the blocks that rest on b
-abbrev pub backwards : (ℕ → ℕ) → (ℕ → ℕ) → ℕ → ℕ → List Port
-backwards from to m b = map (backward_port from) (numbers to b m)
+abbrev pub backward_ports : (ℕ → ℕ) → (ℕ → ℕ) → ℕ → ℕ → List Port
+backward_ports from to m b = map (backward_port from) (numbers to b m)
 
 -- The ports of a block b that is worth w, where m pairs have these ends: the sink where w is negative, each block that b
 -- rests on, each block that rests on b, and the source where w is positive.
 unfoldable pub port_list : (ℕ → ℕ) → (ℕ → ℕ) → ℕ → Amount → ℕ → List Port
-port_list from to m w b = cond (is_below w zero_amount) (sink_port b ∷ []) [] ++ (forwards from to m b ++ (backwards from to m b ++ cond (is_below zero_amount w) (source_port b ∷ []) []))
+port_list from to m w b = cond (is_below w zero_amount) (sink_port b ∷ []) [] ++ (forward_ports from to m b ++ (backward_ports from to m b ++ cond (is_below zero_amount w) (source_port b ∷ []) []))
 
 -- the ports of block b of a net
 abbrev pub ports : NetView → ℕ → List Port

@@ -12,8 +12,8 @@ pub record SearchView : Type 0 where
   pub found : List ℕ
 
 -- x is found, and only once
-abbrev pub added : List ℕ → ℕ → List ℕ
-added xs x = cond (holds_of xs x) xs (xs ++ x ∷ [])
+abbrev pub list_with : List ℕ → ℕ → List ℕ
+list_with xs x = cond (holds_of xs x) xs (xs ++ x ∷ [])
 
 -- how many marks are set
 abbrev pub trues : List Bool → ℕ

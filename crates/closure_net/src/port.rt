@@ -4,7 +4,7 @@
 ghost use Rattle.std.specs.Prelude.{◌≡◌, ◌+◌, ◌<◌, ◌≤◌, Some, length, MatchOption, slice_get};
 ghost use Rattle.ordered_group.specs.Sums.{amount_at};
 ghost use Rattle.prec_file.specs.Rests.{from_at, to_at};
-ghost use Rattle.closure_net.specs.Ports.{is_below, forwards, backwards, port_list, ports};
+ghost use Rattle.closure_net.specs.Ports.{is_below, forward_ports, backward_ports, port_list, ports};
 
 use crate::net::Net;
 use ordered_group::OrderedGroup;
@@ -44,7 +44,7 @@ fn is_less<G: OrderedGroup>(a: G, b: G) -> bool
 // The i-th of the ports to blocks that b rests on.
 fn forward_at(rests: &Rests, b: u32, i: u32) -> Option<Port>
     requires { b < rests.now.blocks }
-    ensures { let list = forwards (from_at rests.now.pairs) (to_at rests.now.pairs) (length rests.now.pairs) b in MatchOption result (length list ≤ i) (λ p. slice_get list i ≡ Some p) }
+    ensures { let list = forward_ports (from_at rests.now.pairs) (to_at rests.now.pairs) (length rests.now.pairs) b in MatchOption result (length list ≤ i) (λ p. slice_get list i ≡ Some p) }
 {
     // proof: a `Rests` is in order, with at most `MOST_PAIRS` pairs
     let _n = rests.len();
@@ -65,7 +65,7 @@ fn forward_at(rests: &Rests, b: u32, i: u32) -> Option<Port>
 // The i-th of the ports to blocks that rest on b.
 fn backward_at(rests: &Rests, b: u32, i: u32) -> Option<Port>
     requires { b < rests.now.blocks }
-    ensures { let list = backwards (from_at rests.now.pairs) (to_at rests.now.pairs) (length rests.now.pairs) b in MatchOption result (length list ≤ i) (λ p. slice_get list i ≡ Some p) }
+    ensures { let list = backward_ports (from_at rests.now.pairs) (to_at rests.now.pairs) (length rests.now.pairs) b in MatchOption result (length list ≤ i) (λ p. slice_get list i ≡ Some p) }
 {
     let numbers = rests.below(b);
     if i as usize >= numbers.len() {
@@ -83,7 +83,7 @@ fn backward_at(rests: &Rests, b: u32, i: u32) -> Option<Port>
 // How many blocks b rests on.
 fn forward_count(rests: &Rests, b: u32) -> u32
     requires { b < rests.now.blocks }
-    ensures is { result ≡ length (forwards (from_at rests.now.pairs) (to_at rests.now.pairs) (length rests.now.pairs) b) }
+    ensures is { result ≡ length (forward_ports (from_at rests.now.pairs) (to_at rests.now.pairs) (length rests.now.pairs) b) }
     ensures few { result ≤ MOST_PAIRS }
 {
     // proof: a `Rests` is in order, with at most `MOST_PAIRS` pairs
@@ -94,7 +94,7 @@ fn forward_count(rests: &Rests, b: u32) -> u32
 // How many blocks rest on b.
 fn backward_count(rests: &Rests, b: u32) -> u32
     requires { b < rests.now.blocks }
-    ensures is { result ≡ length (backwards (from_at rests.now.pairs) (to_at rests.now.pairs) (length rests.now.pairs) b) }
+    ensures is { result ≡ length (backward_ports (from_at rests.now.pairs) (to_at rests.now.pairs) (length rests.now.pairs) b) }
     ensures few { result ≤ MOST_PAIRS }
 {
     // proof: a `Rests` is in order, with at most `MOST_PAIRS` pairs

@@ -3,8 +3,8 @@
 
 ghost use Rattle.std.specs.Prelude.{◌≡◌, [], ◌<◌, ◌≤◌, length, IfOk, slice_index};
 ghost use Rattle.closure_net.specs.Network.{holds_of};
-ghost use Rattle.closure_net.specs.Searches.{added};
-ghost use Rattle.prec_file.specs.Rests.{passing};
+ghost use Rattle.closure_net.specs.Searches.{list_with};
+ghost use Rattle.prec_file.specs.Rests.{numbers_passing};
 
 use fixed_worth::MOST_BLOCKS;
 use std::alloc::{AllocError, Global};
@@ -43,7 +43,7 @@ impl Search {
     // Finds b, unless it is found already.
     pub(crate) fn add(&mut self, b: u32)
         requires { b < self.old.blocks }
-        ensures { (self.new.blocks ≡ self.old.blocks) × (self.new.found ≡ added self.old.found b) }
+        ensures { (self.new.blocks ≡ self.old.blocks) × (self.new.found ≡ list_with self.old.found b) }
     {
         if !self.marks[b as usize] {
             self.found.push_reserved(b);
@@ -85,7 +85,7 @@ impl Search {
 
     // What is found, ascending.
     pub(crate) fn ascending(&self, alloc: Global) -> Result<Vec<u32>, AllocError>
-        ensures { IfOk result (λ v. v.items ≡ passing (holds_of self.now.found) self.now.blocks) }
+        ensures { IfOk result (λ v. v.items ≡ numbers_passing (holds_of self.now.found) self.now.blocks) }
     {
         let mut blocks: Vec<u32> = Vec::new(alloc);
         for b in 0..self.blocks() {

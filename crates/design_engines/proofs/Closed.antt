@@ -33,9 +33,9 @@ follows true true h e = refl
 follows true false h e = cc
 follows false b h e = cc
 
-pub closed_where : (texts : MineTexts) (n : ℕ) (pairs : List (ℕ × ℕ)) (e : ℕ → Bool) (leading : ℕ) → ArePairsOf (prec.listed (precedence_of texts)) pairs → leading ≡ length (open_pairs e pairs) → (leading ≡ 0) ↔ IsPit (mine_of n texts) e
+pub closed_where : (texts : MineTexts) (n : ℕ) (pairs : List (ℕ × ℕ)) (e : ℕ → Bool) (leading : ℕ) → ArePairsOf (prec.pairs_of_text (precedence_of texts)) pairs → leading ≡ length (open_pairs e pairs) → (leading ≡ 0) ↔ IsPit (mine_of n texts) e
 closed_where texts n pairs e leading are is =
-    let listed = prec.listed (precedence_of texts) in (
+    let listed = prec.pairs_of_text (precedence_of texts) in (
       λ none b p rests held.
           let c = (listed_rests listed pairs are b p).1 rests in
           let l : length (open_pairs e pairs) ≡ 0 = omega (arith, is, none) in

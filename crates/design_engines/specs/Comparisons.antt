@@ -1,6 +1,6 @@
 -- A design beside the pit of a certificate, and the lines that tell it.
 use Rattle.std.specs.Prelude.{◌≡◌, ℕ, ℤ, pos, ◌-ℤ◌, ◌≤ℤ◌, List, [], ◌∷◌, ◌++◌, codes, decimal}
-use Rattle.fixed_worth.specs.Printed.{printed}
+use Rattle.fixed_worth.specs.Printed.{amount_text}
 use Rattle.ordered_group.specs.declared.groups.Group.{Group}
 use Rattle.closure_net.specs.Mine.{IsPit}
 use Rattle.check_pit.specs.declared.pit_fault.PitFault.{PitFault}
@@ -43,7 +43,7 @@ IsComparison texts design certificate (unproved fault) = IsDrawn texts design ×
 
 -- the line of the pit of a certificate
 abbrev pub best_line : ℕ → ℤ → ℤ → List ℕ
-best_line count worth gap = codes "BEST " ++ (decimal count ++ (codes " " ++ (printed 9 worth ++ (codes " GAP " ++ (printed 9 gap ++ 10 ∷ [])))))
+best_line count worth gap = codes "BEST " ++ (decimal count ++ (codes " " ++ (amount_text 9 worth ++ (codes " GAP " ++ (amount_text 9 gap ++ 10 ∷ [])))))
 
 -- the lines of a design and that of the pit; or the line of a check that refuses the certificate
 abbrev pub compared_text : ComparedView → List ℕ

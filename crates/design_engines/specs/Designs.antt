@@ -1,7 +1,7 @@
 -- What a design comes to in a mine, and the lines that tell it.
 use Rattle.std.specs.Prelude.{◌≡◌, ◌↔◌, ℕ, zero, suc, ℤ, List, [], ◌∷◌, ◌++◌, codes, decimal}
 use Rattle.std.specs.List.{flat_map}
-use Rattle.fixed_worth.specs.Printed.{printed}
+use Rattle.fixed_worth.specs.Printed.{amount_text}
 use Rattle.prec_file.specs.Records as prec
 use Rattle.prec_file.specs.Rests.{ArePairsOf}
 use Rattle.closure_net.specs.Mine.{IsPit, worth_of, count_of}
@@ -29,7 +29,7 @@ pub record IsValued (texts : MineTexts) (design : List ℕ) (v : DesignView) : T
   pub count : v.count ≡ count_of (mine_of blocks texts) (design_of design)
   pub worth : v.worth ≡ worth_of (mine_of blocks texts) (design_of design)
   pub pairs : List (ℕ × ℕ)
-  pub are : ArePairsOf (prec.listed (precedence_of texts)) pairs
+  pub are : ArePairsOf (prec.pairs_of_text (precedence_of texts)) pairs
   pub leads : AreOpen (design_of design) pairs v.leading v.needs
   pub closed : (v.leading ≡ 0) ↔ IsPit (mine_of blocks texts) (design_of design)
 
@@ -49,7 +49,7 @@ open_text (suc k) needs = codes "OPEN " ++ (decimal (suc k) ++ (10 ∷ needs_tex
 
 -- the lines of a design
 abbrev pub design_text : DesignView → List ℕ
-design_text v = codes "DESIGN " ++ (decimal v.count ++ (codes " " ++ (printed 9 v.worth ++ (10 ∷ open_text v.leading v.needs))))
+design_text v = codes "DESIGN " ++ (decimal v.count ++ (codes " " ++ (amount_text 9 v.worth ++ (10 ∷ open_text v.leading v.needs))))
 
 -- how an engine ends where so many pairs lead out
 abbrev pub verdict_for : ℕ → Verdict

@@ -2,5 +2,5 @@
 use Rattle.design_engines.specs.declared.valued.Valued.{Valued}
 use Rattle.design_engines.specs.Designs.{DesignView}
 
-abbrev pub told : Valued → DesignView
-told v = record { count = v.count; worth = v.worth; leading = v.open.count; needs = v.open.first.items }
+abbrev pub design_view : Valued → DesignView
+design_view v = record { count = v.count; worth = v.worth; leading = v.open.count; needs = v.open.first.items }

@@ -14,7 +14,7 @@ ghost use Rattle.design_engines.specs.declared.value_fault.ValueFault.TheVariant
 ghost use Rattle.design_engines.specs.Compares.{IsBeside, Compares};
 ghost use Rattle.design_engines.specs.Comparisons.{best_line};
 ghost use Rattle.design_engines.specs.Designs.{IsValued, design_text};
-ghost use Rattle.design_engines.specs.Told.{told};
+ghost use Rattle.design_engines.specs.Told.{design_view};
 
 use crate::design_lines::text_of;
 use crate::judging_beside::Beside;
@@ -37,7 +37,7 @@ pub(crate) fn tell_beside<W: CountedWrite>(
     out: &mut W,
 ) -> Result<Verdict, ValueFault>
     requires { W.failed out.old < 2 ^ 64 - 1 }
-    ensures answer { (texts : MineTexts) (design c : List ℕ) → IsBeside texts design c (told beside.valued) beside.judgement
+    ensures answer { (texts : MineTexts) (design c : List ℕ) → IsBeside texts design c (design_view beside.valued) beside.judgement
         → Compares texts design c (W.contents out.old) (W.contents out.new) result }
     ensures device { IsErrOf result (value.Engine engine.Device) → W.failed out.new ≡ W.failed out.old + 1 }
     ensures kept { ¬ IsErrOf result (value.Engine engine.Device) → W.failed out.new ≡ W.failed out.old }
@@ -61,7 +61,7 @@ fn tell_gap<W: CountedWrite>(
     out: &mut W,
 ) -> Result<Verdict, ValueFault>
     requires { W.failed out.old < 2 ^ 64 - 1 }
-    ensures answer { (texts : MineTexts) (design c : List ℕ) (name : Group) → IsValued texts design (told valued.now)
+    ensures answer { (texts : MineTexts) (design c : List ℕ) (name : Group) → IsValued texts design (design_view valued.now)
         → IsAccepted texts c name count worth → Compares texts design c (W.contents out.old) (W.contents out.new) result }
     ensures device { IsErrOf result (value.Engine engine.Device) → W.failed out.new ≡ W.failed out.old + 1 }
     ensures kept { ¬ IsErrOf result (value.Engine engine.Device) → W.failed out.new ≡ W.failed out.old }
@@ -91,8 +91,8 @@ fn write_compared<W: CountedWrite>(
     out: &mut W,
 ) -> Result<(), EngineFault>
     requires { W.failed out.old < 2 ^ 64 - 1 }
-    ensures lines { OnOk result (Appends (W.contents out.old) (W.contents out.new) (design_text (told valued.now) ++ best_line count worth gap)) }
-    ensures fault { IfErr result (LineFails (W.contents out.old) (W.contents out.new) (design_text (told valued.now) ++ best_line count worth gap)) }
+    ensures lines { OnOk result (Appends (W.contents out.old) (W.contents out.new) (design_text (design_view valued.now) ++ best_line count worth gap)) }
+    ensures fault { IfErr result (LineFails (W.contents out.old) (W.contents out.new) (design_text (design_view valued.now) ++ best_line count worth gap)) }
     ensures device { IsErrOf result EngineFault.Device ↔ (W.failed out.new ≡ W.failed out.old + 1) }
     ensures kept { ¬ IsErrOf result EngineFault.Device → W.failed out.new ≡ W.failed out.old }
 {

@@ -6,7 +6,7 @@ ghost use Rattle.std.specs.Io.KnownBytes.{Appends};
 ghost use Rattle.std.specs.String.{string_bytes};
 ghost use Rattle.engines.specs.Checking.{LineFails};
 ghost use Rattle.design_engines.specs.Designs.{design_text, open_text, needs_line, needs_text};
-ghost use Rattle.design_engines.specs.Told.{told};
+ghost use Rattle.design_engines.specs.Told.{design_view};
 
 use crate::valued::Valued;
 use design_value::OpenPairs;
@@ -25,8 +25,8 @@ pub(crate) fn write_design<W: CountedWrite>(
     out: &mut W,
 ) -> Result<(), EngineFault>
     requires { W.failed out.old < 2 ^ 64 - 1 }
-    ensures lines { OnOk result (Appends (W.contents out.old) (W.contents out.new) (design_text (told valued.now))) }
-    ensures fault { IfErr result (LineFails (W.contents out.old) (W.contents out.new) (design_text (told valued.now))) }
+    ensures lines { OnOk result (Appends (W.contents out.old) (W.contents out.new) (design_text (design_view valued.now))) }
+    ensures fault { IfErr result (LineFails (W.contents out.old) (W.contents out.new) (design_text (design_view valued.now))) }
     ensures device { IsErrOf result EngineFault.Device ↔ (W.failed out.new ≡ W.failed out.old + 1) }
     ensures kept { ¬ IsErrOf result EngineFault.Device → W.failed out.new ≡ W.failed out.old }
 {
@@ -40,7 +40,7 @@ pub(crate) fn write_design<W: CountedWrite>(
 /// # Errors
 /// Memory was refused.
 pub(crate) fn text_of(alloc: Global, valued: &Valued) -> Result<String, AllocError>
-    ensures { IfOk result (λ text. string_bytes text ≡ design_text (told valued.now)) }
+    ensures { IfOk result (λ text. string_bytes text ≡ design_text (design_view valued.now)) }
 {
     let count = valued.count;
     let worth = Nanos(valued.worth);

@@ -11,7 +11,7 @@ ghost use Rattle.mine_inputs.specs.declared.engine_fault.EngineFault.TheVariants
 ghost use Rattle.design_engines.specs.declared.value_fault.ValueFault.TheVariants as value;
 ghost use Rattle.design_engines.specs.Compares.{IsBeside, BesideFails};
 ghost use Rattle.design_engines.specs.DesignTexts.{ReadsDesign};
-ghost use Rattle.design_engines.specs.Told.{told};
+ghost use Rattle.design_engines.specs.Told.{design_view};
 
 use crate::value_fault::ValueFault;
 use crate::valued::Valued;
@@ -53,7 +53,7 @@ pub(crate) fn judge_beside<R: Threads + Sync, C: CountedRead>(
     requires marks { length marks.items ≡ mine.predecessors.blocks }
     ensures judged { IfSome (C.remaining certificate.old) (λ c. (texts : MineTexts) (design : List ℕ)
         → IsMineRead texts (factor_in c) mine.worths mine.predecessors → ReadsDesign mine.predecessors.blocks design marks.items
-        → MatchResult result (λ b. IsBeside texts design c (told b.valued) b.judgement) (BesideFails texts design c)) }
+        → MatchResult result (λ b. IsBeside texts design c (design_view b.valued) b.judgement) (BesideFails texts design c)) }
     ensures device { IsErrOf result (value.Engine engine.Device) → C.failed certificate.new ≡ C.failed certificate.old + 1 }
     ensures kept { ¬ IsErrOf result (value.Engine engine.Device) → C.failed certificate.new ≡ C.failed certificate.old }
 {
@@ -90,7 +90,7 @@ fn beside_device<R: Threads + Sync, C: CountedRead>(
     ensures judged { IfSome (C.remaining device) (λ c. (texts : MineTexts) (design : List ℕ)
         → IsMineRead texts (factor_in c) case.entry.mine.worths case.entry.mine.predecessors
         → ReadsDesign case.entry.mine.predecessors.blocks design case.entry.marks.items
-        → MatchResult result.1 (λ b. IsBeside texts design c (told b.valued) b.judgement) (BesideFails texts design c)) }
+        → MatchResult result.1 (λ b. IsBeside texts design c (design_view b.valued) b.judgement) (BesideFails texts design c)) }
     ensures device { IsErrOf result.1 (value.Engine engine.Device) → C.failed result.0 ≡ C.failed device + 1 }
     ensures kept { ¬ IsErrOf result.1 (value.Engine engine.Device) → C.failed result.0 ≡ C.failed device }
 {
@@ -118,7 +118,7 @@ fn beside_stream<R: Threads + Sync, C: CountedRead>(
     requires marks { length marks.items ≡ mine.predecessors.blocks }
     ensures judged { IfSome (C.remaining stream.old.lines.from) (λ c. (texts : MineTexts) (design : List ℕ)
         → IsMineRead texts (factor_in c) mine.worths mine.predecessors → ReadsDesign mine.predecessors.blocks design marks.items
-        → MatchResult result (λ b. IsBeside texts design c (told b.valued) b.judgement) (BesideFails texts design c)) }
+        → MatchResult result (λ b. IsBeside texts design c (design_view b.valued) b.judgement) (BesideFails texts design c)) }
     ensures device { IsErrOf result (value.Engine engine.Device) → C.failed stream.new.lines.from ≡ C.failed stream.old.lines.from + 1 }
     ensures kept { ¬ IsErrOf result (value.Engine engine.Device) → C.failed stream.new.lines.from ≡ C.failed stream.old.lines.from }
 {
@@ -151,7 +151,7 @@ fn judge_priced<C: CountedRead>(
     ensures judged { (texts : MineTexts) (c design : List ℕ) → AreRead texts nanos.items rests
         → IsHeader texts c rests.blocks group → StandsBehind C.remaining c stream.old.lines
         → ReadsDesign rests.blocks design marks.items
-        → MatchResult result (λ b. IsBeside texts design c (told b.valued) b.judgement) (BesideFails texts design c) }
+        → MatchResult result (λ b. IsBeside texts design c (design_view b.valued) b.judgement) (BesideFails texts design c) }
     ensures device { IsErrOf result (value.Engine engine.Device) → C.failed stream.new.lines.from ≡ C.failed stream.old.lines.from + 1 }
     ensures kept { ¬ IsErrOf result (value.Engine engine.Device) → C.failed stream.new.lines.from ≡ C.failed stream.old.lines.from }
 {

@@ -9,7 +9,7 @@ ghost use Rattle.design_engines.specs.declared.value_fault.ValueFault.TheVariant
 ghost use Rattle.design_engines.specs.Designs.{IsValued};
 ghost use Rattle.design_engines.specs.DesignTexts.{ReadsDesign};
 ghost use Rattle.design_engines.specs.Values.{NoValue, Values};
-ghost use Rattle.design_engines.specs.Told.{told};
+ghost use Rattle.design_engines.specs.Told.{design_view};
 
 use crate::design_lines::write_design;
 use crate::value_fault::{DesignProblem, ValueFault};
@@ -57,7 +57,7 @@ pub(crate) fn value_of(
 ) -> Result<Valued, ValueFault>
     requires marks { length marks.now ≡ rests.now.blocks }
     ensures is { (texts : MineTexts) (design : List ℕ) → AreRead texts nanos.now rests.now → ReadsDesign rests.now.blocks design marks.now
-        → MatchResult result (λ v. IsValued texts design (told v)) (NoValue texts design) }
+        → MatchResult result (λ v. IsValued texts design (design_view v)) (NoValue texts design) }
     ensures no_device { ¬ IsErrOf result (value.Engine engine.Device) }
 {
     // proof: what is known of all pairs, that they are of known blocks

@@ -7,7 +7,7 @@ use Rattle.std.proofs.lemmas.List.Folds.{list_any-append}
 use Rattle.fixed_worth.specs.Record.{reads, number_of}
 use Rattle.design_file.specs.declared.design_fault.DesignFault.{DesignFault}
 use Rattle.design_file.specs.declared.design_fault.DesignFault.TheVariants.{Number, UnknownBlock, Repeated}
-use Rattle.design_file.specs.Records.{is_passed, block_word, word_fault, named_fault, record_fault, block_in, blocks_in, has, set_in, marked}
+use Rattle.design_file.specs.Records.{is_passed, block_word, word_fault, named_fault, record_fault, block_in, blocks_in, has, set_in, marks_after}
 use Rattle.fixed_worth.proofs.Bits.{or_true, or_false}
 
 -- ---- what is known of blocks below n alone counts
@@ -60,7 +60,7 @@ mark_by true n g line marks bs o e w h k j = h k j ∙ ap (λ (xs : List ℕ). h
 mark_by false n g line marks bs o e w h k j = mark_word n g line marks bs o e w h k j
 
 pub mark : (n : ℕ) (g : ℕ → Bool) (line : ℕ) (marks : List Bool) (bs : List ℕ) (fs : List (List ℕ)) → length marks ≡ n → record_fault n g line fs ≡ None → ((k : ℕ) → k < n → get_or marks k false ≡ has bs k)
-    → (k : ℕ) → k < n → get_or (marked fs marks) k false ≡ has (bs ++ blocks_in fs) k
+    → (k : ℕ) → k < n → get_or (marks_after fs marks) k false ≡ has (bs ++ blocks_in fs) k
 mark n g line marks bs fs e w h k j = mark_by (is_passed fs) n g line marks bs (block_word fs) e w h k j
 
 -- A vector whose whole slice was lent has that slice.

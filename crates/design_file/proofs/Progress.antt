@@ -6,17 +6,17 @@ use Rattle.std.proofs.lemmas.Bool.Decides.{nat_tests}
 use Rattle.std.proofs.lemmas.List.Concat.{flat_map-append}
 use Rattle.fixed_worth.specs.Text.{Left, fields_of}
 use Rattle.fixed_worth.specs.declared.limits.TheConstants.{LINE_BYTES}
-use Rattle.fixed_worth.specs.Record.{Line, numbered, lines_in}
+use Rattle.fixed_worth.specs.Record.{Line, numbered_lines, lines_in}
 use Rattle.design_file.specs.declared.design_fault.DesignFault.{DesignFault}
 use Rattle.design_file.specs.declared.design_fault.DesignFault.TheVariants.{Text, Number, UnknownBlock, Repeated, NoMemory}
-use Rattle.design_file.specs.Records.{record_fault, line_fault, blocks_in, blocks_of, has, first_fault, fault_of, AreMarks, marked, UnlessMemory}
+use Rattle.design_file.specs.Records.{record_fault, line_fault, blocks_in, blocks_of, has, first_fault, fault_of, AreMarks, marks_after, UnlessMemory}
 use Rattle.design_file.proofs.Marks.{record_same, mark}
 
 -- What has been read, and what is left.
 pub record ReadSoFar (n : ℕ) (text : List ℕ) (marks : List Bool) (left : Left) : Type 0 where
   pub before : List Line
-  pub fault : first_fault n before (numbered left.number left.lines) ≡ fault_of n text
-  pub whole : before ++ numbered left.number left.lines ≡ lines_in text
+  pub fault : first_fault n before (numbered_lines left.number left.lines) ≡ fault_of n text
+  pub whole : before ++ numbered_lines left.number left.lines ≡ lines_in text
   pub marks_so : (b : ℕ) → b < n → get_or marks b false ≡ has (blocks_of before) b
 
 pub unless : (e : DesignFault) {Q : Type 0} → Q → UnlessMemory e Q
@@ -34,11 +34,11 @@ behind n text marks left g k line h =
     rw (short) (record_same n (has (blocks_of g.before)) (λ b. get_or marks b false) k (fields_of line) (λ b i. sym (g.marks_so b i)))
 
 next_fault : (n : ℕ) (before : List Line) (left next : Left) (line : List ℕ) → left.lines ≡ line ∷ next.lines → next.number ≡ left.number + 1
-    → first_fault n before (numbered left.number left.lines) ≡ option_or (line_fault n (has (blocks_of before)) (record { number = next.number; text = line })) (first_fault n (before ++ record { number = next.number; text = line } ∷ []) (numbered next.number next.lines))
+    → first_fault n before (numbered_lines left.number left.lines) ≡ option_or (line_fault n (has (blocks_of before)) (record { number = next.number; text = line })) (first_fault n (before ++ record { number = next.number; text = line } ∷ []) (numbered_lines next.number next.lines))
 next_fault n before left next line e f = rw (e, f) refl
 
 next_lines : (left next : Left) (line : List ℕ) → left.lines ≡ line ∷ next.lines → next.number ≡ left.number + 1
-    → numbered left.number left.lines ≡ record { number = next.number; text = line } ∷ numbered next.number next.lines
+    → numbered_lines left.number left.lines ≡ record { number = next.number; text = line } ∷ numbered_lines next.number next.lines
 next_lines left next line e f = rw (e, f) refl
 
 goes_wrong : (n : ℕ) (text : List ℕ) (marks : List Bool) (left next : Left) (line : List ℕ) (x : DesignFault) → ReadSoFar n text marks left
@@ -47,15 +47,15 @@ goes_wrong : (n : ℕ) (text : List ℕ) (marks : List Bool) (left next : Left) 
 goes_wrong n text marks left next line x g e f h w =
     let l : Line = record { number = next.number; text = line } in
     sym g.fault ∙ next_fault n g.before left next line e f
-    ∙ ap (λ (o : Option DesignFault). option_or o (first_fault n (g.before ++ l ∷ []) (numbered next.number next.lines))) (behind n text marks left g next.number line h ∙ w)
+    ∙ ap (λ (o : Option DesignFault). option_or o (first_fault n (g.before ++ l ∷ []) (numbered_lines next.number next.lines))) (behind n text marks left g next.number line h ∙ w)
 
 goes_on : (n : ℕ) (text : List ℕ) (marks more : List Bool) (left next : Left) (line : List ℕ) → ReadSoFar n text marks left → length marks ≡ n
     → left.lines ≡ line ∷ next.lines → next.number ≡ left.number + 1 → length line ≤ LINE_BYTES
     → record_fault n (λ b. get_or marks b false) next.number (fields_of line) ≡ None
-    → more ≡ marked (fields_of line) marks → ReadSoFar n text more next
+    → more ≡ marks_after (fields_of line) marks → ReadSoFar n text more next
 goes_on n text marks more left next line g e f h i w m =
     let l : Line = record { number = next.number; text = line } in
-    let rest = numbered next.number next.lines in
+    let rest = numbered_lines next.number next.lines in
     let bs : blocks_of (g.before ++ l ∷ []) ≡ blocks_of g.before ++ blocks_in (fields_of line) = flat_map-append (λ x. blocks_in (fields_of x.text)) g.before (l ∷ []) ∙ ap (λ (xs : List ℕ). blocks_of g.before ++ xs) (append-nil (blocks_in (fields_of line))) in
     record {
       before = g.before ++ l ∷ [];
@@ -68,7 +68,7 @@ goes_on n text marks more left next line g e f h i w m =
 pub step_on : (n k : ℕ) (text : List ℕ) (marks more : List Bool) (left next : Left) (line : List ℕ) → ReadSoFar n text marks left → length marks ≡ n → k ≡ next.number
     → left.lines ≡ line ∷ next.lines → next.number ≡ left.number + 1 → length line ≤ LINE_BYTES
     → record_fault n (λ b. get_or marks b false) k (fields_of line) ≡ None
-    → more ≡ marked (fields_of line) marks → ReadSoFar n text more next
+    → more ≡ marks_after (fields_of line) marks → ReadSoFar n text more next
 step_on n k text marks more left next line g e j f h i w m =
     goes_on n text marks more left next line g e f h i (subst (λ (x : ℕ). record_fault n (λ b. get_or marks b false) x (fields_of line) ≡ None) j w) m
 
@@ -81,7 +81,7 @@ step_wrong n k text marks left next line x g j f h i w =
 -- Where no line is left, the marks are those of the text.
 pub all_read : (n : ℕ) (text : List ℕ) (marks : List Bool) (left : Left) → ReadSoFar n text marks left → length marks ≡ n → left.lines ≡ [] → (fault_of n text ≡ None) × AreMarks n text marks
 all_read n text marks left g e none =
-    let whole : g.before ≡ lines_in text = sym (append-nil g.before) ∙ ap (λ (ls : List (List ℕ)). g.before ++ numbered left.number ls) (sym none) ∙ g.whole in (
-      sym g.fault ∙ ap (λ (ls : List (List ℕ)). first_fault n g.before (numbered left.number ls)) none,
+    let whole : g.before ≡ lines_in text = sym (append-nil g.before) ∙ ap (λ (ls : List (List ℕ)). g.before ++ numbered_lines left.number ls) (sym none) ∙ g.whole in (
+      sym g.fault ∙ ap (λ (ls : List (List ℕ)). first_fault n g.before (numbered_lines left.number ls)) none,
       record { size = e; at = λ b j. g.marks_so b j ∙ ap (λ (ls : List Line). has (blocks_of ls) b) whole },
     )

@@ -86,8 +86,8 @@ abbrev pub set_in : List Bool → Option (List ℕ) → List Bool
 set_in marks None = marks
 set_in marks (Some word) = slice_set marks (number_of word) true
 
-abbrev pub marked : List (List ℕ) → List Bool → List Bool
-marked fields marks = cond (is_passed fields) marks (set_in marks (block_word fields))
+abbrev pub marks_after : List (List ℕ) → List Bool → List Bool
+marks_after fields marks = cond (is_passed fields) marks (set_in marks (block_word fields))
 
 -- The fault is want of memory, or the claim holds.
 abbrev pub UnlessMemory : DesignFault → Type 0 → Type 0

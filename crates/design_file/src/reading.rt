@@ -3,7 +3,7 @@
 
 ghost use Rattle.std.specs.Prelude.{◌≡◌, ℕ, ◌<◌, ◌≤◌, false, length, slice_index_or, None, Some, MatchResult};
 ghost use Rattle.fixed_worth.specs.Text.{fields_of};
-ghost use Rattle.design_file.specs.Records.{AreMarks, UnlessMemory, fault_of, marked, record_fault};
+ghost use Rattle.design_file.specs.Records.{AreMarks, UnlessMemory, fault_of, marks_after, record_fault};
 
 use crate::DesignFault;
 use crate::named_block::{block_word, is_passed};
@@ -16,7 +16,7 @@ fn read_line(marks: &mut [bool], line: &[u8], n: u32, number: u64) -> Result<(),
     requires all { length marks.old ≡ n }
     ensures { MatchResult result
         (λ _. (record_fault n (λ b. slice_index_or marks.old b false) number (fields_of line.now) ≡ None)
-        × (marks.new ≡ marked (fields_of line.now) marks.old))
+        × (marks.new ≡ marks_after (fields_of line.now) marks.old))
         (λ e. record_fault n (λ b. slice_index_or marks.old b false) number (fields_of line.now) ≡ Some e) }
 {
     if is_passed(line) {

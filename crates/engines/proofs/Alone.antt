@@ -17,7 +17,7 @@ ok_same r a b e f = let g : Ok a ≡ Ok b = sym e ∙ f in cc
 -- two nets of one mine are one
 pub nets_same : (block : ℤ → ℕ → Amount) (n : ℕ) (texts : MineTexts) (x y : NetView) → IsNet x → IsNet y → IsNetOf block (mine_of n texts) x → IsNetOf block (mine_of n texts) y → x ≡ y
 nets_same block n texts x y a b p q =
-    let pairs = one_listing (prec.listed (precedence_of texts)) x.pairs y.pairs (listed_pairs (prec.listed (precedence_of texts)) x.pairs a.rests.rising p.pairs) (listed_pairs (prec.listed (precedence_of texts)) y.pairs b.rests.rising q.pairs) in
+    let pairs = one_listing (prec.pairs_of_text (precedence_of texts)) x.pairs y.pairs (listed_pairs (prec.pairs_of_text (precedence_of texts)) x.pairs a.rests.rising p.pairs) (listed_pairs (prec.pairs_of_text (precedence_of texts)) y.pairs b.rests.rising q.pairs) in
     let sizes = p.blocks ∙ sym q.blocks in
     let worths = same_at_default zero_amount x.worths y.worths sizes (λ k l. let m : k < n = omega (arith, l, p.blocks) in p.worths k m ∙ sym (q.worths k m)) in
     λ i. record { pairs = pairs i; worths = worths i }

@@ -39,7 +39,7 @@ net_made block texts rests worths a =
       worths = λ b h.
           let l : b < length worths = omega (arith, h, a.worths.size) in
           get_or-map (λ v. block v rests.blocks) worths b (pos 0) zero_amount l ∙ ap (λ v. block v rests.blocks) (a.worths.each b h);
-      pairs = listed_rests (prec.listed (precedence_of texts)) rests.pairs a.pairs;
+      pairs = listed_rests (prec.pairs_of_text (precedence_of texts)) rests.pairs a.pairs;
     }
 
 -- What is known once the net is made and the certificate is read without a fault.

@@ -7,7 +7,7 @@ use Rattle.closure_net.specs.Network.{holds_of}
 use Rattle.closure_net.specs.Mine.{Mine, IsBest, LiesWithin}
 use Rattle.settings_file.specs.Settings.{settings_of}
 use Rattle.shells.specs.Prices.{PricesView, blocks_of, worth_at}
-use Rattle.shells.specs.Series.{priced}
+use Rattle.shells.specs.Series.{mine_of_prices}
 use Rattle.shells.proofs.Rising.{best_is_nested}
 use Rattle.mine_inputs.specs.PricedTexts.{cell, table_of, PricesRead}
 use Rattle.mine_inputs.specs.Mines.{priced_texts, rests_by, mine_of}
@@ -21,10 +21,10 @@ table_size : (settings text : List ℕ) (n : ℕ) → PricesRead settings text n
 table_size settings text n r = sym (length-map-range_with_len (cell text (unwrap_or (settings_of settings).revenue 0)) 0 (blocks.count_of text) ∙ r.count)
 
 -- the mine of texts is that of their table
-mine_is : (settings text precedence : List ℕ) (k n : ℕ) → n ≡ blocks_of (table_of settings text) → mine_of n (priced_texts settings text precedence k) ≡ priced (rests_by (prec.listed precedence)) (table_of settings text) k
-mine_is settings text precedence k n e = λ i. record { blocks = e i; rests = rests_by (prec.listed precedence); worth = worth_at (table_of settings text) k }
+mine_is : (settings text precedence : List ℕ) (k n : ℕ) → n ≡ blocks_of (table_of settings text) → mine_of n (priced_texts settings text precedence k) ≡ mine_of_prices (rests_by (prec.pairs_of_text precedence)) (table_of settings text) k
+mine_is settings text precedence k n e = λ i. record { blocks = e i; rests = rests_by (prec.pairs_of_text precedence); worth = worth_at (table_of settings text) k }
 
-same_mine : (above above' : ℕ → ℕ → Bool) (table table' : PricesView) (k : ℕ) → ((b p : ℕ) → above b p ≡ above' b p) → table ≡ table' → priced above' table' k ≡ priced above table k
+same_mine : (above above' : ℕ → ℕ → Bool) (table table' : PricesView) (k : ℕ) → ((b p : ℕ) → above b p ≡ above' b p) → table ≡ table' → mine_of_prices above' table' k ≡ mine_of_prices above table k
 same_mine above above' table table' k e f = let g = sym f in λ i. record { blocks = blocks_of (g i); rests = λ b p. sym (e b p) i; worth = worth_at (g i) k }
 
 -- a pit that is proved in amounts that tell sizes is the best one
@@ -36,9 +36,9 @@ best_of Scaled mine e tells h = h
 pub accepted_are_nested : AcceptedAreNested
 accepted_are_nested s t p s' t' p' lower higher j k count count' worth worth' name name' tells tells' one le low high =
     let table = table_of s t in
-    let above = rests_by (prec.listed p) in
+    let above = rests_by (prec.pairs_of_text p) in
     let here = mine_is s t p j low.read.blocks (table_size s t low.read.blocks low.read.mine.worths_read) in
-    let there = mine_is s' t' p' k high.read.blocks (table_size s' t' high.read.blocks high.read.mine.worths_read) ∙ same_mine above (rests_by (prec.listed p')) table (table_of s' t') k one.rests one.prices in
+    let there = mine_is s' t' p' k high.read.blocks (table_size s' t' high.read.blocks high.read.mine.worths_read) ∙ same_mine above (rests_by (prec.pairs_of_text p')) table (table_of s' t') k one.rests one.prices in
     let e = holds_of low.read.pit in
     let c = holds_of high.read.pit in
     let L : Mine → Type 0 = λ m. IsBest m e in

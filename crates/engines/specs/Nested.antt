@@ -12,7 +12,7 @@ use Rattle.engines.specs.Judgements.{IsAccepted}
 -- The texts name the same prices, and the same blocks rest on the same ones: settings may differ in other keys, and lines in their order.
 pub record IsOneTable (settings blocks precedence settings' blocks' precedence' : List ℕ) : Type 0 where
   pub prices : table_of settings blocks ≡ table_of settings' blocks'
-  pub rests : (b p : ℕ) → rests_by (prec.listed precedence) b p ≡ rests_by (prec.listed precedence') b p
+  pub rests : (b p : ℕ) → rests_by (prec.pairs_of_text precedence) b p ≡ rests_by (prec.pairs_of_text precedence') b p
 
 -- Of two pits that are accepted over one price table, each in amounts that tell sizes, the one at the lower factor lies within the other.
 abbrev pub AcceptedAreNested : Type 0

@@ -1,6 +1,6 @@
 -- The lines that the program prints.
 use Rattle.std.specs.Prelude.{ℕ, List, [], ◌∷◌, ◌++◌, codes, decimal}
-use Rattle.fixed_worth.specs.Printed.{printed}
+use Rattle.fixed_worth.specs.Printed.{amount_text}
 use Rattle.ordered_group.specs.declared.groups.Group.{Group}
 use Rattle.ordered_group.specs.declared.groups.Group.TheVariants.{Worth, Pair, Scaled}
 use Rattle.closure_net.specs.FaultText.{net_fault_text}
@@ -25,7 +25,7 @@ group_mark Scaled = []
 
 -- the line of a judgement
 abbrev pub judgement_line : Judgement → List ℕ
-judgement_line (Accepted group count worth) = codes "ACCEPTED " ++ (decimal count ++ (codes " " ++ (printed 9 worth ++ (group_mark group ++ 10 ∷ []))))
+judgement_line (Accepted group count worth) = codes "ACCEPTED " ++ (decimal count ++ (codes " " ++ (amount_text 9 worth ++ (group_mark group ++ 10 ∷ []))))
 judgement_line (Refused fault) = codes "REFUSED " ++ (pit_fault_text fault ++ 10 ∷ [])
 
 -- the word for what has the fault; what the machine fails at has none

@@ -6,7 +6,7 @@ use Rattle.std.specs.Fmt.{decimal, sign_text}
 use Rattle.std.proofs.lemmas.List.{length-replicate}
 use Rattle.std.proofs.Math.Nat.{div-le_self, pow-le-pow_right}
 use Rattle.std.proofs.lemmas.Fmt.{length-decimal-le_wide}
-use Rattle.fixed_worth.specs.Printed.{fixed_width, digit_before, without_trailing_zeros, fraction_text, printed}
+use Rattle.fixed_worth.specs.Printed.{fixed_width, digit_before, without_trailing_zeros, fraction_text, amount_text}
 use Rattle.fixed_worth.proofs.Powers.{ten_positive, rest_below}
 
 before_short : (d : ℕ) (ds : List ℕ) (n : ℕ) → length ds ≤ n → length (digit_before d ds) ≤ suc n
@@ -34,8 +34,8 @@ sign_short true = omega arith
 sign_short false = omega arith
 
 pub printed_short : (places whole : ℕ) (z : ℤ) → 0 < places → places ≤ 38 → 0 < whole → unsigned_abs z / 10 ^ places < 10 ^ whole → unsigned_abs z < 10 ^ 64
-    → length (printed places z) ≤ 2 + whole + places
-unfolding printed
+    → length (amount_text places z) ≤ 2 + whole + places
+unfolding amount_text
 printed_short places whole z some few w h s =
     let n = unsigned_abs z in
     let one : 1 ≤ 10 ^ places = ten_positive places in
@@ -48,5 +48,5 @@ printed_short places whole z some few w h s =
     omega (arith, length-append (sign_text (is_negative z)) (decimal (n / 10 ^ places) ++ fraction_text places (n % 10 ^ places)), length-append (decimal (n / 10 ^ places)) (fraction_text places (n % 10 ^ places)))
 
 -- An amount of at most 10 ^ 18 millionths has at most 21.
-pub printed_micros_short : (z : ℤ) → unsigned_abs z ≤ 10 ^ 18 → length (printed 6 z) ≤ 21
+pub printed_micros_short : (z : ℤ) → unsigned_abs z ≤ 10 ^ 18 → length (amount_text 6 z) ≤ 21
 printed_micros_short z l = printed_short 6 13 z (omega arith) (omega arith) (omega arith) (omega arith) (omega arith)

@@ -4,7 +4,7 @@ use Rattle.std.specs.List.{onto_first}
 use Rattle.std.proofs.lemmas.List.Elements.{All-nil, All-cons}
 use Rattle.std.proofs.lemmas.Bool.Decides.{nat_tests}
 use Rattle.fixed_worth.specs.Text.{lines_of}
-use Rattle.fixed_worth.specs.Laws.{ended, with_line_feeds, AreLines}
+use Rattle.fixed_worth.specs.Laws.{with_last_line_feed, with_line_feeds, AreLines}
 
 abbrev NoLineFeed : List ℕ → Type 0
 NoLineFeed line = EachIndex line (λ k. eqb (get_or line k 0) 10 ≡ false)
@@ -21,13 +21,13 @@ onto_together : (b : ℕ) (ls : List (List ℕ)) → 0 < length ls → with_line
 onto_together b [] h = absurd (omega arith)
 onto_together b (l ∷ ls) h = refl
 
-together_by : (b : ℕ) (bs : List ℕ) (t : Bool) → eqb b 10 ≡ t → with_line_feeds (lines_of bs) ≡ ended bs → with_line_feeds (lines_of (b ∷ bs)) ≡ ended (b ∷ bs)
+together_by : (b : ℕ) (bs : List ℕ) (t : Bool) → eqb b 10 ≡ t → with_line_feeds (lines_of bs) ≡ with_last_line_feed bs → with_line_feeds (lines_of (b ∷ bs)) ≡ with_last_line_feed (b ∷ bs)
 together_by b [] true e ih = let f : b ≡ 10 = grind (arith, nat_tests) in rw f refl
 together_by b (c ∷ cs) true e ih = let f : b ≡ 10 = grind (arith, nat_tests) in rw f (ap (λ l. 10 ∷ l) ih)
 together_by b [] false e ih = rw e refl
 together_by b (c ∷ cs) false e ih = rw e (onto_together b (lines_of (c ∷ cs)) (some_line c cs (eqb c 10) refl) ∙ ap (λ l. b ∷ l) ih)
 
-together : (bs : List ℕ) → with_line_feeds (lines_of bs) ≡ ended bs
+together : (bs : List ℕ) → with_line_feeds (lines_of bs) ≡ with_last_line_feed bs
 together [] = refl
 together (b ∷ bs) = together_by b bs (eqb b 10) refl (together bs)
 

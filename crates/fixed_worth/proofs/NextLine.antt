@@ -4,7 +4,7 @@ use Rattle.std.specs.Prelude.{nat_lt}
 use Rattle.std.proofs.lemmas.Bool.Decides.{nat_tests}
 use Rattle.fixed_worth.specs.declared.limits.TheConstants.{LINE_BYTES}
 use Rattle.fixed_worth.specs.Text.{Left}
-use Rattle.fixed_worth.specs.Record.{Line, numbered}
+use Rattle.fixed_worth.specs.Record.{Line, numbered_lines}
 
 abbrev pub line : ℕ → List ℕ → Line
 line k text = record { number = k; text = text }
@@ -15,7 +15,7 @@ pub record Next (left next : Left) (k : ℕ) (text : List ℕ) : Type 0 where
   pub same : k ≡ next.number
   pub small : length text ≤ LINE_BYTES
 
-pub next_is : (left next : Left) (k : ℕ) (text : List ℕ) → Next left next k text → numbered left.number left.lines ≡ line k text ∷ numbered next.number next.lines
+pub next_is : (left next : Left) (k : ℕ) (text : List ℕ) → Next left next k text → numbered_lines left.number left.lines ≡ line k text ∷ numbered_lines next.number next.lines
 next_is left next k text h = rw (h.lines, h.same, h.number) refl
 
 pub short : (text : List ℕ) → length text ≤ LINE_BYTES → nat_lt LINE_BYTES (length text) ≡ false

@@ -5,10 +5,10 @@ use Rattle.fixed_worth.specs.Numeral.{plain_of}
 use Rattle.fixed_worth.specs.Text.{is_separator, Run}
 
 -- the text with a line feed (10) behind its last line
-abbrev pub ended : List ℕ → List ℕ
-ended [] = []
-ended (b ∷ []) = cond (b == 10) (b ∷ []) (b ∷ 10 ∷ [])
-ended (b ∷ c ∷ bs) = b ∷ ended (c ∷ bs)
+abbrev pub with_last_line_feed : List ℕ → List ℕ
+with_last_line_feed [] = []
+with_last_line_feed (b ∷ []) = cond (b == 10) (b ∷ []) (b ∷ 10 ∷ [])
+with_last_line_feed (b ∷ c ∷ bs) = b ∷ with_last_line_feed (c ∷ bs)
 
 -- the lines in a row, a line feed behind each
 abbrev pub with_line_feeds : List (List ℕ) → List ℕ
@@ -17,7 +17,7 @@ with_line_feeds (line ∷ lines) = line ++ (10 ∷ with_line_feeds lines)
 
 -- the lines give the text back, and none holds a line feed
 pub record AreLines (text : List ℕ) (lines : List (List ℕ)) : Type 0 where
-  pub together : with_line_feeds lines ≡ ended text
+  pub together : with_line_feeds lines ≡ with_last_line_feed text
   pub whole : All (λ line. EachIndex line (λ k. (slice_index line k == 10) ≡ false)) lines
 
 -- a field is the slice of its line at its place, has a byte, and none that is a separator;

@@ -21,5 +21,5 @@ unfoldable pub fraction_text : ℕ → ℕ → List ℕ
 fraction_text places n = cond (n == 0) [] (46 ∷ without_trailing_zeros (fixed_width places n))
 
 -- an amount of which 10 ^ places make one: an optional minus, the whole part, and the fraction
-unfoldable pub printed : ℕ → ℤ → List ℕ
-printed places z = sign_text (is_negative z) ++ (decimal (unsigned_abs z / 10 ^ places) ++ fraction_text places (unsigned_abs z % 10 ^ places))
+unfoldable pub amount_text : ℕ → ℤ → List ℕ
+amount_text places z = sign_text (is_negative z) ++ (decimal (unsigned_abs z / 10 ^ places) ++ fraction_text places (unsigned_abs z % 10 ^ places))

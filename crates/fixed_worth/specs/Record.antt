@@ -11,13 +11,13 @@ pub record Line : Type 0 where
   pub text : List ℕ
 
 -- The lines, numbered from k + 1 on.
-abbrev pub numbered : ℕ → List (List ℕ) → List Line
-numbered k [] = []
-numbered k (text ∷ texts) = record { number = k + 1; text = text } ∷ numbered (k + 1) texts
+abbrev pub numbered_lines : ℕ → List (List ℕ) → List Line
+numbered_lines k [] = []
+numbered_lines k (text ∷ texts) = record { number = k + 1; text = text } ∷ numbered_lines (k + 1) texts
 
 -- The lines of a text, numbered from 1 on.
 abbrev pub lines_in : List ℕ → List Line
-lines_in text = numbered 0 (lines_of text)
+lines_in text = numbered_lines 0 (lines_of text)
 
 -- The field is a whole number.
 abbrev pub reads : List ℕ → Bool

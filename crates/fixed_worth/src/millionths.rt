@@ -3,7 +3,7 @@
 
 ghost use Rattle.std.specs.Prelude.{◌≡◌, ℤ, ◌≤◌, ◌^◌, SomeIff, Some, unsigned_abs};
 ghost use Rattle.fixed_worth.specs.Decimal.{decimal_of};
-ghost use Rattle.fixed_worth.specs.Printed.{printed};
+ghost use Rattle.fixed_worth.specs.Printed.{amount_text};
 
 use crate::decimals::decimal;
 use crate::numerals::NumberFault;
@@ -73,7 +73,7 @@ impl Micros {
 }
 
 impl fmt::Display for Micros {
-    ghost output = { λ m. Some (printed 6 m) };
+    ghost output = { λ m. Some (amount_text 6 m) };
 
     fn fmt<W: fmt::Write>(&self, f: &mut fmt::Formatter<W>) -> fmt::Result {
         write_amount(f, i128::from(self.millionths), 6)

@@ -4,7 +4,7 @@
 ghost use Rattle.std.specs.Prelude.{◌≡◌, ◌<◌, ◌≤◌, ◌/◌, ◌%◌, ◌^◌, Some, unsigned_abs};
 ghost use Rattle.std.specs.Fmt.{DisplaysOnOk, decimal, sign_text};
 ghost use Rattle.std.specs.Int.{is_negative};
-ghost use Rattle.fixed_worth.specs.Printed.{fixed_width, without_trailing_zeros, fraction_text, printed};
+ghost use Rattle.fixed_worth.specs.Printed.{fixed_width, without_trailing_zeros, fraction_text, amount_text};
 
 use crate::rounding::power_of_ten;
 use std::fmt;
@@ -62,14 +62,14 @@ fn write_sign<W: fmt::Write>(f: &mut fmt::Formatter<W>, amount: i128) -> fmt::Re
 }
 
 // An amount of which 10^places make one.
-#[tactic(auto, unfolding(crate::specs::Printed::printed))]
+#[tactic(auto, unfolding(crate::specs::Printed::amount_text))]
 pub(crate) fn write_amount<W: fmt::Write>(
     f: &mut fmt::Formatter<W>,
     amount: i128,
     places: u32,
 ) -> fmt::Result
     requires { places ≤ 9 }
-    ensures { DisplaysOnOk W.write_str_gives f.old result (Some (printed places amount)) f.new }
+    ensures { DisplaysOnOk W.write_str_gives f.old result (Some (amount_text places amount)) f.new }
 {
     let unit = power_of_ten(places);
     let size = amount.unsigned_abs();
@@ -81,7 +81,7 @@ pub(crate) fn write_amount<W: fmt::Write>(
 }
 
 impl fmt::Display for Nanos {
-    ghost output = { λ x. Some (printed 9 x.0) };
+    ghost output = { λ x. Some (amount_text 9 x.0) };
 
     fn fmt<W: fmt::Write>(&self, f: &mut fmt::Formatter<W>) -> fmt::Result {
         write_amount(f, self.0, 9)
@@ -89,7 +89,7 @@ impl fmt::Display for Nanos {
 }
 
 impl fmt::Display for MicrosTotal {
-    ghost output = { λ x. Some (printed 6 x.0) };
+    ghost output = { λ x. Some (amount_text 6 x.0) };
 
     fn fmt<W: fmt::Write>(&self, f: &mut fmt::Formatter<W>) -> fmt::Result {
         write_amount(f, self.0, 6)

@@ -8,7 +8,7 @@ use Rattle.ordered_group.proofs.Order.{AtMost-refl, AtMost-same, AtMost-trans}
 use Rattle.ordered_group.proofs.Totals.{total_mono, total-none, total_term, where_so-plus, where_at, where_not, where_most, where_most_or, where_nonneg}
 use Rattle.prec_file.specs.Rests.{to_at}
 use Rattle.closure_net.specs.Network.{NetView}
-use Rattle.machine_law.specs.States.{put}
+use Rattle.machine_law.specs.States.{with_value_at}
 use Rattle.machine_law.specs.Labels.{arcs}
 use Rattle.machine_law.proofs.Numbers.{Same, same, shifted}
 use Rattle.machine_law.proofs.Points.{total-put}
@@ -41,12 +41,12 @@ module _ (net : NetView) where
       ])
 
   -- the flow of one pair is changed
-  pub arcs-put : (f : ℕ → Bool) (u : ℕ → Amount) (x i : ℕ) (v : Amount) → i < length net.pairs → Same (plus (arcs net f (put u i v) x) (where_so ((to_at net.pairs i == x) && f i) (u i))) (plus (arcs net f u x) (where_so ((to_at net.pairs i == x) && f i) v))
+  pub arcs-put : (f : ℕ → Bool) (u : ℕ → Amount) (x i : ℕ) (v : Amount) → i < length net.pairs → Same (plus (arcs net f (with_value_at u i v) x) (where_so ((to_at net.pairs i == x) && f i) (u i))) (plus (arcs net f u x) (where_so ((to_at net.pairs i == x) && f i) v))
   unfolding arcs
   arcs-put f u x i v l = total-put (λ k a. where_so ((to_at net.pairs k == x) && f k) a) u i v (length net.pairs) l
 
   -- more flow on one pair adds at most as much, and only where it ends at x
-  pub arcs-plus : (f : ℕ → Bool) (u : ℕ → Amount) (x i y : ℕ) (d : Amount) → i < length net.pairs → to_at net.pairs i ≡ y → AtMost zero_amount d → AtMost (arcs net f (put u i (plus (u i) d)) x) (plus (arcs net f u x) (where_so (y == x) d))
+  pub arcs-plus : (f : ℕ → Bool) (u : ℕ → Amount) (x i y : ℕ) (d : Amount) → i < length net.pairs → to_at net.pairs i ≡ y → AtMost zero_amount d → AtMost (arcs net f (with_value_at u i (plus (u i) d)) x) (plus (arcs net f u x) (where_so (y == x) d))
   arcs-plus f u x i y d l e n =
       let t = arcs-put f u x i (plus (u i) d) l in
       let g = same (where_so-plus ((to_at net.pairs i == x) && f i) (u i) d) in

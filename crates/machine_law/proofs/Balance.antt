@@ -11,7 +11,7 @@ use Rattle.closure_net.specs.declared.port.PortKind.TheVariants.{Sink, Forward, 
 use Rattle.machine_law.specs.declared.operations.Best.{Best}
 use Rattle.machine_law.specs.declared.operations.Operation.{Operation}
 use Rattle.machine_law.specs.declared.operations.Operation.TheVariants.{Idle, PushDue, TakeDue, GiveDue, RaiseDue}
-use Rattle.machine_law.specs.States.{State, put}
+use Rattle.machine_law.specs.States.{State, with_value_at}
 use Rattle.machine_law.specs.Residual.{IsEnd, IsPortOf}
 use Rattle.machine_law.specs.Steps.{becomes, after_push, after_push_by, after_take, after_give, after_give_by, after_raise}
 use Rattle.machine_law.specs.Transit.{sum_on_way, lands_by, into_sink, into_source, amount_coming_to_sink, amount_coming_to_source, amount_given_back, amount_drained}
@@ -53,7 +53,7 @@ module _ (net : NetView) (s : State) (b : ℕ) (l : b < length net.worths) (k : 
       let m = same (where_so-minus (b == x) (s.source b) d) in
       record { w = omega (arith, ints, i, m); c = omega (arith, ints, i, m) }
 
-  way_pushed : (f : Port → Amount → Amount) (have : Amount) (best : Best Amount) (d : Amount) (p : Port) → s.operation b ≡ PushDue have best → Same (sum_on_way net f (put s.operation b (TakeDue d p))) (plus (sum_on_way net f s.operation) (f p d))
+  way_pushed : (f : Port → Amount → Amount) (have : Amount) (best : Best Amount) (d : Amount) (p : Port) → s.operation b ≡ PushDue have best → Same (sum_on_way net f (with_value_at s.operation b (TakeDue d p))) (plus (sum_on_way net f s.operation) (f p d))
   way_pushed f have best d p e =
       let c = sum_on_way-put net f s.operation b (PushDue have best) (TakeDue d p) l e in
       record { w = omega (arith, ints, c); c = omega (arith, ints, c) }
@@ -112,7 +112,7 @@ module _ (net : NetView) (s : State) (b : ℕ) (l : b < length net.worths) (k : 
   balanced_pushed have best d p e q = balanced_pushed_by have best d p.kind p.other p.slot e q
 
   -- ---- the excess steps
-  way_taken : (f : Port → Amount → Amount) (d : Amount) (p : Port) → s.operation b ≡ TakeDue d p → Same (sum_on_way net f (put s.operation b (GiveDue d p))) (sum_on_way net f s.operation)
+  way_taken : (f : Port → Amount → Amount) (d : Amount) (p : Port) → s.operation b ≡ TakeDue d p → Same (sum_on_way net f (with_value_at s.operation b (GiveDue d p))) (sum_on_way net f s.operation)
   way_taken f d p e =
       let c = sum_on_way-put net f s.operation b (TakeDue d p) (GiveDue d p) l e in
       record { w = omega (arith, ints, c); c = omega (arith, ints, c) }
@@ -124,7 +124,7 @@ module _ (net : NetView) (s : State) (b : ℕ) (l : b < length net.worths) (k : 
     at_sink = let h = same k.at_sink in let v = way_taken into_sink d p e in equal (record { w = omega (arith, ints, h, v); c = omega (arith, ints, h, v) });
   }
 
-  way_given : (f : Port → Amount → Amount) (d : Amount) (p : Port) → s.operation b ≡ GiveDue d p → Same (plus (sum_on_way net f (put s.operation b Idle)) (f p d)) (sum_on_way net f s.operation)
+  way_given : (f : Port → Amount → Amount) (d : Amount) (p : Port) → s.operation b ≡ GiveDue d p → Same (plus (sum_on_way net f (with_value_at s.operation b Idle)) (f p d)) (sum_on_way net f s.operation)
   way_given f d p e =
       let c = sum_on_way-put net f s.operation b (GiveDue d p) Idle l e in
       record { w = omega (arith, ints, c); c = omega (arith, ints, c) }

@@ -15,7 +15,7 @@ use Rattle.machine_law.specs.declared.events.Event.{Event}
 use Rattle.machine_law.specs.declared.operations.Best.{Best}
 use Rattle.machine_law.specs.declared.operations.Operation.{Operation}
 use Rattle.machine_law.specs.declared.operations.Operation.TheVariants.{Idle, Scan, PushDue, TakeDue, GiveDue, RaiseDue}
-use Rattle.machine_law.specs.States.{State, put, opening, IsQuiet}
+use Rattle.machine_law.specs.States.{State, with_value_at, opening, IsQuiet}
 use Rattle.machine_law.specs.Residual.{IsEnd}
 use Rattle.machine_law.specs.Reads.{operation_begun_with}
 use Rattle.machine_law.specs.Steps.{after_look, after_label_at, push_amount, after_push_by, after_take, after_give_by, advance_by, Run}
@@ -30,11 +30,11 @@ use Rattle.machine_law.proofs.Balanced.{rest_begun, rest_looked, rest_weighed}
 use Rattle.machine_law.proofs.Law.{steps_keep_law, lawful_opening}
 
 -- ---- the sums after one change
-standing_excess-put : (net : NetView) (f : ℕ → Amount) (k : ℕ) (v : Amount) → k < length net.worths → Same (plus (standing_excess net (put f k v)) (f k)) (plus (standing_excess net f) v)
+standing_excess-put : (net : NetView) (f : ℕ → Amount) (k : ℕ) (v : Amount) → k < length net.worths → Same (plus (standing_excess net (with_value_at f k v)) (f k)) (plus (standing_excess net f) v)
 unfolding standing_excess
 standing_excess-put net f k v l = total-put (λ _ a. a) f k v (length net.worths) l
 
-amount_aloft-put : (net : NetView) (f : ℕ → Operation Amount) (k : ℕ) (old new : Operation Amount) → k < length net.worths → f k ≡ old → Same (plus (amount_aloft net (put f k new)) (amount_carried old)) (plus (amount_aloft net f) (amount_carried new))
+amount_aloft-put : (net : NetView) (f : ℕ → Operation Amount) (k : ℕ) (old new : Operation Amount) → k < length net.worths → f k ≡ old → Same (plus (amount_aloft net (with_value_at f k new)) (amount_carried old)) (plus (amount_aloft net f) (amount_carried new))
 unfolding amount_aloft
 amount_aloft-put net f k old new l e = rw (← e) (total-put (λ _ a. amount_carried a) f k new (length net.worths) l)
 
@@ -49,7 +49,7 @@ rest_carried (RaiseDue have best) h = refl
 -- ---- each step
 module _ (net : NetView) (known : All (IsKnown (length net.worths)) net.pairs) (s : State) (b : ℕ) (l : b < length net.worths) (k : IsConserved net s) where
   -- an operation that carries nothing goes on to one that carries nothing
-  stays : (old new : Operation Amount) → s.operation b ≡ old → amount_carried old ≡ zero_amount → amount_carried new ≡ zero_amount → plus (plus (standing_excess net s.excess) (amount_aloft net (put s.operation b new))) (plus s.at_source s.at_sink) ≡ all_given net
+  stays : (old new : Operation Amount) → s.operation b ≡ old → amount_carried old ≡ zero_amount → amount_carried new ≡ zero_amount → plus (plus (standing_excess net s.excess) (amount_aloft net (with_value_at s.operation b new))) (plus s.at_source s.at_sink) ≡ all_given net
   stays old new e x y =
       let a = amount_aloft-put net s.operation b old new l e in
       let p = same x in
@@ -70,7 +70,7 @@ module _ (net : NetView) (known : All (IsKnown (length net.worths)) net.pairs) (
       let h = same k in
       equal (record { w = omega (arith, ints, a, x, h); c = omega (arith, ints, a, x, h) })
 
-  given_into : (d : Amount) (p : Port) (other : ℕ) → other < length net.worths → s.operation b ≡ GiveDue d p → plus (plus (standing_excess net (put s.excess other (plus (s.excess other) d))) (amount_aloft net (put s.operation b Idle))) (plus s.at_source s.at_sink) ≡ all_given net
+  given_into : (d : Amount) (p : Port) (other : ℕ) → other < length net.worths → s.operation b ≡ GiveDue d p → plus (plus (standing_excess net (with_value_at s.excess other (plus (s.excess other) d))) (amount_aloft net (with_value_at s.operation b Idle))) (plus s.at_source s.at_sink) ≡ all_given net
   given_into d p other i e =
       let a = amount_aloft-put net s.operation b (GiveDue d p) Idle l e in
       let x = standing_excess-put net s.excess other (plus (s.excess other) d) i in

@@ -17,7 +17,7 @@ use Rattle.closure_net.specs.declared.port.PortKind.TheVariants.{Sink, Forward, 
 use Rattle.machine_law.specs.declared.operations.Best.{Best}
 use Rattle.machine_law.specs.declared.operations.Operation.{Operation}
 use Rattle.machine_law.specs.declared.operations.Operation.TheVariants.{Idle, Scan, PushDue, TakeDue, GiveDue, RaiseDue}
-use Rattle.machine_law.specs.States.{State, put, opening}
+use Rattle.machine_law.specs.States.{State, with_value_at, opening}
 use Rattle.machine_law.specs.Residual.{room, capacity, capacity_by, end_label, IsEnd, IsPortOf}
 use Rattle.machine_law.specs.Reads.{is_positive, operation_begun_with, better, after_last_port, after_port, after_capacity, after_label}
 use Rattle.machine_law.specs.Steps.{becomes, after_look, after_look_by, after_label_at, push_amount, after_push, after_push_by, after_take, after_give_by, after_raise, advance, advance_by}
@@ -188,7 +188,7 @@ module _ (net : NetView) (s : State) (b : ℕ) (k : HasAmounts net s) where
       }
 
   -- a state that leaves every block what it may rely on, with no amount below zero
-  amounts_left : (t : State) (o : Operation Amount) → ((x : ℕ) → IsMore net s t x) → t.source ≡ s.source → t.sink ≡ s.sink → t.flow ≡ s.flow → t.operation ≡ put s.operation b o → AtMost zero_amount t.at_source → AtMost zero_amount t.at_sink → IsOperation net s b o → HasAmounts net t
+  amounts_left : (t : State) (o : Operation Amount) → ((x : ℕ) → IsMore net s t x) → t.source ≡ s.source → t.sink ≡ s.sink → t.flow ≡ s.flow → t.operation ≡ with_value_at s.operation b o → AtMost zero_amount t.at_source → AtMost zero_amount t.at_sink → IsOperation net s b o → HasAmounts net t
   amounts_left t o m es ek ef eo at_source at_sink is = record {
     excess = λ x. AtMost-trans zero_amount (s.excess x) (t.excess x) (k.excess x) (m x).excess;
     source = rw es k.source;
@@ -204,7 +204,7 @@ module _ (net : NetView) (s : State) (b : ℕ) (k : HasAmounts net s) where
   nothing_less : (x : ℕ) → IsMore net s s x
   nothing_less x = record { excess = AtMost-refl (s.excess x); sink = refl; source = refl; flow = λ j _. AtMost-refl (s.flow j) }
 
-  more_excess : (other x : ℕ) (d : Amount) → AtMost zero_amount d → AtMost (s.excess x) (put s.excess other (plus (s.excess other) d) x)
+  more_excess : (other x : ℕ) (d : Amount) → AtMost zero_amount d → AtMost (s.excess x) (with_value_at s.excess other (plus (s.excess other) d) x)
   more_excess other x d h = put-each (λ n a. AtMost (s.excess n) a) s.excess other (plus (s.excess other) d) (AtMost-plus (s.excess other) d h) (λ n _. AtMost-refl (s.excess n)) x
 
   amounts_given_by : (d : Amount) (p : Port) (kind : PortKind) → AtMost zero_amount d → HasAmounts net (after_give_by s b d p kind)

@@ -1,7 +1,7 @@
 -- Of more levels than blocks, one has no block.
 use Rattle.std.proofs.Common.{◌≡◌, ◌≢◌, ℕ, zero, suc, ◌+◌, ◌<◌, ◌≤◌, ◌⊎◌, inl, inr, ap, sym, ◌∙◌, arith}
 use Rattle.std.proofs.lemmas.Bool.{cases_eq}
-use Rattle.machine_law.specs.States.{put}
+use Rattle.machine_law.specs.States.{with_value_at}
 use Rattle.machine_law.proofs.Points.{put-same, put-other}
 
 -- a block below n stands at this level, or none does
@@ -22,7 +22,7 @@ empty_level (suc k) zero h less = (0, omega arith, λ b i. absurd (omega (arith,
 empty_level (suc k) (suc n) h less = elim (find_at (suc n) h k) [
   | inl f ↦
       -- the block at the highest level takes the place of the last one
-      let g : ℕ → ℕ = put h f.0 (h n) in
+      let g : ℕ → ℕ = with_value_at h f.0 (h n) in
       let r = empty_level k n g (omega (arith, less)) in
       let lr = r.1 in
       let lf = f.1 in (
@@ -42,7 +42,7 @@ empty_level (suc k) (suc n) h less = elim (find_at (suc n) h k) [
 -- so one from 1 to n + 1 is empty
 pub empty_above : (n : ℕ) (h : ℕ → ℕ) → (l : ℕ) × (1 ≤ l) × (l ≤ n + 1) × ((b : ℕ) → b < n → h b ≢ l)
 empty_above n h =
-    let g : ℕ → ℕ = put h n 0 in
+    let g : ℕ → ℕ = with_value_at h n 0 in
     let r = empty_level (n + 2) (n + 1) g (omega arith) in
     let top = r.2 n (omega arith) in
     let lr = r.1 in

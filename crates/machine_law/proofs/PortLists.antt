@@ -13,7 +13,7 @@ use Rattle.ordered_group.proofs.Order.{larger_is, AtMost-same}
 use Rattle.prec_file.specs.Rests.{from_at, to_at, numbers}
 use Rattle.prec_file.proofs.Passing.{passing_after, passing_here, passing_at}
 use Rattle.closure_net.specs.Network.{NetView}
-use Rattle.closure_net.specs.Ports.{is_below, ports, port_list, forwards, backwards, forward_port, backward_port, sink_port, source_port}
+use Rattle.closure_net.specs.Ports.{is_below, ports, port_list, forward_ports, backward_ports, forward_port, backward_port, sink_port, source_port}
 use Rattle.closure_net.specs.declared.port.Port.{Port}
 use Rattle.closure_net.specs.declared.port.PortKind.{PortKind}
 use Rattle.closure_net.specs.declared.port.PortKind.TheVariants.{Sink, Forward, Backward, Source}
@@ -47,9 +47,9 @@ all_ports net b =
     let from = from_at net.pairs in
     let to = to_at net.pairs in
     let z = cond (is_below zero_amount w) (source_port b ∷ []) [] in
-    All-append P (cond (is_below w zero_amount) (sink_port b ∷ []) []) (forwards from to m b ++ (backwards from to m b ++ z)) (All-if P (is_below w zero_amount) (sink_port b) (refl, refl))
-    (All-append P (forwards from to m b) (backwards from to m b ++ z) (All-pairs P from (forward_port to) b m (λ k l e. (l, e, refl)))
-    (All-append P (backwards from to m b) z (All-pairs P to (backward_port from) b m (λ k l e. (l, e, refl))) (All-if P (is_below zero_amount w) (source_port b) (refl, refl))))
+    All-append P (cond (is_below w zero_amount) (sink_port b ∷ []) []) (forward_ports from to m b ++ (backward_ports from to m b ++ z)) (All-if P (is_below w zero_amount) (sink_port b) (refl, refl))
+    (All-append P (forward_ports from to m b) (backward_ports from to m b ++ z) (All-pairs P from (forward_port to) b m (λ k l e. (l, e, refl)))
+    (All-append P (backward_ports from to m b) z (All-pairs P to (backward_port from) b m (λ k l e. (l, e, refl))) (All-if P (is_below zero_amount w) (source_port b) (refl, refl))))
 
 pub port-at : (net : NetView) (b place : ℕ) (p : Port) → slice_get (ports net b) place ≡ Some p → IsPortOf net b p
 port-at net b place p e = subst (IsPortOf net b) (get_or_from_slice_get (ports net b) place p p e) (all_ports net b place p (slice_get_within (ports net b) place p e))
@@ -82,9 +82,9 @@ has_backward net b k l e =
     let to = to_at net.pairs in
     let z = cond (is_below zero_amount w) (source_port b ∷ []) [] in
     let p = backward_port from k in
-    in_right (cond (is_below w zero_amount) (sink_port b ∷ []) []) (forwards from to m b ++ (backwards from to m b ++ z)) p
-    (in_right (forwards from to m b) (backwards from to m b ++ z) p
-    (in_left (backwards from to m b) z p (has_pair to (backward_port from) b m k p l e (eq-eqb k k refl))))
+    in_right (cond (is_below w zero_amount) (sink_port b ∷ []) []) (forward_ports from to m b ++ (backward_ports from to m b ++ z)) p
+    (in_right (forward_ports from to m b) (backward_ports from to m b ++ z) p
+    (in_left (backward_ports from to m b) z p (has_pair to (backward_port from) b m k p l e (eq-eqb k k refl))))
 
 -- a worth whose parts are above zero
 positive_above : (w : Amount) → Below zero_amount (positive w) → Below zero_amount w
@@ -105,7 +105,7 @@ has_by net s b Sink other slot k q o =
     let to = to_at net.pairs in
     let z = cond (is_below zero_amount w) (source_port b ∷ []) [] in
     let full = Below-more o (shifted (k.sink b) (record { w = omega (arith, ints); c = omega (arith, ints) })) in
-    in_left (cond (is_below w zero_amount) (sink_port b ∷ []) []) (forwards from to m b ++ (backwards from to m b ++ z)) (port_with Sink other slot)
+    in_left (cond (is_below w zero_amount) (sink_port b ∷ []) []) (forward_ports from to m b ++ (backward_ports from to m b ++ z)) (port_with Sink other slot)
     (has_if (is_below w zero_amount) (sink_port b) (port_with Sink other slot) (is_below-from w zero_amount (negative_above w full)) refl)
 has_by net s b Forward other slot k q o =
     let w = amount_at net.worths b in
@@ -113,8 +113,8 @@ has_by net s b Forward other slot k q o =
     let from = from_at net.pairs in
     let to = to_at net.pairs in
     let z = cond (is_below zero_amount w) (source_port b ∷ []) [] in
-    in_right (cond (is_below w zero_amount) (sink_port b ∷ []) []) (forwards from to m b ++ (backwards from to m b ++ z)) (port_with Forward other slot)
-    (in_left (forwards from to m b) (backwards from to m b ++ z) (port_with Forward other slot)
+    in_right (cond (is_below w zero_amount) (sink_port b ∷ []) []) (forward_ports from to m b ++ (backward_ports from to m b ++ z)) (port_with Forward other slot)
+    (in_left (forward_ports from to m b) (backward_ports from to m b ++ z) (port_with Forward other slot)
     (has_pair from (forward_port to) b m slot (port_with Forward other slot) q.0 q.1 (eq-eqb slot slot refl)))
 has_by net s b Backward other slot k q o = absurd o
 has_by net s b Source other slot k q o =
@@ -124,9 +124,9 @@ has_by net s b Source other slot k q o =
     let to = to_at net.pairs in
     let z = cond (is_below zero_amount w) (source_port b ∷ []) [] in
     let p = port_with Source other slot in
-    in_right (cond (is_below w zero_amount) (sink_port b ∷ []) []) (forwards from to m b ++ (backwards from to m b ++ z)) p
-    (in_right (forwards from to m b) (backwards from to m b ++ z) p
-    (in_right (backwards from to m b) z p (has_if (is_below zero_amount w) (source_port b) p (is_below-from zero_amount w (positive_above w (Below-more o (k.source_most b)))) refl)))
+    in_right (cond (is_below w zero_amount) (sink_port b ∷ []) []) (forward_ports from to m b ++ (backward_ports from to m b ++ z)) p
+    (in_right (forward_ports from to m b) (backward_ports from to m b ++ z) p
+    (in_right (backward_ports from to m b) z p (has_if (is_below zero_amount w) (source_port b) p (is_below-from zero_amount w (positive_above w (Below-more o (k.source_most b)))) refl)))
 
 pub has_open : (net : NetView) (s : State) (b : ℕ) (p : Port) → HasAmounts net s → IsPortOf net b p → IsOpenBy net s b p.kind → has (ports net b) p ≡ true
 has_open net s b p k q o = has_by net s b p.kind p.other p.slot k q o

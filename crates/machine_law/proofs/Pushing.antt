@@ -14,7 +14,7 @@ use Rattle.closure_net.specs.declared.port.PortKind.TheVariants.{Sink, Forward, 
 use Rattle.machine_law.specs.declared.operations.Best.{Best}
 use Rattle.machine_law.specs.declared.operations.Operation.{Operation}
 use Rattle.machine_law.specs.declared.operations.Operation.TheVariants.{PushDue, TakeDue}
-use Rattle.machine_law.specs.States.{State, put}
+use Rattle.machine_law.specs.States.{State, with_value_at}
 use Rattle.machine_law.specs.Residual.{room, IsEnd, IsPortOf}
 use Rattle.machine_law.specs.Steps.{after_push, after_push_by, push_amount}
 use Rattle.machine_law.specs.Transit.{lands_by}
@@ -102,7 +102,7 @@ module _ (net : NetView) (s : State) (b : ℕ) (l : b < length net.worths) (have
   same_sink Backward x ne = refl
   same_sink Source x ne = refl
 
-  same_operation : (kind : PortKind) → (after kind).operation ≡ put s.operation b (TakeDue (amount_of kind) (port_with kind other slot))
+  same_operation : (kind : PortKind) → (after kind).operation ≡ with_value_at s.operation b (TakeDue (amount_of kind) (port_with kind other slot))
   same_operation Sink = refl
   same_operation Forward = refl
   same_operation Backward = refl

@@ -10,7 +10,7 @@ use Rattle.closure_net.specs.declared.port.PortKind.{PortKind}
 use Rattle.closure_net.specs.declared.port.PortKind.TheVariants.{Sink, Forward, Backward, Source}
 use Rattle.machine_law.specs.declared.operations.Operation.{Operation}
 use Rattle.machine_law.specs.declared.operations.Operation.TheVariants.{Idle, TakeDue, GiveDue}
-use Rattle.machine_law.specs.States.{State, put}
+use Rattle.machine_law.specs.States.{State, with_value_at}
 use Rattle.machine_law.specs.Steps.{becomes, after_take, after_give, after_give_by}
 use Rattle.machine_law.specs.Amounts.{HasAmounts}
 use Rattle.machine_law.specs.Balances.{supply}
@@ -31,7 +31,7 @@ same_supply net s t x e = shifted (AtMost-refl zero_amount) (record { w = omega 
 
 module _ (net : NetView) (s : State) (b : ℕ) (k : HasAmounts net s) (h : HasLabels net s) where
   -- a state that differs in excesses and in the operation of b alone, with the same supplies
-  labels_stay : (t : State) (o : Operation Amount) → t.label ≡ s.label → t.source ≡ s.source → t.sink ≡ s.sink → t.flow ≡ s.flow → t.operation ≡ put s.operation b o → ((x : ℕ) → Same (supply net t x) (supply net s x)) → IsLevelled net s b o → HasLabels net t
+  labels_stay : (t : State) (o : Operation Amount) → t.label ≡ s.label → t.source ≡ s.source → t.sink ≡ s.sink → t.flow ≡ s.flow → t.operation ≡ with_value_at s.operation b o → ((x : ℕ) → Same (supply net t x) (supply net s x)) → IsLevelled net s b o → HasLabels net t
   labels_stay t o el es ek ef eo same is =
       let calm : (x : ℕ) → IsCalm net s t x = λ x. record {
         own = ap (λ (u : ℕ → ℕ). u x) el;

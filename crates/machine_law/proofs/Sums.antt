@@ -8,35 +8,35 @@ use Rattle.prec_file.specs.Rests.{from_at, to_at}
 use Rattle.closure_net.specs.Network.{NetView}
 use Rattle.closure_net.specs.declared.port.Port.{Port}
 use Rattle.machine_law.specs.declared.operations.Operation.{Operation}
-use Rattle.machine_law.specs.States.{put}
+use Rattle.machine_law.specs.States.{with_value_at}
 use Rattle.machine_law.specs.Transit.{on_way, sum_on_way, inflow, outflow, amount_given_back, amount_drained}
 use Rattle.machine_law.proofs.Numbers.{Same, same}
 use Rattle.machine_law.proofs.Points.{total-put}
 
 -- ---- the flow of pair k changes, which ends at y
 module _ (net : NetView) (flow : ℕ → Amount) (k y : ℕ) (d : Amount) (x : ℕ) (l : k < length net.pairs) where
-  pub inflow-plus : to_at net.pairs k ≡ y → Same (inflow net (put flow k (plus (flow k) d)) x) (plus (inflow net flow x) (where_so (y == x) d))
+  pub inflow-plus : to_at net.pairs k ≡ y → Same (inflow net (with_value_at flow k (plus (flow k) d)) x) (plus (inflow net flow x) (where_so (y == x) d))
   unfolding inflow
   inflow-plus e = rw (← e) (
       let t = total-put (λ i a. where_so (to_at net.pairs i == x) a) flow k (plus (flow k) d) (length net.pairs) l in
       let g = same (where_so-plus (to_at net.pairs k == x) (flow k) d) in
       record { w = omega (arith, ints, t, g); c = omega (arith, ints, t, g) })
 
-  pub outflow-plus : from_at net.pairs k ≡ y → Same (outflow net (put flow k (plus (flow k) d)) x) (plus (outflow net flow x) (where_so (y == x) d))
+  pub outflow-plus : from_at net.pairs k ≡ y → Same (outflow net (with_value_at flow k (plus (flow k) d)) x) (plus (outflow net flow x) (where_so (y == x) d))
   unfolding outflow
   outflow-plus e = rw (← e) (
       let t = total-put (λ i a. where_so (from_at net.pairs i == x) a) flow k (plus (flow k) d) (length net.pairs) l in
       let g = same (where_so-plus (from_at net.pairs k == x) (flow k) d) in
       record { w = omega (arith, ints, t, g); c = omega (arith, ints, t, g) })
 
-  pub inflow-minus : to_at net.pairs k ≡ y → Same (inflow net (put flow k (minus (flow k) d)) x) (minus (inflow net flow x) (where_so (y == x) d))
+  pub inflow-minus : to_at net.pairs k ≡ y → Same (inflow net (with_value_at flow k (minus (flow k) d)) x) (minus (inflow net flow x) (where_so (y == x) d))
   unfolding inflow
   inflow-minus e = rw (← e) (
       let t = total-put (λ i a. where_so (to_at net.pairs i == x) a) flow k (minus (flow k) d) (length net.pairs) l in
       let g = same (where_so-minus (to_at net.pairs k == x) (flow k) d) in
       record { w = omega (arith, ints, t, g); c = omega (arith, ints, t, g) })
 
-  pub outflow-minus : from_at net.pairs k ≡ y → Same (outflow net (put flow k (minus (flow k) d)) x) (minus (outflow net flow x) (where_so (y == x) d))
+  pub outflow-minus : from_at net.pairs k ≡ y → Same (outflow net (with_value_at flow k (minus (flow k) d)) x) (minus (outflow net flow x) (where_so (y == x) d))
   unfolding outflow
   outflow-minus e = rw (← e) (
       let t = total-put (λ i a. where_so (from_at net.pairs i == x) a) flow k (minus (flow k) d) (length net.pairs) l in
@@ -44,18 +44,18 @@ module _ (net : NetView) (flow : ℕ → Amount) (k y : ℕ) (d : Amount) (x : �
       record { w = omega (arith, ints, t, g); c = omega (arith, ints, t, g) })
 
 -- ---- a block gets another operation
-pub sum_on_way-put : (net : NetView) (f : Port → Amount → Amount) (operation : ℕ → Operation Amount) (b : ℕ) (old new : Operation Amount) → b < length net.worths → operation b ≡ old → Same (plus (sum_on_way net f (put operation b new)) (on_way f old)) (plus (sum_on_way net f operation) (on_way f new))
+pub sum_on_way-put : (net : NetView) (f : Port → Amount → Amount) (operation : ℕ → Operation Amount) (b : ℕ) (old new : Operation Amount) → b < length net.worths → operation b ≡ old → Same (plus (sum_on_way net f (with_value_at operation b new)) (on_way f old)) (plus (sum_on_way net f operation) (on_way f new))
 unfolding sum_on_way
 sum_on_way-put net f operation b old new l e = rw (← e) (total-put (λ _ a. on_way f a) operation b new (length net.worths) l)
 
 -- ---- a block gives back to the source, or gives to the sink
-pub amount_given_back-more : (net : NetView) (source : ℕ → Amount) (b : ℕ) (d : Amount) → b < length net.worths → Same (amount_given_back net (put source b (minus (source b) d))) (plus (amount_given_back net source) d)
+pub amount_given_back-more : (net : NetView) (source : ℕ → Amount) (b : ℕ) (d : Amount) → b < length net.worths → Same (amount_given_back net (with_value_at source b (minus (source b) d))) (plus (amount_given_back net source) d)
 unfolding amount_given_back
 amount_given_back-more net source b d l =
     let t = total-put (λ i a. minus (positive (amount_at net.worths i)) a) source b (minus (source b) d) (length net.worths) l in
     record { w = omega (arith, ints, t); c = omega (arith, ints, t) }
 
-pub amount_drained-more : (net : NetView) (sink : ℕ → Amount) (b : ℕ) (d : Amount) → b < length net.worths → Same (amount_drained net (put sink b (plus (sink b) d))) (plus (amount_drained net sink) d)
+pub amount_drained-more : (net : NetView) (sink : ℕ → Amount) (b : ℕ) (d : Amount) → b < length net.worths → Same (amount_drained net (with_value_at sink b (plus (sink b) d))) (plus (amount_drained net sink) d)
 unfolding amount_drained
 amount_drained-more net sink b d l =
     let t = total-put (λ i a. a) sink b (plus (sink b) d) (length net.worths) l in

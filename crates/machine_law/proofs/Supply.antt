@@ -11,7 +11,7 @@ use Rattle.closure_net.specs.declared.port.PortKind.TheVariants.{Sink, Forward, 
 use Rattle.machine_law.specs.declared.operations.Best.{Best}
 use Rattle.machine_law.specs.declared.operations.Operation.{Operation}
 use Rattle.machine_law.specs.declared.operations.Operation.TheVariants.{Idle, Scan, PushDue, TakeDue, GiveDue, RaiseDue}
-use Rattle.machine_law.specs.States.{State, put}
+use Rattle.machine_law.specs.States.{State, with_value_at}
 use Rattle.machine_law.specs.Steps.{becomes, after_push_by, after_take, after_give, after_give_by, after_raise}
 use Rattle.machine_law.specs.Transit.{amount_owed, on_way, sum_on_way, lands}
 use Rattle.machine_law.specs.Balances.{supply}
@@ -53,7 +53,7 @@ on_hand net excess operation x = minus (plus (excess x) (sum_on_way net (lands x
 
 module _ (net : NetView) (s : State) (b : ℕ) (l : b < length net.worths) where
   -- what is on its way to one end, where nothing was and nothing is of this operation
-  pub way_rest : (old new : Operation Amount) (f : Port → Amount → Amount) → s.operation b ≡ old → IsAtRest old → IsAtRest new → Same (sum_on_way net f (put s.operation b new)) (sum_on_way net f s.operation)
+  pub way_rest : (old new : Operation Amount) (f : Port → Amount → Amount) → s.operation b ≡ old → IsAtRest old → IsAtRest new → Same (sum_on_way net f (with_value_at s.operation b new)) (sum_on_way net f s.operation)
   way_rest old new f e r n =
       let c = sum_on_way-put net f s.operation b old new l e in
       let p = same (rest_on_way old f r) in
@@ -61,7 +61,7 @@ module _ (net : NetView) (s : State) (b : ℕ) (l : b < length net.worths) where
       record { w = omega (arith, ints, c, p, q); c = omega (arith, ints, c, p, q) }
 
   module _ (x : ℕ) where
-    hand_rest : (old new : Operation Amount) → s.operation b ≡ old → IsAtRest old → IsAtRest new → Same (on_hand net s.excess (put s.operation b new) x) (on_hand net s.excess s.operation x)
+    hand_rest : (old new : Operation Amount) → s.operation b ≡ old → IsAtRest old → IsAtRest new → Same (on_hand net s.excess (with_value_at s.operation b new) x) (on_hand net s.excess s.operation x)
     hand_rest old new e r n =
         let c = way_rest old new (lands x) e r n in
         let o = where-put amount_owed s.operation b old new x e in
@@ -69,14 +69,14 @@ module _ (net : NetView) (s : State) (b : ℕ) (l : b < length net.worths) where
         let is = same (where_nothing (b == x) (amount_owed new) (rest_owed new n)) in
         record { w = omega (arith, ints, c, o, was, is); c = omega (arith, ints, c, o, was, is) }
 
-    hand_pushed : (have : Amount) (best : Best Amount) (d : Amount) (p : Port) → s.operation b ≡ PushDue have best → Same (on_hand net s.excess (put s.operation b (TakeDue d p)) x) (minus (plus (on_hand net s.excess s.operation x) (lands x p d)) (where_so (b == x) d))
+    hand_pushed : (have : Amount) (best : Best Amount) (d : Amount) (p : Port) → s.operation b ≡ PushDue have best → Same (on_hand net s.excess (with_value_at s.operation b (TakeDue d p)) x) (minus (plus (on_hand net s.excess s.operation x) (lands x p d)) (where_so (b == x) d))
     hand_pushed have best d p e =
         let c = sum_on_way-put net (lands x) s.operation b (PushDue have best) (TakeDue d p) l e in
         let o = where-put amount_owed s.operation b (PushDue have best) (TakeDue d p) x e in
         let none = same (where_so-zero (b == x)) in
         record { w = omega (arith, ints, c, o, none); c = omega (arith, ints, c, o, none) }
 
-    hand_given : (d : Amount) (p : Port) → s.operation b ≡ GiveDue d p → Same (plus (on_hand net s.excess (put s.operation b Idle) x) (lands x p d)) (on_hand net s.excess s.operation x)
+    hand_given : (d : Amount) (p : Port) → s.operation b ≡ GiveDue d p → Same (plus (on_hand net s.excess (with_value_at s.operation b Idle) x) (lands x p d)) (on_hand net s.excess s.operation x)
     hand_given d p e =
         let c = sum_on_way-put net (lands x) s.operation b (GiveDue d p) Idle l e in
         let o = where-put amount_owed s.operation b (GiveDue d p) Idle x e in
@@ -104,7 +104,7 @@ module _ (net : NetView) (s : State) (b : ℕ) (l : b < length net.worths) where
         let none = same (where_so-zero (b == x)) in
         record { w = omega (arith, ints, c, o, i, m, none); c = omega (arith, ints, c, o, i, m, none) }
 
-    given_into : (d : Amount) (other slot : ℕ) (p : Port) → s.operation b ≡ GiveDue d p → lands x p d ≡ where_so (other == x) d → Same (on_hand net (put s.excess other (plus (s.excess other) d)) (put s.operation b Idle) x) (on_hand net s.excess s.operation x)
+    given_into : (d : Amount) (other slot : ℕ) (p : Port) → s.operation b ≡ GiveDue d p → lands x p d ≡ where_so (other == x) d → Same (on_hand net (with_value_at s.excess other (plus (s.excess other) d)) (with_value_at s.operation b Idle) x) (on_hand net s.excess s.operation x)
     given_into d other slot p e q =
         let h = hand_given d p e in
         let i = where-put (λ a. a) s.excess other (s.excess other) (plus (s.excess other) d) x refl in
@@ -112,7 +112,7 @@ module _ (net : NetView) (s : State) (b : ℕ) (l : b < length net.worths) where
         let v = same q in
         record { w = omega (arith, ints, h, i, m, v); c = omega (arith, ints, h, i, m, v) }
 
-    given_out : (d : Amount) (p : Port) → s.operation b ≡ GiveDue d p → lands x p d ≡ zero_amount → Same (on_hand net s.excess (put s.operation b Idle) x) (on_hand net s.excess s.operation x)
+    given_out : (d : Amount) (p : Port) → s.operation b ≡ GiveDue d p → lands x p d ≡ zero_amount → Same (on_hand net s.excess (with_value_at s.operation b Idle) x) (on_hand net s.excess s.operation x)
     given_out d p e q =
         let h = hand_given d p e in
         let v = same q in

@@ -8,7 +8,7 @@ use Rattle.closure_net.specs.Ports.{port_list}
 use Rattle.machine_law.specs.declared.events.Event.{Event}
 use Rattle.machine_law.specs.declared.events.Kind.{Kind}
 use Rattle.machine_law.specs.declared.events.Kind.TheVariants.{ReadExcess, ReadCapacity, ReadLabel, TakeCapacity, GiveCapacity, TakeExcess, GiveExcess, RaiseLabel}
-use Rattle.machine_law.specs.States.{State, put, opening}
+use Rattle.machine_law.specs.States.{State, with_value_at, opening}
 use Rattle.machine_law.specs.Steps.{next_kind, advance}
 use Rattle.machine_law.specs.Transit.{amount_owed, amount_coming, sum_on_way}
 use Rattle.machine_law.specs.Labels.{arcs, steep}
@@ -92,7 +92,7 @@ watch over None (r ∷ rs) = []
 watch over (Some s) (r ∷ rs) = elim (follow over s (map (λ k. record { block = r.block; kind = k }) r.kinds)) [ None ↦ [] | Some t ↦ r.see t ∷ watch over (Some t) rs ]
 
 as_worked_by_hand : watch net (Some (opening net)) rows ≡ map (λ r. r.says) rows
-unfolding put arcs sum_on_way port_list
+unfolding with_value_at arcs sum_on_way port_list
 as_worked_by_hand = refl
 
 -- ---- two predecessors with the same label
@@ -111,5 +111,5 @@ tied_rows =
     ∷ []
 
 first_of_two_as_low : watch two_below (Some (opening two_below)) tied_rows ≡ map (λ r. r.says) tied_rows
-unfolding put arcs sum_on_way port_list
+unfolding with_value_at arcs sum_on_way port_list
 first_of_two_as_low = refl

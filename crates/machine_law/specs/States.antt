@@ -20,8 +20,8 @@ pub record State : Type 0 where
   pub steps : ℕ
 
 -- f with v at k
-unfoldable pub put : {X : Type 0} → (ℕ → X) → ℕ → X → ℕ → X
-put f k v i = if i == k then v else f i
+unfoldable pub with_value_at : {X : Type 0} → (ℕ → X) → ℕ → X → ℕ → X
+with_value_at f k v i = if i == k then v else f i
 
 -- each block has of the source what is positive of its worth, as excess, and all else is zero
 abbrev pub opening : NetView → State

@@ -12,7 +12,7 @@ use Rattle.machine_law.specs.declared.events.Kind.TheVariants.{ReadExcess, ReadC
 use Rattle.machine_law.specs.declared.operations.Best.{Best}
 use Rattle.machine_law.specs.declared.operations.Operation.{Operation}
 use Rattle.machine_law.specs.declared.operations.Operation.TheVariants.{Idle, Scan, PushDue, TakeDue, GiveDue, RaiseDue}
-use Rattle.machine_law.specs.States.{State, put, opening}
+use Rattle.machine_law.specs.States.{State, with_value_at, opening}
 use Rattle.machine_law.specs.Residual.{capacity, end_label}
 use Rattle.machine_law.specs.Reads.{operation_begun_with, after_capacity, after_label}
 
@@ -59,7 +59,7 @@ next_event net s b = record { block = b; kind = next_kind net s b }
 
 -- every step gives the block an operation, and adds one to the number of steps
 abbrev pub becomes : State → ℕ → Operation Amount → State
-becomes s b operation = record s { operation = put s.operation b operation; steps = s.steps + 1 }
+becomes s b operation = record s { operation = with_value_at s.operation b operation; steps = s.steps + 1 }
 
 -- the operation after a read at a port whose capacity isn't read: of its capacity, or of the label beyond a forward one
 abbrev pub after_look_by : NetView → State → ℕ → Amount → ℕ → Option (Best Amount) → Port → PortKind → Operation Amount
@@ -87,23 +87,23 @@ push_amount have Source read = least have read
 
 -- the capacity step of a push of d over a port of this kind
 abbrev pub after_push_by : State → ℕ → Amount → Port → PortKind → State
-after_push_by s b d port Sink = record (becomes s b (TakeDue d port)) { sink = put s.sink b (plus (s.sink b) d) }
-after_push_by s b d port Forward = record (becomes s b (TakeDue d port)) { flow = put s.flow port.slot (plus (s.flow port.slot) d) }
-after_push_by s b d port Backward = record (becomes s b (TakeDue d port)) { flow = put s.flow port.slot (minus (s.flow port.slot) d) }
-after_push_by s b d port Source = record (becomes s b (TakeDue d port)) { source = put s.source b (minus (s.source b) d) }
+after_push_by s b d port Sink = record (becomes s b (TakeDue d port)) { sink = with_value_at s.sink b (plus (s.sink b) d) }
+after_push_by s b d port Forward = record (becomes s b (TakeDue d port)) { flow = with_value_at s.flow port.slot (plus (s.flow port.slot) d) }
+after_push_by s b d port Backward = record (becomes s b (TakeDue d port)) { flow = with_value_at s.flow port.slot (minus (s.flow port.slot) d) }
+after_push_by s b d port Source = record (becomes s b (TakeDue d port)) { source = with_value_at s.source b (minus (s.source b) d) }
 
 abbrev pub after_push : State → ℕ → Amount → Port → State
 after_push s b d port = after_push_by s b d port port.kind
 
 -- d is taken out of the excess of b
 abbrev pub after_take : State → ℕ → Amount → Port → State
-after_take s b d port = record (becomes s b (GiveDue d port)) { excess = put s.excess b (minus (s.excess b) d) }
+after_take s b d port = record (becomes s b (GiveDue d port)) { excess = with_value_at s.excess b (minus (s.excess b) d) }
 
 -- d arrives over a port of this kind
 abbrev pub after_give_by : State → ℕ → Amount → Port → PortKind → State
 after_give_by s b d port Sink = record (becomes s b Idle) { at_sink = plus s.at_sink d }
-after_give_by s b d port Forward = record (becomes s b Idle) { excess = put s.excess port.other (plus (s.excess port.other) d) }
-after_give_by s b d port Backward = record (becomes s b Idle) { excess = put s.excess port.other (plus (s.excess port.other) d) }
+after_give_by s b d port Forward = record (becomes s b Idle) { excess = with_value_at s.excess port.other (plus (s.excess port.other) d) }
+after_give_by s b d port Backward = record (becomes s b Idle) { excess = with_value_at s.excess port.other (plus (s.excess port.other) d) }
 after_give_by s b d port Source = record (becomes s b Idle) { at_source = plus s.at_source d }
 
 abbrev pub after_give : State → ℕ → Amount → Port → State
@@ -111,7 +111,7 @@ after_give s b d port = after_give_by s b d port port.kind
 
 -- b rises to one above the label that was read at the best port
 abbrev pub after_raise : State → ℕ → Best Amount → State
-after_raise s b best = record (becomes s b Idle) { label = put s.label b (best.label + 1) }
+after_raise s b best = record (becomes s b Idle) { label = with_value_at s.label b (best.label + 1) }
 
 -- the state after the step that is next for b, which has this operation
 abbrev pub advance_by : NetView → State → ℕ → Operation Amount → State

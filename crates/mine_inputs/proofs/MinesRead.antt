@@ -115,7 +115,7 @@ mine_known texts p factor n worths rests same e a b =
     let q : blocks_valued worths ≡ rests.blocks = sym e ∙ sym b.2 in
     let F : ℕ → Type 0 = λ k. prec.fault_of k p ≡ None in
     let G : List ℕ → Type 0 = λ x. prec.fault_of rests.blocks x ≡ None in
-    let L : List ℕ → Type 0 = λ x. ArePairsOf (prec.listed x) rests.pairs in
+    let L : List ℕ → Type 0 = λ x. ArePairsOf (prec.pairs_of_text x) rests.pairs in
     let W : ℕ → Type 0 = λ k. AreWorths texts k (nanos_at worths factor) in (
       record {
         mine = record { worths_read = subst (WorthsRead texts) q a.read; precedence_within = subst IsWithinLimit (sym same) b.0; precedence_read = subst G (sym same) (subst F (sym b.2) b.1) };

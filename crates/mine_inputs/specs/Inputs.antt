@@ -23,10 +23,10 @@ use Rattle.mine_inputs.specs.Mines.{ValuesRead}
 use Rattle.mine_inputs.specs.FaultStands.{UpitFails, PrecFails}
 
 -- what is answered where an input can't be read to its end: this fault where it is too long
-abbrev pub unread : InputFault → EngineFault → EngineFault
-unread input.Device too_long = engine.Device
-unread input.InputTooLong too_long = too_long
-unread input.NoMemory too_long = engine.Memory
+abbrev pub unread_fault : InputFault → EngineFault → EngineFault
+unread_fault input.Device too_long = engine.Device
+unread_fault input.InputTooLong too_long = too_long
+unread_fault input.NoMemory too_long = engine.Memory
 
 -- the values are those of the text, for the blocks that it declares
 abbrev pub ReadsUpit : List ℕ → upit.UpitView → Type 0
@@ -41,7 +41,7 @@ UpitReadFails text _ = ⊥
 
 -- the pairs are those of the text
 abbrev pub ReadsPrec : ℕ → List ℕ → RestsView → Type 0
-ReadsPrec n text rests = IsWithinLimit text × (prec.fault_of n text ≡ None) × (rests.blocks ≡ n) × ArePairsOf (prec.listed text) rests.pairs
+ReadsPrec n text rests = IsWithinLimit text × (prec.fault_of n text ≡ None) × (rests.blocks ≡ n) × ArePairsOf (prec.pairs_of_text text) rests.pairs
 
 abbrev pub PrecReadFails : ℕ → List ℕ → EngineFault → Type 0
 PrecReadFails n text (engine.Prec p) = PrecFails n text p

@@ -37,7 +37,7 @@ rests_by listed b p = not (b == p) && has_pair listed b p
 
 -- The mine of n blocks: who rests on whom is by the precedence.
 abbrev pub mine_of : ℕ → MineTexts → Mine
-mine_of n texts = record { blocks = n; rests = rests_by (prec.listed (precedence_of texts)); worth = worth_by texts }
+mine_of n texts = record { blocks = n; rests = rests_by (prec.pairs_of_text (precedence_of texts)); worth = worth_by texts }
 
 -- The text of values isn't too long, declares n blocks and has no fault.
 pub record ValuesRead (text : List ℕ) (n : ℕ) : Type 0 where

@@ -14,7 +14,7 @@ use Rattle.mine_inputs.specs.Worths.{blocks_valued, nanos_at, price_at}
 pub record AreRead (texts : MineTexts) (nanos : List ℤ) (rests : RestsView) : Type 0 where
   pub mine : DenoteMine texts rests.blocks
   pub worths : AreWorths texts rests.blocks nanos
-  pub pairs : ArePairsOf (prec.listed (precedence_of texts)) rests.pairs
+  pub pairs : ArePairsOf (prec.pairs_of_text (precedence_of texts)) rests.pairs
 
 -- What blocks are worth is read of the texts, which are of a mine at this factor.
 pub record AreWorthsOf (texts : MineTexts) (factor : ℕ) (worths : Worths) : Type 0 where
@@ -31,4 +31,4 @@ pub record ArePricesRead (settings blocks precedence : List ℕ) (prices : Price
   pub mine : (factor : ℕ) → DenoteMine (priced_texts settings blocks precedence factor) rests.blocks
   pub table : prices ≡ table_of settings blocks
   pub size : blocks_of prices ≡ rests.blocks
-  pub pairs : ArePairsOf (prec.listed precedence) rests.pairs
+  pub pairs : ArePairsOf (prec.pairs_of_text precedence) rests.pairs

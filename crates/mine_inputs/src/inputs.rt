@@ -2,7 +2,7 @@
 
 ghost use Rattle.std.specs.Prelude.{◌≡◌, ◌+◌, ◌-◌, ◌^◌, ◌<◌, ◌≤◌, ◌↔◌, length, IfOk, IfSome, MatchResult, IsErrOf};
 ghost use Rattle.mine_inputs.specs.BlockTexts.{ReadsBlocks, BlocksReadFails};
-ghost use Rattle.mine_inputs.specs.Inputs.{ReadsPrec, PrecReadFails, unread};
+ghost use Rattle.mine_inputs.specs.Inputs.{ReadsPrec, PrecReadFails, unread_fault};
 
 use crate::engine_fault::{EngineFault, Problem};
 use blocks_file::{BlockModel, MOST_COLUMNS, read_blocks};
@@ -12,7 +12,7 @@ use std::alloc::Global;
 
 /// What is answered where an input can't be read to its end: this fault where it is too long.
 pub fn unread(fault: InputFault, too_long: EngineFault) -> EngineFault
-    ensures { result ≡ unread fault too_long }
+    ensures { result ≡ unread_fault fault too_long }
 {
     match fault {
         InputFault::Device => EngineFault::Device,

@@ -1,7 +1,7 @@
 -- The number of each block's first pair, of pairs in order.
 use Rattle.std.proofs.Common.{◌≡◌, ℕ, ◌+◌, ◌<◌, ◌≤◌, nat_lt, inl, inr, List, length, get_or, sym, subst, ◌∙◌, arith}
 use Rattle.std.proofs.lemmas.Bool.{cases_eq, cases_lt}
-use Rattle.prec_file.specs.Rests.{ending_below, from_at, IsRising}
+use Rattle.prec_file.specs.Rests.{count_ending_below, from_at, IsRising}
 use Rattle.prec_file.specs.Indexes.{IsStarts}
 use Rattle.prec_file.proofs.Passing.{passing_between}
 use Rattle.prec_file.proofs.Slots.{ending_all}
@@ -10,11 +10,11 @@ use Rattle.prec_file.proofs.Order.{up_from, lt_false}
 -- the first numbers, where those below k are of the blocks that have one
 pub record FirstsSoFar (ps : List (ℕ × ℕ)) (n k : ℕ) (firsts : List ℕ) : Type 0 where
   pub size : length firsts ≤ n + 1
-  pub at : (b : ℕ) → b < length firsts → get_or firsts b 0 ≡ ending_below (from_at ps) b (length ps)
+  pub at : (b : ℕ) → b < length firsts → get_or firsts b 0 ≡ count_ending_below (from_at ps) b (length ps)
   pub passed : (j : ℕ) → j < k → from_at ps j < length firsts
 
 -- the pairs before k are of blocks below b, and the others aren't
-first_is : (ps : List (ℕ × ℕ)) (b k : ℕ) → k ≤ length ps → ((j : ℕ) → j < k → from_at ps j < b) → ((j : ℕ) → k ≤ j → j < length ps → b ≤ from_at ps j) → ending_below (from_at ps) b (length ps) ≡ k
+first_is : (ps : List (ℕ × ℕ)) (b k : ℕ) → k ≤ length ps → ((j : ℕ) → j < k → from_at ps j < b) → ((j : ℕ) → k ≤ j → j < length ps → b ≤ from_at ps j) → count_ending_below (from_at ps) b (length ps) ≡ k
 first_is ps b k l before behind =
     passing_between (λ j. nat_lt (from_at ps j) b) k (length ps) l (λ j h i. lt_false (from_at ps j) b (behind j h i)) ∙ ending_all (from_at ps) b k before
 

@@ -6,7 +6,7 @@ use Rattle.std.proofs.lemmas.List.{drop_all, take_all}
 use Rattle.std.proofs.lemmas.List.Folds.{list_any-append}
 use Rattle.fixed_worth.specs.Record.{is_skipped}
 use Rattle.prec_file.specs.Records.{block_of, has}
-use Rattle.prec_file.specs.Indexes.{marked}
+use Rattle.prec_file.specs.Indexes.{marks_after}
 use Rattle.fixed_worth.proofs.Bits.{or_true, or_false}
 
 -- A block is seen where it had a record.
@@ -26,7 +26,7 @@ mark false n seen bs b e i h k j =
     let small : b < length seen = omega (arith, i refl) in
     mark_at seen bs b k small (h k j) (eqb b k) refl ∙ sym (list_any-append (λ x. eqb x k) bs (b ∷ []))
 
-pub marks : (fs : List (List ℕ)) (seen : List Bool) (b : ℕ) → is_skipped fs ≡ false → b ≡ block_of fs → set seen b true ≡ marked fs seen
+pub marks : (fs : List (List ℕ)) (seen : List Bool) (b : ℕ) → is_skipped fs ≡ false → b ≡ block_of fs → set seen b true ≡ marks_after fs seen
 marks fs seen b s e = rw (s, e) refl
 
 -- A vector whose whole slice was lent has that slice.

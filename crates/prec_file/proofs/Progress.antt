@@ -7,17 +7,17 @@ use Rattle.fixed_worth.specs.Text.{Left, fields_of}
 use Rattle.std.specs.Option.{option_or}
 use Rattle.fixed_worth.specs.declared.limits.TheConstants.{LINE_BYTES}
 use Rattle.prec_file.specs.declared.prec_fault.PrecFault.{PrecFault}
-use Rattle.fixed_worth.specs.Record.{Line, numbered, is_skipped}
-use Rattle.prec_file.specs.Records.{block_of, pairs_in, blocks_in, record_fault, fault_behind, has, blocks_of, pairs_of, first_fault, fault_of, listed}
-use Rattle.prec_file.specs.Indexes.{marked}
+use Rattle.fixed_worth.specs.Record.{Line, numbered_lines, is_skipped}
+use Rattle.prec_file.specs.Records.{block_of, pairs_in, blocks_in, record_fault, fault_behind, has, blocks_of, pairs_of, first_fault, fault_of, pairs_of_text}
+use Rattle.prec_file.specs.Indexes.{marks_after}
 use Rattle.prec_file.proofs.History.{record_same, record_block}
 use Rattle.prec_file.proofs.Marks.{mark}
 
 -- What has been read, and what is left.
 pub record ReadSoFar (n : ℕ) (text : List ℕ) (seen : List Bool) (pairs : List (ℕ × ℕ)) (left : Left) : Type 0 where
   pub before : List Line
-  pub fault : first_fault n before (numbered left.number left.lines) ≡ fault_of n text
-  pub all : pairs ++ pairs_of (numbered left.number left.lines) ≡ listed text
+  pub fault : first_fault n before (numbered_lines left.number left.lines) ≡ fault_of n text
+  pub all : pairs ++ pairs_of (numbered_lines left.number left.lines) ≡ pairs_of_text text
   pub pairs_so : pairs ≡ pairs_of before
   pub seen_so : (b : ℕ) → b < n → get_or seen b false ≡ has (blocks_of before) b
 
@@ -31,7 +31,7 @@ behind n text seen pairs left g k line h =
     rw (short) (e ∙ ap (λ (ps : List (ℕ × ℕ)). record_fault n (λ b. get_or seen b false) (length ps) k (fields_of line)) (sym g.pairs_so))
 
 pub next_fault : (n : ℕ) (before : List Line) (left next : Left) (line : List ℕ) → left.lines ≡ line ∷ next.lines → next.number ≡ left.number + 1
-    → first_fault n before (numbered left.number left.lines) ≡ option_or (fault_behind n before (record { number = next.number; text = line })) (first_fault n (before ++ record { number = next.number; text = line } ∷ []) (numbered next.number next.lines))
+    → first_fault n before (numbered_lines left.number left.lines) ≡ option_or (fault_behind n before (record { number = next.number; text = line })) (first_fault n (before ++ record { number = next.number; text = line } ∷ []) (numbered_lines next.number next.lines))
 next_fault n before left next line e f = rw (e, f) refl
 
 pub goes_wrong : (n : ℕ) (text : List ℕ) (seen : List Bool) (pairs : List (ℕ × ℕ)) (left next : Left) (line : List ℕ) (x : PrecFault) → ReadSoFar n text seen pairs left
@@ -40,16 +40,16 @@ pub goes_wrong : (n : ℕ) (text : List ℕ) (seen : List Bool) (pairs : List (�
 goes_wrong n text seen pairs left next line x g e f h w =
     let l : Line = record { number = next.number; text = line } in
     sym g.fault ∙ next_fault n g.before left next line e f
-    ∙ ap (λ (o : Option PrecFault). option_or o (first_fault n (g.before ++ l ∷ []) (numbered next.number next.lines))) (behind n text seen pairs left g next.number line h ∙ w)
+    ∙ ap (λ (o : Option PrecFault). option_or o (first_fault n (g.before ++ l ∷ []) (numbered_lines next.number next.lines))) (behind n text seen pairs left g next.number line h ∙ w)
 
 pub goes_on : (n : ℕ) (text : List ℕ) (seen more : List Bool) (pairs others : List (ℕ × ℕ)) (left next : Left) (line : List ℕ) → ReadSoFar n text seen pairs left → length seen ≡ n
     → left.lines ≡ line ∷ next.lines → next.number ≡ left.number + 1 → length line ≤ LINE_BYTES
     → record_fault n (λ b. get_or seen b false) (length pairs) next.number (fields_of line) ≡ None
-    → others ≡ pairs ++ pairs_in (fields_of line) → more ≡ marked (fields_of line) seen → ReadSoFar n text more others next
+    → others ≡ pairs ++ pairs_in (fields_of line) → more ≡ marks_after (fields_of line) seen → ReadSoFar n text more others next
 goes_on n text seen more pairs others left next line g e f h i w p m =
     let l : Line = record { number = next.number; text = line } in
-    let rest = numbered next.number next.lines in
-    let a : pairs_of (numbered left.number left.lines) ≡ pairs_in (fields_of line) ++ pairs_of rest = rw (f, h) refl in
+    let rest = numbered_lines next.number next.lines in
+    let a : pairs_of (numbered_lines left.number left.lines) ≡ pairs_in (fields_of line) ++ pairs_of rest = rw (f, h) refl in
     let bs : blocks_of (g.before ++ l ∷ []) ≡ blocks_of g.before ++ blocks_in (fields_of line) = flat_map-append (λ x. blocks_in (fields_of x.text)) g.before (l ∷ []) ∙ ap (λ (xs : List ℕ). blocks_of g.before ++ xs) (append-nil (blocks_in (fields_of line))) in
     let ps : pairs_of (g.before ++ l ∷ []) ≡ pairs_of g.before ++ pairs_in (fields_of line) = flat_map-append (λ x. pairs_in (fields_of x.text)) g.before (l ∷ []) ∙ ap (λ (xs : List (ℕ × ℕ)). pairs_of g.before ++ xs) (append-nil (pairs_in (fields_of line))) in
     record {
@@ -64,7 +64,7 @@ goes_on n text seen more pairs others left next line g e f h i w p m =
 pub step_on : (n k : ℕ) (text : List ℕ) (seen more : List Bool) (pairs others : List (ℕ × ℕ)) (left next : Left) (line : List ℕ) → ReadSoFar n text seen pairs left → length seen ≡ n → k ≡ next.number
     → left.lines ≡ line ∷ next.lines → next.number ≡ left.number + 1 → length line ≤ LINE_BYTES
     → record_fault n (λ b. get_or seen b false) (length pairs) k (fields_of line) ≡ None
-    → others ≡ pairs ++ pairs_in (fields_of line) → more ≡ marked (fields_of line) seen → ReadSoFar n text more others next
+    → others ≡ pairs ++ pairs_in (fields_of line) → more ≡ marks_after (fields_of line) seen → ReadSoFar n text more others next
 step_on n k text seen more pairs others left next line g e j f h i w p m =
     goes_on n text seen more pairs others left next line g e f h i (subst (λ (x : ℕ). record_fault n (λ b. get_or seen b false) (length pairs) x (fields_of line) ≡ None) j w) p m
 

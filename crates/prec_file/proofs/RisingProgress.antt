@@ -8,7 +8,7 @@ use Rattle.prec_file.specs.declared.limits.TheConstants.{MOST_PAIRS}
 use Rattle.prec_file.specs.declared.prec_fault.PrecFault.{PrecFault}
 use Rattle.prec_file.specs.Rests.{RowsView, ArePairsOf}
 use Rattle.prec_file.specs.Records.{block_of, pairs_in, record_fault, fault_of, UnlessMemory}
-use Rattle.prec_file.specs.Indexes.{AreNew, IsLineRead, TellsFault, marked}
+use Rattle.prec_file.specs.Indexes.{AreNew, IsLineRead, TellsFault, marks_after}
 use Rattle.prec_file.proofs.Shapes.{unless_told}
 use Rattle.prec_file.proofs.Progress.{ReadSoFar, step_on, step_wrong}
 
@@ -59,7 +59,7 @@ marked_or_not : (s : Bool) (seen : List Bool) (b : ℕ) → length (cond s seen 
 marked_or_not true seen b = refl
 marked_or_not false seen b = length-set seen b true
 
-length_marked : (fs : List (List ℕ)) (seen : List Bool) → length (marked fs seen) ≡ length seen
+length_marked : (fs : List (List ℕ)) (seen : List Bool) → length (marks_after fs seen) ≡ length seen
 length_marked fs seen = marked_or_not (is_skipped fs) seen (block_of fs)
 
 module _ (n k : ℕ) (text : List ℕ) (rows : RowsView) (count : ℕ) (left next : Left) (line : List ℕ) (g : RisingSoFar n text rows count left) (j : k ≡ next.number) (f : left.lines ≡ line ∷ next.lines)
@@ -70,9 +70,9 @@ module _ (n k : ℕ) (text : List ℕ) (rows : RowsView) (count : ℕ) (left nex
       let fs = fields_of line in
       let sound : record_fault n (λ b. get_or g.seen b false) (length g.pairs) k fs ≡ None =
       ap (λ (x : ℕ). record_fault n (λ b. get_or g.seen b false) x k fs) (sym g.size) ∙ r.sound (λ b. get_or g.seen b false) g.behind in
-      let on = step_on n k text g.seen (marked fs g.seen) g.pairs (g.pairs ++ pairs_in fs) left next line g.going g.all j f h i sound refl refl in
+      let on = step_on n k text g.seen (marks_after fs g.seen) g.pairs (g.pairs ++ pairs_in fs) left next line g.going g.all j f h i sound refl refl in
       record {
-        seen = marked fs g.seen;
+        seen = marks_after fs g.seen;
         pairs = g.pairs ++ pairs_in fs;
         going = on;
         all = length_marked fs g.seen ∙ g.all;

@@ -8,7 +8,7 @@ use Rattle.prec_file.specs.declared.prec_fault.PrecFault.TheVariants.{Text, Numb
 use Rattle.prec_file.specs.declared.limits.TheConstants.{MOST_PAIRS}
 use Rattle.prec_file.specs.Rests.{RowsView, ArePairsOf, IsRowAdded}
 use Rattle.prec_file.specs.Records.{block_of, predecessors_of, pairs_in, shape_fault, record_fault}
-use Rattle.prec_file.specs.Indexes.{IsRecordOf, AreNew, IsLineRead, marked}
+use Rattle.prec_file.specs.Indexes.{IsRecordOf, AreNew, IsLineRead, marks_after}
 use Rattle.prec_file.proofs.History.{third, pairs_length}
 use Rattle.prec_file.proofs.KnownPairs.{or_parts, none_large}
 
@@ -56,7 +56,7 @@ module _ (n line b claimed k before : ℕ) (fs : List (List ℕ)) (row : List �
       subst (λ (xs : List (ℕ × ℕ)). ArePairsOf (listed ++ xs) new.pairs) row_is
       (rows_joined listed (map (λ p. (mid.next, p)) row) added mid new (subst (λ (xs : List (ℕ × ℕ)). ArePairsOf listed xs) (sym same_pairs) h) a)
 
-  row_marks : (seen : List Bool) → AreNew old.next (λ c. get_or seen c false) → AreNew new.next (λ c. get_or (marked fs seen) c false)
+  row_marks : (seen : List Bool) → AreNew old.next (λ c. get_or seen c false) → AreNew new.next (λ c. get_or (marks_after fs seen) c false)
   row_marks seen h c l =
       let next : new.next ≡ b + 1 = a.next ∙ ap (λ x. x + 1) is_next in
       let ne : c ≢ block_of fs = λ q. omega (arith, next, q, l, r.block) in

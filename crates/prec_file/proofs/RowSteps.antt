@@ -6,13 +6,13 @@ use Rattle.std.proofs.lemmas.List.{get_or_append_left, get_or-append_right, get_
 use Rattle.std.proofs.lemmas.List.Elements.{All-append, All-weaker, All-nil, All-contains, All-contains_itself, Contains-append_cases}
 use Rattle.prec_file.specs.declared.limits.TheConstants.{MOST_PAIRS}
 use Rattle.fixed_worth.specs.declared.limits.TheConstants.{MOST_BLOCKS}
-use Rattle.prec_file.specs.Rests.{passing, ending_below, from_at, Before, IsRising, AreApart, IsKnown, IsOfBlock, IsRests, ArePairsOf}
+use Rattle.prec_file.specs.Rests.{numbers_passing, count_ending_below, from_at, Before, IsRising, AreApart, IsKnown, IsOfBlock, IsRests, ArePairsOf}
 use Rattle.prec_file.specs.Indexes.{IsStarts, AreRows, AreAbove, pairs_by}
 use Rattle.prec_file.proofs.Passing.{passing_between}
 use Rattle.prec_file.proofs.Slots.{ending_all}
 use Rattle.prec_file.proofs.Rows.{pairs_are}
 
-passing_same : (test other : ℕ → Bool) (m : ℕ) → ((k : ℕ) → k < m → test k ≡ other k) → passing test m ≡ passing other m
+passing_same : (test other : ℕ → Bool) (m : ℕ) → ((k : ℕ) → k < m → test k ≡ other k) → numbers_passing test m ≡ numbers_passing other m
 passing_same test other zero h = refl
 passing_same test other (suc m) h =
     let e = h m (omega arith) in
@@ -86,7 +86,7 @@ module _ (n next : ℕ) (ps row : List (ℕ × ℕ)) (firsts predecessors : List
   }
 
   -- pairs of the next block are behind those of the blocks before it
-  below_same : (b : ℕ) → b ≤ next → ending_below (from_at ps) b (length ps) ≡ ending_below (from_at (ps ++ row)) b (length (ps ++ row))
+  below_same : (b : ℕ) → b ≤ next → count_ending_below (from_at ps) b (length ps) ≡ count_ending_below (from_at (ps ++ row)) b (length (ps ++ row))
   below_same b l =
       let old = passing_same (λ k. nat_lt (from_at ps k) b) (λ k. nat_lt (from_at (ps ++ row) k) b) (length ps) (λ k m. ap (λ (p : ℕ × ℕ). nat_lt p.0 b) (sym (old_at k m))) in
       let none = passing_between (λ k. nat_lt (from_at (ps ++ row) k) b) (length ps) (length (ps ++ row)) (omega (arith, size)) (λ k m i. let e = new_from k m i in not_below (from_at (ps ++ row) k) b (omega arith)) in

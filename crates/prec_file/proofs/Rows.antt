@@ -4,7 +4,7 @@ use Rattle.std.specs.Prelude.{nat_le}
 use Rattle.std.proofs.lemmas.Bool.Decides.{nat_tests}
 use Rattle.std.proofs.lemmas.List.{take_more}
 use Rattle.std.proofs.Math.Seq.{take-length}
-use Rattle.prec_file.specs.Rests.{passing, from_at, first_of, above_of, IsKnown, IsRising}
+use Rattle.prec_file.specs.Rests.{numbers_passing, from_at, first_of, above_of, IsKnown, IsRising}
 use Rattle.prec_file.specs.Indexes.{IsStarts, AreAbove, block_at, rows_from, pairs_by}
 use Rattle.prec_file.proofs.Passing.{passing_all, passing_between, passing_most, passing_grows}
 use Rattle.prec_file.proofs.Slots.{ending_all, ending_next, ending_none}
@@ -45,7 +45,7 @@ module _ (ps : List (ℕ × ℕ)) (r : IsRising ps) (n : ℕ) (firsts : List ℕ
   unfolding begins
   block_is =
       let size : length firsts - 1 ≡ n = (let s = h.size in omega (arith, s)) in
-      ap (λ j. length (passing begins j)) size ∙ passing_between begins (from_at ps k) n (omega arith) not_begun ∙ passing_all begins (from_at ps k) begun
+      ap (λ j. length (numbers_passing begins j)) size ∙ passing_between begins (from_at ps k) n (omega arith) not_begun ∙ passing_all begins (from_at ps k) begun
 
 rows_are : (block : ℕ → ℕ) (k : ℕ) (ps : List (ℕ × ℕ)) → ((i : ℕ) → i < length ps → block (k + i) ≡ from_at ps i) → rows_from block k (map (λ p. p.1) ps) ≡ ps
 rows_are block k [] h = refl

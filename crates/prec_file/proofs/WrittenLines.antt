@@ -15,7 +15,7 @@ use Rattle.fixed_worth.specs.Laws.{with_line_feeds}
 use Rattle.fixed_worth.proofs.Joined.{is_one_line, is_word, behind_spaces, lines_cut, with_line_feeds-append, fields_cut, joined_is_one_line}
 use Rattle.fixed_worth.proofs.WrittenNumbers.{decimal_is_word, decimal_is_one_line, decimals_pass}
 use Rattle.prec_file.specs.Rests.{IsKnown, IsRising, above_of, first_of}
-use Rattle.prec_file.specs.Written.{spaced, line_of, lines_below, AreNarrow}
+use Rattle.prec_file.specs.Written.{spaced_numbers, line_of, lines_below, AreNarrow}
 use Rattle.prec_file.proofs.Finding.{above_at}
 
 -- What is known of a value whose blocks are narrow.
@@ -54,8 +54,8 @@ regroup x y s t = simp append_assoc
 line_is : (ps : List (ℕ × ℕ)) (b : ℕ) → line_of ps b ≡ row ps b ++ (10 ∷ [])
 line_is ps b =
     let above = above_of ps b in
-    let e : behind_spaces (map decimal above) ≡ spaced above = flat_map-map (λ word. 32 ∷ word) decimal above in
-    regroup (decimal b) (32 ∷ decimal (length above)) (spaced above) (10 ∷ [])
+    let e : behind_spaces (map decimal above) ≡ spaced_numbers above = flat_map-map (λ word. 32 ∷ word) decimal above in
+    regroup (decimal b) (32 ∷ decimal (length above)) (spaced_numbers above) (10 ∷ [])
     ∙ ap (λ s. (decimal b ++ ((32 ∷ decimal (length above)) ++ s)) ++ (10 ∷ [])) (sym e)
 
 text_is : (ps : List (ℕ × ℕ)) (n : ℕ) → lines_below ps n ≡ with_line_feeds (rows ps n)

@@ -5,24 +5,24 @@ use Rattle.std.proofs.lemmas.List.{take-append-drop}
 use Rattle.std.proofs.lemmas.Bool.{cases_eq}
 use Rattle.std.proofs.Math.Seq.{take-suc}
 use Rattle.std.proofs.lemmas.Grind.{flat_map-append}
-use Rattle.prec_file.specs.Written.{spaced, line_of, lines_below}
+use Rattle.prec_file.specs.Written.{spaced_numbers, line_of, lines_below}
 
 -- what holds anyhow
 
 -- one more number
 pub spaced_more : (before : List ℕ) (numbers : List ℕ) (i : ℕ) → i < length numbers
-    → (before ++ spaced (take i numbers)) ++ (32 ∷ decimal (get_or numbers i 0)) ≡ before ++ spaced (take (i + 1) numbers)
+    → (before ++ spaced_numbers (take i numbers)) ++ (32 ∷ decimal (get_or numbers i 0)) ≡ before ++ spaced_numbers (take (i + 1) numbers)
 spaced_more before numbers i here =
-    append_assoc before (spaced (take i numbers)) (32 ∷ decimal (get_or numbers i 0))
-    ∙ ap (λ l. before ++ (spaced (take i numbers) ++ l)) (sym (append-nil (32 ∷ decimal (get_or numbers i 0))))
+    append_assoc before (spaced_numbers (take i numbers)) (32 ∷ decimal (get_or numbers i 0))
+    ∙ ap (λ l. before ++ (spaced_numbers (take i numbers) ++ l)) (sym (append-nil (32 ∷ decimal (get_or numbers i 0))))
     ∙ ap (λ l. before ++ l) (sym (flat_map-append (λ n. 32 ∷ decimal n) (take i numbers) (get_or numbers i 0 ∷ [])))
-    ∙ ap (λ l. before ++ spaced l) (sym (rw add-one (take-suc numbers i 0 here)))
+    ∙ ap (λ l. before ++ spaced_numbers l) (sym (rw add-one (take-suc numbers i 0 here)))
 
 -- the first numbers and the others
-pub spaced_parts : (before : List ℕ) (numbers : List ℕ) (i : ℕ) → (before ++ spaced (take i numbers)) ++ spaced (drop i numbers) ≡ before ++ spaced numbers
+pub spaced_parts : (before : List ℕ) (numbers : List ℕ) (i : ℕ) → (before ++ spaced_numbers (take i numbers)) ++ spaced_numbers (drop i numbers) ≡ before ++ spaced_numbers numbers
 spaced_parts before numbers i =
-    append_assoc before (spaced (take i numbers)) (spaced (drop i numbers))
-    ∙ ap (λ l. before ++ l) (sym (flat_map-append (λ n. 32 ∷ decimal n) (take i numbers) (drop i numbers)) ∙ ap spaced (take-append-drop i numbers))
+    append_assoc before (spaced_numbers (take i numbers)) (spaced_numbers (drop i numbers))
+    ∙ ap (λ l. before ++ l) (sym (flat_map-append (λ n. 32 ∷ decimal n) (take i numbers) (drop i numbers)) ∙ ap spaced_numbers (take-append-drop i numbers))
 
 -- one more line
 pub lines_more : (ps : List (ℕ × ℕ)) (b : ℕ) → lines_below ps b ++ line_of ps b ≡ lines_below ps (b + 1)

@@ -10,14 +10,14 @@ use Rattle.std.proofs.lemmas.List.Concat.{flat_map-append}
 use Rattle.std.proofs.lemmas.List.Elements.{All-weaker, Contains-append_left, Contains-append_right, Contains-append_cases}
 use Rattle.std.proofs.lemmas.List.Folds.{list_any-append}
 use Rattle.fixed_worth.specs.Text.{lines_of, fields_of}
-use Rattle.fixed_worth.specs.Record.{Line, numbered, reads, number_of, is_skipped}
+use Rattle.fixed_worth.specs.Record.{Line, numbered_lines, reads, number_of, is_skipped}
 use Rattle.fixed_worth.proofs.WrittenNumbers.{decimal_is_no_remark, decimal_reads, number_of-decimal, decimals_pass, numbers_of-decimals}
 use Rattle.std.specs.Option.{option_or}
 use Rattle.fixed_worth.specs.declared.limits.TheConstants.{LINE_BYTES}
 use Rattle.prec_file.specs.declared.limits.TheConstants.{MOST_PAIRS}
 use Rattle.prec_file.specs.declared.prec_fault.PrecFault.{PrecFault}
 use Rattle.prec_file.specs.Rests.{RestsView, IsRests, ArePairsOf, from_at, to_at, numbers, above_of, first_of}
-use Rattle.prec_file.specs.Records.{pairs_in, blocks_in, shape_fault, record_fault, fault_behind, has, blocks_of, pairs_of, first_fault, listed}
+use Rattle.prec_file.specs.Records.{pairs_in, blocks_in, shape_fault, record_fault, fault_behind, has, blocks_of, pairs_of, first_fault, pairs_of_text}
 use Rattle.prec_file.specs.Written.{prec_text, AreNarrow}
 use Rattle.prec_file.specs.ReadBack.{ReadsBack}
 use Rattle.prec_file.proofs.Shapes.{sound, pairs_at}
@@ -84,18 +84,18 @@ row_blocks n ps b w l =
 
 -- ---- the records up to a block
 
-numbered-append : (k : ℕ) (xs ys : List (List ℕ)) → numbered k (xs ++ ys) ≡ numbered k xs ++ numbered (k + length xs) ys
-numbered-append k [] ys = let e : k + 0 ≡ k = omega arith in ap (λ j. numbered j ys) (sym e)
+numbered-append : (k : ℕ) (xs ys : List (List ℕ)) → numbered_lines k (xs ++ ys) ≡ numbered_lines k xs ++ numbered_lines (k + length xs) ys
+numbered-append k [] ys = let e : k + 0 ≡ k = omega arith in ap (λ j. numbered_lines j ys) (sym e)
 numbered-append k (x ∷ xs) ys =
     let e : k + 1 + length xs ≡ k + suc (length xs) = omega arith in
-    ap (λ ls. record { number = k + 1; text = x } ∷ ls) (numbered-append (k + 1) xs ys ∙ ap (λ j. numbered (k + 1) xs ++ numbered j ys) e)
+    ap (λ ls. record { number = k + 1; text = x } ∷ ls) (numbered-append (k + 1) xs ys ∙ ap (λ j. numbered_lines (k + 1) xs ++ numbered_lines j ys) e)
 
 -- the line of block b, and the lines below it
 line_at : List (ℕ × ℕ) → ℕ → Line
 line_at ps b = record { number = 0 + length (rows ps b) + 1; text = row ps b }
 
 before : List (ℕ × ℕ) → ℕ → List Line
-before ps b = numbered 0 (rows ps b)
+before ps b = numbered_lines 0 (rows ps b)
 
 before_more : (ps : List (ℕ × ℕ)) (b : ℕ) → before ps (suc b) ≡ before ps b ++ (line_at ps b ∷ [])
 unfolding before line_at
@@ -215,9 +215,9 @@ pair_listed n ps (suc m) p w l h i =
 writable : (v : RestsView) → IsRests v → AreNarrow v → IsWritable v.blocks v.pairs
 writable v r narrow = record { blocks = r.blocks; few = r.few; known = r.known; rising = r.rising; narrow = narrow }
 
-text_records : (v : RestsView) → IsWritable v.blocks v.pairs → numbered 0 (lines_of (prec_text v)) ≡ before v.pairs v.blocks
+text_records : (v : RestsView) → IsWritable v.blocks v.pairs → numbered_lines 0 (lines_of (prec_text v)) ≡ before v.pairs v.blocks
 unfolding before
-text_records v w = ap (numbered 0) (text_lines v.blocks v.pairs w)
+text_records v w = ap (numbered_lines 0) (text_lines v.blocks v.pairs w)
 
 -- What is written is read back.
 pub reads_back : (v : RestsView) → IsRests v → AreNarrow v → ReadsBack v (prec_text v)
@@ -225,8 +225,8 @@ reads_back v r narrow =
     let n = v.blocks in
     let ps = v.pairs in
     let w = writable v r narrow in
-    let all : listed (prec_text v) ≡ pairs_of (before ps n) = ap pairs_of (text_records v w) in
-    let same : ArePairsOf (listed (prec_text v)) ps = record {
+    let all : pairs_of_text (prec_text v) ≡ pairs_of (before ps n) = ap pairs_of (text_records v w) in
+    let same : ArePairsOf (pairs_of_text (prec_text v)) ps = record {
       rising = r.rising;
       held = λ p h d. pair_held n ps n p w (omega arith) (subst (λ xs. Contains xs p) all h);
       only = λ p h. (subst (λ xs. Contains xs p) (sym all) (pair_listed n ps n p w (omega arith) h (from_known p h)), r.apart p h);
@@ -234,7 +234,7 @@ reads_back v r narrow =
     record {
       sound = ap (first_fault n []) (text_records v w) ∙ lines_sound n ps n w (omega arith);
       same = same;
-      alone = λ qs other. one_listing (listed (prec_text v)) qs ps other same;
+      alone = λ qs other. one_listing (pairs_of_text (prec_text v)) qs ps other same;
     }
   where
     from_known : (p : ℕ × ℕ) → Contains v.pairs p → p.0 < v.blocks

@@ -83,8 +83,8 @@ abbrev pub fault_of : ℕ → List ℕ → Option PrecFault
 fault_of n text = first_fault n [] (lines_in text)
 
 -- The pairs that a text lists, in its order.
-abbrev pub listed : List ℕ → List (ℕ × ℕ)
-listed text = pairs_of (lines_in text)
+abbrev pub pairs_of_text : List ℕ → List (ℕ × ℕ)
+pairs_of_text text = pairs_of (lines_in text)
 
 -- The fault is want of memory, or the claim holds.
 abbrev pub UnlessMemory : PrecFault → Type 0 → Type 0

@@ -9,12 +9,12 @@ use Rattle.prec_file.specs.declared.write_fault.PrecWriteFault.{PrecWriteFault}
 use Rattle.prec_file.specs.declared.write_fault.PrecWriteFault.TheVariants.{TooWide, Device}
 
 -- Numbers in decimal, a space (32) before each.
-abbrev pub spaced : List ℕ → List ℕ
-spaced numbers = flat_map (λ number. 32 ∷ decimal number) numbers
+abbrev pub spaced_numbers : List ℕ → List ℕ
+spaced_numbers numbers = flat_map (λ number. 32 ∷ decimal number) numbers
 
 -- The line of a block: the block, how many predecessors it has, these ascending, and a line feed (10).
 abbrev pub line_of : List (ℕ × ℕ) → ℕ → List ℕ
-line_of ps b = (decimal b ++ (32 ∷ decimal (length (above_of ps b)))) ++ (spaced (above_of ps b) ++ (10 ∷ []))
+line_of ps b = (decimal b ++ (32 ∷ decimal (length (above_of ps b)))) ++ (spaced_numbers (above_of ps b) ++ (10 ∷ []))
 
 -- The lines of the blocks below n, ascending.
 abbrev pub lines_below : List (ℕ × ℕ) → ℕ → List ℕ

@@ -3,8 +3,8 @@
 ghost use Rattle.std.specs.Prelude.{◌≡◌, ◌≤◌, ◌++◌, false, length, slice_index_or, vec_capacity, All, MatchResult};
 ghost use Rattle.fixed_worth.specs.Text.{fields_of};
 ghost use Rattle.prec_file.specs.Rests.{ArePairsOf, IsKnown};
-ghost use Rattle.prec_file.specs.Records.{record_fault, pairs_in, fault_of, listed, UnlessMemory};
-ghost use Rattle.prec_file.specs.Indexes.{marked, TellsFault};
+ghost use Rattle.prec_file.specs.Records.{record_fault, pairs_in, fault_of, pairs_of_text, UnlessMemory};
+ghost use Rattle.prec_file.specs.Indexes.{marks_after, TellsFault};
 
 use crate::limits::MOST_PAIRS;
 use crate::pair_order::add_pairs;
@@ -31,7 +31,7 @@ fn read_line(
         (λ _. (record_fault n (λ b. slice_index_or seen.old b false) (length pairs.old.items) line (fields_of text.now) ≡ None)
         × (pairs.new.items ≡ pairs.old.items ++ pairs_in (fields_of text.now))
         × (length pairs.new.items ≤ MOST_PAIRS)
-        × (seen.new ≡ marked (fields_of text.now) seen.old)
+        × (seen.new ≡ marks_after (fields_of text.now) seen.old)
         × (LINE_BYTES ≤ vec_capacity row.new))
         (λ e. TellsFault e (record_fault n (λ b. slice_index_or seen.old b false) (length pairs.old.items) line (fields_of text.now))) }
 {
@@ -54,7 +54,7 @@ fn read_line(
 fn read_pairs(alloc: Global, text: &[u8], n: u32) -> Result<Vec<(u32, u32)>, PrecFault>
     requires { n ≤ MOST_BLOCKS }
     ensures { MatchResult result
-        (λ pairs. (fault_of n text.now ≡ None) × (pairs.items ≡ listed text.now)
+        (λ pairs. (fault_of n text.now ≡ None) × (pairs.items ≡ pairs_of_text text.now)
         × (length pairs.items ≤ MOST_PAIRS) × All (IsKnown n) pairs.items)
         (λ e. UnlessMemory e (fault_of n text.now ≡ Some e)) }
 {
@@ -84,7 +84,7 @@ fn read_pairs(alloc: Global, text: &[u8], n: u32) -> Result<Vec<(u32, u32)>, Pre
 pub fn read_listed(alloc: Global, text: &[u8], n: u32) -> Result<ListedPairs, PrecFault>
     requires { n ≤ MOST_BLOCKS }
     ensures { MatchResult result
-        (λ l. (fault_of n text.now ≡ None) × (l.blocks ≡ n) × (l.pairs ≡ listed text.now))
+        (λ l. (fault_of n text.now ≡ None) × (l.blocks ≡ n) × (l.pairs ≡ pairs_of_text text.now))
         (λ e. UnlessMemory e (fault_of n text.now ≡ Some e)) }
 {
     let pairs = read_pairs(alloc, text, n)?;
@@ -103,7 +103,7 @@ pub fn read_listed(alloc: Global, text: &[u8], n: u32) -> Result<ListedPairs, Pr
 pub fn read_prec(alloc: Global, text: &[u8], n: u32) -> Result<Rests, PrecFault>
     requires { n ≤ MOST_BLOCKS }
     ensures { MatchResult result
-        (λ r. (fault_of n text.now ≡ None) × (r.blocks ≡ n) × ArePairsOf (listed text.now) r.pairs)
+        (λ r. (fault_of n text.now ≡ None) × (r.blocks ≡ n) × ArePairsOf (pairs_of_text text.now) r.pairs)
         (λ e. UnlessMemory e (fault_of n text.now ≡ Some e)) }
 {
     if let Some(predecessors) = read_rising(alloc, text, n)? {
@@ -126,7 +126,7 @@ pub fn read_prec(alloc: Global, text: &[u8], n: u32) -> Result<Rests, PrecFault>
 pub fn read_predecessors(alloc: Global, text: Vec<u8>, n: u32) -> Result<Predecessors, PrecFault>
     requires { n ≤ MOST_BLOCKS }
     ensures { MatchResult result
-        (λ r. (fault_of n text.items ≡ None) × (r.blocks ≡ n) × ArePairsOf (listed text.items) r.pairs)
+        (λ r. (fault_of n text.items ≡ None) × (r.blocks ≡ n) × ArePairsOf (pairs_of_text text.items) r.pairs)
         (λ e. UnlessMemory e (fault_of n text.items ≡ Some e)) }
 {
     if let Some(predecessors) = read_rising(alloc, text.as_slice(), n)? {

@@ -3,7 +3,7 @@
 ghost use Rattle.std.specs.Prelude.{◌≡◌, ℕ, ◌≤◌, Bool, true, length, vec_capacity, MatchResult, MatchOption};
 ghost use Rattle.fixed_worth.specs.Text.{fields_of};
 ghost use Rattle.prec_file.specs.Rests.{ArePairsOf};
-ghost use Rattle.prec_file.specs.Records.{record_fault, fault_of, listed, UnlessMemory};
+ghost use Rattle.prec_file.specs.Records.{record_fault, fault_of, pairs_of_text, UnlessMemory};
 ghost use Rattle.prec_file.specs.Indexes.{AreNew, IsLineRead, TellsFault};
 
 use crate::limits::MOST_PAIRS;
@@ -64,7 +64,7 @@ pub(crate) fn read_rising(
 ) -> Result<Option<Predecessors>, PrecFault>
     requires { n ≤ MOST_BLOCKS }
     ensures { MatchResult result
-        (λ found. MatchOption found (Unit {0}) (λ r. (fault_of n text.now ≡ None) × (r.blocks ≡ n) × ArePairsOf (listed text.now) r.pairs))
+        (λ found. MatchOption found (Unit {0}) (λ r. (fault_of n text.now ≡ None) × (r.blocks ≡ n) × ArePairsOf (pairs_of_text text.now) r.pairs))
         (λ e. UnlessMemory e (fault_of n text.now ≡ Some e)) }
 {
     let Ok(rows) = PredecessorsBuilder::new(alloc, n) else {

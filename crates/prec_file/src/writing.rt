@@ -5,7 +5,7 @@ ghost use Rattle.std.specs.Fmt.{decimal};
 ghost use Rattle.std.specs.Io.KnownBytes.{Appends};
 ghost use Rattle.fixed_worth.specs.Device.{ReceivedPrefix, SentOrHeld};
 ghost use Rattle.prec_file.specs.Rests.{IsFirstNot};
-ghost use Rattle.prec_file.specs.Written.{prec_text, line_of, spaced, IsNarrowAt, AreNarrow, WriteFaultStands};
+ghost use Rattle.prec_file.specs.Written.{prec_text, line_of, spaced_numbers, IsNarrowAt, AreNarrow, WriteFaultStands};
 
 use crate::{PrecWriteFault, Predecessors, Rests};
 use fixed_worth::{CountedWrite, Page, WriteFault, WrittenNumber};
@@ -51,9 +51,9 @@ fn put_all_spaced<W: CountedWrite>(
     numbers: &[u32],
 ) -> Result<(), WriteFault>
     requires { W.failed out.old < 2 ^ 64 - 1 }
-    ensures held { OnOk result (SentOrHeld (W.contents out.old) (W.contents out.new) page.new (page.old ++ spaced numbers.now)) }
+    ensures held { OnOk result (SentOrHeld (W.contents out.old) (W.contents out.new) page.new (page.old ++ spaced_numbers numbers.now)) }
     ensures kept { OnOk result (W.failed out.new ≡ W.failed out.old) }
-    ensures prefix { OnErr result (ReceivedPrefix (W.contents out.old) (W.contents out.new) (page.old ++ spaced numbers.now)) }
+    ensures prefix { OnErr result (ReceivedPrefix (W.contents out.old) (W.contents out.new) (page.old ++ spaced_numbers numbers.now)) }
     ensures counted { OnErr result (W.failed out.new ≡ W.failed out.old + 1) }
 {
     for number in numbers {
@@ -89,9 +89,9 @@ fn put_rest<W: CountedWrite>(
     above: &[u32],
 ) -> Result<(), WriteFault>
     requires { W.failed out.old < 2 ^ 64 - 1 }
-    ensures held { OnOk result (SentOrHeld (W.contents out.old) (W.contents out.new) page.new (page.old ++ (spaced above.now ++ (10 ∷ [])))) }
+    ensures held { OnOk result (SentOrHeld (W.contents out.old) (W.contents out.new) page.new (page.old ++ (spaced_numbers above.now ++ (10 ∷ [])))) }
     ensures kept { OnOk result (W.failed out.new ≡ W.failed out.old) }
-    ensures prefix { OnErr result (ReceivedPrefix (W.contents out.old) (W.contents out.new) (page.old ++ (spaced above.now ++ (10 ∷ [])))) }
+    ensures prefix { OnErr result (ReceivedPrefix (W.contents out.old) (W.contents out.new) (page.old ++ (spaced_numbers above.now ++ (10 ∷ [])))) }
     ensures counted { OnErr result (W.failed out.new ≡ W.failed out.old + 1) }
 {
     put_all_spaced(page, out, digits, above)?;

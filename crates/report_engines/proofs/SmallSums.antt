@@ -12,7 +12,7 @@ use Rattle.shells.specs.Series.{SeriesView}
 use Rattle.mine_inputs.specs.declared.priced_inputs.ChargeColumns.{ChargeColumns}
 use Rattle.mine_inputs.specs.declared.priced_inputs.ChargeColumns.TheVariants.{Plain, Mill}
 use Rattle.mine_inputs.specs.PricedTexts.{place_beside, values_of, first_charges}
-use Rattle.bench_report.specs.Benches.{reported, blocks_at}
+use Rattle.bench_report.specs.Benches.{reported_blocks, blocks_at}
 use Rattle.bench_report.specs.FaultStands.{SameLengths, AllSumsFit, SomeSumOverflows}
 use Rattle.report_engines.specs.ReportParts.{IsSmall, IsPricedModel}
 
@@ -82,12 +82,12 @@ module _ (charges : ChargeColumns) (m : BlocksView) (prices : PricesView) (p : I
     of_worths = length-map-range_with_len (worth_at prices k) 0 (blocks_of prices) ∙ priced_size;
   }
 
-  pub sums_fit : (series : SeriesView) (k : ℕ) → m.blocks ≤ MOST_BLOCKS → k ≤ MOST_FACTOR → AllSumsFit (reported m series (place_beside charges) (worths_at prices k))
+  pub sums_fit : (series : SeriesView) (k : ℕ) → m.blocks ≤ MOST_BLOCKS → k ≤ MOST_FACTOR → AllSumsFit (reported_blocks m series (place_beside charges) (worths_at prices k))
   sums_fit series k few low z shell j l =
-      let r = reported m series (place_beside charges) (worths_at prices k) in (
+      let r = reported_blocks m series (place_beside charges) (worths_at prices k) in (
         sum_fits r.tonnes (blocks_at r z shell) m.blocks j few l (λ b k. let small = p.small (place_beside charges) (omega arith) b k in omega (arith, small)),
         sum_fits r.worth (blocks_at r z shell) m.blocks j few l (λ b h. worths_bound k b low h),
       )
 
-  pub none_overflows : (series : SeriesView) (k : ℕ) → m.blocks ≤ MOST_BLOCKS → k ≤ MOST_FACTOR → SomeSumOverflows (reported m series (place_beside charges) (worths_at prices k)) → ⊥
+  pub none_overflows : (series : SeriesView) (k : ℕ) → m.blocks ≤ MOST_BLOCKS → k ≤ MOST_FACTOR → SomeSumOverflows (reported_blocks m series (place_beside charges) (worths_at prices k)) → ⊥
   none_overflows series k few low o = o.4 (sums_fit series k few low o.0 o.1 o.2 o.3)

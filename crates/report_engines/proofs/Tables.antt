@@ -13,7 +13,7 @@ use Rattle.shells.specs.Prices.{PricesView, blocks_of, worth_at, worths_at}
 use Rattle.shells.specs.Series.{SeriesView, upto, IsSeries}
 use Rattle.shells.specs.Nesting.{BestPitsAreNested}
 use Rattle.bench_report.specs.declared.bench_row.BenchRow.{BenchRow}
-use Rattle.bench_report.specs.Benches.{reported, IsBenchTable}
+use Rattle.bench_report.specs.Benches.{reported_blocks, IsBenchTable}
 use Rattle.bench_report.specs.Written.{table_text}
 use Rattle.engines.specs.declared.judgement.Verdict.TheVariants.{No}
 use Rattle.engines.specs.declared.effort.Effort.{Effort}
@@ -70,7 +70,7 @@ module _ (s t p : List ℕ) (prices : PricesView) (rests : RestsView) (factors :
         let tonnes = unwrap_or said.tonnes 0 in
         subst Q (sym (ap place_beside read.charges_are)) (read.blocks_are.2.value (place_beside kind) b (tonnes_within kind revenue tonnes) l ∙ ap (λ i. cell t i b) (tonnes_chosen kind revenue tonnes))
 
-    alike : AreAlike (reported m series (place_beside charges) (worths_at series.prices factor)) (report_blocks rests.blocks s t p (upto series.shells))
+    alike : AreAlike (reported_blocks m series (place_beside charges) (worths_at series.prices factor)) (report_blocks rests.blocks s t p (upto series.shells))
     alike = record {
       blocks = size_is;
       height = λ b l. sym (ap (λ (q : Place). q.z) (read.blocks_are.2.place b l));
@@ -79,7 +79,7 @@ module _ (s t p : List ℕ) (prices : PricesView) (rests : RestsView) (factors :
       worth = worth_is;
     }
 
-    pub is_report : BestPitsAreNested → (rows : List BenchRow) → IsBenchTable (reported m series (place_beside charges) (worths_at series.prices factor)) rows → (text : List ℕ) → text ≡ table_text rows → IsReport s t p text
+    pub is_report : BestPitsAreNested → (rows : List BenchRow) → IsBenchTable (reported_blocks m series (place_beside charges) (worths_at series.prices factor)) rows → (text : List ℕ) → text ≡ table_text rows → IsReport s t p text
     is_report law rows table text spelled = record {
       size = rests.blocks;
       mine = read.series.mine.mine;

@@ -3,7 +3,7 @@
 ghost use Rattle.std.specs.Prelude.{IfOk, OnOk};
 ghost use Rattle.shells.specs.Prices.{worths_at};
 ghost use Rattle.shells.specs.Series.{IsSeries};
-ghost use Rattle.bench_report.specs.Benches.{reported, IsBenchTable};
+ghost use Rattle.bench_report.specs.Benches.{reported_blocks, IsBenchTable};
 ghost use Rattle.mine_inputs.specs.PricedTexts.{place_beside};
 ghost use Rattle.report_engines.specs.ReportParts.{IsPricedModel};
 
@@ -28,7 +28,7 @@ pub fn rows_at(
     factor: Factor,
 ) -> Result<Vec<BenchRow>, AllocError>
     requires { IsPricedModel charges model.now series.now.prices }
-    ensures rows { IfOk result (λ rows. IsBenchTable (reported model.now series.now (place_beside charges) (worths_at series.now.prices factor)) rows.items) }
+    ensures rows { IfOk result (λ rows. IsBenchTable (reported_blocks model.now series.now (place_beside charges) (worths_at series.now.prices factor)) rows.items) }
     ensures series { OnOk result (IsSeries series.now) }
 {
     // proof: at each factor the blocks with a shell of at most that factor are the best pit

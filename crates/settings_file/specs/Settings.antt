@@ -49,12 +49,12 @@ abbrev pub or_bad : {V : Type 0} → Key → Option V → Result (Option V) Sett
 or_bad key (Some v) = Ok (Some v)
 or_bad key None = Err (BadValue key)
 
-abbrev pub said : {V : Type 0} → Key → (Data → Option V) → Option Data → Result (Option V) SettingsFault
-said key reads None = Ok None
-said key reads (Some d) = or_bad key (reads d)
+abbrev pub value_said : {V : Type 0} → Key → (Data → Option V) → Option Data → Result (Option V) SettingsFault
+value_said key reads None = Ok None
+value_said key reads (Some d) = or_bad key (reads d)
 
 abbrev pub said_at : {V : Type 0} → Key → (Data → Option V) → Members → Result (Option V) SettingsFault
-said_at key reads ms = said key reads (get_member (key_name key) ms)
+said_at key reads ms = value_said key reads (get_member (key_name key) ms)
 
 -- whether a table names a charge of a mill, be its value what it may
 abbrev pub has_mill : Members → Bool

@@ -59,7 +59,7 @@ rests_same listed pairs a b p =
 
 module _ (s t p : List ℕ) (table : PricesView) (rests : RestsView) (r : ArePricesRead s t p table rests) where
   pub mine_is : (k : ℕ) → mine_at rests.pairs table k ≡ mine_at_factor rests.blocks s t p k
-  mine_is k = λ i. record { blocks = r.size i; rests = λ b q. rests_same (prec.listed p) rests.pairs r.pairs b q i; worth = worth_at (r.table i) k }
+  mine_is k = λ i. record { blocks = r.size i; rests = λ b q. rests_same (prec.pairs_of_text p) rests.pairs r.pairs b q i; worth = worth_at (r.table i) k }
 
   pub nested : BestPitsAreNested → AreNested (mine_at_factor rests.blocks s t p)
   nested law j k e c le low high =

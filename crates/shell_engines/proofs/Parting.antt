@@ -1,14 +1,14 @@
 -- A part is parted by the best pit at one of its factors.
 use Rattle.std.proofs.Common.{◌≡◌, ℕ, ◌+◌, ◌<◌, ◌≤◌, All, Bool, true, false, ◌&&◌, ◌||◌, not, List, [], length, map, get_or, refl, sym, subst, ap, ◌∙◌, arith}
 use Rattle.std.proofs.lemmas.List.{get_or-map, length-map}
-use Rattle.prec_file.specs.Rests.{has_pair, passing}
+use Rattle.prec_file.specs.Rests.{has_pair, numbers_passing}
 use Rattle.closure_net.specs.Network.{holds_of, IsAscending}
 use Rattle.closure_net.specs.Mine.{IsBest}
 use Rattle.shells.specs.Prices.{PricesView, blocks_of}
 use Rattle.shells.specs.Series.{mine_at}
 use Rattle.shells.proofs.Rising.{mines_rise}
 use Rattle.shells.proofs.Pushes.{mine_is_own}
-use Rattle.sub_mines.specs.Parts.{IsOwn, joined, beside, every_block}
+use Rattle.sub_mines.specs.Parts.{IsOwn, union_of, difference_of, every_block}
 use Rattle.sub_mines.specs.Renumbered.{IsListed, IsRenumbered, IsImage, number_in}
 use Rattle.sub_mines.specs.Kept.{IsKept}
 use Rattle.sub_mines.proofs.Bounds.{between_by_bounds, best_is_floor, best_is_ceiling, none_is_floor, all_is_ceiling}
@@ -88,13 +88,13 @@ module _ (pairs : List (ℕ × ℕ)) (prices : PricesView) (factors : List ℕ) 
   inside = map (number_in kept) s
 
   abbrev pub outside : List ℕ
-  outside = map (number_in kept) (passing (beside every_block (holds_of s)) (length kept))
+  outside = map (number_in kept) (numbers_passing (difference_of every_block (holds_of s)) (length kept))
 
   image : IsImage (blocks_of prices) (length kept) (number_in kept) (holds_of s) (holds_of inside)
   image = list_image (blocks_of prices) kept s part.are_kept.ascending places
 
-  is_listed : IsListed (beside part.high (holds_of low)) (blocks_of prices) (length kept) (number_in kept)
-  is_listed = listed (beside part.high (holds_of low)) (blocks_of prices) kept part.are_kept
+  is_listed : IsListed (difference_of part.high (holds_of low)) (blocks_of prices) (length kept) (number_in kept)
+  is_listed = listed (difference_of part.high (holds_of low)) (blocks_of prices) kept part.are_kept
 
   own : (j : ℕ) → IsOwn (mine_at pairs prices j)
   own j = record { own = (mine_is_own pairs prices j h.rests).own }
@@ -106,7 +106,7 @@ module _ (pairs : List (ℕ × ℕ)) (prices : PricesView) (factors : List ℕ) 
     worth = λ i l. refl;
   }
 
-  pub whole_best : IsBest (mine_at pairs prices k) (joined (holds_of low) (holds_of inside))
+  pub whole_best : IsBest (mine_at pairs prices k) (union_of (holds_of low) (holds_of inside))
   whole_best = best_by_small_mine (mine_at pairs prices k) (mine_among found.less prices kept k) (holds_of low) part.high (number_in kept) (holds_of s) (holds_of inside) (own k)
       (between_by_bounds (mine_at pairs prices k) (holds_of low) part.high (part.floor place first last) (part.ceiling place first last)) is_listed renumbered image found.best
 
@@ -114,20 +114,20 @@ module _ (pairs : List (ℕ × ℕ)) (prices : PricesView) (factors : List ℕ) 
   at_kept : (i : ℕ) → i < length kept → (part.high (number_in kept i) && not (holds_of low (number_in kept i))) ≡ true
   at_kept i l = is_listed.held i l
 
-  pub inside_kept : IsKept (beside (joined (holds_of low) (holds_of inside)) (holds_of low)) (blocks_of prices) inside
-  inside_kept = kept_again (beside part.high (holds_of low)) (holds_of s) (beside (joined (holds_of low) (holds_of inside)) (holds_of low)) (blocks_of prices) kept s part.are_kept (own_list (length kept) s ascending places)
+  pub inside_kept : IsKept (difference_of (union_of (holds_of low) (holds_of inside)) (holds_of low)) (blocks_of prices) inside
+  inside_kept = kept_again (difference_of part.high (holds_of low)) (holds_of s) (difference_of (union_of (holds_of low) (holds_of inside)) (holds_of low)) (blocks_of prices) kept s part.are_kept (own_list (length kept) s ascending places)
       (λ i l. lower_test (holds_of low (number_in kept i)) (holds_of inside (number_in kept i)) (not_beside (part.high (number_in kept i)) (holds_of low (number_in kept i)) (at_kept i l)) ∙ image.same i l)
       (λ b l t. lower_within (part.high b) (holds_of low b) (holds_of inside b) t
-      (λ held. let x = image.only b l held in ap (beside part.high (holds_of low)) (sym x.2) ∙ at_kept x.0 x.1))
+      (λ held. let x = image.only b l held in ap (difference_of part.high (holds_of low)) (sym x.2) ∙ at_kept x.0 x.1))
 
-  pub outside_kept : IsKept (beside part.high (joined (holds_of low) (holds_of inside))) (blocks_of prices) outside
-  outside_kept = kept_again (beside part.high (holds_of low)) (beside every_block (holds_of s)) (beside part.high (joined (holds_of low) (holds_of inside))) (blocks_of prices) kept
-      (passing (beside every_block (holds_of s)) (length kept)) part.are_kept (passing_is_kept (beside every_block (holds_of s)) (length kept))
+  pub outside_kept : IsKept (difference_of part.high (union_of (holds_of low) (holds_of inside))) (blocks_of prices) outside
+  outside_kept = kept_again (difference_of part.high (holds_of low)) (difference_of every_block (holds_of s)) (difference_of part.high (union_of (holds_of low) (holds_of inside))) (blocks_of prices) kept
+      (numbers_passing (difference_of every_block (holds_of s)) (length kept)) part.are_kept (passing_is_kept (difference_of every_block (holds_of s)) (length kept))
       (λ i l. higher_test (part.high (number_in kept i)) (holds_of low (number_in kept i)) (holds_of inside (number_in kept i)) (at_kept i l) ∙ ap (λ x. true && not x) (image.same i l))
       (λ b l t. higher_within (part.high b) (holds_of low b) (holds_of inside b) t)
 
-  module _ (blocks : List ℕ) (are : (b : ℕ) → holds_of blocks b ≡ joined (holds_of low) (holds_of inside) b) where
-    same : joined (holds_of low) (holds_of inside) ≡ holds_of blocks
+  module _ (blocks : List ℕ) (are : (b : ℕ) → holds_of blocks b ≡ union_of (holds_of low) (holds_of inside) b) where
+    same : union_of (holds_of low) (holds_of inside) ≡ holds_of blocks
     same = λ i b. sym (are b) i
 
     pub lifted_best : IsBest (mine_at pairs prices k) (holds_of blocks)
@@ -141,7 +141,7 @@ module _ (pairs : List (ℕ × ℕ)) (prices : PricesView) (factors : List ℕ) 
       ceiling = λ i l m.
           let up : get_or factors i 0 < k = h.rising i place m (omega (arith, last, part.inside)) in
           best_is_ceiling (mine_at pairs prices (get_or factors i 0)) (mine_at pairs prices k) (holds_of blocks) (mines_rise (has_pair pairs) prices (get_or factors i 0) k h.known (omega (arith, up))) lifted_best;
-      are_kept = subst (λ e. IsKept (beside e (holds_of low)) (blocks_of prices) inside) same inside_kept;
+      are_kept = subst (λ e. IsKept (difference_of e (holds_of low)) (blocks_of prices) inside) same inside_kept;
     }
 
     pub higher_part : LiesIn pairs prices factors (place + 1) to blocks outside
@@ -152,7 +152,7 @@ module _ (pairs : List (ℕ × ℕ)) (prices : PricesView) (factors : List ℕ) 
           let up : k < get_or factors i 0 = h.rising place i (omega (arith, l)) (omega (arith, m, part.inside)) in
           best_is_floor (mine_at pairs prices k) (mine_at pairs prices (get_or factors i 0)) (holds_of blocks) (mines_rise (has_pair pairs) prices k (get_or factors i 0) h.known (omega (arith, up))) lifted_best;
       ceiling = λ i l m. part.ceiling i (omega (arith, l, first)) m;
-      are_kept = subst (λ e. IsKept (beside part.high e) (blocks_of prices) outside) same outside_kept;
+      are_kept = subst (λ e. IsKept (difference_of part.high e) (blocks_of prices) outside) same outside_kept;
     }
 
 -- ---- other parts
@@ -168,7 +168,7 @@ fewer_factors pairs prices factors from to first last low kept a b h = record {
 }
 
 -- every factor, and every block
-pub whole_part : (pairs : List (ℕ × ℕ)) (prices : PricesView) (factors : List ℕ) → LiesIn pairs prices factors 0 (length factors) [] (passing every_block (blocks_of prices))
+pub whole_part : (pairs : List (ℕ × ℕ)) (prices : PricesView) (factors : List ℕ) → LiesIn pairs prices factors 0 (length factors) [] (numbers_passing every_block (blocks_of prices))
 whole_part pairs prices factors = record {
   high = every_block;
   inside = omega arith;

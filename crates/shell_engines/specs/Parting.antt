@@ -7,7 +7,7 @@ use Rattle.closure_net.specs.Network.{NetView, holds_of, IsAscending}
 use Rattle.closure_net.specs.Mine.{Mine, IsBest, IsNetOf}
 use Rattle.shells.specs.Prices.{PricesView, blocks_of, worth_at, NoneNegative}
 use Rattle.shells.specs.Series.{mine_at}
-use Rattle.sub_mines.specs.Parts.{joined, beside}
+use Rattle.sub_mines.specs.Parts.{union_of, difference_of}
 use Rattle.sub_mines.specs.Bounds.{IsFloor, IsCeiling}
 use Rattle.sub_mines.specs.Renumbered.{number_in}
 use Rattle.sub_mines.specs.Kept.{IsKept, IsPartPairs}
@@ -30,7 +30,7 @@ pub record LiesIn (pairs : List (ℕ × ℕ)) (prices : PricesView) (factors : L
   pub inside : to ≤ length factors
   pub floor : (i : ℕ) → from ≤ i → i < to → IsFloor (mine_at pairs prices (slice_index factors i)) (holds_of low)
   pub ceiling : (i : ℕ) → from ≤ i → i < to → IsCeiling (mine_at pairs prices (slice_index factors i)) high
-  pub are_kept : IsKept (beside high (holds_of low)) (blocks_of prices) kept
+  pub are_kept : IsKept (difference_of high (holds_of low)) (blocks_of prices) kept
 
 -- the same of a part
 abbrev pub IsPart : List (ℕ × ℕ) → PricesView → List ℕ → Part → Type 0
@@ -71,4 +71,4 @@ pub record IsLevel (pairs : List (ℕ × ℕ)) (prices : PricesView) (factors : 
 -- a list holds the blocks of a set and the first so many of another list
 pub record ArePut (e : ℕ → Bool) (blocks : List ℕ) (next : ℕ) (found : List ℕ) : Type 0 where
   pub most : next ≤ length blocks
-  pub held : (b : ℕ) → holds_of found b ≡ joined e (holds_of (take next blocks)) b
+  pub held : (b : ℕ) → holds_of found b ≡ union_of e (holds_of (take next blocks)) b

@@ -1,7 +1,7 @@
 -- The table of shells: what the best pit at each factor has.
 use Rattle.std.specs.Prelude.{◌≡◌, ℕ, Bool, All, List, [], ◌∷◌, ◌++◌, map, codes, decimal}
 use Rattle.std.specs.List.{flat_map}
-use Rattle.fixed_worth.specs.Printed.{printed}
+use Rattle.fixed_worth.specs.Printed.{amount_text}
 use Rattle.closure_net.specs.Mine.{Mine, worth_of, count_of, IsBest}
 use Rattle.engines.specs.declared.solvers.Unsolved.{Unsolved}
 use Rattle.engines.specs.declared.solvers.Unsolved.TheVariants.{Unsettled, GaveUp, TooLarge}
@@ -21,7 +21,7 @@ pub record AreRowsOf (mine : ℕ → Mine) (factors : List ℕ) (rows : List She
 
 -- a row as it is printed, and its line
 abbrev pub row_text : ShellRow → List ℕ
-row_text row = codes "SHELL " ++ (decimal row.factor ++ (codes " " ++ (decimal row.blocks ++ (codes " " ++ printed 9 row.worth))))
+row_text row = codes "SHELL " ++ (decimal row.factor ++ (codes " " ++ (decimal row.blocks ++ (codes " " ++ amount_text 9 row.worth))))
 
 -- the same with its line feed
 abbrev pub row_line : ShellRow → List ℕ

@@ -4,12 +4,12 @@
 ghost use Rattle.std.specs.Prelude.{◌≡◌, ℕ, ◌<◌, ◌≤◌, Bool, All, List, IfOk, IfSome, length, map};
 ghost use Rattle.fixed_worth.specs.declared.limits.TheConstants.{MOST_BLOCKS};
 ghost use Rattle.ordered_group.specs.Sets.{worth_in};
-ghost use Rattle.prec_file.specs.Rests.{passing};
+ghost use Rattle.prec_file.specs.Rests.{numbers_passing};
 ghost use Rattle.closure_net.specs.Network.{holds_of};
 ghost use Rattle.closure_net.specs.Mine.{IsBest};
 ghost use Rattle.shells.specs.Prices.{blocks_of, worth_at};
 ghost use Rattle.shells.specs.Series.{mine_at};
-ghost use Rattle.sub_mines.specs.Parts.{joined, beside, every_block};
+ghost use Rattle.sub_mines.specs.Parts.{union_of, difference_of, every_block};
 ghost use Rattle.sub_mines.specs.Renumbered.{number_in};
 ghost use Rattle.shell_engines.specs.PitsAtFactors.{IsProved};
 ghost use Rattle.shell_engines.specs.Parting.{ArePut};
@@ -48,7 +48,7 @@ pub fn at_places(
 /// Memory was refused.
 pub fn at_others(alloc: Global, kept: &[u32], pit: &Pit) -> Result<Vec<u32>, AllocError>
     requires { length kept.now ≤ MOST_BLOCKS }
-    ensures { IfOk result (λ v. v.items ≡ map (number_in kept.now) (passing (beside every_block (holds_of pit.now)) (length kept.now))) }
+    ensures { IfOk result (λ v. v.items ≡ map (number_in kept.now) (numbers_passing (difference_of every_block (holds_of pit.now)) (length kept.now))) }
 {
     let mut found = Vec::new(alloc);
     let mut near = 0;
@@ -84,7 +84,7 @@ fn put_below(
 /// # Errors
 /// Memory was refused.
 pub fn merged(alloc: Global, first: &[u32], second: &[u32]) -> Result<Vec<u32>, AllocError>
-    ensures { IfOk result (λ v. (b : ℕ) → holds_of v.items b ≡ joined (holds_of first.now) (holds_of second.now) b) }
+    ensures { IfOk result (λ v. (b : ℕ) → holds_of v.items b ≡ union_of (holds_of first.now) (holds_of second.now) b) }
 {
     let mut found: Vec<u32> = Vec::new(alloc);
     let mut next = 0;

@@ -4,7 +4,7 @@
 ghost use Rattle.std.specs.Prelude.{◌≡◌, ℕ, ◌<◌, ◌≤◌, All, List, [], IfOk, IfSome, length, map, slice_index};
 ghost use Rattle.fixed_worth.specs.declared.limits.TheConstants.{MOST_BLOCKS};
 ghost use Rattle.ordered_group.specs.Block.{scaled_block};
-ghost use Rattle.prec_file.specs.Rests.{passing};
+ghost use Rattle.prec_file.specs.Rests.{numbers_passing};
 ghost use Rattle.closure_net.specs.Network.{IsAscending};
 ghost use Rattle.shells.specs.Prices.{PricesView, worth_at};
 ghost use Rattle.sub_mines.specs.Parts.{every_block};
@@ -52,7 +52,7 @@ pub struct Halved {
 /// # Errors
 /// Memory was refused.
 pub fn whole(alloc: Global, blocks: u32, factors: usize) -> Result<Part, AllocError>
-    ensures { IfOk result (λ part. (part.from ≡ 0) × (part.to ≡ factors) × (part.low.items ≡ []) × (part.kept.items ≡ passing every_block blocks)) }
+    ensures { IfOk result (λ part. (part.from ≡ 0) × (part.to ≡ factors) × (part.low.items ≡ []) × (part.kept.items ≡ numbers_passing every_block blocks)) }
 {
     let mut kept = Vec::with_capacity(alloc, blocks as usize)?;
     for b in 0..blocks {

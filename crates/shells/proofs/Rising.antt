@@ -5,7 +5,7 @@ use Rattle.std.proofs.Math.IntN.{pos-*ℤ-pos}
 use Rattle.closure_net.specs.Mine.{RisesTo}
 use Rattle.closure_net.proofs.BestPits.{best_is_within}
 use Rattle.shells.specs.Prices.{CostsView, plain_costs, mill_costs, PricesView, number_at, worth_after, NoneNegative}
-use Rattle.shells.specs.Series.{priced}
+use Rattle.shells.specs.Series.{mine_of_prices}
 use Rattle.shells.specs.Nesting.{BestPitsAreNested}
 
 rises_by : (j k : ℕ) (r : ℤ) → j ≤ k → pos 0 ≤ℤ r → (pos j *ℤ r) ≤ℤ (pos k *ℤ r)
@@ -20,7 +20,7 @@ left_rises : (costs : CostsView) (b : ℕ) (x y : ℤ) → x ≤ℤ y → worth_
 left_rises (plain_costs cost) b x y le = omega (arith, ints, le)
 left_rises (mill_costs processing mining) b x y le = omega (arith, ints, clamps, le)
 
-pub mines_rise : (above : ℕ → ℕ → Bool) (table : PricesView) (j k : ℕ) → NoneNegative table → j ≤ k → RisesTo (priced above table j) (priced above table k)
+pub mines_rise : (above : ℕ → ℕ → Bool) (table : PricesView) (j k : ℕ) → NoneNegative table → j ≤ k → RisesTo (mine_of_prices above table j) (mine_of_prices above table k)
 mines_rise above table j k known le = record {
   blocks = refl;
   rests = λ b p. refl;
@@ -29,4 +29,4 @@ mines_rise above table j k known le = record {
 
 pub best_is_nested : BestPitsAreNested
 best_is_nested above table j k e c known le low high =
-    best_is_within (priced above table j) (priced above table k) e c (mines_rise above table j k known le) low high
+    best_is_within (mine_of_prices above table j) (mine_of_prices above table k) e c (mines_rise above table j k known le) low high

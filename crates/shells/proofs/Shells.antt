@@ -5,7 +5,7 @@ use Rattle.std.proofs.lemmas.List.{length-replicate}
 use Rattle.prec_file.specs.Rests.{IsRests}
 use Rattle.closure_net.proofs.BestPits.{best_is_one}
 use Rattle.shells.specs.Prices.{PricesView, IsTable}
-use Rattle.shells.specs.Series.{mine_at, SeriesView, shell_at, is_upto, upto, opened, IsSeries, IsShell}
+use Rattle.shells.specs.Series.{mine_at, SeriesView, shell_at, is_upto, upto, opened_series, IsSeries, IsShell}
 
 shell_of_options : (s : SeriesView) (b : ℕ) (o : Option ℕ) → IsSeries s → b < length s.prices.revenue → shell_at s.shells b ≡ o → IsShell s b o
 shell_of_options s b None h l is = λ k e c best. best_is_one (mine_at s.pairs s.prices k) e (upto s.shells k) best (h.best k c) b l ∙ ap (λ o. is_upto o k) is
@@ -24,7 +24,7 @@ none_known (suc n) zero x e = absurd cc
 none_known (suc n) (suc b) x e = none_known n b x e
 
 pub opens : (pairs : List (ℕ × ℕ)) (table : PricesView) → IsRests (record { blocks = length table.revenue; pairs = pairs }) → IsTable table
-    → IsSeries (opened pairs table)
+    → IsSeries (opened_series pairs table)
 opens pairs table r t = record {
   rests = r;
   prices = t;

@@ -5,12 +5,12 @@ use Rattle.closure_net.specs.Mine.{IsBest, LiesWithin}
 use Rattle.closure_net.specs.Network.{holds_of}
 use Rattle.check_pit.specs.Accepted.{AcceptedView, IsAccepted}
 use Rattle.shells.specs.Prices.{PricesView, NoneNegative}
-use Rattle.shells.specs.Series.{priced, mine_at, IsOver}
+use Rattle.shells.specs.Series.{mine_of_prices, mine_at, IsOver}
 
 -- Where no revenue is negative, the best pit at a factor lies within the best pit at a higher one, whatever rests on what.
 abbrev pub BestPitsAreNested : Type 0
 BestPitsAreNested = (above : ℕ → ℕ → Bool) (table : PricesView) (j k : ℕ) (e c : ℕ → Bool) → NoneNegative table → j ≤ k
-    → IsBest (priced above table j) e → IsBest (priced above table k) c → LiesWithin (priced above table j) e c
+    → IsBest (mine_of_prices above table j) e → IsBest (mine_of_prices above table k) c → LiesWithin (mine_of_prices above table j) e c
 
 -- The same of two pits that were accepted over these pairs and prices, each as amounts of one of these kinds.
 abbrev pub AcceptedPitsAreNested : (ℤ → ℕ → Amount) → (ℤ → ℕ → Amount) → Type 0

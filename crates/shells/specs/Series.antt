@@ -12,12 +12,12 @@ use Rattle.shells.specs.declared.series_fault.SeriesFault.TheVariants.{NotHigher
 use Rattle.shells.specs.Prices.{PricesView, blocks_of, worth_at, IsTable}
 
 -- the mine of these prices at so many thousandths of the revenues, whose blocks rest on each other in this way
-abbrev pub priced : (ℕ → ℕ → Bool) → PricesView → ℕ → Mine
-priced above table k = record { blocks = blocks_of table; rests = above; worth = worth_at table k }
+abbrev pub mine_of_prices : (ℕ → ℕ → Bool) → PricesView → ℕ → Mine
+mine_of_prices above table k = record { blocks = blocks_of table; rests = above; worth = worth_at table k }
 
 -- the mine of these pairs and prices
 abbrev pub mine_at : List (ℕ × ℕ) → PricesView → ℕ → Mine
-mine_at pairs table k = priced (has_pair pairs) table k
+mine_at pairs table k = mine_of_prices (has_pair pairs) table k
 
 -- pairs and prices, the factors pushed so far, and the shell of each block, if it has one
 pub record SeriesView : Type 0 where
@@ -54,8 +54,8 @@ pub record IsSeries (s : SeriesView) : Type 0 where
   pub best : (k : ℕ) → Contains s.factors k → IsBest (mine_at s.pairs s.prices k) (upto s.shells k)
 
 -- the series before the first push: no block has a shell
-abbrev pub opened : List (ℕ × ℕ) → PricesView → SeriesView
-opened pairs table = record { pairs = pairs; prices = table; factors = []; shells = replicate (blocks_of table) None }
+abbrev pub opened_series : List (ℕ × ℕ) → PricesView → SeriesView
+opened_series pairs table = record { pairs = pairs; prices = table; factors = []; shells = replicate (blocks_of table) None }
 
 -- why there is no series of n blocks and these prices; want of memory is told only where the lengths agree
 abbrev pub OpenFaultStands : ℕ → PricesView → SeriesFault → Type 0

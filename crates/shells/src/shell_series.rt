@@ -5,7 +5,7 @@ ghost use Rattle.std.specs.Prelude.{◌≡◌, ◌<◌, ◌≤◌, ◌↔◌, le
 ghost use Rattle.closure_net.specs.Mine.{IsBest};
 ghost use Rattle.closure_net.specs.Network.{holds_of};
 ghost use Rattle.shells.specs.Prices.{blocks_of};
-ghost use Rattle.shells.specs.Series.{mine_at, rests_in, shell_at, opened, OpenFaultStands, IsAbove, IsOver, IsPushed, IsShell, IsSeries, PushFaultStands};
+ghost use Rattle.shells.specs.Series.{mine_at, rests_in, shell_at, opened_series, OpenFaultStands, IsAbove, IsOver, IsPushed, IsShell, IsSeries, PushFaultStands};
 
 use crate::factor::Factor;
 use crate::marking::{give_shells, is_above_all};
@@ -51,7 +51,7 @@ impl Series {
     /// `WrongModel` where there are more or fewer prices than blocks; then `NoMemory`.
     pub fn open(alloc: Global, rests: Rests, prices: Prices) -> Result<Series, SeriesFault>
         ensures { MatchResult result
-            (λ s. (s ≡ opened rests.pairs prices) × (rests.blocks ≡ blocks_of prices))
+            (λ s. (s ≡ opened_series rests.pairs prices) × (rests.blocks ≡ blocks_of prices))
             (λ e. OpenFaultStands rests.blocks prices e) }
     {
         let blocks = prices.len();

@@ -8,7 +8,7 @@ use Rattle.sub_mines.proofs.BlockSets.{count_of_two}
 use Rattle.closure_net.specs.Mine.{Mine, IsPit, worth_of, count_of, AreSame, IsBest, LiesWithin, RisesTo}
 use Rattle.closure_net.proofs.BestPits.{union_is_pit, intersection_is_pit, pit_of_later, pit_of_earlier}
 use Rattle.ordered_group.proofs.Totals.{within_first, within_second}
-use Rattle.sub_mines.specs.Parts.{joined, shared, no_block, every_block, IsAsGood, LiesBetween}
+use Rattle.sub_mines.specs.Parts.{union_of, intersection_of, no_block, every_block, IsAsGood, LiesBetween}
 use Rattle.sub_mines.specs.Bounds.{IsFloor, IsCeiling}
 use Rattle.sub_mines.proofs.Parts.{fewest_of}
 
@@ -55,9 +55,9 @@ pub between_by_bounds : (mine : Mine) (low high : ℕ → Bool) → IsFloor mine
 between_by_bounds mine low high f c =
     let cut = c.within_it low f.is_pit in
     let p = intersection_is_pit mine low high f.is_pit c.is_pit in
-    let back : IsAsGood mine low (shared low high) = as_good_more mine low (joined low (shared low high)) (shared low high)
-    (as_good_same mine low (joined low (shared low high)) (λ b l. absorbs (low b) (high b))) (f.with_it (shared low high) p) in
-    let same = same_from_less mine (shared low high) low (λ b l. within_first low high b) back cut in
+    let back : IsAsGood mine low (intersection_of low high) = as_good_more mine low (union_of low (intersection_of low high)) (intersection_of low high)
+    (as_good_same mine low (union_of low (intersection_of low high)) (λ b l. absorbs (low b) (high b))) (f.with_it (intersection_of low high) p) in
+    let same = same_from_less mine (intersection_of low high) low (λ b l. within_first low high b) back cut in
     let nested : LiesWithin mine low high = λ b l t. within_second low high b (same b l ∙ t) in
     record {
       low_pit = f.is_pit;
@@ -66,11 +66,11 @@ between_by_bounds mine low high f c =
       between = λ d r.
           let u = union_is_pit mine low d f.is_pit r in
           record {
-            pit = shared (joined low d) high;
-            is_pit = intersection_is_pit mine (joined low d) high u c.is_pit;
-            all = λ b l t. and_from (joined low d b) (high b) (or_left (low b) (d b) t) (nested b l t);
-            only = λ b l. within_second (joined low d) high b;
-            as_good = as_good_more mine (shared (joined low d) high) (joined low d) d (c.within_it (joined low d) u) (f.with_it d r);
+            pit = intersection_of (union_of low d) high;
+            is_pit = intersection_is_pit mine (union_of low d) high u c.is_pit;
+            all = λ b l t. and_from (union_of low d b) (high b) (or_left (low b) (d b) t) (nested b l t);
+            only = λ b l. within_second (union_of low d) high b;
+            as_good = as_good_more mine (intersection_of (union_of low d) high) (union_of low d) d (c.within_it (union_of low d) u) (f.with_it d r);
           };
     }
   where
@@ -79,10 +79,10 @@ between_by_bounds mine low high f c =
     absorbs false y = refl
 
 pub none_is_floor : (mine : Mine) → IsFloor mine no_block
-none_is_floor mine = record { is_pit = λ b p r t. t; with_it = λ d p. as_good_same mine (joined no_block d) d (λ b l. refl) }
+none_is_floor mine = record { is_pit = λ b p r t. t; with_it = λ d p. as_good_same mine (union_of no_block d) d (λ b l. refl) }
 
 pub all_is_ceiling : (mine : Mine) → IsCeiling mine every_block
-all_is_ceiling mine = record { is_pit = λ b p r t. refl; within_it = λ d p. as_good_same mine (shared d every_block) d (λ b l. whole (d b)) }
+all_is_ceiling mine = record { is_pit = λ b p r t. refl; within_it = λ d p. as_good_same mine (intersection_of d every_block) d (λ b l. whole (d b)) }
   where
     whole : (x : Bool) → (x && true) ≡ x
     whole true = refl
@@ -104,18 +104,18 @@ best_is_floor mine later e r h = record {
       let n = mine.blocks in
       let d_pit = pit_of_earlier mine later d r p in
       let i = intersection_is_pit mine e d h.is_pit d_pit in
-      let lead = lead_rises mine.worth later.worth (shared e d) e n (λ b l. within_first e d b) r.worths in
-      let most = h.most (shared e d) i in
+      let lead = lead_rises mine.worth later.worth (intersection_of e d) e n (λ b l. within_first e d b) r.worths in
+      let most = h.most (intersection_of e d) i in
       let sums = worth_of_two later.worth e d n in
       let counts = count_of_two e d n in
-      let lu = later_worth mine later (joined e d) r in
+      let lu = later_worth mine later (union_of e d) r in
       let ld = later_worth mine later d r in
       record {
         pays = omega (arith, ints, lead, most, sums, lu, ld);
         few = λ same.
-            let level : worth_of mine (shared e d) ≡ worth_of mine e = omega (arith, ints, lead, most, sums, lu, ld, same) in
-            let few = fewest_of mine e (shared e d) h i level in
-            omega (arith, few, counts, later_count mine later (joined e d) r, later_count mine later d r);
+            let level : worth_of mine (intersection_of e d) ≡ worth_of mine e = omega (arith, ints, lead, most, sums, lu, ld, same) in
+            let few = fewest_of mine e (intersection_of e d) h i level in
+            omega (arith, few, counts, later_count mine later (union_of e d) r, later_count mine later d r);
       };
 }
 
@@ -126,11 +126,11 @@ best_is_ceiling mine later e r h = record {
       let n = mine.blocks in
       let d_pit = pit_of_later mine later d r p in
       let u = union_is_pit later d e d_pit h.is_pit in
-      let lead = lead_rises mine.worth later.worth (shared d e) d n (λ b l. within_first d e b) r.worths in
-      let most = h.most (joined d e) u in
+      let lead = lead_rises mine.worth later.worth (intersection_of d e) d n (λ b l. within_first d e b) r.worths in
+      let most = h.most (union_of d e) u in
       let sums = worth_of_two later.worth d e n in
-      let lu = later_worth mine later (joined d e) r in
+      let lu = later_worth mine later (union_of d e) r in
       let le = later_worth mine later e r in
-      let few = (count_in-within (shared d e) d n (λ b l. within_first d e b)).0 in
+      let few = (count_in-within (intersection_of d e) d n (λ b l. within_first d e b)).0 in
       record { pays = omega (arith, ints, lead, most, sums, lu, le); few = λ same. few };
 }

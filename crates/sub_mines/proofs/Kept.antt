@@ -5,7 +5,7 @@ use Rattle.std.proofs.lemmas.Bool.{cases_order}
 use Rattle.std.proofs.lemmas.List.{get_or-map, length-map}
 use Rattle.closure_net.specs.Network.{holds_of, IsAscending}
 use Rattle.closure_net.proofs.Holding.{holds_at, place_of}
-use Rattle.prec_file.specs.Rests.{has_pair, passing}
+use Rattle.prec_file.specs.Rests.{has_pair, numbers_passing}
 use Rattle.prec_file.proofs.Passing.{passing_at, passing_here, passing_after}
 use Rattle.closure_net.proofs.Reach.{ascends, passing_known}
 use Rattle.sub_mines.specs.Renumbered.{IsListed, IsImage, number_in}
@@ -69,13 +69,13 @@ list_image n kept xs h low = record {
 
 -- ---- the list of a set
 
-pub passing_is_kept : (set : ℕ → Bool) (n : ℕ) → IsKept set n (passing set n)
+pub passing_is_kept : (set : ℕ → Bool) (n : ℕ) → IsKept set n (numbers_passing set n)
 passing_is_kept set n = record {
-  ascending = ascends set n (passing set n) refl;
-  below = passing_known set n (passing set n) refl;
-  are = λ b l. same_tests (holds_of (passing set n) b) (set b)
+  ascending = ascends set n (numbers_passing set n) refl;
+  below = passing_known set n (numbers_passing set n) refl;
+  are = λ b l. same_tests (holds_of (numbers_passing set n) b) (set b)
       (λ t.
-      let x = place_of (passing set n) b t in
+      let x = place_of (numbers_passing set n) b t in
       ap set (sym x.2) ∙ (passing_at set n x.0 x.1).passes)
-      (λ t. ap (holds_of (passing set n)) (sym (passing_here set b n l t)) ∙ holds_at (passing set n) (length (passing set b)) (passing_after set b n l t));
+      (λ t. ap (holds_of (numbers_passing set n)) (sym (passing_here set b n l t)) ∙ holds_at (numbers_passing set n) (length (numbers_passing set b)) (passing_after set b n l t));
 }

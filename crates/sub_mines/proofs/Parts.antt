@@ -6,7 +6,7 @@ use Rattle.ordered_group.specs.Sets.{worth_in, count_in}
 use Rattle.ordered_group.proofs.BlockSets.{worth_in-same, count_in-same, count_in-within}
 use Rattle.closure_net.specs.Mine.{Mine, IsPit, worth_of, count_of, AreSame, IsBest, LiesWithin}
 use Rattle.closure_net.proofs.BestPits.{best_from_fewest, agree}
-use Rattle.sub_mines.specs.Parts.{IsOwn, joined, shared, beside, part, LiesBetween}
+use Rattle.sub_mines.specs.Parts.{IsOwn, union_of, intersection_of, difference_of, part, LiesBetween}
 
 -- ---- of best pits
 
@@ -58,7 +58,7 @@ worth_term false false true v = omega (arith, ints)
 worth_term false false false v = omega (arith, ints)
 
 pub worth_lifts : (v : ℕ → ℤ) (low high s : ℕ → Bool) (n : ℕ)
-    → worth_in v (joined low (shared s (beside high low))) n ≡ worth_in v low n +ℤ worth_in (λ b. cond (beside high low b) (v b) (pos 0)) s n
+    → worth_in v (union_of low (intersection_of s (difference_of high low))) n ≡ worth_in v low n +ℤ worth_in (λ b. cond (difference_of high low b) (v b) (pos 0)) s n
 worth_lifts v low high s zero = omega (arith, ints)
 worth_lifts v low high s (suc n) = omega (arith, ints, worth_lifts v low high s n, worth_term (low n) (high n) (s n) (v n))
 
@@ -72,7 +72,7 @@ count_term false true false = omega arith
 count_term false false true = omega arith
 count_term false false false = omega arith
 
-pub count_lifts : (low high s : ℕ → Bool) (n : ℕ) → count_in (joined low (shared s (beside high low))) n ≤ count_in low n + count_in s n
+pub count_lifts : (low high s : ℕ → Bool) (n : ℕ) → count_in (union_of low (intersection_of s (difference_of high low))) n ≤ count_in low n + count_in s n
 count_lifts low high s zero = omega arith
 count_lifts low high s (suc n) = omega (arith, count_lifts low high s n, count_term (low n) (high n) (s n))
 
@@ -87,7 +87,7 @@ worth_cut_term false true false v h k = omega (arith, ints)
 worth_cut_term false false false v h k = omega (arith, ints)
 
 pub worth_cuts : (v : ℕ → ℤ) (low high c : ℕ → Bool) (n : ℕ) → ((b : ℕ) → b < n → low b ≡ true → c b ≡ true) → ((b : ℕ) → b < n → c b ≡ true → high b ≡ true)
-    → worth_in v c n ≡ worth_in v low n +ℤ worth_in (λ b. cond (beside high low b) (v b) (pos 0)) (beside c low) n
+    → worth_in v c n ≡ worth_in v low n +ℤ worth_in (λ b. cond (difference_of high low b) (v b) (pos 0)) (difference_of c low) n
 worth_cuts v low high c zero h k = omega (arith, ints)
 worth_cuts v low high c (suc n) h k =
     omega (arith, ints, worth_cuts v low high c n (λ b l. h b (omega (arith, l))) (λ b l. k b (omega (arith, l))), worth_cut_term (low n) (high n) (c n) (v n) (h n (omega arith)) (k n (omega arith)))
@@ -98,7 +98,7 @@ count_cut_term true false h = absurd (let e = h refl in cc)
 count_cut_term false true h = refl
 count_cut_term false false h = refl
 
-pub count_cuts : (low c : ℕ → Bool) (n : ℕ) → ((b : ℕ) → b < n → low b ≡ true → c b ≡ true) → count_in c n ≡ count_in low n + count_in (beside c low) n
+pub count_cuts : (low c : ℕ → Bool) (n : ℕ) → ((b : ℕ) → b < n → low b ≡ true → c b ≡ true) → count_in c n ≡ count_in low n + count_in (difference_of c low) n
 count_cuts low c zero h = refl
 count_cuts low c (suc n) h = omega (arith, count_cuts low c n (λ b l. h b (omega (arith, l))), count_cut_term (low n) (c n) (h n (omega arith)))
 
@@ -106,7 +106,7 @@ count_cuts low c (suc n) h = omega (arith, count_cuts low c n (λ b l. h b (omeg
 
 module _ (mine : Mine) (low high : ℕ → Bool) (own : IsOwn mine) (known : LiesBetween mine low high) where
   -- a pit of the part is one of the mine with the lower pit
-  pub lift_is_pit : (s : ℕ → Bool) → IsPit (part mine (beside high low)) s → IsPit mine (joined low (shared s (beside high low)))
+  pub lift_is_pit : (s : ℕ → Bool) → IsPit (part mine (difference_of high low)) s → IsPit mine (union_of low (intersection_of s (difference_of high low)))
   lift_is_pit s h b p r t =
       elim (or_cases (low b) (s b && (high b && not (low b))) t) [
         | inl x ↦ or_left (low p) (s p && (high p && not (low p))) (known.low_pit b p r x)
@@ -124,32 +124,32 @@ module _ (mine : Mine) (low high : ℕ → Bool) (own : IsOwn mine) (known : Lie
           (h b p (and_from (mine.rests b p) ((high b && not (low b)) && (high p && not (low p))) r (and_from (high b && not (low b)) (high p && not (low p)) at.1 set)) at.0) set)
 
   -- and what a pit of the mine has beside the lower one is a pit of the part
-  pub cut_is_pit : (c : ℕ → Bool) → IsPit mine c → IsPit (part mine (beside high low)) (beside c low)
+  pub cut_is_pit : (c : ℕ → Bool) → IsPit mine c → IsPit (part mine (difference_of high low)) (difference_of c low)
   cut_is_pit c h b p r t =
       let rests = and_parts (mine.rests b p) ((high b && not (low b)) && (high p && not (low p))) r in
       let sets = and_parts (high b && not (low b)) (high p && not (low p)) rests.1 in
       is_beside (c p) (low p) (h b p rests.0 (and_parts (c b) (not (low b)) t).0) (not_beside (high p) (low p) sets.1)
 
   -- the best pit of the part makes the best pit of the mine
-  pub best_lifts : (f : ℕ → Bool) → IsBest (part mine (beside high low)) f → IsBest mine (joined low (shared f (beside high low)))
+  pub best_lifts : (f : ℕ → Bool) → IsBest (part mine (difference_of high low)) f → IsBest mine (union_of low (intersection_of f (difference_of high low)))
   best_lifts f h =
       let n = mine.blocks in
-      let sub = part mine (beside high low) in
+      let sub = part mine (difference_of high low) in
       let whole = worth_lifts mine.worth low high f n in
       let size = count_lifts low high f n in
-      best_from_fewest mine (joined low (shared f (beside high low))) (lift_is_pit f h.is_pit)
+      best_from_fewest mine (union_of low (intersection_of f (difference_of high low))) (lift_is_pit f h.is_pit)
       (λ d p.
       let x = known.between d p in
       let cut = worth_cuts mine.worth low high x.pit n x.all x.only in
-      let most = h.most (beside x.pit low) (cut_is_pit x.pit x.is_pit) in
+      let most = h.most (difference_of x.pit low) (cut_is_pit x.pit x.is_pit) in
       omega (arith, ints, whole, cut, most, x.as_good.pays))
       (λ d p same.
       let x = known.between d p in
       let q = cut_is_pit x.pit x.is_pit in
       let cut = worth_cuts mine.worth low high x.pit n x.all x.only in
-      let most = h.most (beside x.pit low) q in
-      let as_much : worth_of sub (beside x.pit low) ≡ worth_of sub f = omega (arith, ints, whole, cut, most, x.as_good.pays, same) in
-      let few = fewest_of sub f (beside x.pit low) h q as_much in
+      let most = h.most (difference_of x.pit low) q in
+      let as_much : worth_of sub (difference_of x.pit low) ≡ worth_of sub f = omega (arith, ints, whole, cut, most, x.as_good.pays, same) in
+      let few = fewest_of sub f (difference_of x.pit low) h q as_much in
       let level : worth_of mine x.pit ≡ worth_of mine d = omega (arith, ints, whole, cut, as_much, same) in
       omega (arith, size, few, count_cuts low x.pit n x.all, x.as_good.few level))
 
@@ -164,22 +164,22 @@ module _ (mine : Mine) (low high : ℕ → Bool) (own : IsOwn mine) (known : Lie
       (λ b l t. sym (same b l) ∙ x.all b l t, λ b l t. x.only b l (same b l ∙ t))
 
   -- and what it has beside the lower one is the best pit of the part
-  pub best_cuts : (e : ℕ → Bool) → IsBest mine e → IsBest (part mine (beside high low)) (beside e low)
+  pub best_cuts : (e : ℕ → Bool) → IsBest mine e → IsBest (part mine (difference_of high low)) (difference_of e low)
   best_cuts e h =
       let n = mine.blocks in
-      let sub = part mine (beside high low) in
+      let sub = part mine (difference_of high low) in
       let lies = best_between e h in
       let cut = worth_cuts mine.worth low high e n lies.0 lies.1 in
       let size = count_cuts low e n lies.0 in
-      best_from_fewest sub (beside e low) (cut_is_pit e h.is_pit)
+      best_from_fewest sub (difference_of e low) (cut_is_pit e h.is_pit)
       (λ s p.
       let whole = worth_lifts mine.worth low high s n in
-      let most = h.most (joined low (shared s (beside high low))) (lift_is_pit s p) in
+      let most = h.most (union_of low (intersection_of s (difference_of high low))) (lift_is_pit s p) in
       omega (arith, ints, whole, cut, most))
       (λ s p same.
       let whole = worth_lifts mine.worth low high s n in
-      let level : worth_of mine (joined low (shared s (beside high low))) ≡ worth_of mine e = omega (arith, ints, whole, cut, same) in
-      let few = fewest_of mine e (joined low (shared s (beside high low))) h (lift_is_pit s p) level in
+      let level : worth_of mine (union_of low (intersection_of s (difference_of high low))) ≡ worth_of mine e = omega (arith, ints, whole, cut, same) in
+      let few = fewest_of mine e (union_of low (intersection_of s (difference_of high low))) h (lift_is_pit s p) level in
       omega (arith, few, size, count_lifts low high s n))
 
 -- ---- the blocks that aren't in the part
@@ -189,12 +189,12 @@ trim_term true true v = refl
 trim_term true false v = refl
 trim_term false q v = refl
 
-trimmed : (v : ℕ → ℤ) (s q : ℕ → Bool) (n : ℕ) → worth_in (λ b. cond (q b) (v b) (pos 0)) (shared s q) n ≡ worth_in (λ b. cond (q b) (v b) (pos 0)) s n
+trimmed : (v : ℕ → ℤ) (s q : ℕ → Bool) (n : ℕ) → worth_in (λ b. cond (q b) (v b) (pos 0)) (intersection_of s q) n ≡ worth_in (λ b. cond (q b) (v b) (pos 0)) s n
 trimmed v s q zero = refl
 trimmed v s q (suc n) = rw (trimmed v s q n, trim_term (s n) (q n) (v n)) refl
 
 -- a pit of a part has a pit of it in the part alone
-trim_is_pit : (mine : Mine) (q s : ℕ → Bool) → IsPit (part mine q) s → IsPit (part mine q) (shared s q)
+trim_is_pit : (mine : Mine) (q s : ℕ → Bool) → IsPit (part mine q) s → IsPit (part mine q) (intersection_of s q)
 trim_is_pit mine q s h b p r t =
     let rests = and_parts (mine.rests b p) (q b && q p) r in
     and_from (s p) (q p) (h b p r (and_parts (s b) (q b) t).0) (and_parts (q b) (q p) rests.1).1
@@ -203,8 +203,8 @@ trim_is_pit mine q s h b p r t =
 pub best_inside : (mine : Mine) (q f : ℕ → Bool) → IsBest (part mine q) f → LiesWithin mine f q
 best_inside mine q f h b l t =
     agree (q b) true (λ differ.
-    let more = h.fewest (shared f q) (trim_is_pit mine q f h.is_pit) (λ s. differ ((and_parts (f b) (q b) (s b l ∙ t)).1)) (trimmed mine.worth f q mine.blocks) in
-    let few = (count_in-within (shared f q) f mine.blocks (λ c k i. (and_parts (f c) (q c) i).0)).0 in
+    let more = h.fewest (intersection_of f q) (trim_is_pit mine q f h.is_pit) (λ s. differ ((and_parts (f b) (q b) (s b l ∙ t)).1)) (trimmed mine.worth f q mine.blocks) in
+    let few = (count_in-within (intersection_of f q) f mine.blocks (λ c k i. (and_parts (f c) (q c) i).0)).0 in
     omega (arith, more, few))
 
 inside_same : (low f q : Bool) → (f ≡ true → q ≡ true) → (low || f) ≡ (low || (f && q))
@@ -212,7 +212,7 @@ inside_same true f q h = refl
 inside_same false true q h = sym (h refl)
 inside_same false false q h = refl
 
-pub best_by_part : (mine : Mine) (low high f : ℕ → Bool) → IsOwn mine → LiesBetween mine low high → IsBest (part mine (beside high low)) f → IsBest mine (joined low f)
+pub best_by_part : (mine : Mine) (low high f : ℕ → Bool) → IsOwn mine → LiesBetween mine low high → IsBest (part mine (difference_of high low)) f → IsBest mine (union_of low f)
 best_by_part mine low high f own known h =
-    best_of_same mine (joined low (shared f (beside high low))) (joined low f) own (best_lifts mine low high own known f h)
-    (λ b l. inside_same (low b) (f b) (beside high low b) (best_inside mine (beside high low) f h b l))
+    best_of_same mine (union_of low (intersection_of f (difference_of high low))) (union_of low f) own (best_lifts mine low high own known f h)
+    (λ b l. inside_same (low b) (f b) (difference_of high low b) (best_inside mine (difference_of high low) f h b l))

@@ -7,7 +7,7 @@ use Rattle.ordered_group.proofs.BlockSets.{worth_in-same, count_in-same, count_i
 use Rattle.closure_net.specs.Mine.{Mine, IsPit, worth_of, count_of, IsBest}
 use Rattle.closure_net.proofs.BestPits.{best_from_fewest}
 use Rattle.ordered_group.proofs.Totals.{within_first}
-use Rattle.sub_mines.specs.Parts.{IsOwn, joined, shared, beside, part}
+use Rattle.sub_mines.specs.Parts.{IsOwn, union_of, intersection_of, difference_of, part}
 use Rattle.sub_mines.specs.Renumbered.{IsListed, IsRenumbered, IsImage}
 use Rattle.sub_mines.proofs.Parts.{fewest_of, not_beside, count_cuts}
 
@@ -91,7 +91,7 @@ count_else true t h = rw h refl
 count_else false t h = refl
 
 -- and how many they are
-pub count_listed : (set e : ℕ → Bool) (at : ℕ → ℕ) (n m : ℕ) → IsListed set n m at → count_in (shared e set) n ≡ count_in (λ i. e (at i)) m
+pub count_listed : (set e : ℕ → Bool) (at : ℕ → ℕ) (n m : ℕ) → IsListed set n m at → count_in (intersection_of e set) n ≡ count_in (λ i. e (at i)) m
 count_listed set e at zero zero h = refl
 count_listed set e at zero (suc m) h = absurd (let l = h.below m (omega arith) in omega (arith, l))
 count_listed set e at (suc n) m h =
@@ -144,7 +144,7 @@ module _ (mine small : Mine) (set : ℕ → Bool) (at : ℕ → ℕ) (own : IsOw
 
   pub image_count : (s t : ℕ → Bool) → IsImage mine.blocks small.blocks at s t → count_in t mine.blocks ≡ count_in s small.blocks
   image_count s t im =
-      count_in-same t (shared t set) mine.blocks (λ b l. own_in (t b) (set b) (image_within s t im b l))
+      count_in-same t (intersection_of t set) mine.blocks (λ b l. own_in (t b) (set b) (image_within s t im b l))
       ∙ count_listed set t at mine.blocks small.blocks listed
       ∙ count_in-same (λ i. t (at i)) s small.blocks im.same
     where
@@ -163,12 +163,12 @@ module _ (mine small : Mine) (set : ℕ → Bool) (at : ℕ → ℕ) (own : IsOw
       (λ d p same.
       let level : worth_of small (λ i. d (at i)) ≡ worth_of small s = sym (pulled_worth d) ∙ same ∙ own_worth in
       let few = fewest_of small s (λ i. d (at i)) h (pulled_is_pit d p) level in
-      let less = (count_in-within (shared d set) d n (λ b l. within_first d set b)).0 in
+      let less = (count_in-within (intersection_of d set) d n (λ b l. within_first d set b)).0 in
       omega (arith, few, less, own_count, count_listed set d at n m listed))
 
 -- ---- with another set
 
-outside : (low high : ℕ → Bool) (b : ℕ) → beside high low b ≡ true → low b ≡ false
+outside : (low high : ℕ → Bool) (b : ℕ) → difference_of high low b ≡ true → low b ≡ false
 outside low high b h = not_beside (high b) (low b) h
 
 alone_term : (x y : Bool) → (y ≡ true → x ≡ false) → ((x || y) && not x) ≡ y
@@ -191,21 +191,21 @@ cut_term true false z v h = omega (arith, ints)
 cut_term false true z v h = rw (h refl) (omega (arith, ints))
 cut_term false false z v h = omega (arith, ints)
 
-joined_worth : (v : ℕ → ℤ) (low high t : ℕ → Bool) (n : ℕ) → ((b : ℕ) → b < n → t b ≡ true → beside high low b ≡ true)
-    → worth_in v (joined low t) n ≡ worth_in v low n +ℤ worth_in (λ b. cond (beside high low b) (v b) (pos 0)) t n
+joined_worth : (v : ℕ → ℤ) (low high t : ℕ → Bool) (n : ℕ) → ((b : ℕ) → b < n → t b ≡ true → difference_of high low b ≡ true)
+    → worth_in v (union_of low t) n ≡ worth_in v low n +ℤ worth_in (λ b. cond (difference_of high low b) (v b) (pos 0)) t n
 joined_worth v low high t zero h = omega (arith, ints)
 joined_worth v low high t (suc n) h = omega (arith, ints, joined_worth v low high t n (λ b l. h b (omega (arith, l))), cut_term (low n) (t n) (high n) (v n) (h n (omega arith)))
 
-pub row_by_small : (mine small : Mine) (low high : ℕ → Bool) (at : ℕ → ℕ) (s t : ℕ → Bool) → IsOwn mine → IsListed (beside high low) mine.blocks small.blocks at → IsRenumbered mine small at
+pub row_by_small : (mine small : Mine) (low high : ℕ → Bool) (at : ℕ → ℕ) (s t : ℕ → Bool) → IsOwn mine → IsListed (difference_of high low) mine.blocks small.blocks at → IsRenumbered mine small at
     → IsImage mine.blocks small.blocks at s t
-    → (worth_of mine (joined low t) ≡ worth_of mine low +ℤ worth_of small s) × (count_of mine (joined low t) ≡ count_of mine low + count_of small s)
+    → (worth_of mine (union_of low t) ≡ worth_of mine low +ℤ worth_of small s) × (count_of mine (union_of low t) ≡ count_of mine low + count_of small s)
 row_by_small mine small low high at s t own listed is im =
     let n = mine.blocks in
-    let set = beside high low in
+    let set = difference_of high low in
     let within = image_within mine small set at own listed is s t im in
     let apart : (b : ℕ) → b < n → ((low b || t b) && not (low b)) ≡ t b = λ b l. alone_term (low b) (t b) (λ e. outside low high b (within b l e)) in
-    let count = count_cuts low (joined low t) n (λ b l e. joined_first (low b) (t b) e) in
-    let alone : count_in (beside (joined low t) low) n ≡ count_in t n = count_in-same (beside (joined low t) low) t n apart in (
+    let count = count_cuts low (union_of low t) n (λ b l e. joined_first (low b) (t b) e) in
+    let alone : count_in (difference_of (union_of low t) low) n ≡ count_in t n = count_in-same (difference_of (union_of low t) low) t n apart in (
       joined_worth mine.worth low high t n within ∙ ap (λ z. worth_of mine low +ℤ z) (image_worth mine small set at own listed is s t im),
       omega (arith, count, alone, image_count mine small set at own listed is s t im),
     )

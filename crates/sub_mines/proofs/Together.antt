@@ -1,7 +1,7 @@
 -- The laws, one of another.
 use Rattle.std.proofs.Common.{◌≡◌, ℕ, Bool, true, false, ◌&&◌, sym, subst, refl}
 use Rattle.closure_net.specs.Mine.{Mine, IsBest}
-use Rattle.sub_mines.specs.Parts.{beside, no_block, every_block, part}
+use Rattle.sub_mines.specs.Parts.{difference_of, no_block, every_block, part}
 use Rattle.sub_mines.specs.Laws.{PartOfBest, BestWithin, BestOfRest, BestBetween, BestBySmallMine}
 use Rattle.sub_mines.proofs.Parts.{best_by_part, best_between, best_cuts}
 use Rattle.sub_mines.proofs.Bounds.{between_by_bounds, best_is_floor, best_is_ceiling}
@@ -18,14 +18,14 @@ nothing_less true = refl
 nothing_less false = refl
 
 -- the part of a set, and of that set without no block
-same_part : (mine : Mine) (set : ℕ → Bool) → part mine (beside set no_block) ≡ part mine set
+same_part : (mine : Mine) (set : ℕ → Bool) → part mine (difference_of set no_block) ≡ part mine set
 same_part mine set = λ i. part mine (λ b. nothing_less (set b) i)
 
 pub best_within : BestWithin
 best_within mine high e own known = (
   λ h.
       let k = best_cuts mine no_block high own known e h in
-      subst (λ m. IsBest m e) (same_part mine high) (subst (IsBest (part mine (beside high no_block))) (λ i b. nothing_less (e b) i) k),
+      subst (λ m. IsBest m e) (same_part mine high) (subst (IsBest (part mine (difference_of high no_block))) (λ i b. nothing_less (e b) i) k),
   λ h. best_by_part mine no_block high e own known (subst (λ m. IsBest m e) (sym (same_part mine high)) h),
 )
 
@@ -38,4 +38,4 @@ best_between_best earlier mine later low high f own rises falls e c h =
 
 pub best_by_small_mine : BestBySmallMine
 best_by_small_mine mine small low high at s t own known listed is im h =
-    best_by_part mine low high t own known (best_image mine small (beside high low) at own listed is s t im h)
+    best_by_part mine low high t own known (best_image mine small (difference_of high low) at own listed is s t im h)

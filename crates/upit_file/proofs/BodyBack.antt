@@ -9,8 +9,8 @@ use Rattle.std.proofs.lemmas.Bool.Decides.{nat_tests}
 use Rattle.std.proofs.lemmas.Fmt.{length-decimal-le_wide}
 use Rattle.std.proofs.lemmas.List.Folds.{list_all-append}
 use Rattle.fixed_worth.specs.declared.limits.TheConstants.{MOST_BLOCKS, LINE_BYTES}
-use Rattle.fixed_worth.specs.Printed.{printed}
-use Rattle.fixed_worth.specs.Record.{Line, numbered, is_skipped}
+use Rattle.fixed_worth.specs.Printed.{amount_text}
+use Rattle.fixed_worth.specs.Record.{Line, numbered_lines, is_skipped}
 use Rattle.fixed_worth.specs.Text.{is_separator, fields_of}
 use Rattle.fixed_worth.proofs.Lengths.{printed_micros_short}
 use Rattle.upit_file.specs.declared.upit_fault.UpitFault.TheVariants.{Text}
@@ -31,22 +31,22 @@ pub sizes_each : (vs : List ℤ) → All (λ v. unsigned_abs v ≤ 10 ^ 18) vs �
 sizes_each [] a = tt
 sizes_each (v ∷ vs) a = (a 0 v (omega arith), sizes_each vs (λ k d h. a (suc k) d (omega arith)))
 
-printed_word : (v : ℤ) → unsigned_abs v ≤ 10 ^ 18 → is_word (printed 6 v) ≡ true
+printed_word : (v : ℤ) → unsigned_abs v ≤ 10 ^ 18 → is_word (amount_text 6 v) ≡ true
 unfolding is_separator
 printed_word v h =
-    let some : nat_lt 0 (length (printed 6 v)) ≡ true = grind (arith, nat_tests, printed_some v h) in
-    and_from (nat_lt 0 (length (printed 6 v))) (list_all (λ b. not (is_separator b)) (printed 6 v)) some (printed_all (λ b. not (is_separator b)) v digit_separates_not refl refl h)
+    let some : nat_lt 0 (length (amount_text 6 v)) ≡ true = grind (arith, nat_tests, printed_some v h) in
+    and_from (nat_lt 0 (length (amount_text 6 v))) (list_all (λ b. not (is_separator b)) (amount_text 6 v)) some (printed_all (λ b. not (is_separator b)) v digit_separates_not refl refl h)
 
-pub record_fields : (b : ℕ) (v : ℤ) → b < MOST_BLOCKS → unsigned_abs v ≤ 10 ^ 18 → fields_of (record_line b v) ≡ decimal b ∷ printed 6 v ∷ []
+pub record_fields : (b : ℕ) (v : ℤ) → b < MOST_BLOCKS → unsigned_abs v ≤ 10 ^ 18 → fields_of (record_line b v) ≡ decimal b ∷ amount_text 6 v ∷ []
 record_fields b v h s =
-    ap (λ (word : List ℕ). fields_of (decimal b ++ (32 ∷ word))) (sym (append-nil (printed 6 v)))
-    ∙ fields_cut (decimal b) (printed 6 v ∷ []) (decimal_is_word b (omega arith)) (and_from (is_word (printed 6 v)) true (printed_word v s) refl)
+    ap (λ (word : List ℕ). fields_of (decimal b ++ (32 ∷ word))) (sym (append-nil (amount_text 6 v)))
+    ∙ fields_cut (decimal b) (amount_text 6 v ∷ []) (decimal_is_word b (omega arith)) (and_from (is_word (amount_text 6 v)) true (printed_word v s) refl)
 
 record_short : (b : ℕ) (v : ℤ) → b < MOST_BLOCKS → unsigned_abs v ≤ 10 ^ 18 → length (record_line b v) ≤ LINE_BYTES
 record_short b v h s =
     let a = length-decimal-le_wide 8 b (omega arith) (omega arith) (omega arith) in
     let p = printed_micros_short v s in
-    omega (arith, length-append (decimal b) (32 ∷ printed 6 v))
+    omega (arith, length-append (decimal b) (32 ∷ amount_text 6 v))
 
 -- The line is the record of block b with the value v.
 record IsRecordOf (b : ℕ) (v : ℤ) (l : Line) : Type 0 where
@@ -57,19 +57,19 @@ record IsRecordOf (b : ℕ) (v : ℤ) (l : Line) : Type 0 where
   block : block_of (fields_in l) ≡ b
   worth : value_of (fields_in l) ≡ v
 
-two_shape : (line b : ℕ) (v : ℤ) → b < MOST_BLOCKS → unsigned_abs v ≤ 10 ^ 18 → shape_fault line (decimal b ∷ printed 6 v ∷ []) ≡ None
+two_shape : (line b : ℕ) (v : ℤ) → b < MOST_BLOCKS → unsigned_abs v ≤ 10 ^ 18 → shape_fault line (decimal b ∷ amount_text 6 v ∷ []) ≡ None
 two_shape line b v h s = rw (whole_of-decimal b (omega arith), printed_read v s) refl
 
-two_block : (b : ℕ) (v : ℤ) → b < MOST_BLOCKS → block_of (decimal b ∷ printed 6 v ∷ []) ≡ b
+two_block : (b : ℕ) (v : ℤ) → b < MOST_BLOCKS → block_of (decimal b ∷ amount_text 6 v ∷ []) ≡ b
 two_block b v h = rw (whole_of-decimal b (omega arith)) refl
 
-two_worth : (b : ℕ) (v : ℤ) → unsigned_abs v ≤ 10 ^ 18 → value_of (decimal b ∷ printed 6 v ∷ []) ≡ v
+two_worth : (b : ℕ) (v : ℤ) → unsigned_abs v ≤ 10 ^ 18 → value_of (decimal b ∷ amount_text 6 v ∷ []) ≡ v
 two_worth b v s = rw (printed_read v s) refl
 
 is_record : (k b : ℕ) (v : ℤ) → b < MOST_BLOCKS → unsigned_abs v ≤ 10 ^ 18 → IsRecordOf b v (line k (record_line b v))
 is_record k b v h s =
     let t = short (record_line b v) (record_short b v h s) in
-    let f : fields_in (line k (record_line b v)) ≡ decimal b ∷ printed 6 v ∷ [] = rw t (record_fields b v h s) in
+    let f : fields_in (line k (record_line b v)) ≡ decimal b ∷ amount_text 6 v ∷ [] = rw t (record_fields b v h s) in
     record {
       small = t;
       open_so = ap is_end f;
@@ -91,7 +91,7 @@ no_line_fault n b v had l r h f =
     ap (λ t. cond t (Some (Text l.number)) (record_fault n had l.number (fields_in l))) r.small ∙ no_record_fault n l.number b had (fields_in l) r.kept r.shape r.block known f
 
 -- The records have no fault.
-pub no_first_fault : (n k b : ℕ) (vs : List ℤ) (before : List Line) → b + length vs ≤ n → n ≤ MOST_BLOCKS → Sizes vs → ((j : ℕ) → b ≤ j → has_record before j ≡ false) → first_fault n before (numbered k (record_lines b vs)) ≡ None
+pub no_first_fault : (n k b : ℕ) (vs : List ℤ) (before : List Line) → b + length vs ≤ n → n ≤ MOST_BLOCKS → Sizes vs → ((j : ℕ) → b ≤ j → has_record before j ≡ false) → first_fault n before (numbered_lines k (record_lines b vs)) ≡ None
 no_first_fault n k b [] before h m s new = refl
 no_first_fault n k b (v ∷ vs) before h m s new =
     let l = line (k + 1) (record_line b v) in
@@ -100,34 +100,34 @@ no_first_fault n k b (v ∷ vs) before h m s new =
     let later : (j : ℕ) → b + 1 ≤ j → has_record (before ++ l ∷ []) j ≡ false = λ j i.
     let other : eqb b j ≡ false = grind (arith, nat_tests) in
     has-push before l j ∙ ap (λ t. has_record before j || t) (record_of b j v l r ∙ other) ∙ ap (λ t. t || false) (new j (omega arith)) in
-    ap (λ o. option_or o (first_fault n (before ++ l ∷ []) (numbered (k + 1) (record_lines (b + 1) vs)))) none ∙ no_first_fault n (k + 1) (b + 1) vs (before ++ l ∷ []) (omega arith) m s.1 later
+    ap (λ o. option_or o (first_fault n (before ++ l ∷ []) (numbered_lines (k + 1) (record_lines (b + 1) vs)))) none ∙ no_first_fault n (k + 1) (b + 1) vs (before ++ l ∷ []) (omega arith) m s.1 later
 
 -- Each block has its value.
-pub values_back : (k b i : ℕ) (vs : List ℤ) → i < length vs → b + length vs ≤ MOST_BLOCKS → Sizes vs → value_among (numbered k (record_lines b vs)) (b + i) ≡ get_or vs i (pos 0)
+pub values_back : (k b i : ℕ) (vs : List ℤ) → i < length vs → b + length vs ≤ MOST_BLOCKS → Sizes vs → value_among (numbered_lines k (record_lines b vs)) (b + i) ≡ get_or vs i (pos 0)
 values_back k b i [] h m s = absurd (omega arith)
 values_back k b zero (v ∷ vs) h m s =
     let l = line (k + 1) (record_line b v) in
     let r = is_record (k + 1) b v (omega arith) s.0 in
     let here : eqb b (b + 0) ≡ true = grind (arith, nat_tests) in
     let t : is_record_of (b + 0) (fields_in l) ≡ true = record_of b (b + 0) v l r ∙ here in
-    ap (λ x. cond x (value_of (fields_in l)) (value_among (numbered (k + 1) (record_lines (b + 1) vs)) (b + 0))) t ∙ r.worth
+    ap (λ x. cond x (value_of (fields_in l)) (value_among (numbered_lines (k + 1) (record_lines (b + 1) vs)) (b + 0))) t ∙ r.worth
 values_back k b (suc i) (v ∷ vs) h m s =
     let l = line (k + 1) (record_line b v) in
     let r = is_record (k + 1) b v (omega arith) s.0 in
     let other : eqb b (b + suc i) ≡ false = grind (arith, nat_tests) in
     let t : is_record_of (b + suc i) (fields_in l) ≡ false = record_of b (b + suc i) v l r ∙ other in
     let j : b + suc i ≡ b + 1 + i = omega arith in
-    ap (λ x. cond x (value_of (fields_in l)) (value_among (numbered (k + 1) (record_lines (b + 1) vs)) (b + suc i))) t
-    ∙ ap (value_among (numbered (k + 1) (record_lines (b + 1) vs))) j ∙ values_back (k + 1) (b + 1) i vs (omega arith) (omega arith) s.1
+    ap (λ x. cond x (value_of (fields_in l)) (value_among (numbered_lines (k + 1) (record_lines (b + 1) vs)) (b + suc i))) t
+    ∙ ap (value_among (numbered_lines (k + 1) (record_lines (b + 1) vs))) j ∙ values_back (k + 1) (b + 1) i vs (omega arith) (omega arith) s.1
 
 -- The records end at EOF.
-pub body_back : (k b : ℕ) (vs : List ℤ) → b + length vs ≤ MOST_BLOCKS → Sizes vs → before_end (numbered k (record_lines b vs ++ (codes "EOF" ∷ []))) ≡ numbered k (record_lines b vs)
+pub body_back : (k b : ℕ) (vs : List ℤ) → b + length vs ≤ MOST_BLOCKS → Sizes vs → before_end (numbered_lines k (record_lines b vs ++ (codes "EOF" ∷ []))) ≡ numbered_lines k (record_lines b vs)
 unfolding is_separator
 body_back k b [] m s = refl
 body_back k b (v ∷ vs) m s =
     let l = line (k + 1) (record_line b v) in
     let r = is_record (k + 1) b v (omega arith) s.0 in
-    ap (λ t. cond t [] (l ∷ before_end (numbered (k + 1) (record_lines (b + 1) vs ++ (codes "EOF" ∷ []))))) r.open_so
+    ap (λ t. cond t [] (l ∷ before_end (numbered_lines (k + 1) (record_lines (b + 1) vs ++ (codes "EOF" ∷ []))))) r.open_so
     ∙ ap (λ ls. l ∷ ls) (body_back (k + 1) (b + 1) vs (omega arith) s.1)
 
 -- No record has a line feed.
@@ -136,6 +136,6 @@ record_lines_whole b [] m s = refl
 record_lines_whole b (v ∷ vs) m s =
     let q : ℕ → Bool = λ c. not (eqb c 10) in
     let a : is_one_line (decimal b) ≡ true = decimal_is_one_line b (omega arith) in
-    let p : is_one_line (printed 6 v) ≡ true = printed_all q v digit_is_one_line refl refl s.0 in
-    let here : is_one_line (record_line b v) ≡ true = list_all-append q (decimal b) (32 ∷ printed 6 v) ∙ rw (a, p) refl in
+    let p : is_one_line (amount_text 6 v) ≡ true = printed_all q v digit_is_one_line refl refl s.0 in
+    let here : is_one_line (record_line b v) ≡ true = list_all-append q (decimal b) (32 ∷ amount_text 6 v) ∙ rw (a, p) refl in
     and_from (is_one_line (record_line b v)) (list_all is_one_line (record_lines (b + 1) vs)) here (record_lines_whole (b + 1) vs (omega arith) s.1)

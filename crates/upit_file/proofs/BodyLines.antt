@@ -9,7 +9,7 @@ use Rattle.std.proofs.Math.Bool.{or-false}
 use Rattle.std.proofs.Math.ListN.{length-set}
 use Rattle.fixed_worth.specs.declared.limits.TheConstants.{LINE_BYTES}
 use Rattle.fixed_worth.specs.Text.{Left, fields_of}
-use Rattle.fixed_worth.specs.Record.{Line, numbered, is_skipped}
+use Rattle.fixed_worth.specs.Record.{Line, numbered_lines, is_skipped}
 use Rattle.upit_file.specs.declared.upit_fault.UpitFault.{UpitFault}
 use Rattle.upit_file.specs.declared.upit_fault.UpitFault.TheVariants.{UnknownBlock, Repeated}
 use Rattle.upit_file.specs.Header.{is_end, fields_in}
@@ -20,8 +20,8 @@ use Rattle.fixed_worth.proofs.Bits.{or_true}
 -- What has been read, and what is left.
 pub record Kept (n : ℕ) (all : List Line) (seen : List Bool) (values : List ℤ) (left : Left) : Type 0 where
   pub before : List Line
-  pub fault : first_fault n before (before_end (numbered left.number left.lines)) ≡ first_fault n [] (before_end all)
-  pub whole : before ++ before_end (numbered left.number left.lines) ≡ before_end all
+  pub fault : first_fault n before (before_end (numbered_lines left.number left.lines)) ≡ first_fault n [] (before_end all)
+  pub whole : before ++ before_end (numbered_lines left.number left.lines) ≡ before_end all
   pub marks : (b : ℕ) → b < n → get_or seen b false ≡ has_record before b
   pub worth : (b : ℕ) → b < n → get_or values b (pos 0) ≡ value_among before b
   pub all_seen : length seen ≡ n
@@ -61,10 +61,10 @@ known n seen before k block m e =
 -- The line has no fault, and joins those before.
 joins : (n : ℕ) (all : List Line) (seen : List Bool) (values : List ℤ) (left next : Left) (k : ℕ) (text : List ℕ) (g : Kept n all seen values left) → Next left next k text → is_end (fields_of text) ≡ false
     → record_fault n (has_record g.before) k (fields_of text) ≡ None
-    → (first_fault n (g.before ++ line k text ∷ []) (before_end (numbered next.number next.lines)) ≡ first_fault n [] (before_end all)) × ((g.before ++ line k text ∷ []) ++ before_end (numbered next.number next.lines) ≡ before_end all)
+    → (first_fault n (g.before ++ line k text ∷ []) (before_end (numbered_lines next.number next.lines)) ≡ first_fault n [] (before_end all)) × ((g.before ++ line k text ∷ []) ++ before_end (numbered_lines next.number next.lines) ≡ before_end all)
 joins n all seen values left next k text g h e none =
     let is = next_is left next k text h in
-    let ls = numbered next.number next.lines in
+    let ls = numbered_lines next.number next.lines in
     let s = short text h.small in
     let f : first_fault n g.before (before_end (line k text ∷ ls)) ≡ first_fault n (g.before ++ line k text ∷ []) (before_end ls) = next_fault n k g.before text ls s e ∙ ap (λ (o : Option UpitFault). option_or o (first_fault n (g.before ++ line k text ∷ []) (before_end ls))) none in
     let w : before_end (line k text ∷ ls) ≡ line k text ∷ before_end ls = rw (s, e) refl in (

@@ -8,7 +8,7 @@ use Rattle.std.proofs.lemmas.List.{get_or-drop, get_or-take, length-take}
 use Rattle.fixed_worth.specs.declared.limits.TheConstants.{MOST_BLOCKS}
 use Rattle.upit_file.specs.declared.limits.TheConstants.{NAME_BYTES}
 use Rattle.fixed_worth.specs.Text.{is_separator, Run, runs_from, lines_of}
-use Rattle.fixed_worth.specs.Record.{Line, numbered}
+use Rattle.fixed_worth.specs.Record.{Line, numbered_lines}
 use Rattle.fixed_worth.specs.Laws.{IsField, AreInOrder}
 use Rattle.fixed_worth.proofs.FieldLaws.{fields_are}
 use Rattle.fixed_worth.proofs.LineLaws.{lines_are}
@@ -97,7 +97,7 @@ abbrev pub Whole : List Line → Type 0
 Whole [] = Unit {0}
 Whole (l ∷ ls) = NoLineFeed l.text × Whole ls
 
-whole_numbered : (k : ℕ) (lines : List (List ℕ)) → All NoLineFeed lines → Whole (numbered k lines)
+whole_numbered : (k : ℕ) (lines : List (List ℕ)) → All NoLineFeed lines → Whole (numbered_lines k lines)
 whole_numbered k [] a = tt
 whole_numbered k (l ∷ ls) a = (a 0 [] (omega arith), whole_numbered (k + 1) ls (λ i d h. a (suc i) d (omega arith)))
 
@@ -135,16 +135,16 @@ named n name (l ∷ ls) h w f =
     named n (name_behind name (key_in (fields_in l)) l.text) ls (named_behind n name l h w.0 p.0 (key_in (fields_in l)) refl) w.1 p.1
 
 -- A header with no fault gives a name.
-pub header_named : (n : ℕ) (text : List ℕ) → header_lines_fault n (header (numbered 0 (lines_of text))) ≡ None → is_name (last_name [] (header (numbered 0 (lines_of text)))) ≡ true
-header_named n text f = named n [] (header (numbered 0 (lines_of text))) refl (whole_header (numbered 0 (lines_of text)) (whole_numbered 0 (lines_of text) (lines_are text).whole)) f
+pub header_named : (n : ℕ) (text : List ℕ) → header_lines_fault n (header (numbered_lines 0 (lines_of text))) ≡ None → is_name (last_name [] (header (numbered_lines 0 (lines_of text)))) ≡ true
+header_named n text f = named n [] (header (numbered_lines 0 (lines_of text))) refl (whole_header (numbered_lines 0 (lines_of text)) (whole_numbered 0 (lines_of text) (lines_are text).whole)) f
 
 -- What a text gives is what the type can hold.
-pub read_is_upit : (n : ℕ) (text : List ℕ) (lines : List (List ℕ)) (given name : List ℕ) (values : List ℤ) → lines ≡ lines_of text → header_fault n (numbered 0 lines) ≡ None → given ≡ last_name [] (header (numbered 0 lines)) → name ≡ given
+pub read_is_upit : (n : ℕ) (text : List ℕ) (lines : List (List ℕ)) (given name : List ℕ) (values : List ℤ) → lines ≡ lines_of text → header_fault n (numbered_lines 0 lines) ≡ None → given ≡ last_name [] (header (numbered_lines 0 lines)) → name ≡ given
     → length values ≡ n → n ≤ MOST_BLOCKS → is_upit name values ≡ true
 read_is_upit n text lines given name values e f g h len few =
-    let p = no_fault (header_lines_fault n (header (numbered 0 lines))) _ f in
-    let q : header_lines_fault n (header (numbered 0 (lines_of text))) ≡ None = subst (λ (ls : List (List ℕ)). header_lines_fault n (header (numbered 0 ls)) ≡ None) e p.0 in
-    let same : name ≡ last_name [] (header (numbered 0 (lines_of text))) = h ∙ g ∙ ap (λ (ls : List (List ℕ)). last_name [] (header (numbered 0 ls))) e in
+    let p = no_fault (header_lines_fault n (header (numbered_lines 0 lines))) _ f in
+    let q : header_lines_fault n (header (numbered_lines 0 (lines_of text))) ≡ None = subst (λ (ls : List (List ℕ)). header_lines_fault n (header (numbered_lines 0 ls)) ≡ None) e p.0 in
+    let same : name ≡ last_name [] (header (numbered_lines 0 (lines_of text))) = h ∙ g ∙ ap (λ (ls : List (List ℕ)). last_name [] (header (numbered_lines 0 ls))) e in
     let small : nat_le (length values) MOST_BLOCKS ≡ true = grind (arith, nat_tests) in
     let named_so : is_name name ≡ true = ap is_name same ∙ header_named n text q in
     rw (named_so, small) refl

@@ -14,7 +14,7 @@ use Rattle.fixed_worth.specs.declared.numerals.NumberFault.{NumberFault}
 use Rattle.fixed_worth.specs.declared.numerals.NumberFault.TheVariants.{NotANumber, TooLong}
 use Rattle.fixed_worth.specs.Numeral.{is_digit, is_number, value_of, is_minus, unsigned_of, with_sign}
 use Rattle.fixed_worth.specs.Decimal.{is_mark, is_point, mantissa_of, whole_part, fraction_part, exponent_of, has_mark, most, decimal_of}
-use Rattle.fixed_worth.specs.Printed.{fixed_width, digit_before, without_trailing_zeros, fraction_text, printed}
+use Rattle.fixed_worth.specs.Printed.{fixed_width, digit_before, without_trailing_zeros, fraction_text, amount_text}
 use Rattle.fixed_worth.specs.Rounding.{rounded_of}
 use Rattle.fixed_worth.proofs.Digits.{value_of-append}
 use Rattle.fixed_worth.proofs.Powers.{rounds_up}
@@ -94,8 +94,8 @@ sign_all : (q : ℕ → Bool) (t : Bool) → q 45 ≡ true → list_all q (sign_
 sign_all q true h = rw h refl
 sign_all q false h = refl
 
-pub printed_all : (q : ℕ → Bool) (z : ℤ) → ((b : ℕ) → is_digit b ≡ true → q b ≡ true) → q 46 ≡ true → q 45 ≡ true → unsigned_abs z ≤ 10 ^ 18 → list_all q (printed 6 z) ≡ true
-unfolding printed
+pub printed_all : (q : ℕ → Bool) (z : ℤ) → ((b : ℕ) → is_digit b ≡ true → q b ≡ true) → q 46 ≡ true → q 45 ≡ true → unsigned_abs z ≤ 10 ^ 18 → list_all q (amount_text 6 z) ≡ true
+unfolding amount_text
 printed_all q z d p m h =
     let w = unsigned_abs z / 10 ^ 6 in
     let f = unsigned_abs z % 10 ^ 6 in
@@ -241,8 +241,8 @@ read_whole s t w f n (d ∷ ds) e h k z all small =
     ∙ digits_read (d ∷ ds) (behind_point t (places f)) s n digits (omega arith) few (behind_few t (places f) p.few) (worth w f t (d ∷ ds) z value p ∙ all) small
 
 -- A printed value is read as that value.
-pub printed_read : (z : ℤ) → unsigned_abs z ≤ 10 ^ 18 → decimal_of (printed 6 z) ≡ Ok z
-unfolding printed fraction_text
+pub printed_read : (z : ℤ) → unsigned_abs z ≤ 10 ^ 18 → decimal_of (amount_text 6 z) ≡ Ok z
+unfolding amount_text fraction_text
 printed_read z h =
     let n = unsigned_abs z in
     let all : n / 10 ^ 6 * 10 ^ 6 + n % 10 ^ 6 ≡ n = omega arith in
@@ -252,6 +252,6 @@ some_digits : (s : Bool) (ds rest : List ℕ) → 0 < length ds → 0 < length (
 some_digits s ds rest h = omega (arith, length-append (sign_text s) (ds ++ rest), length-append ds rest)
 
 -- Something is printed.
-pub printed_some : (z : ℤ) → unsigned_abs z ≤ 10 ^ 18 → 0 < length (printed 6 z)
-unfolding printed
+pub printed_some : (z : ℤ) → unsigned_abs z ≤ 10 ^ 18 → 0 < length (amount_text 6 z)
+unfolding amount_text
 printed_some z h = some_digits (is_negative z) (decimal (unsigned_abs z / 10 ^ 6)) (fraction_text 6 (unsigned_abs z % 10 ^ 6)) (decimal_nonempty (unsigned_abs z / 10 ^ 6) (omega arith))

@@ -6,7 +6,7 @@ use Rattle.std.specs.Fmt.{decimal, sign_text}
 use Rattle.std.proofs.lemmas.Bool.Decides.{nat_tests}
 use Rattle.std.proofs.lemmas.Int.{ints}
 use Rattle.std.proofs.lemmas.List.{take-replicate}
-use Rattle.fixed_worth.specs.Printed.{fixed_width, without_trailing_zeros, fraction_text, printed}
+use Rattle.fixed_worth.specs.Printed.{fixed_width, without_trailing_zeros, fraction_text, amount_text}
 use Rattle.fixed_worth.proofs.Shown.{no_fraction, point_and_digits}
 use Rattle.upit_file.specs.Writing.{record_line}
 
@@ -29,7 +29,7 @@ together a s w f = simp append_assoc
 -- The number, a space, the sign, the whole part and the fraction.
 pub line_made : (b size : ℕ) (z : ℤ) (one two three four five : List ℕ) → size ≡ unsigned_abs z → one ≡ decimal b → two ≡ one ++ (32 ∷ []) → three ≡ two ++ sign_text (is_negative z) → four ≡ three ++ decimal (size / 10 ^ 6)
     → five ≡ four ++ fraction_text 6 (size % 10 ^ 6) → five ≡ record_line b z
-unfolding printed
+unfolding amount_text
 line_made b size z one two three four five e p q r s t =
     let w = decimal (size / 10 ^ 6) in
     let f = fraction_text 6 (size % 10 ^ 6) in

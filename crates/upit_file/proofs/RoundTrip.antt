@@ -7,7 +7,7 @@ use Rattle.std.specs.Fmt.{decimal}
 use Rattle.std.proofs.lemmas.Bool.{or_parts}
 use Rattle.std.proofs.lemmas.List.Folds.{list_all-append}
 use Rattle.fixed_worth.specs.declared.limits.TheConstants.{MOST_BLOCKS}
-use Rattle.fixed_worth.specs.Record.{Line, numbered}
+use Rattle.fixed_worth.specs.Record.{Line, numbered_lines}
 use Rattle.upit_file.specs.Header.{header, last_name, header_fault}
 use Rattle.upit_file.specs.Body.{body, before_end, first_fault, value_among}
 use Rattle.upit_file.specs.Records.{UpitView, is_name, lines_in}
@@ -31,8 +31,8 @@ all_lines name vs h few s =
     rw (a, b, c) refl
 
 -- The lines that are read are those that were written.
-read_lines : (u : UpitView) → is_name u.name ≡ true → length u.values ≤ MOST_BLOCKS → Sizes u.values → lines_in (upit_text u) ≡ written u.name (length u.values) (numbered 4 (record_lines 0 u.values ++ (codes "EOF" ∷ [])))
-read_lines u h few s = ap (numbered 0) (lines_cut (upit_lines u) (all_lines u.name u.values h few s))
+read_lines : (u : UpitView) → is_name u.name ≡ true → length u.values ≤ MOST_BLOCKS → Sizes u.values → lines_in (upit_text u) ≡ written u.name (length u.values) (numbered_lines 4 (record_lines 0 u.values ++ (codes "EOF" ∷ [])))
+read_lines u h few s = ap (numbered_lines 0) (lines_cut (upit_lines u) (all_lines u.name u.values h few s))
 
 -- The name and the values are such as the type holds: each value has at most 10^18 millionths either way.
 pub record CanBeWritten (u : UpitView) : Type 0 where
@@ -45,10 +45,10 @@ read_back u c =
     let n = length u.values in
     let few : length u.values ≤ MOST_BLOCKS = c.few in
     let s = sizes_each u.values c.sizes in
-    let rest = numbered 4 (record_lines 0 u.values ++ (codes "EOF" ∷ [])) in
+    let rest = numbered_lines 4 (record_lines 0 u.values ++ (codes "EOF" ∷ [])) in
     let lines = read_lines u c.named few s in
     let h = header_back n u.name rest c.named few in
-    let records : body (lines_in (upit_text u)) ≡ numbered 4 (record_lines 0 u.values) = ap body lines ∙ ap before_end h.2 ∙ body_back 4 0 u.values (omega arith) s in
+    let records : body (lines_in (upit_text u)) ≡ numbered_lines 4 (record_lines 0 u.values) = ap body lines ∙ ap before_end h.2 ∙ body_back 4 0 u.values (omega arith) s in
     record {
       sound = ap (λ (ls : List Line). option_or (header_fault n ls) (first_fault n [] (body (lines_in (upit_text u))))) lines
           ∙ ap (λ o. option_or o (first_fault n [] (body (lines_in (upit_text u))))) h.0
@@ -57,7 +57,7 @@ read_back u c =
         count = refl;
         worth = λ b i.
             let z : 0 + b ≡ b = omega arith in
-            sym (ap (λ (ls : List Line). value_among ls b) records ∙ ap (value_among (numbered 4 (record_lines 0 u.values))) (sym z) ∙ values_back 4 0 b u.values i (omega arith) s);
+            sym (ap (λ (ls : List Line). value_among ls b) records ∙ ap (value_among (numbered_lines 4 (record_lines 0 u.values))) (sym z) ∙ values_back 4 0 b u.values i (omega arith) s);
         named = sym (ap (λ (ls : List Line). last_name [] (header ls)) lines ∙ h.1);
       };
     }

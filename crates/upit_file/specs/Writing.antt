@@ -2,7 +2,7 @@
 use Rattle.std.specs.Prelude.{ℕ, ℤ, ◌+◌, List, [], ◌∷◌, ◌++◌, length, codes}
 use Rattle.std.specs.Fmt.{decimal}
 use Rattle.fixed_worth.specs.Laws.{with_line_feeds}
-use Rattle.fixed_worth.specs.Printed.{printed}
+use Rattle.fixed_worth.specs.Printed.{amount_text}
 use Rattle.upit_file.specs.Records.{UpitView}
 
 -- The lines of the header for n blocks.
@@ -11,7 +11,7 @@ header_lines name n = (codes "NAME: " ++ name) ∷ codes "TYPE: UPIT" ∷ (codes
 
 -- The line of block b: its number, a space (32) and its value with at most six places.
 abbrev pub record_line : ℕ → ℤ → List ℕ
-record_line b value = decimal b ++ (32 ∷ printed 6 value)
+record_line b value = decimal b ++ (32 ∷ amount_text 6 value)
 
 -- The lines of the blocks from b on.
 abbrev pub record_lines : ℕ → List ℤ → List (List ℕ)

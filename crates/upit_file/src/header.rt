@@ -3,7 +3,7 @@
 
 ghost use Rattle.std.specs.Prelude.{[], ◌≡◌, ◌≤◌, ◌==◌, ◌||◌, length, drop, MatchResult, OnSome, unwrap_or, Some, None};
 ghost use Rattle.fixed_worth.specs.Text.{fields_of};
-ghost use Rattle.fixed_worth.specs.Record.{numbered};
+ghost use Rattle.fixed_worth.specs.Record.{numbered_lines};
 ghost use Rattle.upit_file.specs.Header as spec;
 ghost use Rattle.upit_file.specs.Records as records;
 
@@ -61,10 +61,10 @@ pub(crate) fn read_header<'a>(
     wanted: Option<u32>,
 ) -> Result<Header<'a>, UpitFault>
     requires { lines.old.number ≡ 0 }
-    ensures { let all = numbered 0 lines.old.lines in let n = unwrap_or wanted (records.count_in all) in MatchResult result
+    ensures { let all = numbered_lines 0 lines.old.lines in let n = unwrap_or wanted (records.count_in all) in MatchResult result
         (λ header. (header.blocks ≡ n) × (header.blocks ≤ MOST_BLOCKS) × (spec.header_fault n all ≡ None)
         × (header.name.now ≡ spec.last_name [] (spec.header all))
-        × (drop 1 (spec.after_header all) ≡ numbered lines.new.number lines.new.lines))
+        × (drop 1 (spec.after_header all) ≡ numbered_lines lines.new.number lines.new.lines))
         (λ e. spec.header_fault n all ≡ Some e) }
 {
     let mut name: &'a [u8] = b"";

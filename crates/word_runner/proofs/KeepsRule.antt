@@ -16,7 +16,7 @@ use Rattle.ordered_group.specs.Amount.{AtMost}
 use Rattle.machine_law.specs.Residual.{IsEnd}
 use Rattle.machine_law.specs.Operations.{operation_as, best_as}
 use Rattle.machine_law.specs.States as law
-use Rattle.machine_law.specs.States.{put, opening}
+use Rattle.machine_law.specs.States.{with_value_at, opening}
 use Rattle.machine_law.specs.Steps.{Step, Run, advance_by, next_of}
 use Rattle.machine_law.specs.Amounts.{IsOperation}
 use Rattle.machine_law.proofs.Points.{put-same, put-other}
@@ -79,8 +79,8 @@ module _ (s : State (Unit {0}) View) (id b : ℕ) (v : View) (q : CanTurn v b) (
   pub fit : Fits o x
   fit = fits net known t s.words r.cells b q.block o lawful r.small (runs_conserve net r.events t known r.run) (runs_conserve net (r.events ++ e ∷ []) u known runs) own_flow
 
-  operation_is : u.operation ≡ put t.operation b (operation_as units (after net b (get_or v.labels b 0) o x))
-  operation_is = operation_shown net known t s.words r.cells b q.block o ∙ ap (λ (l : ℕ). put t.operation b (operation_as units (after net b l o x))) (mine.label b q.block q.own q.runs)
+  operation_is : u.operation ≡ with_value_at t.operation b (operation_as units (after net b (get_or v.labels b 0) o x))
+  operation_is = operation_shown net known t s.words r.cells b q.block o ∙ ap (λ (l : ℕ). with_value_at t.operation b (operation_as units (after net b l o x))) (mine.label b q.block q.own q.runs)
 
   pub placed_after : IsPlaced net b (view_after_turn b v x).operation
   placed_after = placed net u b (view_after_turn b v x).operation
@@ -93,7 +93,7 @@ module _ (s : State (Unit {0}) View) (id b : ℕ) (v : View) (q : CanTurn v b) (
   sees_mine = record {
     owns = λ c l own. mine.owns c l (record { live = own.live; serves = own.serves });
     operation = λ c l own. elim (cases_eq c b) [
-      | inl is ↦ ap (λ (f : ℕ → _). f c) operation_is ∙ ap (put t.operation b _) is ∙ put-same t.operation b _ ∙ ap (operation_as units) (sym (operation_here (view_after_turn b v x) c (sym is)))
+      | inl is ↦ ap (λ (f : ℕ → _). f c) operation_is ∙ ap (with_value_at t.operation b _) is ∙ put-same t.operation b _ ∙ ap (operation_as units) (sym (operation_here (view_after_turn b v x) c (sym is)))
       | inr ne ↦
           ap (λ (f : ℕ → _). f c) operation_is ∙ put-other t.operation b _ c ne ∙ mine.operation c l (record { live = own.live; serves = own.serves })
           ∙ ap (operation_as units) (shown_else v b c q ne ∙ sym (operation_else (view_after_turn b v x) c (λ h. ne (sym h))))

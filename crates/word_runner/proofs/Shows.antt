@@ -16,7 +16,7 @@ use Rattle.machine_law.specs.declared.operations.Operation.{Operation}
 use Rattle.machine_law.specs.declared.operations.Operation.TheVariants.{Idle, Scan, PushDue, TakeDue, GiveDue, RaiseDue}
 use Rattle.machine_law.specs.Operations.{best_as, operation_as}
 use Rattle.machine_law.specs.States as law
-use Rattle.machine_law.specs.States.{put}
+use Rattle.machine_law.specs.States.{with_value_at}
 use Rattle.machine_law.specs.Residual.{IsEnd, label_beyond}
 use Rattle.machine_law.specs.Reads.{operation_begun_with, after_port, after_capacity, after_label}
 use Rattle.machine_law.specs.Steps.{after_look, after_look_by, after_label_at, push_amount, after_push_by, after_give_by, advance_by}
@@ -82,23 +82,23 @@ module _ (net : NetView) (known : All (IsKnown (count net)) net.pairs) (t : law.
       ∙ sym (after_label-as units (length (ports net b)) (t.label b) have place best read p _)
 
   -- a push, by the kind of port
-  pushed_operation : (d : Amount) (p : Port) (kind : PortKind) → (after_push_by t b d p kind).operation ≡ put t.operation b (TakeDue d p)
+  pushed_operation : (d : Amount) (p : Port) (kind : PortKind) → (after_push_by t b d p kind).operation ≡ with_value_at t.operation b (TakeDue d p)
   pushed_operation d p Sink = refl
   pushed_operation d p Forward = refl
   pushed_operation d p Backward = refl
   pushed_operation d p Source = refl
 
-  given_operation : (d : Amount) (p : Port) (kind : PortKind) → (after_give_by t b d p kind).operation ≡ put t.operation b Idle
+  given_operation : (d : Amount) (p : Port) (kind : PortKind) → (after_give_by t b d p kind).operation ≡ with_value_at t.operation b Idle
   given_operation d p Sink = refl
   given_operation d p Forward = refl
   given_operation d p Backward = refl
   given_operation d p Source = refl
 
-  pub operation_shown : (o : Operation ℕ) → (advance_by net t b (operation_as units o)).operation ≡ put t.operation b (operation_as units (after net b (t.label b) o (get_or ws (word_of net b o) 0)))
-  operation_shown Idle = ap (λ a. put t.operation b (operation_begun_with a)) (c.excess b lb) ∙ ap (put t.operation b) (begun_units _)
-  operation_shown (Scan have place None best) = ap (put t.operation b) (looked_shown_if have place best (slice_get (ports net b) place) refl)
-  operation_shown (Scan have place (Some read) best) = ap (put t.operation b) (weighed_shown_if have place best read (slice_get (ports net b) place) refl)
-  operation_shown (PushDue have best) = pushed_operation (push_amount (units have) best.port.kind (units best.capacity)) best.port best.port.kind ∙ ap (λ a. put t.operation b (TakeDue a best.port)) (push_of_units have best.port.kind best.capacity)
+  pub operation_shown : (o : Operation ℕ) → (advance_by net t b (operation_as units o)).operation ≡ with_value_at t.operation b (operation_as units (after net b (t.label b) o (get_or ws (word_of net b o) 0)))
+  operation_shown Idle = ap (λ a. with_value_at t.operation b (operation_begun_with a)) (c.excess b lb) ∙ ap (with_value_at t.operation b) (begun_units _)
+  operation_shown (Scan have place None best) = ap (with_value_at t.operation b) (looked_shown_if have place best (slice_get (ports net b) place) refl)
+  operation_shown (Scan have place (Some read) best) = ap (with_value_at t.operation b) (weighed_shown_if have place best read (slice_get (ports net b) place) refl)
+  operation_shown (PushDue have best) = pushed_operation (push_amount (units have) best.port.kind (units best.capacity)) best.port best.port.kind ∙ ap (λ a. with_value_at t.operation b (TakeDue a best.port)) (push_of_units have best.port.kind best.capacity)
   operation_shown (TakeDue d p) = refl
   operation_shown (GiveDue d p) = given_operation (units d) p p.kind
   operation_shown (RaiseDue have best) = refl
@@ -127,7 +127,7 @@ module _ (net : NetView) (known : All (IsKnown (count net)) net.pairs) (t : law.
   labels_shown (TakeDue d p) labels l x e = e
   labels_shown (GiveDue d p) labels l x e = ap (λ f. f x) (given_label (units d) p p.kind) ∙ e
   labels_shown (RaiseDue have best) labels l x e = elim (cases_eq x b) [
-    | inl at ↦ subst (λ z. put t.label b (best.label + 1) z ≡ get_or (set labels b (best.label + 1)) z 0) (sym at) (put-same t.label b (best.label + 1) ∙ sym (get_or-set_same labels b (best.label + 1) 0 l))
+    | inl at ↦ subst (λ z. with_value_at t.label b (best.label + 1) z ≡ get_or (set labels b (best.label + 1)) z 0) (sym at) (put-same t.label b (best.label + 1) ∙ sym (get_or-set_same labels b (best.label + 1) 0 l))
     | inr ne ↦ put-other t.label b (best.label + 1) x ne ∙ e ∙ sym (get_or-set_other labels b x (best.label + 1) 0 ne)
   ]
 

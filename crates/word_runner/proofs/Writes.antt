@@ -18,7 +18,7 @@ use Rattle.machine_law.specs.declared.operations.Operation.{Operation}
 use Rattle.machine_law.specs.declared.operations.Operation.TheVariants.{Idle, Scan, PushDue, TakeDue, GiveDue, RaiseDue}
 use Rattle.machine_law.specs.Operations.{best_as, operation_as}
 use Rattle.machine_law.specs.States as law
-use Rattle.machine_law.specs.States.{put}
+use Rattle.machine_law.specs.States.{with_value_at}
 use Rattle.machine_law.specs.Residual.{IsEnd}
 use Rattle.machine_law.specs.Amounts.{IsOperation, IsBestIfAny, IsWithinBy}
 use Rattle.machine_law.specs.Steps.{after_look, after_label_at, after_push_by, after_give_by, advance_by}
@@ -64,21 +64,21 @@ module _ (net : NetView) (known : All (IsKnown (count net)) net.pairs) (t : law.
   -- ---- the words after
   pushed_cells : (d : ℕ) (p : Port) (kind : PortKind) → IsEnd net b kind p.other p.slot → push_fits kind d (get_or ws (capacity_word net b kind p.slot) 0)
       → Cells net (after_push_by t b (units d) p kind) (set ws (capacity_word net b kind p.slot) (word_after_push kind d (get_or ws (capacity_word net b kind p.slot) 0)))
-  pushed_cells d p Sink q f = cells_room net t ws c (put t.operation b (TakeDue (units d) p)) (t.steps + 1) b _ (plus (t.sink b) (units d)) lb (less_room (negative (amount_at net.worths b)) (t.sink b) _ d (c.room b lb) f)
-  pushed_cells d p Forward q f = cells_flow net t ws c (put t.operation b (TakeDue (units d) p)) (t.steps + 1) p.slot _ (plus (t.flow p.slot) (units d)) q.0 (units_plus _ d (t.flow p.slot) (c.flow p.slot q.0))
-  pushed_cells d p Backward q f = cells_flow net t ws c (put t.operation b (TakeDue (units d) p)) (t.steps + 1) p.slot _ (minus (t.flow p.slot) (units d)) q.0 (units_minus _ d (t.flow p.slot) (c.flow p.slot q.0) f)
-  pushed_cells d p Source q f = cells_source net t ws c (put t.operation b (TakeDue (units d) p)) (t.steps + 1) b _ (minus (t.source b) (units d)) lb (units_minus _ d (t.source b) (c.source b lb) f)
+  pushed_cells d p Sink q f = cells_room net t ws c (with_value_at t.operation b (TakeDue (units d) p)) (t.steps + 1) b _ (plus (t.sink b) (units d)) lb (less_room (negative (amount_at net.worths b)) (t.sink b) _ d (c.room b lb) f)
+  pushed_cells d p Forward q f = cells_flow net t ws c (with_value_at t.operation b (TakeDue (units d) p)) (t.steps + 1) p.slot _ (plus (t.flow p.slot) (units d)) q.0 (units_plus _ d (t.flow p.slot) (c.flow p.slot q.0))
+  pushed_cells d p Backward q f = cells_flow net t ws c (with_value_at t.operation b (TakeDue (units d) p)) (t.steps + 1) p.slot _ (minus (t.flow p.slot) (units d)) q.0 (units_minus _ d (t.flow p.slot) (c.flow p.slot q.0) f)
+  pushed_cells d p Source q f = cells_source net t ws c (with_value_at t.operation b (TakeDue (units d) p)) (t.steps + 1) b _ (minus (t.source b) (units d)) lb (units_minus _ d (t.source b) (c.source b lb) f)
 
   given_cells : (d : ℕ) (p : Port) (kind : PortKind) → IsEnd net b kind p.other p.slot
       → Cells net (after_give_by t b (units d) p kind) (set ws (landing_word net kind p.other) (get_or ws (landing_word net kind p.other) 0 + d))
-  given_cells d p Sink q = cells_at_sink net t ws c (put t.operation b Idle) (t.steps + 1) _ (plus t.at_sink (units d)) (units_plus _ d t.at_sink c.at_sink)
-  given_cells d p Forward q = let l = other_within net b Forward p.other p.slot known lb q in cells_excess net t ws c (put t.operation b Idle) (t.steps + 1) p.other _ (plus (t.excess p.other) (units d)) l (units_plus _ d (t.excess p.other) (c.excess p.other l))
-  given_cells d p Backward q = let l = other_within net b Backward p.other p.slot known lb q in cells_excess net t ws c (put t.operation b Idle) (t.steps + 1) p.other _ (plus (t.excess p.other) (units d)) l (units_plus _ d (t.excess p.other) (c.excess p.other l))
-  given_cells d p Source q = cells_at_source net t ws c (put t.operation b Idle) (t.steps + 1) _ (plus t.at_source (units d)) (units_plus _ d t.at_source c.at_source)
+  given_cells d p Sink q = cells_at_sink net t ws c (with_value_at t.operation b Idle) (t.steps + 1) _ (plus t.at_sink (units d)) (units_plus _ d t.at_sink c.at_sink)
+  given_cells d p Forward q = let l = other_within net b Forward p.other p.slot known lb q in cells_excess net t ws c (with_value_at t.operation b Idle) (t.steps + 1) p.other _ (plus (t.excess p.other) (units d)) l (units_plus _ d (t.excess p.other) (c.excess p.other l))
+  given_cells d p Backward q = let l = other_within net b Backward p.other p.slot known lb q in cells_excess net t ws c (with_value_at t.operation b Idle) (t.steps + 1) p.other _ (plus (t.excess p.other) (units d)) l (units_plus _ d (t.excess p.other) (c.excess p.other l))
+  given_cells d p Source q = cells_at_source net t ws c (with_value_at t.operation b Idle) (t.steps + 1) _ (plus t.at_source (units d)) (units_plus _ d t.at_source c.at_source)
 
   -- a step that changes no word
-  read_cells : (o : Operation Amount) (i : ℕ) → Cells net (record t { operation = put t.operation b o; steps = t.steps + 1 }) (set ws i (get_or ws i 0))
-  read_cells o i = subst (Cells net (record t { operation = put t.operation b o; steps = t.steps + 1 })) (sym (set-get_or ws i 0)) (cells_op net t ws c (put t.operation b o) (t.steps + 1))
+  read_cells : (o : Operation Amount) (i : ℕ) → Cells net (record t { operation = with_value_at t.operation b o; steps = t.steps + 1 }) (set ws i (get_or ws i 0))
+  read_cells o i = subst (Cells net (record t { operation = with_value_at t.operation b o; steps = t.steps + 1 })) (sym (set-get_or ws i 0)) (cells_op net t ws c (with_value_at t.operation b o) (t.steps + 1))
 
   pub cells_shown : (o : Operation ℕ) → IsPlaced net b o → Fits o (get_or ws (word_of net b o) 0) → Cells net (advance_by net t b (operation_as units o)) (set ws (word_of net b o) (word_after o (get_or ws (word_of net b o) 0)))
   cells_shown Idle q f = read_cells (operation_begun_with (t.excess b)) (excess_at net b)
@@ -89,9 +89,9 @@ module _ (net : NetView) (known : All (IsKnown (count net)) net.pairs) (t : law.
       let i = capacity_word net b k best.port.slot in
       let d = push_units have k best.capacity in
       subst (λ a. Cells net (after_push_by t b a best.port k) (set ws i (word_after_push k d (get_or ws i 0)))) (sym (push_of_units have k best.capacity)) (pushed_cells d best.port k q f)
-  cells_shown (TakeDue d p) q f = cells_excess net t ws c (put t.operation b (GiveDue (units d) p)) (t.steps + 1) b _ (minus (t.excess b) (units d)) lb (units_minus _ d (t.excess b) (c.excess b lb) f)
+  cells_shown (TakeDue d p) q f = cells_excess net t ws c (with_value_at t.operation b (GiveDue (units d) p)) (t.steps + 1) b _ (minus (t.excess b) (units d)) lb (units_minus _ d (t.excess b) (c.excess b lb) f)
   cells_shown (GiveDue d p) q f = given_cells d p p.kind q
-  cells_shown (RaiseDue have best) q f = cells_label net t ws c (put t.operation b Idle) (t.steps + 1) b (best.label + 1) lb
+  cells_shown (RaiseDue have best) q f = cells_label net t ws c (with_value_at t.operation b Idle) (t.steps + 1) b (best.label + 1) lb
 
   -- ---- the word takes it
   push_most : (have read slot : ℕ) (kind : PortKind) (other : ℕ) → IsEnd net b kind other slot → IsWithinBy net t b kind slot (units read) → (kind ≡ Forward → get_or ws (flow_at net slot) 0 + have < 2 ^ 64)
@@ -106,11 +106,11 @@ module _ (net : NetView) (known : All (IsKnown (count net)) net.pairs) (t : law.
   landed d p Sink q m w = let l = fits_in 9223372036854775807 _ (plus t.at_sink (units d)) (all_given net) (units_plus _ d t.at_sink c.at_sink) w.sink_most m in omega (arith, l)
   landed d p Forward q m w =
       let lo = other_within net b Forward p.other p.slot known lb q in
-      let l = fits_in 9223372036854775807 _ (put t.excess p.other (plus (t.excess p.other) (units d)) p.other) (all_given net) (put-same t.excess p.other (plus (t.excess p.other) (units d)) ∙ units_plus _ d (t.excess p.other) (c.excess p.other lo)) (w.excess_most p.other lo) m in
+      let l = fits_in 9223372036854775807 _ (with_value_at t.excess p.other (plus (t.excess p.other) (units d)) p.other) (all_given net) (put-same t.excess p.other (plus (t.excess p.other) (units d)) ∙ units_plus _ d (t.excess p.other) (c.excess p.other lo)) (w.excess_most p.other lo) m in
       omega (arith, l)
   landed d p Backward q m w =
       let lo = other_within net b Backward p.other p.slot known lb q in
-      let l = fits_in 9223372036854775807 _ (put t.excess p.other (plus (t.excess p.other) (units d)) p.other) (all_given net) (put-same t.excess p.other (plus (t.excess p.other) (units d)) ∙ units_plus _ d (t.excess p.other) (c.excess p.other lo)) (w.excess_most p.other lo) m in
+      let l = fits_in 9223372036854775807 _ (with_value_at t.excess p.other (plus (t.excess p.other) (units d)) p.other) (all_given net) (put-same t.excess p.other (plus (t.excess p.other) (units d)) ∙ units_plus _ d (t.excess p.other) (c.excess p.other lo)) (w.excess_most p.other lo) m in
       omega (arith, l)
   landed d p Source q m w = let l = fits_in 9223372036854775807 _ (plus t.at_source (units d)) (all_given net) (units_plus _ d t.at_source c.at_source) w.source_most m in omega (arith, l)
 

@@ -5,7 +5,7 @@ use Rattle.closure_net.specs.Network.{NetView, FlowView}
 use Rattle.machine_law.specs.declared.events.Event.{Event}
 use Rattle.machine_law.specs.States.{opening, IsQuiet}
 use Rattle.boards.specs.Runs.{SomeNextOverflows, IsReplayedTo}
-use Rattle.boards.specs.Boards.{shown, HasSettled}
+use Rattle.boards.specs.Boards.{shown_state, HasSettled}
 use Rattle.boards.specs.Ends.{IsCutOffAt}
 use Rattle.boards.specs.Audits.{AuditView, IsAudited, IsFilled, AuditGoesOn, HasAuditSettled}
 use Rattle.workers.specs.Runs.{most_steps, Settles}
@@ -20,11 +20,11 @@ use Rattle.workers.specs.declared.auditing.AuditEnd.TheVariants.{NoFlow, History
 -- ---- a history
 
 -- an audited board over the net has one
-pub is_history_of : (audit : AuditView) (net : NetView) (limit room : ℕ) → IsAudited audit → audit.board.net ≡ net → (shown audit.board).steps ≤ most_steps limit → audit.room ≡ most_room room → IsHistory net limit room audit.history (shown audit.board)
+pub is_history_of : (audit : AuditView) (net : NetView) (limit room : ℕ) → IsAudited audit → audit.board.net ≡ net → (shown_state audit.board).steps ≤ most_steps limit → audit.room ≡ most_room room → IsHistory net limit room audit.history (shown_state audit.board)
 is_history_of audit net limit room is same within r =
     let k = is.counted in
     let f = is.within in
-    subst (λ (n : NetView). IsHistory n limit room audit.history (shown audit.board)) same (record {
+    subst (λ (n : NetView). IsHistory n limit room audit.history (shown_state audit.board)) same (record {
       turns = is.made;
       within = subst (λ (x : ℕ). x ≤ most_steps limit) k within;
       few = subst (λ (x : ℕ). length audit.history ≤ x) r f;
@@ -35,12 +35,12 @@ no_steps net limit room = (opening net, record { turns = refl; within = omega (a
 
 -- ---- the board that comes back
 pub left : (audit : AuditView) (net : NetView) (limit room steps most count own : ℕ) → IsAudited audit → steps ≡ most_steps limit → most ≡ most_room room → audit.board.net ≡ net
-    → count ≡ (shown audit.board).steps → count ≤ steps → own ≡ audit.room → own ≡ most → IsAuditLeft net limit room audit
+    → count ≡ (shown_state audit.board).steps → count ≤ steps → own ≡ audit.room → own ≡ most → IsAuditLeft net limit room audit
 left audit net limit room steps most count own is s m same c within o r =
     record {
       audited = is;
       net_is = same;
-      within = subst (λ k. (shown audit.board).steps ≤ k) s (subst (λ k. k ≤ steps) c within);
+      within = subst (λ k. (shown_state audit.board).steps ≤ k) s (subst (λ k. k ≤ steps) c within);
       room_is = sym o ∙ r ∙ m;
     }
 
@@ -52,51 +52,51 @@ lost net limit room false fault why history e w h = subst (λ x. IsAuditLoss net
 pub no_thread : (audit : AuditView) (net : NetView) (limit room : ℕ) (why : AuditEnd) (history : List Event) → IsAuditLeft net limit room audit → why ≡ NoFlow NoThread → history ≡ audit.history → IsAuditLoss net limit room why history
 no_thread audit net limit room why history is w h =
     let kept = is_history_of audit net limit room is.audited is.net_is is.within is.room_is in
-    subst (λ x. IsAuditLoss net limit room x history) (sym w) (shown audit.board, subst (λ xs. IsHistory net limit room xs (shown audit.board)) (sym h) kept)
+    subst (λ x. IsAuditLoss net limit room x history) (sym w) (shown_state audit.board, subst (λ xs. IsHistory net limit room xs (shown_state audit.board)) (sym h) kept)
 
 -- ---- the end of a run
 module _ (first new : AuditView) (limit steps : ℕ) (e : steps ≡ most_steps limit) (is : IsAudited new) (goes : AuditGoesOn first new steps) (room : ℕ) (r : first.room ≡ most_room room) where
   same : new.board.net ≡ first.board.net
   same = goes.board.net_is
 
-  within : (shown new.board).steps ≤ most_steps limit
-  within = subst (λ (k : ℕ). (shown new.board).steps ≤ k) e goes.board.within
+  within : (shown_state new.board).steps ≤ most_steps limit
+  within = subst (λ (k : ℕ). (shown_state new.board).steps ≤ k) e goes.board.within
 
-  is_history : IsHistory first.board.net limit room new.history (shown new.board)
+  is_history : IsHistory first.board.net limit room new.history (shown_state new.board)
   is_history = is_history_of new first.board.net limit room is same within (goes.room ∙ r)
 
   told : (fault why : AuditEnd) (events : List Event) → why ≡ fault → events ≡ new.history → AuditRunFaultStands first.board.net limit room fault new.history → AuditRunFaultStands first.board.net limit room why events
   told fault why events w h stands = subst (λ x. AuditRunFaultStands first.board.net limit room x events) (sym w) (subst (λ xs. AuditRunFaultStands first.board.net limit room fault xs) (sym h) stands)
 
-  counted : length new.history ≡ (shown new.board).steps
+  counted : length new.history ≡ (shown_state new.board).steps
   counted = sym is.counted
 
-  unquiet_here : ¬ (IsQuiet new.board.net (shown new.board)) → ¬ (IsQuiet first.board.net (shown new.board))
-  unquiet_here h = subst (λ (n : NetView). ¬ (IsQuiet n (shown new.board))) same h
+  unquiet_here : ¬ (IsQuiet new.board.net (shown_state new.board)) → ¬ (IsQuiet first.board.net (shown_state new.board))
+  unquiet_here h = subst (λ (n : NetView). ¬ (IsQuiet n (shown_state new.board))) same h
 
   pub cut_off : (why : AuditEnd) (events : List Event) → why ≡ NoFlow Unsettled → events ≡ new.history → IsCutOffAt new.board steps → AuditRunFaultStands first.board.net limit room why events
-  cut_off why events w h at = told (NoFlow Unsettled) why events w h (record { state = shown new.board; is_history = is_history; counted = counted ∙ at.counted ∙ e; unquiet = unquiet_here at.unquiet })
+  cut_off why events w h at = told (NoFlow Unsettled) why events w h (record { state = shown_state new.board; is_history = is_history; counted = counted ∙ at.counted ∙ e; unquiet = unquiet_here at.unquiet })
 
-  pub overflows : (why : AuditEnd) (events : List Event) → why ≡ NoFlow TooLarge → events ≡ new.history → SomeNextOverflows new.board.net (shown new.board) → AuditRunFaultStands first.board.net limit room why events
-  overflows why events w h next = told (NoFlow TooLarge) why events w h (record { state = shown new.board; is_history = is_history; next = subst (λ (n : NetView). SomeNextOverflows n (shown new.board)) same next })
+  pub overflows : (why : AuditEnd) (events : List Event) → why ≡ NoFlow TooLarge → events ≡ new.history → SomeNextOverflows new.board.net (shown_state new.board) → AuditRunFaultStands first.board.net limit room why events
+  overflows why events w h next = told (NoFlow TooLarge) why events w h (record { state = shown_state new.board; is_history = is_history; next = subst (λ (n : NetView). SomeNextOverflows n (shown_state new.board)) same next })
 
   pub fills : (why : AuditEnd) (events : List Event) → why ≡ HistoryFull → events ≡ new.history → IsFilled new steps → AuditRunFaultStands first.board.net limit room why events
   fills why events w h at =
       let full : length new.history ≡ most_room room = at.full ∙ goes.room ∙ r in
       let below : new.room < most_steps limit = subst (λ (k : ℕ). new.room < k) e at.below in
-      told HistoryFull why events w h (record { state = shown new.board; is_history = is_history; full = full; below = subst (λ (k : ℕ). k < most_steps limit) (sym at.full) below; unquiet = unquiet_here at.unquiet })
+      told HistoryFull why events w h (record { state = shown_state new.board; is_history = is_history; full = full; below = subst (λ (k : ℕ). k < most_steps limit) (sym at.full) below; unquiet = unquiet_here at.unquiet })
 
   pub settles : (own : NetView) (flow : FlowView) (events : List Event) → HasAuditSettled new own flow events → IsAudit first.board.net limit room flow events
   settles own flow events h =
       let here : own ≡ first.board.net = h.settled.net_is ∙ same in
-      let count : length events ≡ (shown new.board).steps = ap length h.history ∙ counted in
+      let count : length events ≡ (shown_state new.board).steps = ap length h.history ∙ counted in
       let s = subst (λ (n : NetView). HasSettled new.board n flow) here h.settled in
       record {
-        state = shown new.board;
-        is_history = subst (λ xs. IsHistory first.board.net limit room xs (shown new.board)) (sym h.history) is_history;
+        state = shown_state new.board;
+        is_history = subst (λ xs. IsHistory first.board.net limit room xs (shown_state new.board)) (sym h.history) is_history;
         replayed = subst (λ (n : NetView). IsReplayedTo n events flow) here h.replayed;
         settles = subst (λ (n : NetView). Settles n limit flow (length events)) same (record {
-          state = shown new.board;
+          state = shown_state new.board;
           made = is.turns.made;
           counted = sym count;
           within = subst (λ (x : ℕ). x ≤ most_steps limit) (sym count) within;

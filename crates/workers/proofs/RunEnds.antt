@@ -3,7 +3,7 @@ use Rattle.std.proofs.Common.{◌≡◌, ℕ, ◌≤◌, ◌∙◌, ap, sym, sub
 use Rattle.std.specs.Prelude.{MatchResult}
 use Rattle.closure_net.specs.Network.{NetView, FlowView}
 use Rattle.boards.specs.Runs.{SomeNextOverflows}
-use Rattle.boards.specs.Boards.{BoardView, shown, IsTurnBoard, HasSettled}
+use Rattle.boards.specs.Boards.{BoardView, shown_state, IsTurnBoard, HasSettled}
 use Rattle.boards.specs.Ends.{IsCutOffAt, GoesOn}
 use Rattle.workers.specs.Runs.{most_steps, Settles, IsCutOff, SomeStepOverflows}
 use Rattle.workers.specs.Solving.{RunFaultStands, SolveFaultStands}
@@ -12,21 +12,21 @@ use Rattle.workers.specs.declared.solving.SolveFault.TheVariants.{BadWorkers, Un
 
 module _ (first new : BoardView) (limit steps : ℕ) (e : steps ≡ most_steps limit) (is : IsTurnBoard new) (goes : GoesOn first new steps) where
   pub cut_off : IsCutOffAt new steps → IsCutOff first.net limit
-  cut_off h = subst (λ (n : NetView). IsCutOff n limit) goes.net_is (record { state = shown new; made = is.made; counted = h.counted ∙ e; unquiet = h.unquiet })
+  cut_off h = subst (λ (n : NetView). IsCutOff n limit) goes.net_is (record { state = shown_state new; made = is.made; counted = h.counted ∙ e; unquiet = h.unquiet })
 
-  within : (shown new).steps ≤ most_steps limit
-  within = subst (λ (k : ℕ). (shown new).steps ≤ k) e goes.within
+  within : (shown_state new).steps ≤ most_steps limit
+  within = subst (λ (k : ℕ). (shown_state new).steps ≤ k) e goes.within
 
-  pub overflows : SomeNextOverflows new.net (shown new) → SomeStepOverflows first.net limit
-  overflows h = subst (λ (n : NetView). SomeStepOverflows n limit) goes.net_is (record { state = shown new; made = is.made; within = within; next = h })
+  pub overflows : SomeNextOverflows new.net (shown_state new) → SomeStepOverflows first.net limit
+  overflows h = subst (λ (n : NetView). SomeStepOverflows n limit) goes.net_is (record { state = shown_state new; made = is.made; within = within; next = h })
 
   -- the board that is taken out, its count and its flow
-  pub settles : (last : BoardView) (count : ℕ) (net : NetView) (flow : FlowView) → last ≡ new → count ≡ (shown last).steps → HasSettled last net flow → Settles first.net limit flow count
+  pub settles : (last : BoardView) (count : ℕ) (net : NetView) (flow : FlowView) → last ≡ new → count ≡ (shown_state last).steps → HasSettled last net flow → Settles first.net limit flow count
   settles last count net flow same counted h =
-      let k : count ≡ (shown new).steps = counted ∙ ap (λ (b : BoardView). (shown b).steps) same in
+      let k : count ≡ (shown_state new).steps = counted ∙ ap (λ (b : BoardView). (shown_state b).steps) same in
       let s = subst (λ (b : BoardView). HasSettled b net flow) same h in
       subst (λ (n : NetView). Settles n limit flow count) goes.net_is (record {
-        state = shown new;
+        state = shown_state new;
         made = is.made;
         counted = sym k;
         within = subst (λ (x : ℕ). x ≤ most_steps limit) (sym k) within;

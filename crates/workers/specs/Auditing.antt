@@ -6,7 +6,7 @@ use Rattle.machine_law.specs.declared.events.Event.{Event}
 use Rattle.machine_law.specs.declared.events.TheConstants.{MOST_EVENTS}
 use Rattle.machine_law.specs.States.{State, IsQuiet}
 use Rattle.boards.specs.Runs.{SomeNextOverflows, AreTurnsTo, IsReplayedTo}
-use Rattle.boards.specs.Boards.{shown}
+use Rattle.boards.specs.Boards.{shown_state}
 use Rattle.boards.specs.Audits.{AuditView, IsAudited}
 use Rattle.workers.specs.Runs.{most_steps, Settles}
 use Rattle.workers.specs.Solving.{AreBadWorkers}
@@ -61,7 +61,7 @@ pub record FillsItsRoom (net : NetView) (limit room : ℕ) (history : List Event
 pub record IsAuditLeft (net : NetView) (limit room : ℕ) (audit : AuditView) : Type 0 where
   pub audited : IsAudited audit
   pub net_is : audit.board.net ≡ net
-  pub within : (shown audit.board).steps ≤ most_steps limit
+  pub within : (shown_state audit.board).steps ≤ most_steps limit
   pub room_is : audit.room ≡ most_room room
 
 -- Why there is no such board. The history is without an event, but where a worker couldn't be started: then it is a run of the others,

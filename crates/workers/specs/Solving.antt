@@ -1,7 +1,7 @@
 -- What a whole run by workers answers.
 use Rattle.std.specs.Prelude.{◌≡◌, ℕ, ◌<◌, ◌≤◌, ◌⊎◌}
 use Rattle.closure_net.specs.Network.{NetView}
-use Rattle.boards.specs.Boards.{BoardView, shown}
+use Rattle.boards.specs.Boards.{BoardView, shown_state}
 use Rattle.workers.specs.Runs.{most_steps, IsCutOff, SomeStepOverflows}
 use Rattle.workers.specs.declared.solving.SolveFault.{SolveFault}
 use Rattle.workers.specs.declared.solving.SolveFault.TheVariants.{BadWorkers, Unsettled, TooLarge, StrangerNet, NoMemory, NoThread}
@@ -14,7 +14,7 @@ AreBadWorkers workers = (workers < 1) ⊎ (MOST_WORKERS < workers)
 -- a board over the net, with at most the steps of the limit
 pub record IsLeft (net : NetView) (limit : ℕ) (board : BoardView) : Type 0 where
   pub net_is : board.net ≡ net
-  pub within : (shown board).steps ≤ most_steps limit
+  pub within : (shown_state board).steps ≤ most_steps limit
 
 -- why there is no such board
 abbrev pub IsLoss : SolveFault → Type 0

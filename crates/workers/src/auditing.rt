@@ -2,7 +2,7 @@
 //! it, or why there is no flow.
 
 ghost use Rattle.std.specs.Prelude.{◌≡◌, ℕ, ◌≤◌, [], MatchResult};
-ghost use Rattle.boards.specs.Boards.{shown};
+ghost use Rattle.boards.specs.Boards.{shown_state};
 ghost use Rattle.boards.specs.Audits.{IsAudited};
 ghost use Rattle.workers.specs.Runs.{most_steps};
 ghost use Rattle.workers.specs.Solving.{AreBadWorkers};
@@ -169,7 +169,7 @@ fn ended<G: OrderedGroup>(board: Audited<G>, fault: AuditEnd) -> AuditFault
 // The flow that a run leaves once the turns that are left are made, and its history.
 fn audit_of<G: OrderedGroup>(board: Audited<G>, limit: u64) -> Result<Audit<G>, AuditFault>
     requires audited { IsAudited board }
-    requires within { (shown board.board).steps ≤ most_steps limit }
+    requires within { (shown_state board.board).steps ≤ most_steps limit }
     ensures { (room : ℕ) → board.room ≡ most_room room → MatchResult result
         (λ audit. IsAudit board.board.net limit room audit.flow audit.history.items)
         (λ fault. AuditRunFaultStands board.board.net limit room fault.fault fault.history.items) }

@@ -1,7 +1,7 @@
 //! A whole run of the machine by workers under one lock, from a net to a maximum flow or why there is none.
 
 ghost use Rattle.std.specs.Prelude.{◌≡◌, ◌↔◌, ◌<◌, ◌≤◌, IsTrue, MatchResult, IsErrOf};
-ghost use Rattle.boards.specs.Boards.{shown};
+ghost use Rattle.boards.specs.Boards.{shown_state};
 ghost use Rattle.workers.specs.Runs.{most_steps, Settles};
 ghost use Rattle.workers.specs.Solving.{AreBadWorkers, IsLeft, IsLoss, RunFaultStands, SolveFaultStands};
 
@@ -162,7 +162,7 @@ where
 
 // The flow that a run leaves once the turns that are left are made.
 fn flow_of<G: OrderedGroup>(board: TurnBoard<G>, limit: u64) -> Result<Solved<G>, SolveFault>
-    requires { (shown board).steps ≤ most_steps limit }
+    requires { (shown_state board).steps ≤ most_steps limit }
     ensures { MatchResult result
         (λ solved. Settles board.net limit solved.flow solved.steps)
         (λ fault. RunFaultStands board.net limit fault) }

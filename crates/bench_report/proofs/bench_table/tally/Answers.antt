@@ -2,7 +2,7 @@ use Rattle.std.proofs.Common.{◌≡◌, ◌<◌, ◌+◌, Some, None, sym, subs
 use Rattle.std.specs.Int.{w128}
 use Rattle.std.specs.BTreeMap.{get}
 use Rattle.std.proofs.lemmas.Result.{err_from_is_err_and}
-use Rattle.bench_report.specs.Benches.{reported, by_bench}
+use Rattle.bench_report.specs.Benches.{reported_blocks, by_bench}
 use Rattle.bench_report.specs.GrowingRows.{IsTallied, TallyFaultStands}
 use Rattle.bench_report.proofs.Tallies.{none_more, block_added, block_leaves, few_there}
 use Rattle.bench_report.proofs.bench_table.tally.Goals.{in-Some+in_ok-add_block, in_default}
@@ -10,13 +10,13 @@ use Rattle.bench_report.proofs.bench_table.tally.Goals as goal
 
 pub add_block-requires : goal.add_block-requires
 add_block-requires c =
-    let m = reported c.args.model.now c.args.series.now c.args.tonnes c.args.worths.now in
+    let m = reported_blocks c.args.model.now c.args.series.now c.args.tonnes c.args.worths.now in
     let few = few_there m c.loop-b.b c.in-Some.shell c.bench_and_shell-place.result (get by_bench c.loop-b.rows) c.bench_and_shell-place.ensures c.loop-b.invariant in
     omega (arith, few, c.loop-b-test.true, c.len-b-end.ensures.bound)
 
 pub returns-in_err-add_block : goal.returns-in_err-add_block
 returns-in_err-add_block c =
-    let m = reported c.args.model.now c.args.series.now c.args.tonnes c.args.worths.now in
+    let m = reported_blocks c.args.model.now c.args.series.now c.args.tonnes c.args.worths.now in
     let shell : m.shell c.loop-b.b ≡ Some c.in-Some.shell = sym c.shell_of.ensures.is ∙ c.in-Some.is in
     let t = to_z w128 (of_z w128 c.tonnes_of-mass.result) in
     let w = to_z w128 (of_z w128 c.worth_of-worth.result) in
@@ -29,7 +29,7 @@ returns-in_err-add_block c =
 
 pub loop-b-preserved : goal.loop-b-preserved
 loop-b-preserved c =
-    let m = reported c.args.model.now c.args.series.now c.args.tonnes c.args.worths.now in
+    let m = reported_blocks c.args.model.now c.args.series.now c.args.tonnes c.args.worths.now in
     elim c.match-shell_of.branch [
       | in-Some+in_ok-add_block b ↦
           (let shell : m.shell c.loop-b.b ≡ Some b.in-Some.shell = sym c.shell_of.ensures.is ∙ b.in-Some.is in

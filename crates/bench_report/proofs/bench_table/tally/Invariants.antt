@@ -1,7 +1,7 @@
 use Rattle.std.specs.BTreeMap.{get}
-use Rattle.bench_report.specs.Benches.{reported, by_bench}
+use Rattle.bench_report.specs.Benches.{reported_blocks, by_bench}
 use Rattle.bench_report.specs.GrowingRows.{IsTallied}
 use Rattle.bench_report.proofs.bench_table.tally.Given as goal
 
 abbrev pub invariant-loop-b : goal.invariant-loop-b
-invariant-loop-b l = IsTallied (reported l.model l.series l.tonnes l.worths) l.b (get by_bench l.rows)
+invariant-loop-b l = IsTallied (reported_blocks l.model l.series l.tonnes l.worths) l.b (get by_bench l.rows)

@@ -4,7 +4,7 @@ use Rattle.std.specs.Int.{w32, w128}
 use Rattle.std.specs.Fmt.{decimal, signed_decimal}
 use Rattle.std.proofs.lemmas.Int.{ints}
 use Rattle.csv.specs.Writing.{default_writer, row_text}
-use Rattle.fixed_worth.specs.Printed.{printed}
+use Rattle.fixed_worth.specs.Printed.{amount_text}
 use Rattle.bench_report.specs.Written.{line_of}
 use Rattle.bench_report.proofs.Plain.{decimal_plain, signed_plain, printed_plain}
 use Rattle.bench_report.proofs.Lines.{five_fields}
@@ -16,8 +16,8 @@ returns-clause-text c =
     let a : c.as_bytes.result.now ≡ signed_decimal row.z = search (rules, c.as_bytes.ensures.value, c.in_ok-z.ensures.ok) in
     let b : c.as_bytes-2.result.now ≡ decimal row.shell = search (rules, c.as_bytes-2.ensures.value, c.in_ok-shell.ensures.ok) in
     let d : c.as_bytes-3.result.now ≡ decimal row.blocks = search (rules, c.as_bytes-3.ensures.value, c.in_ok-blocks.ensures.ok) in
-    let e : c.as_bytes-4.result.now ≡ printed 6 row.tonnes = search (rules, c.as_bytes-4.ensures.value, c.in_ok-tonnes.ensures.ok) in
-    let f : c.as_bytes-5.result.now ≡ printed 9 row.worth = search (rules, c.as_bytes-5.ensures.value, c.in_ok-worth.ensures.ok) in
+    let e : c.as_bytes-4.result.now ≡ amount_text 6 row.tonnes = search (rules, c.as_bytes-4.ensures.value, c.in_ok-tonnes.ensures.ok) in
+    let f : c.as_bytes-5.result.now ≡ amount_text 9 row.worth = search (rules, c.as_bytes-5.ensures.value, c.in_ok-worth.ensures.ok) in
     let z : FitsSigned w32 row.z = search rules in
     let shell : Fits w32 row.shell = search rules in
     let blocks : Fits w32 row.blocks = search rules in
@@ -27,7 +27,7 @@ returns-clause-text c =
     let mass : unsigned_abs row.tonnes < 10 ^ 64 = omega (arith, ints, tonnes.sfits) in
     let value : unsigned_abs row.worth < 10 ^ 64 = omega (arith, ints, worth.sfits) in
     let line : row_text default_writer (c.as_bytes.result.now ∷ c.as_bytes-2.result.now ∷ c.as_bytes-3.result.now ∷ c.as_bytes-4.result.now ∷ c.as_bytes-5.result.now ∷ []) ≡ line_of row.z row.shell row.blocks row.tonnes row.worth =
-    rw (a, b, d, e, f) (five_fields (signed_decimal row.z) (decimal row.shell) (decimal row.blocks) (printed 6 row.tonnes) (printed 9 row.worth)
+    rw (a, b, d, e, f) (five_fields (signed_decimal row.z) (decimal row.shell) (decimal row.blocks) (amount_text 6 row.tonnes) (amount_text 9 row.worth)
     (signed_plain row.z height) (decimal_plain row.shell (omega (arith, shell.fits))) (decimal_plain row.blocks (omega (arith, blocks.fits)))
     (printed_plain 6 row.tonnes (omega (arith, mass)) (omega arith)) (printed_plain 9 row.worth (omega (arith, value)) (omega arith))) in
     rw line at c.put_fields.ensures.text

@@ -1,5 +1,5 @@
 use Rattle.std.proofs.Common.{◌-◌}
-use Rattle.boards.specs.Boards.{shown, IsTurnBoard}
+use Rattle.boards.specs.Boards.{shown_state, IsTurnBoard}
 use Rattle.boards.specs.Ends.{AreIdleBelow}
 use Rattle.boards.specs.Records.{RecordGoesOn}
 use Rattle.boards.proofs.finishing.end_operation.Given as goal
@@ -8,4 +8,4 @@ abbrev pub invariant-loop-board : goal.invariant-loop-board
 invariant-loop-board g l = RecordGoesOn l.fn.board l.board l.steps × AreIdleBelow l.board.board l.block × IsTurnBoard l.board.board
 
 abbrev pub decreases-loop-board : goal.decreases-loop-board
-decreases-loop-board g l = l.steps - (shown l.board.board).steps
+decreases-loop-board g l = l.steps - (shown_state l.board.board).steps

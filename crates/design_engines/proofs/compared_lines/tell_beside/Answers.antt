@@ -9,7 +9,7 @@ use Rattle.engines.specs.Judgements.{IsAccepted, IsJudged}
 use Rattle.engines.specs.OutputLines.{judgement_line}
 use Rattle.engines.specs.Verdicts.{verdict_of}
 use Rattle.design_engines.specs.Comparisons.ComparedView.{unproved}
-use Rattle.design_engines.specs.Told.{told}
+use Rattle.design_engines.specs.Told.{design_view}
 use Rattle.design_engines.proofs.Compared.{drawn_of, compared_failed}
 use Rattle.design_engines.proofs.compared_lines.tell_beside.Goals as goal
 
@@ -28,7 +28,7 @@ returns-in_err-write_judgement-in-Refused-clause-answer g c = λ texts design te
     let p = err_from_is_err_and c.from_residual.result c.from_residual.ensures.1 in
     rw (p.1, p.2)
     (compared_failed texts design text (unproved c.in-Refused.field-0) (g.W.Write.contents c.args.out.now) (g.W.Write.contents c.write_judgement.new.out) c.in_err-write_judgement-in-Refused.field-0.0
-    (drawn_of texts design (told c.args.beside.valued) both.0, subst P c.in-Refused.is both.1)
+    (drawn_of texts design (design_view c.args.beside.valued) both.0, subst P c.in-Refused.is both.1)
     (subst Q c.in-Refused.is c.in_err-write_judgement-in-Refused.ensures.fault))
 
 pub returns-clause-answer : goal.returns-clause-answer
@@ -36,7 +36,7 @@ returns-clause-answer g c = λ texts design text both.
     let P : Judgement → Type 0 = λ j. IsJudged texts text j in
     let Q : Judgement → Type 0 = λ j. Appends (g.W.Write.contents c.args.out.now) (g.W.Write.contents c.write_judgement.new.out) (judgement_line j) in (
       unproved c.in-Refused.field-0,
-      (drawn_of texts design (told c.args.beside.valued) both.0, subst P c.in-Refused.is both.1),
+      (drawn_of texts design (design_view c.args.beside.valued) both.0, subst P c.in-Refused.is both.1),
       c.verdict.ensures ∙ ap verdict_of c.in-Refused.is,
       subst Q c.in-Refused.is c.in_ok-write_judgement-in-Refused.ensures.line,
     )

@@ -7,7 +7,7 @@ use Rattle.engines.specs.Checking.{LineFails}
 use Rattle.design_engines.specs.Comparisons.{best_line}
 use Rattle.design_engines.specs.Comparisons.ComparedView.{beside}
 use Rattle.design_engines.specs.Designs.{DesignView, design_text}
-use Rattle.design_engines.specs.Told.{told}
+use Rattle.design_engines.specs.Told.{design_view}
 use Rattle.design_engines.proofs.Compared.{compared, gap_leaves, compared_failed}
 use Rattle.design_engines.proofs.compared_lines.tell_gap.Goals as goal
 
@@ -19,7 +19,7 @@ same_text v count a b x y p q = λ i. design_text v ++ best_line count (p i) (q 
 
 pub returns-in-None-clause-answer : goal.returns-in-None-clause-answer
 returns-in-None-clause-answer g c = λ texts design text name valued best.
-    let v = told c.args.valued.now in
+    let v = design_view c.args.valued.now in
     let f : FitsSigned w128 c.args.worth = search rules in
     let h : FitsSigned w128 c.args.valued.now.worth = search rules in
     let less = same_less _ _ c.args.worth v.worth (to_z-of_z w128 c.args.worth f) (to_z-of_z w128 c.args.valued.now.worth h) in
@@ -27,7 +27,7 @@ returns-in-None-clause-answer g c = λ texts design text name valued best.
 
 pub returns-in_err-write_compared-clause-answer : goal.returns-in_err-write_compared-clause-answer
 returns-in_err-write_compared-clause-answer g c = λ texts design text name valued best.
-    let v = told c.args.valued.now in
+    let v = design_view c.args.valued.now in
     let f : FitsSigned w128 c.args.worth = search rules in
     let h : FitsSigned w128 c.args.valued.now.worth = search rules in
     let k : FitsSigned w128 c.in-Some.gap = search rules in
@@ -41,7 +41,7 @@ returns-in_err-write_compared-clause-answer g c = λ texts design text name valu
 
 pub returns-clause-answer : goal.returns-clause-answer
 returns-clause-answer g c = λ texts design text name valued best.
-    let v = told c.args.valued.now in
+    let v = design_view c.args.valued.now in
     let f : FitsSigned w128 c.args.worth = search rules in
     let h : FitsSigned w128 c.args.valued.now.worth = search rules in
     let k : FitsSigned w128 c.in-Some.gap = search rules in

@@ -1,5 +1,5 @@
 use Rattle.std.proofs.lemmas.Result.{err_from_is_err_and}
-use Rattle.design_engines.specs.Told.{told}
+use Rattle.design_engines.specs.Told.{design_view}
 use Rattle.design_engines.proofs.ComparedAnswers.{unread, design_unread, not_paired, paired}
 use Rattle.design_engines.proofs.comparing.compare_engine.Goals as goal
 
@@ -30,4 +30,4 @@ returns-clause-answer g c =
     let mine = c.in_ok-mine.mine in
     let b = c.in_ok-beside.beside in
     paired c.args.inputs.now g.D.Read.remaining (g.E.Read.remaining c.args.design.now) (g.C.Read.remaining c.args.certificate.now) mine.worths mine.predecessors c.len.result c.len.ensures.is c.in_ok-mine.ensures.read
-    c.in_ok-marks.marks.items c.in_ok-marks.ensures.read (told b.valued) b.judgement (g.W.Write.contents c.args.out.now) (g.W.Write.contents c.tell_beside.new.out) c.tell_beside.result c.in_ok-beside.ensures.judged c.tell_beside.ensures.answer
+    c.in_ok-marks.marks.items c.in_ok-marks.ensures.read (design_view b.valued) b.judgement (g.W.Write.contents c.args.out.now) (g.W.Write.contents c.tell_beside.new.out) c.tell_beside.result c.in_ok-beside.ensures.judged c.tell_beside.ensures.answer

@@ -4,7 +4,7 @@ use Rattle.std.specs.Prelude.{OnOk, OnErr}
 use Rattle.std.proofs.lemmas.Result.{on_ok_weaker, on_err_weaker}
 use Rattle.fixed_worth.specs.Device.{SentOrHeld, ReceivedPrefix}
 use Rattle.fixed_worth.proofs.Pieces.{held_both, prefix_in_first, prefix_in_second}
-use Rattle.prec_file.specs.Written.{spaced}
+use Rattle.prec_file.specs.Written.{spaced_numbers}
 use Rattle.prec_file.proofs.writing.put_line.Goals as goal
 use Rattle.fixed_worth.proofs.Sides.{on_err}
 
@@ -13,7 +13,7 @@ abbrev front : ℕ → List ℕ → List ℕ
 front b above = decimal b ++ (32 ∷ decimal (length above))
 
 abbrev back : List ℕ → List ℕ
-back above = spaced above ++ (10 ∷ [])
+back above = spaced_numbers above ++ (10 ∷ [])
 
 pub returns-clause-held : goal.returns-clause-held
 returns-clause-held g c =

@@ -1,10 +1,10 @@
 use Rattle.std.proofs.Common.{◌≡◌, ◌+◌, ◌<◌, ◌∙◌, ℕ, List, All, length, map, get_or, Vec, Global, Option, IfSome, sym, ap, subst}
 use Rattle.std.proofs.lemmas.List.{get_or_read}
-use Rattle.prec_file.specs.Rests.{passing}
+use Rattle.prec_file.specs.Rests.{numbers_passing}
 use Rattle.closure_net.specs.Network.{holds_of}
 use Rattle.closure_net.specs.Mine.{IsBest}
 use Rattle.shells.specs.Series.{mine_at}
-use Rattle.sub_mines.specs.Parts.{joined, beside, every_block}
+use Rattle.sub_mines.specs.Parts.{union_of, difference_of, every_block}
 use Rattle.sub_mines.specs.Renumbered.{number_in}
 use Rattle.shell_engines.proofs.Parting.{lifted_best, lower_part, higher_part, same_lists_part}
 use Rattle.shell_engines.proofs.mine_parts.by_pit.Goals as goal
@@ -29,12 +29,12 @@ returns c = λ pairs h part found.
     let se : ss ≡ s = c.blocks-2.ensures.is in
     let inside : c.in-Some.inside.items ≡ map (number_in kept) s = at.0 ∙ ap (λ (xs : List ℕ). map (number_in xs) ss) ke ∙ ap (map (number_in kept)) se in
     let places : All (λ i. i < length kept) s = subst (All (λ i. i < length kept)) se (subst (λ (xs : List ℕ). All (λ i. i < length xs) ss) ke at.1) in
-    let outside : c.in_ok-outside.outside.items ≡ map (number_in kept) (passing (beside every_block (holds_of s)) (length kept)) =
-    c.in_ok-outside.ensures ∙ ap (λ (xs : List ℕ). map (number_in xs) (passing (beside every_block (holds_of s)) (length xs))) ke in
+    let outside : c.in_ok-outside.outside.items ≡ map (number_in kept) (numbers_passing (difference_of every_block (holds_of s)) (length kept)) =
+    c.in_ok-outside.ensures ∙ ap (λ (xs : List ℕ). map (number_in xs) (numbers_passing (difference_of every_block (holds_of s)) (length xs))) ke in
     let blocks = c.in_ok-blocks.blocks.items in
-    let are : (b : ℕ) → holds_of blocks b ≡ joined (holds_of low) (holds_of (map (number_in kept) s)) b = λ b.
-    c.in_ok-blocks.ensures b ∙ ap (λ (xs : List ℕ). joined (holds_of xs) (holds_of c.as_slice-2.result.now) b) c.as_slice.ensures.value
-    ∙ ap (λ (xs : List ℕ). joined (holds_of low) (holds_of xs) b) (c.as_slice-2.ensures.value ∙ inside) in
+    let are : (b : ℕ) → holds_of blocks b ≡ union_of (holds_of low) (holds_of (map (number_in kept) s)) b = λ b.
+    c.in_ok-blocks.ensures b ∙ ap (λ (xs : List ℕ). union_of (holds_of xs) (holds_of c.as_slice-2.result.now) b) c.as_slice.ensures.value
+    ∙ ap (λ (xs : List ℕ). union_of (holds_of low) (holds_of xs) b) (c.as_slice-2.ensures.value ∙ inside) in
     let above : c.in_ok-above.above.items ≡ blocks = c.in_ok-above.ensures.items ∙ c.as_slice-3.ensures.value in
     let again : c.in_ok-from_slice.field-0.items ≡ low = c.in_ok-from_slice.ensures.items ∙ c.as_slice-4.ensures.value in
     let is_k : c.index.result.now ≡ get_or factors place 0 = get_or_read factors place c.index.result.now c.requires.inside c.index.ensures 0 in

@@ -1,6 +1,6 @@
 use Rattle.std.proofs.Common.{◌≡◌, ◌≤◌, ℕ, ◌∙◌, min, true, ap, sym, subst, arith}
 use Rattle.std.proofs.Math.Nat.{min-le_left, min-le_right}
-use Rattle.boards.specs.Boards.{shown}
+use Rattle.boards.specs.Boards.{shown_state}
 use Rattle.boards.specs.Ends.{HasEnded}
 use Rattle.boards.specs.Audits.{AuditView, audit_of, IsToldAs, AuditGoesOn}
 use Rattle.machine_law.specs.declared.events.TheConstants.{MOST_EVENTS}
@@ -16,8 +16,8 @@ invariant_of-self g c =
     let most : c.most-most.result ≡ min c.args.steps old.room = c.most-most.ensures.is ∙ ap (λ (v : AuditView). min c.args.steps v.room) (sym c.self.view_is) in
     let records : new.records ≡ true = goes.records ∙ c.self.invariant.0 in
     let below : c.most-most.result ≤ old.room = subst (λ k. k ≤ old.room) (sym most) (min-le_right c.args.steps old.room) in
-    let within : (shown new.board).steps ≤ old.room = omega (arith, goes.board.within, below) in
-    (records, audited new c.finish_recorded-end.ensures.made (c.finish_recorded-end.ensures.events records) (subst (λ k. (shown new.board).steps ≤ k) (sym goes.room) within) (subst (λ k. k ≤ MOST_EVENTS) (sym goes.room) is.few))
+    let within : (shown_state new.board).steps ≤ old.room = omega (arith, goes.board.within, below) in
+    (records, audited new c.finish_recorded-end.ensures.made (c.finish_recorded-end.ensures.events records) (subst (λ k. (shown_state new.board).steps ≤ k) (sym goes.room) within) (subst (λ k. k ≤ MOST_EVENTS) (sym goes.room) is.few))
 
 pub returns-clause-goes_on : goal.returns-clause-goes_on
 returns-clause-goes_on g c =

@@ -1,6 +1,6 @@
 use Rattle.std.proofs.Common.{refl, subst}
 use Rattle.machine_law.specs.States.{IsQuiet}
-use Rattle.boards.specs.Boards.{BoardView, shown, HasSettled}
+use Rattle.boards.specs.Boards.{BoardView, shown_state, HasSettled}
 use Rattle.boards.specs.Audits.{AuditView, audit_of, HasAuditSettled}
 use Rattle.boards.proofs.Ends.{unquiet}
 use Rattle.boards.proofs.Audits.{audit_settled}
@@ -9,8 +9,8 @@ use Rattle.boards.proofs.audited_board.Audited.settle.Goals as goal
 pub returns-then-not-quiet : goal.returns-then-not-quiet
 returns-then-not-quiet g c = (
   refl,
-  subst (λ (a : AuditView). ¬ (IsQuiet a.board.net (shown a.board))) c.self.view_is
-      (unquiet c.quiet.result (IsQuiet c.self.inside.board.board.net (shown c.self.inside.board.board)) c.quiet.ensures c.if-not-quiet.true),
+  subst (λ (a : AuditView). ¬ (IsQuiet a.board.net (shown_state a.board))) c.self.view_is
+      (unquiet c.quiet.result (IsQuiet c.self.inside.board.board.net (shown_state c.self.inside.board.board)) c.quiet.ensures c.if-not-quiet.true),
 )
 
 pub returns : goal.returns

@@ -1,6 +1,6 @@
 use Rattle.std.proofs.Common.{◌≡◌, ◌≤◌, ◌∙◌, min, true, ap, sym, subst, arith}
 use Rattle.std.proofs.Math.Nat.{min-le_right}
-use Rattle.boards.specs.Boards.{shown}
+use Rattle.boards.specs.Boards.{shown_state}
 use Rattle.boards.specs.Turns.{IsTurn, IsEnd}
 use Rattle.boards.specs.Records.{RecordView}
 use Rattle.boards.specs.Audits.{AuditView, audit_of, IsAuditTurn, IsToldAs}
@@ -19,9 +19,9 @@ invariant_of-self g c =
     let most : c.most-most.result ≡ min c.args.steps old.room = c.most-most.ensures.is ∙ ap (λ (v : AuditView). min c.args.steps v.room) (sym c.self.view_is) in
     let room : new.room ≡ old.room = ap (λ (r : RecordView). r.room) c.turn.ensures.writes in
     let records : new.records ≡ true = ap (λ (r : RecordView). r.records) c.turn.ensures.writes ∙ c.self.invariant.0 in
-    let before : (shown old.board).steps ≤ old.room = omega (arith, is.counted, is.within) in
+    let before : (shown_state old.board).steps ≤ old.room = omega (arith, is.counted, is.within) in
     let within = turn_within old.board new.board c.args.own c.args.from c.most-most.result old.room c.turn.result (subst (λ k. k ≤ old.room) (sym most) (min-le_right c.args.steps old.room)) before c.turn.ensures.turn in
-    (records, audited new c.turn.ensures.made (c.turn.ensures.events records) (subst (λ k. (shown new.board).steps ≤ k) (sym room) within) (subst (λ k. k ≤ MOST_EVENTS) (sym room) is.few))
+    (records, audited new c.turn.ensures.made (c.turn.ensures.events records) (subst (λ k. (shown_state new.board).steps ≤ k) (sym room) within) (subst (λ k. k ≤ MOST_EVENTS) (sym room) is.few))
 
 pub returns-clause-turn : goal.returns-clause-turn
 returns-clause-turn g c =

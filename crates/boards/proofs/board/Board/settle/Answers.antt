@@ -1,7 +1,7 @@
 use Rattle.std.proofs.Common.{◌∙◌, ap, subst}
 use Rattle.machine_law.specs.States.{IsQuiet}
 use Rattle.async_step.specs.Views.{StateView}
-use Rattle.boards.specs.Boards.{BoardView, board_view, shown}
+use Rattle.boards.specs.Boards.{BoardView, board_view, shown_state}
 use Rattle.boards.specs.Boards.{HasSettled}
 use Rattle.boards.proofs.Ends.{settled}
 use Rattle.boards.proofs.board.Board.settle.Goals as goal
@@ -17,5 +17,5 @@ pub returns-in-Err : goal.returns-in-Err
 returns-in-Err g c =
     let m = c.self.inside in (
       ap (λ (s : StateView). board_view m.net s m.stuck) c.in-Err.ensures.0 ∙ c.self.view_is,
-      subst (λ (b : BoardView). ¬ (IsQuiet b.net (shown b))) c.self.view_is c.in-Err.ensures.1,
+      subst (λ (b : BoardView). ¬ (IsQuiet b.net (shown_state b))) c.self.view_is c.in-Err.ensures.1,
     )
