@@ -12,7 +12,7 @@ use Rattle.machine_law.specs.Steps.{becomes}
 use Rattle.machine_law.proofs.Points.{put-same, put-other, put-each}
 use Rattle.async_step.specs.declared.limits.TheConstants.{MOST_STEPS}
 use Rattle.async_step.specs.Views.{StateView, state_of, operation_at, IsSized}
-use Rattle.async_step.specs.Answers.{Fits, IsStateOf, GoesTo, Stays}
+use Rattle.async_step.specs.Answers.{Fits, IsStateOf, GoesTo, StateStays}
 use Rattle.async_step.specs.Changes.{CanChange, after_change, lists_after_change}
 use Rattle.async_step.specs.declared.changing.Change.{Change}
 use Rattle.async_step.specs.declared.changing.Change.TheVariants.{Nothing, Excess, Label, Source, Sink, Flow, AtSource, AtSink}
@@ -136,5 +136,5 @@ module _ (net : NetView) (v : StateView) (over : IsStateOf net v) (b : ℕ) (l :
       }
 
 -- a refusal because a number of the state after the step doesn't fit
-pub too_large : {X : Type 0} (P : X → Type 0) (net : NetView) (old : StateView) (after : State) (r : Result X StepRefusal) → r ≡ Err TooLarge → ¬ (Fits net after) → MatchResult r P (λ e. Stays net old after old e)
+pub too_large : {X : Type 0} (P : X → Type 0) (net : NetView) (old : StateView) (after : State) (r : Result X StepRefusal) → r ≡ Err TooLarge → ¬ (Fits net after) → MatchResult r P (λ e. StateStays net old after old e)
 too_large P net old after r is h = rw is (record { same = refl; why = h })

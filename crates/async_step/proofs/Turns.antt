@@ -19,7 +19,7 @@ use Rattle.machine_law.proofs.Runs.{run_more}
 use Rattle.async_step.specs.Views.{StateView, state_of}
 use Rattle.async_step.specs.Scans.{IsScanAt, after_label_by, operation_after_look}
 use Rattle.machine_law.specs.Reads.{IsScan}
-use Rattle.async_step.specs.Answers.{IsStateOf, LeadsTelling, answer_of, answer_at, answer_by, answer_beyond, answer, saw_as, Stepped, IsRefused}
+use Rattle.async_step.specs.Answers.{IsStateOf, LeadsTelling, answer_of, answer_at, answer_by, answer_beyond, answer, saw_as, Stepped, IsStepRefused}
 use Rattle.async_step.specs.declared.saw.Saw.{Saw}
 use Rattle.async_step.specs.declared.saw.Saw.TheVariants.{Label}
 use Rattle.async_step.specs.declared.refusals.StepRefusal.{StepRefusal}
@@ -98,7 +98,7 @@ module _ {N : Type 0} (f : N → Amount) (net : NetView) (v w : StateView) (b : 
 -- a step that is made, or refused
 pub stepped : {N : Type 0} (f : N → Amount) (net : NetView) (v w : StateView) (e : Event) (r : Result (Saw N) StepRefusal) → IsStateOf net v → e.block < length net.worths → next_kind net (state_of v) e.block ≡ e.kind
     → LeadsTelling f net v (advance net (state_of v) e.block) (answer net (state_of v) e.block) w r
-    → MatchResult r (λ saw. Stepped net v e w (saw_as f saw)) (λ x. IsRefused net v e w x)
+    → MatchResult r (λ saw. Stepped net v e w (saw_as f saw)) (λ x. IsStepRefused net v e w x)
 stepped f net v w e (Ok saw) over l k h =
     let step : Step net (state_of v) e (state_of w) = record { block = l; kind = k; after = h.0.state } in
     record {
@@ -119,6 +119,6 @@ stepped f net v w e (Err TooManySteps) over l k h = record { same = h.same; stan
 
 -- either way the state is one of a run
 pub still_state : {N : Type 0} (f : N → Amount) (net : NetView) (v w : StateView) (e : Event) (r : Result (Saw N) StepRefusal) → IsStateOf net v
-    → MatchResult r (λ saw. Stepped net v e w (saw_as f saw)) (λ x. IsRefused net v e w x) → IsStateOf net w
+    → MatchResult r (λ saw. Stepped net v e w (saw_as f saw)) (λ x. IsStepRefused net v e w x) → IsStateOf net w
 still_state f net v w e (Ok saw) over h = h.state
 still_state f net v w e (Err x) over h = subst (IsStateOf net) (sym h.same) over

@@ -100,17 +100,17 @@ CannotGo net old after TooLarge = ¬ (Fits net after)
 CannotGo net old after TooManySteps = Fits net after × (MOST_STEPS ≤ old.steps)
 
 -- and it stays
-pub record Stays (net : NetView) (old : StateView) (after : State) (new : StateView) (refusal : StepRefusal) : Type 0 where
+pub record StateStays (net : NetView) (old : StateView) (after : State) (new : StateView) (refusal : StepRefusal) : Type 0 where
   pub same : new ≡ old
   pub why : CannotGo net old after refusal
 
 -- the state goes over to this one, or stays where it can't
 abbrev pub Leads : {X : Type 0} → NetView → StateView → State → StateView → Result X StepRefusal → Type 0
-Leads net old after new result = MatchResult result (λ x. GoesTo net old after new) (λ e. Stays net old after new e)
+Leads net old after new result = MatchResult result (λ x. GoesTo net old after new) (λ e. StateStays net old after new e)
 
 -- and it tells what was seen, moved or raised
 abbrev pub LeadsTelling : {N : Type 0} → (N → Amount) → NetView → StateView → State → Saw Amount → StateView → Result (Saw N) StepRefusal → Type 0
-LeadsTelling f net old after tells new result = MatchResult result (λ saw. GoesTo net old after new × (saw_as f saw ≡ tells)) (λ e. Stays net old after new e)
+LeadsTelling f net old after tells new result = MatchResult result (λ saw. GoesTo net old after new × (saw_as f saw ≡ tells)) (λ e. StateStays net old after new e)
 
 -- one step was made, and this is what it saw, moved or raised
 pub record Stepped (net : NetView) (old : StateView) (event : Event) (new : StateView) (saw : Saw Amount) : Type 0 where
@@ -132,7 +132,7 @@ RefusalStands net s event TooLarge = IsNext net s event × ¬ (Fits net (advance
 RefusalStands net s event TooManySteps = IsNext net s event × Fits net (advance net s event.block) × (MOST_STEPS ≤ s.steps)
 
 -- a refused step: it changes nothing
-pub record IsRefused (net : NetView) (old : StateView) (event : Event) (new : StateView) (refusal : StepRefusal) : Type 0 where
+pub record IsStepRefused (net : NetView) (old : StateView) (event : Event) (new : StateView) (refusal : StepRefusal) : Type 0 where
   pub same : new ≡ old
   pub stands : RefusalStands net (state_of old) event refusal
 

@@ -16,7 +16,7 @@
 ghost use Rattle.std.specs.Prelude.{◌≡◌, ◌<◌, length, MatchResult};
 ghost use Rattle.machine_law.specs.Steps.{next_kind, advance, next_event};
 ghost use Rattle.async_step.specs.Views.{state_of};
-ghost use Rattle.async_step.specs.Answers.{IsStateOf, LeadsTelling, Stepped, IsRefused, saw_as, answer};
+ghost use Rattle.async_step.specs.Answers.{IsStateOf, LeadsTelling, Stepped, IsStepRefused, saw_as, answer};
 
 use crate::operations::{push_kind, read_kind};
 use crate::refusals::StepRefusal;
@@ -99,7 +99,7 @@ impl<G: OrderedGroup> State<G> {
         requires block { b < length net.now.worths }
         ensures made { MatchResult result
             (λ saw. Stepped net.now self.old (next_event net.now (state_of self.old) b) self.new (saw_as G.parts_of saw))
-            (λ e. IsRefused net.now self.old (next_event net.now (state_of self.old) b) self.new e) }
+            (λ e. IsStepRefused net.now self.old (next_event net.now (state_of self.old) b) self.new e) }
         ensures state { IsStateOf net.now self.new }
     {
         self.advance(net, b)
@@ -115,7 +115,7 @@ impl<G: OrderedGroup> State<G> {
         requires { IsStateOf net.now self.old }
         ensures made { MatchResult result
             (λ saw. Stepped net.now self.old event self.new (saw_as G.parts_of saw))
-            (λ e. IsRefused net.now self.old event self.new e) }
+            (λ e. IsStepRefused net.now self.old event self.new e) }
         ensures state { IsStateOf net.now self.new }
     {
         if event.block >= self.len() {

@@ -8,7 +8,7 @@ use Rattle.closure_net.specs.Reached.{IsReached}
 use Rattle.machine_law.specs.declared.events.Event.{Event}
 use Rattle.workers.specs.Auditing.{IsSomeHistory, IsAudit, IsCutOffAfter, OverflowsAfter, FillsItsRoom}
 use Rattle.trace_file.specs.Written.{trace_text}
-use Rattle.check_pit.specs.Checks.{IsOfNet, FaultStands}
+use Rattle.check_pit.specs.Checks.{IsOfNet, PitFaultStands}
 use Rattle.check_pit.specs.declared.pit_fault.PitFault.TheVariants as pit_fault
 use Rattle.certificate_file.specs.declared.header.Price.{Price}
 use Rattle.engines.specs.declared.judgement.Verdict.{Verdict}
@@ -39,7 +39,7 @@ pub record CheckOverflowsAfter (net : NetView) (limit room : ℕ) (history : Lis
   pub pit : List ℕ
   pub reached : IsReached net flow (holds_of pit)
   pub of_net : IsOfNet net pit
-  pub stands : FaultStands net flow pit pit_fault.TooLarge
+  pub stands : PitFaultStands net flow pit pit_fault.TooLarge
 
 -- the line where the history has no room
 abbrev pub history_full_line : List ℕ

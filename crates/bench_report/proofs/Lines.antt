@@ -4,7 +4,7 @@ use Rattle.std.proofs.lemmas.List.{append-nil}
 use Rattle.std.proofs.Math.Seq.{take-suc}
 use Rattle.csv.specs.Writing.{default_writer, fields_text, row_text, is_blank}
 use Rattle.bench_report.specs.declared.bench_row.BenchRow.{BenchRow}
-use Rattle.bench_report.specs.BlockShells.{names_line, block_line, block_lines}
+use Rattle.bench_report.specs.BlockShells.{names_line, block_shell_line, block_lines}
 use Rattle.bench_report.specs.Written.{header_line, row_line, rows_text}
 use Rattle.bench_report.proofs.Plain.{IsPlain, plain_needs_none}
 
@@ -48,5 +48,5 @@ unfolding fields_text is_blank
 names_row = refl
 
 -- one more block is written
-pub block_lines-next : (shell : ℕ → Option ℕ) (n : ℕ) (before after : List ℕ) → after ≡ before ++ block_line n (shell n) → before ≡ names_line ++ block_lines shell n → after ≡ names_line ++ block_lines shell (n + 1)
-block_lines-next shell n before after e k = e ∙ ap (λ t. t ++ block_line n (shell n)) k ∙ append_assoc names_line (block_lines shell n) (block_line n (shell n)) ∙ sym (ap (λ i. names_line ++ block_lines shell i) (add-one n))
+pub block_lines-next : (shell : ℕ → Option ℕ) (n : ℕ) (before after : List ℕ) → after ≡ before ++ block_shell_line n (shell n) → before ≡ names_line ++ block_lines shell n → after ≡ names_line ++ block_lines shell (n + 1)
+block_lines-next shell n before after e k = e ∙ ap (λ t. t ++ block_shell_line n (shell n)) k ∙ append_assoc names_line (block_lines shell n) (block_shell_line n (shell n)) ∙ sym (ap (λ i. names_line ++ block_lines shell i) (add-one n))

@@ -13,8 +13,8 @@ use Rattle.bench_report.specs.declared.bench_row.BenchRow.{BenchRow}
 use Rattle.bench_report.specs.declared.report_fault.ReportFault.{ReportFault}
 use Rattle.bench_report.specs.declared.report_fault.ReportFault.TheVariants.{WrongModel, TooLarge, NoMemory}
 use Rattle.bench_report.specs.Benches.{ReportedBlocks, blocks_at, by_bench}
-use Rattle.bench_report.specs.FaultStands.{SumsFit, SomeSumOverflows}
-use Rattle.bench_report.specs.GrowingRows.{row_below, no_blocks, with_block, row_at, if_some, TakesBlock, AddFaultStands, IsTallied, TallyFaultStands}
+use Rattle.bench_report.specs.FaultStands.{BenchSumsFit, SomeBenchSumOverflows}
+use Rattle.bench_report.specs.GrowingRows.{row_below, no_blocks, with_block, row_at, if_some, RowTakesBlock, AddFaultStands, IsTallied, TallyFaultStands}
 use Rattle.bench_report.proofs.Sums.{plus-none, worth_of_none}
 
 -- ---- the row that is found
@@ -82,17 +82,17 @@ found_more m n p z k f g false b h at e = e ∙ h.rows z k ∙ ap if_some (sym (
 
 -- its sums fit
 fits_more : (m : ReportedBlocks) (n : ℕ) (p : ℤ × ℕ) (z : ℤ) (k : ℕ) (f : ℤ × ℕ → Option BenchRow) (t : Bool)
-    → blocks_at m z k n ≡ t → IsTallied m n f → (t ≡ true → ◌≡◌ {A = ℤ × ℕ} (z, k) p) → TakesBlock (row_at f p) (m.tonnes n) (m.worth n) → SumsFit m z k (suc n)
+    → blocks_at m z k n ≡ t → IsTallied m n f → (t ≡ true → ◌≡◌ {A = ℤ × ℕ} (z, k) p) → RowTakesBlock (row_at f p) (m.tonnes n) (m.worth n) → BenchSumsFit m z k (suc n)
 fits_more m n p z k f true b h at w =
     let r : row_at f p ≡ row_below m z k n = ap (row_at f) (sym (at refl)) ∙ row_found m n f h z k in
     subst FitsRow (ap (λ (r : BenchRow). with_block r (m.tonnes n) (m.worth n)) r ∙ sym (row_with m z k n b)) w
 fits_more m n p z k f false b h at w = subst FitsRow (sym (row_without m z k n b)) (h.fits z k n (omega arith))
 
 -- sums that fit up to one place fit on the whole way there
-fits_upto : (m : ReportedBlocks) (n : ℕ) (z : ℤ) (k : ℕ) → ((j : ℕ) → j ≤ n → SumsFit m z k j) → SumsFit m z k (suc n) → (j : ℕ) → j ≤ suc n → SumsFit m z k j
+fits_upto : (m : ReportedBlocks) (n : ℕ) (z : ℤ) (k : ℕ) → ((j : ℕ) → j ≤ n → BenchSumsFit m z k j) → BenchSumsFit m z k (suc n) → (j : ℕ) → j ≤ suc n → BenchSumsFit m z k j
 fits_upto m n z k h s j l = elim (cases_lt j (suc n)) [
   | inl i ↦ h j (omega (arith, i))
-  | inr i ↦ (let e : suc n ≡ j = omega (arith, i, l) in subst (SumsFit m z k) e s)
+  | inr i ↦ (let e : suc n ≡ j = omega (arith, i, l) in subst (BenchSumsFit m z k) e s)
 ]
 
 -- where a test of places passes, the place is the one that is asked for
@@ -106,7 +106,7 @@ same_place x z j k h =
 -- the block has a shell, and is added to the row of its place
 one_more : (m : ReportedBlocks) (n : ℕ) (x : ℤ) (j : ℕ) (f g : ℤ × ℕ → Option BenchRow) → m.height n ≡ x → m.shell n ≡ Some j → IsTallied m n f
     → ((q : ℤ × ℕ) → g q ≡ cond (is_at (by_bench (x, j)) q) (Some (with_block (row_at f (x, j)) (m.tonnes n) (m.worth n))) (f q))
-    → TakesBlock (row_at f (x, j)) (m.tonnes n) (m.worth n) → IsTallied m (n + 1) g
+    → RowTakesBlock (row_at f (x, j)) (m.tonnes n) (m.worth n) → IsTallied m (n + 1) g
 one_more m n x j f g hx hj h u w = subst (λ i. IsTallied m i g) (sym (add-one n)) (record {
   rows = λ z k. found_more m n (x, j) z k f g (blocks_at m z k n) refl h (here z k) (u (z, k) ∙ ap (λ t. cond t (Some (with_block (row_at f (x, j)) (m.tonnes n) (m.worth n))) (f (z, k))) (at_place m n x j hx hj z k));
   fits = λ z k i. fits_upto m n z k (h.fits z k) (fits_more m n (x, j) z k f (blocks_at m z k n) refl h (here z k) w) i;
@@ -131,7 +131,7 @@ none_more m n f hn h = subst (λ i. IsTallied m i f) (sym (add-one n)) (record {
 
 -- the row of the block's place doesn't take it: a sum overflows
 leaves_here : (m : ReportedBlocks) (n : ℕ) (x : ℤ) (j : ℕ) (f : ℤ × ℕ → Option BenchRow) → n < m.blocks → m.height n ≡ x → m.shell n ≡ Some j → IsTallied m n f
-    → ¬ (TakesBlock (row_at f (x, j)) (m.tonnes n) (m.worth n)) → SomeSumOverflows m
+    → ¬ (RowTakesBlock (row_at f (x, j)) (m.tonnes n) (m.worth n)) → SomeBenchSumOverflows m
 leaves_here m n x j f l hx hj h w = (x, j, suc n, omega (arith, l), λ s. w (subst FitsRow (row_with m x j n inside ∙ sym (ap (λ (r : BenchRow). with_block r (m.tonnes n) (m.worth n)) (row_found m n f h x j))) s))
   where
     inside : blocks_at m x j n ≡ true
@@ -140,7 +140,7 @@ leaves_here m n x j f l hx hj h w = (x, j, suc n, omega (arith, l), λ s. w (sub
 -- ---- the same, of a block whose place, tonnes and worth go by other names
 
 pub block_added : (m : ReportedBlocks) (n k : ℕ) (p : ℤ × ℕ) (t w : ℤ) (f g : ℤ × ℕ → Option BenchRow) → p ≡ (m.height n, k) → m.shell n ≡ Some k → t ≡ m.tonnes n → w ≡ m.worth n → IsTallied m n f
-    → ((q : ℤ × ℕ) → g q ≡ cond (is_at (by_bench p) q) (Some (with_block (row_at f p) t w)) (f q)) → TakesBlock (row_at f p) t w → IsTallied m (n + 1) g
+    → ((q : ℤ × ℕ) → g q ≡ cond (is_at (by_bench p) q) (Some (with_block (row_at f p) t w)) (f q)) → RowTakesBlock (row_at f p) t w → IsTallied m (n + 1) g
 block_added m n k p t w f g ep es et ew h u v = one_more m n (m.height n) k f g refl es h (λ q. rw (ep, et, ew) at (u q)) (rw (ep, et, ew) at v)
 
 pub block_leaves : (m : ReportedBlocks) (n k : ℕ) (p : ℤ × ℕ) (t w : ℤ) (f : ℤ × ℕ → Option BenchRow) (e : ReportFault) → n < m.blocks → p ≡ (m.height n, k) → m.shell n ≡ Some k → t ≡ m.tonnes n → w ≡ m.worth n → IsTallied m n f

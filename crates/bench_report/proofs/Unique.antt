@@ -11,7 +11,7 @@ use Rattle.std.proofs.lemmas.Map.Lookups.{exact_signed, exact_unsigned, exact_pa
 use Rattle.std.proofs.lemmas.Map.Views.{Contains-from_any, list_any-from_Contains}
 use Rattle.ordered_group.specs.Sets.{worth_in, count_in}
 use Rattle.bench_report.specs.declared.bench_row.BenchRow.{BenchRow}
-use Rattle.bench_report.specs.Benches.{ReportedBlocks, blocks_at, is_shell, by_bench, place_of, IsRow, IsBenchTable}
+use Rattle.bench_report.specs.Benches.{ReportedBlocks, blocks_at, is_shell, by_bench, bench_and_shell, IsBenchRow, IsBenchTable}
 use Rattle.bench_report.specs.GrowingRows.{row_below}
 use Rattle.bench_report.proofs.Sums.{some_block}
 use Rattle.bench_report.proofs.Tables.{by_bench_total, same_places}
@@ -25,7 +25,7 @@ in_shell (Some x) k h = ap Some (eqb-true x k h)
 abbrev HasBlock : ReportedBlocks → ℤ × ℕ → Type 0
 HasBlock m q = (b : ℕ) × (b < m.blocks) × ((m.height b, q.1) ≡ q) × (m.shell b ≡ Some q.1)
 
-has_block : (m : ReportedBlocks) (r : BenchRow) → IsRow m r → HasBlock m (place_of r)
+has_block : (m : ReportedBlocks) (r : BenchRow) → IsBenchRow m r → HasBlock m (bench_and_shell r)
 has_block m r h =
     let s : 0 < count_in (blocks_at m r.z r.shell) m.blocks = subst (λ n. 0 < n) h.number h.some in
     let b = some_block (blocks_at m r.z r.shell) m.blocks s in
@@ -33,37 +33,37 @@ has_block m r h =
     (b.0, b.1, ap (λ z. (z, r.shell)) ((Decides-int_eq (m.height b.0) r.z).0 p.0), in_shell (m.shell b.0) r.shell p.1)
 
 -- each place of one table is a place of the other
-also_there : (m : ReportedBlocks) (rows others : List BenchRow) → IsBenchTable m rows → IsBenchTable m others → (q : ℤ × ℕ) → list_any (is_at (by_bench q)) (map place_of rows) ≡ true → list_any (is_at (by_bench q)) (map place_of others) ≡ true
+also_there : (m : ReportedBlocks) (rows others : List BenchRow) → IsBenchTable m rows → IsBenchTable m others → (q : ℤ × ℕ) → list_any (is_at (by_bench q)) (map bench_and_shell rows) ≡ true → list_any (is_at (by_bench q)) (map bench_and_shell others) ≡ true
 also_there m rows others h k q t =
-    let places : All (HasBlock m) (map place_of rows) = All-map (HasBlock m) place_of rows (All-weaker (IsRow m) (λ r. HasBlock m (place_of r)) (has_block m) rows h.each) in
-    let b : HasBlock m q = All-contains (HasBlock m) (map place_of rows) q places (Contains-from_any {eq = eq_by_cmp by_bench} same_places q (map place_of rows) t) in
-    list_any-from_Contains (eq_by_cmp_equiv by_bench_total) q (map place_of others) (subst (Contains (map place_of others)) b.2 (k.every b.0 q.1 b.1 b.3))
+    let places : All (HasBlock m) (map bench_and_shell rows) = All-map (HasBlock m) bench_and_shell rows (All-weaker (IsBenchRow m) (λ r. HasBlock m (bench_and_shell r)) (has_block m) rows h.each) in
+    let b : HasBlock m q = All-contains (HasBlock m) (map bench_and_shell rows) q places (Contains-from_any {eq = eq_by_cmp by_bench} same_places q (map bench_and_shell rows) t) in
+    list_any-from_Contains (eq_by_cmp_equiv by_bench_total) q (map bench_and_shell others) (subst (Contains (map bench_and_shell others)) b.2 (k.every b.0 q.1 b.1 b.3))
 
 same_tests : (s t : Bool) → (s ≡ true → t ≡ true) → (t ≡ true → s ≡ true) → s ≡ t
 same_tests true t h k = sym (h refl)
 same_tests false true h k = k refl
 same_tests false false h k = refl
 
-places_are_one : (m : ReportedBlocks) (rows others : List BenchRow) → IsBenchTable m rows → IsBenchTable m others → map place_of rows ≡ map place_of others
+places_are_one : (m : ReportedBlocks) (rows others : List BenchRow) → IsBenchTable m rows → IsBenchTable m others → map bench_and_shell rows ≡ map bench_and_shell others
 places_are_one m rows others h k =
-    btree_set_from_contains by_bench_total (record { keys = map place_of rows }) (record { keys = map place_of others }) h.rising k.rising
-    (λ q. same_tests (list_any (is_at (by_bench q)) (map place_of rows)) (list_any (is_at (by_bench q)) (map place_of others)) (also_there m rows others h k q) (also_there m others rows k h q))
+    btree_set_from_contains by_bench_total (record { keys = map bench_and_shell rows }) (record { keys = map bench_and_shell others }) h.rising k.rising
+    (λ q. same_tests (list_any (is_at (by_bench q)) (map bench_and_shell rows)) (list_any (is_at (by_bench q)) (map bench_and_shell others)) (also_there m rows others h k q) (also_there m others rows k h q))
     (exact_pairs int_cmp nat_cmp exact_signed exact_unsigned)
 
 -- a row is that of its place
-row_is : (m : ReportedBlocks) (r : BenchRow) → IsRow m r → r ≡ row_below m r.z r.shell m.blocks
+row_is : (m : ReportedBlocks) (r : BenchRow) → IsBenchRow m r → r ≡ row_below m r.z r.shell m.blocks
 row_is m r h =
     ap (λ n. record { z = r.z; shell = r.shell; blocks = n; tonnes = r.tonnes; worth = r.worth }) h.number
     ∙ ap (λ t. record { z = r.z; shell = r.shell; blocks = count_in (blocks_at m r.z r.shell) m.blocks; tonnes = t; worth = r.worth }) h.tonnage
     ∙ ap (λ w. record { z = r.z; shell = r.shell; blocks = count_in (blocks_at m r.z r.shell) m.blocks; tonnes = worth_in m.tonnes (blocks_at m r.z r.shell) m.blocks; worth = w }) h.value
 
-rows_are_one : (m : ReportedBlocks) (rows others : List BenchRow) → All (IsRow m) rows → All (IsRow m) others → map place_of rows ≡ map place_of others → rows ≡ others
+rows_are_one : (m : ReportedBlocks) (rows others : List BenchRow) → All (IsBenchRow m) rows → All (IsBenchRow m) others → map bench_and_shell rows ≡ map bench_and_shell others → rows ≡ others
 rows_are_one m [] [] h k e = refl
 rows_are_one m [] (s ∷ ss) h k e = absurd cc
 rows_are_one m (r ∷ rs) [] h k e = absurd cc
 rows_are_one m (r ∷ rs) (s ∷ ss) h k e =
-    let one : r ≡ s = row_is m r (All-head (IsRow m) r rs h) ∙ ap (λ (q : ℤ × ℕ). row_below m q.0 q.1 m.blocks) (first e) ∙ sym (row_is m s (All-head (IsRow m) s ss k)) in
-    rw (one, rows_are_one m rs ss (All-tail (IsRow m) r rs h) (All-tail (IsRow m) s ss k) (others e)) refl
+    let one : r ≡ s = row_is m r (All-head (IsBenchRow m) r rs h) ∙ ap (λ (q : ℤ × ℕ). row_below m q.0 q.1 m.blocks) (first e) ∙ sym (row_is m s (All-head (IsBenchRow m) s ss k)) in
+    rw (one, rows_are_one m rs ss (All-tail (IsBenchRow m) r rs h) (All-tail (IsBenchRow m) s ss k) (others e)) refl
   where
     first : {x y : ℤ × ℕ} {xs ys : List (ℤ × ℕ)} → x ∷ xs ≡ y ∷ ys → x ≡ y
     first e = cc

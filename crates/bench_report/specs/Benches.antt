@@ -37,15 +37,15 @@ abbrev pub blocks_at : ReportedBlocks → ℤ → ℕ → ℕ → Bool
 blocks_at m z k b = int_eq (m.height b) z && is_shell (m.shell b) k
 
 -- A row has a block, and counts and adds up all blocks of its bench and its shell.
-pub record IsRow (m : ReportedBlocks) (r : BenchRow) : Type 0 where
+pub record IsBenchRow (m : ReportedBlocks) (r : BenchRow) : Type 0 where
   pub some : 0 < r.blocks
   pub number : r.blocks ≡ count_in (blocks_at m r.z r.shell) m.blocks
   pub tonnage : r.tonnes ≡ worth_in m.tonnes (blocks_at m r.z r.shell) m.blocks
   pub value : r.worth ≡ worth_in m.worth (blocks_at m r.z r.shell) m.blocks
 
 -- a row's bench and shell
-abbrev pub place_of : BenchRow → ℤ × ℕ
-place_of r = (r.z, r.shell)
+abbrev pub bench_and_shell : BenchRow → ℤ × ℕ
+bench_and_shell r = (r.z, r.shell)
 
 -- lower benches first, and on a bench lower shells first
 abbrev pub by_bench : ℤ × ℕ → ℤ × ℕ → Ordering
@@ -53,9 +53,9 @@ by_bench x y = ordering_then (int_cmp x.0 y.0) (nat_cmp x.1 y.1)
 
 -- The table: each row is that of its bench and shell, no two rows have the same ones, and each block with a shell is in a row.
 pub record IsBenchTable (m : ReportedBlocks) (rows : List BenchRow) : Type 0 where
-  pub each : All (IsRow m) rows
-  pub rising : IsStrictlySortedBy by_bench (map place_of rows)
-  pub every : (b k : ℕ) → b < m.blocks → m.shell b ≡ Some k → Contains (map place_of rows) (m.height b, k)
+  pub each : All (IsBenchRow m) rows
+  pub rising : IsStrictlySortedBy by_bench (map bench_and_shell rows)
+  pub every : (b k : ℕ) → b < m.blocks → m.shell b ≡ Some k → Contains (map bench_and_shell rows) (m.height b, k)
 
 -- two tables of the same blocks are the same
 abbrev pub TablesAreOne : Type 0

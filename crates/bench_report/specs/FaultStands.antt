@@ -15,19 +15,19 @@ pub record SameLengths (model : BlocksView) (series : SeriesView) (worths : List
   pub of_worths : length worths ≡ model.blocks
 
 -- the tonnes and the worths of the first blocks of a bench and a shell, those below j, add up to numbers of 128 bits
-abbrev pub SumsFit : ReportedBlocks → ℤ → ℕ → ℕ → Type 0
-SumsFit m z k j = FitsSigned w128 (worth_in m.tonnes (blocks_at m z k) j) × FitsSigned w128 (worth_in m.worth (blocks_at m z k) j)
+abbrev pub BenchSumsFit : ReportedBlocks → ℤ → ℕ → ℕ → Type 0
+BenchSumsFit m z k j = FitsSigned w128 (worth_in m.tonnes (blocks_at m z k) j) × FitsSigned w128 (worth_in m.worth (blocks_at m z k) j)
 
 -- the sums of every bench and shell fit after each block
 abbrev pub AllSumsFit : ReportedBlocks → Type 0
-AllSumsFit m = (z : ℤ) (k j : ℕ) → j ≤ m.blocks → SumsFit m z k j
+AllSumsFit m = (z : ℤ) (k j : ℕ) → j ≤ m.blocks → BenchSumsFit m z k j
 
 -- some sum of a bench and a shell doesn't fit after some block
-abbrev pub SomeSumOverflows : ReportedBlocks → Type 0
-SomeSumOverflows m = (z : ℤ) × (k : ℕ) × (j : ℕ) × (j ≤ m.blocks) × ¬ (SumsFit m z k j)
+abbrev pub SomeBenchSumOverflows : ReportedBlocks → Type 0
+SomeBenchSumOverflows m = (z : ℤ) × (k : ℕ) × (j : ℕ) × (j ≤ m.blocks) × ¬ (BenchSumsFit m z k j)
 
 -- why there are no rows
 abbrev pub ReportFaultStands : BlocksView → SeriesView → List ℤ → ReportedBlocks → ReportFault → Type 0
 ReportFaultStands model series worths m WrongModel = ¬ (SameLengths model series worths)
-ReportFaultStands model series worths m TooLarge = SameLengths model series worths × SomeSumOverflows m
+ReportFaultStands model series worths m TooLarge = SameLengths model series worths × SomeBenchSumOverflows m
 ReportFaultStands model series worths m NoMemory = SameLengths model series worths

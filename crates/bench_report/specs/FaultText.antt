@@ -12,6 +12,6 @@ report_fault_text report.TooLarge = codes "TooLarge"
 report_fault_text report.NoMemory = codes "NoMemory"
 
 -- the name
-abbrev pub write_fault_text : ReportWriteFault → List ℕ
-write_fault_text write.Device = codes "Device"
-write_fault_text write.NoMemory = codes "NoMemory"
+abbrev pub report_write_fault_text : ReportWriteFault → List ℕ
+report_write_fault_text write.Device = codes "Device"
+report_write_fault_text write.NoMemory = codes "NoMemory"

@@ -6,7 +6,7 @@ use Rattle.bench_report.specs.declared.bench_row.BenchRow.{BenchRow}
 use Rattle.bench_report.specs.declared.report_fault.ReportFault.{ReportFault}
 use Rattle.bench_report.specs.declared.report_fault.ReportFault.TheVariants.{WrongModel, TooLarge, NoMemory}
 use Rattle.bench_report.specs.Benches.{ReportedBlocks, blocks_at}
-use Rattle.bench_report.specs.FaultStands.{SumsFit, SomeSumOverflows}
+use Rattle.bench_report.specs.FaultStands.{BenchSumsFit, SomeBenchSumOverflows}
 
 -- the row of a bench and a shell, of the blocks below n
 abbrev pub row_below : ReportedBlocks → ℤ → ℕ → ℕ → BenchRow
@@ -29,22 +29,22 @@ abbrev pub if_some : BenchRow → Option BenchRow
 if_some r = cond (r.blocks == 0) None (Some r)
 
 -- the numbers of a row with one block more are of 128 bits
-abbrev pub TakesBlock : BenchRow → ℤ → ℤ → Type 0
-TakesBlock r tonnes worth = FitsSigned w128 (r.tonnes +ℤ tonnes) × FitsSigned w128 (r.worth +ℤ worth)
+abbrev pub RowTakesBlock : BenchRow → ℤ → ℤ → Type 0
+RowTakesBlock r tonnes worth = FitsSigned w128 (r.tonnes +ℤ tonnes) × FitsSigned w128 (r.worth +ℤ worth)
 
 -- why a block isn't added
 abbrev pub AddFaultStands : BenchRow → ℤ → ℤ → ReportFault → Type 0
 AddFaultStands r tonnes worth WrongModel = ⊥
-AddFaultStands r tonnes worth TooLarge = ¬ (TakesBlock r tonnes worth)
+AddFaultStands r tonnes worth TooLarge = ¬ (RowTakesBlock r tonnes worth)
 AddFaultStands r tonnes worth NoMemory = Unit {0}
 
 -- The rows of the blocks below n are found by bench and shell, and each of their sums fits on the way.
 pub record IsTallied (m : ReportedBlocks) (n : ℕ) (found : ℤ × ℕ → Option BenchRow) : Type 0 where
   pub rows : (z : ℤ) (k : ℕ) → found (z, k) ≡ if_some (row_below m z k n)
-  pub fits : (z : ℤ) (k j : ℕ) → j ≤ n → SumsFit m z k j
+  pub fits : (z : ℤ) (k j : ℕ) → j ≤ n → BenchSumsFit m z k j
 
 -- why the blocks aren't tallied
 abbrev pub TallyFaultStands : ReportedBlocks → ReportFault → Type 0
 TallyFaultStands m WrongModel = ⊥
-TallyFaultStands m TooLarge = SomeSumOverflows m
+TallyFaultStands m TooLarge = SomeBenchSumOverflows m
 TallyFaultStands m NoMemory = Unit {0}

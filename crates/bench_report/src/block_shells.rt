@@ -3,7 +3,7 @@
 ghost use Rattle.std.specs.Prelude.{◌≡◌, ◌++◌, Some, None, IfOk, OnOk};
 ghost use Rattle.shells.specs.Prices.{blocks_of};
 ghost use Rattle.shells.specs.Series.{shell_at, IsSeries};
-ghost use Rattle.bench_report.specs.BlockShells.{block_line, block_table_text};
+ghost use Rattle.bench_report.specs.BlockShells.{block_shell_line, block_table_text};
 ghost use Rattle.bench_report.specs.Written.{IsReady, written_bytes};
 
 use crate::written_table::put_fields;
@@ -15,7 +15,7 @@ use std::alloc::{AllocError, Global};
 fn put_held(alloc: Global, wtr: &mut Writer<Vec<u8>>, b: u32, factor: u32) -> Result<(), AllocError>
     requires ready { IsReady wtr.old }
     ensures ready { OnOk result (IsReady wtr.new) }
-    ensures text { OnOk result (written_bytes wtr.new ≡ written_bytes wtr.old ++ block_line b (Some factor)) }
+    ensures text { OnOk result (written_bytes wtr.new ≡ written_bytes wtr.old ++ block_shell_line b (Some factor)) }
 {
     let block = format!(in alloc; "{b}")?;
     let shell = format!(in alloc; "{factor}")?;
@@ -26,7 +26,7 @@ fn put_held(alloc: Global, wtr: &mut Writer<Vec<u8>>, b: u32, factor: u32) -> Re
 fn put_unheld(alloc: Global, wtr: &mut Writer<Vec<u8>>, b: u32) -> Result<(), AllocError>
     requires ready { IsReady wtr.old }
     ensures ready { OnOk result (IsReady wtr.new) }
-    ensures text { OnOk result (written_bytes wtr.new ≡ written_bytes wtr.old ++ block_line b None) }
+    ensures text { OnOk result (written_bytes wtr.new ≡ written_bytes wtr.old ++ block_shell_line b None) }
 {
     let block = format!(in alloc; "{b}")?;
     put_fields(wtr, &[block.as_bytes(), b""])
@@ -41,7 +41,7 @@ fn put_block(
 ) -> Result<(), AllocError>
     requires ready { IsReady wtr.old }
     ensures ready { OnOk result (IsReady wtr.new) }
-    ensures text { OnOk result (written_bytes wtr.new ≡ written_bytes wtr.old ++ block_line b shell) }
+    ensures text { OnOk result (written_bytes wtr.new ≡ written_bytes wtr.old ++ block_shell_line b shell) }
 {
     match shell {
         Some(factor) => put_held(alloc, wtr, b, factor),

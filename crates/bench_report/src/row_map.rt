@@ -3,7 +3,7 @@
 ghost use Rattle.std.specs.Prelude.{◌≡◌, ◌^◌, ◌<◌, Some, OnOk, IfErr, MatchResult};
 ghost use Rattle.std.specs.BTreeMap.{Updates, get};
 ghost use Rattle.bench_report.specs.Benches.{by_bench};
-ghost use Rattle.bench_report.specs.GrowingRows.{no_blocks, with_block, row_at, TakesBlock, AddFaultStands};
+ghost use Rattle.bench_report.specs.GrowingRows.{no_blocks, with_block, row_at, RowTakesBlock, AddFaultStands};
 
 use crate::bench_row::BenchRow;
 use crate::report_fault::ReportFault;
@@ -41,7 +41,7 @@ fn row_so_far(rows: &Rows, place: (i32, u32)) -> BenchRow
 fn with_one_more(row: BenchRow, tonnes: i128, worth: i128) -> Result<BenchRow, ReportFault>
     requires { row.blocks < 2 ^ 24 }
     ensures { MatchResult result
-        (λ r. (r ≡ with_block row tonnes worth) × TakesBlock row tonnes worth)
+        (λ r. (r ≡ with_block row tonnes worth) × RowTakesBlock row tonnes worth)
         (λ e. (e ≡ ReportFault.TooLarge) × AddFaultStands row tonnes worth e) }
 {
     let tonnes = row.tonnes.checked_add(tonnes).ok_or(ReportFault::TooLarge)?;
@@ -64,7 +64,7 @@ pub(crate) fn add_block(
 ) -> Result<(), ReportFault>
     requires { (row_at (get by_bench rows.old) place).blocks < 2 ^ 24 }
     ensures added { OnOk result (Updates by_bench rows.old rows.new place (Some (with_block (row_at (get by_bench rows.old) place) tonnes worth))) }
-    ensures fits { OnOk result (TakesBlock (row_at (get by_bench rows.old) place) tonnes worth) }
+    ensures fits { OnOk result (RowTakesBlock (row_at (get by_bench rows.old) place) tonnes worth) }
     ensures refused { IfErr result (λ e. AddFaultStands (row_at (get by_bench rows.old) place) tonnes worth e) }
 {
     let row = with_one_more(row_so_far(rows, place), tonnes, worth)?;

@@ -1,7 +1,7 @@
 //! Why a bench table isn't written whole, and how each fault is printed.
 
 ghost use Rattle.std.specs.Prelude.{Some};
-ghost use Rattle.bench_report.specs.FaultText.{write_fault_text};
+ghost use Rattle.bench_report.specs.FaultText.{report_write_fault_text};
 
 use std::alloc::AllocError;
 use std::error::Error;
@@ -17,7 +17,7 @@ pub enum ReportWriteFault {
 }
 
 impl fmt::Display for ReportWriteFault {
-    ghost output = { λ fault. Some (write_fault_text fault) };
+    ghost output = { λ fault. Some (report_write_fault_text fault) };
 
     fn fmt<W: fmt::Write>(&self, f: &mut fmt::Formatter<W>) -> fmt::Result {
         match self {

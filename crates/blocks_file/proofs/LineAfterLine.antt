@@ -14,7 +14,7 @@ use Rattle.fixed_worth.specs.Record.{Line, numbered_lines, is_skipped}
 use Rattle.blocks_file.specs.declared.place.Place.{Place}
 use Rattle.blocks_file.specs.declared.blocks_fault.BlocksFault.{BlocksFault}
 use Rattle.blocks_file.specs.declared.blocks_fault.BlocksFault.TheVariants.{UnknownBlock, Repeated}
-use Rattle.blocks_file.specs.Records.{block_of, place_of, columns_of, value_in, shape_fault, block_fault, record_fault, is_record_of, has_record, record_among, first_fault, long_fault, record_lines}
+use Rattle.blocks_file.specs.Records.{block_of, place_of_record, columns_of, value_in, shape_fault, block_fault, record_fault, is_record_of, has_record, record_among, first_fault, long_fault, record_lines}
 use Rattle.blocks_file.specs.Denotes.{origin}
 use Rattle.blocks_file.specs.RowReading.{HoldsValues, ArePut, AreKept}
 use Rattle.fixed_worth.proofs.NextLine.{line, Next, next_is}
@@ -31,7 +31,7 @@ pub record ReadSoFar (n : ℕ) (chosen : List ℕ) (all : List Line) (seen : Lis
   pub long : long_fault (numbered_lines left.number left.lines) ≡ long_fault all
   pub marks : (b : ℕ) → b < n → get_or seen b false ≡ has_record before b
   pub count : marked seen ≡ length (record_lines before)
-  pub place : (b : ℕ) → b < n → get_or seen b false ≡ true → get_or places b origin ≡ place_of (record_among before b)
+  pub place : (b : ℕ) → b < n → get_or seen b false ≡ true → get_or places b origin ≡ place_of_record (record_among before b)
   pub value : (b i : ℕ) → b < n → get_or seen b false ≡ true → i < length chosen → get_or values (b * length chosen + i) (pos 0) ≡ value_in (columns_of (record_among before b)) (get_or chosen i 0)
   pub all_seen : length seen ≡ n
   pub all_places : length places ≡ n
@@ -106,7 +106,7 @@ passes n chosen all seen places values left next k text g h s =
       long = still_long all left next k text g.long h;
       marks = λ b i. g.marks b i ∙ sym (has-push g.before l b ∙ ap (λ t. has_record g.before b || t) (out b) ∙ or-false (has_record g.before b));
       count = g.count ∙ sym (ap length (push_skipped g.before k text s));
-      place = λ b i t. g.place b i t ∙ ap place_of (sym (record_other g.before l b (out b)));
+      place = λ b i t. g.place b i t ∙ ap place_of_record (sym (record_other g.before l b (out b)));
       value = λ b i j t m. g.value b i j t m ∙ ap (λ (fs : List (List ℕ)). value_in (columns_of fs) (get_or chosen i 0)) (sym (record_other g.before l b (out b)));
       all_seen = g.all_seen;
       all_places = g.all_places;
@@ -127,14 +127,14 @@ mark_at seen before block b l i h r false e =
     let ne : b ≢ block = grind (arith, nat_tests) in
     get_or-set_other seen block b true false ne ∙ h ∙ sym (has-push before l b ∙ ap (λ t. has_record before b || t) (r ∙ e) ∙ or-false (has_record before b))
 
-place_here : (places : List Place) (before : List Line) (block b : ℕ) (p : Place) (l : Line) → block < length places → has_record before block ≡ false → is_record_of b (fields_of l.text) ≡ eqb block b → p ≡ place_of (fields_of l.text)
-    → (t : Bool) → eqb block b ≡ t → (t ≡ false → get_or places b origin ≡ place_of (record_among before b)) → get_or (set places block p) b origin ≡ place_of (record_among (before ++ l ∷ []) b)
+place_here : (places : List Place) (before : List Line) (block b : ℕ) (p : Place) (l : Line) → block < length places → has_record before block ≡ false → is_record_of b (fields_of l.text) ≡ eqb block b → p ≡ place_of_record (fields_of l.text)
+    → (t : Bool) → eqb block b ≡ t → (t ≡ false → get_or places b origin ≡ place_of_record (record_among before b)) → get_or (set places block p) b origin ≡ place_of_record (record_among (before ++ l ∷ []) b)
 place_here places before block b p l i new r is true e old =
     let same : block ≡ b = grind (arith, nat_tests) in
-    subst (λ (x : ℕ). get_or (set places block p) x origin ≡ p) same (get_or-set_same places block p origin i) ∙ is ∙ ap place_of (sym (record_first before l b (ap (has_record before) (sym same) ∙ new) (r ∙ e)))
+    subst (λ (x : ℕ). get_or (set places block p) x origin ≡ p) same (get_or-set_same places block p origin i) ∙ is ∙ ap place_of_record (sym (record_first before l b (ap (has_record before) (sym same) ∙ new) (r ∙ e)))
 place_here places before block b p l i new r is false e old =
     let ne : b ≢ block = grind (arith, nat_tests) in
-    get_or-set_other places block b p origin ne ∙ old refl ∙ ap place_of (sym (record_other before l b (r ∙ e)))
+    get_or-set_other places block b p origin ne ∙ old refl ∙ ap place_of_record (sym (record_other before l b (r ∙ e)))
 
 untouched : (block b i w : ℕ) (row old new : List ℤ) → length row ≡ w → i < w → b ≢ block → ArePut (block * w) row old new → get_or new (b * w + i) (pos 0) ≡ get_or old (b * w + i) (pos 0)
 untouched block b i w row old new s h ne p =
@@ -163,7 +163,7 @@ seen_before seen block b e t =
 -- The line's record is kept.
 pub keeps : (n block : ℕ) (chosen : List ℕ) (p : Place) (row : List ℤ) (all : List Line) (seen more : List Bool) (places others : List Place) (values new : List ℤ) (left next : Left) (k : ℕ) (text : List ℕ)
     → ReadSoFar n chosen all seen places values left → Next left next k text
-    → is_skipped (fields_of text) ≡ false → shape_fault k chosen (fields_of text) ≡ None → block ≡ block_of (fields_of text) → p ≡ place_of (fields_of text) → HoldsValues chosen (columns_of (fields_of text)) row
+    → is_skipped (fields_of text) ≡ false → shape_fault k chosen (fields_of text) ≡ None → block ≡ block_of (fields_of text) → p ≡ place_of_record (fields_of text) → HoldsValues chosen (columns_of (fields_of text)) row
     → block_fault (length seen) (λ b. get_or seen b false) k block ≡ None → more ≡ set seen block true → others ≡ set places block p → ArePut (block * length chosen) row values new → ReadSoFar n chosen all more others new next
 keeps n block chosen p row all seen more places others values new left next k text g h s f is at holds w m o put =
     let l = line k text in
@@ -200,7 +200,7 @@ read_all n chosen all seen places values left g e count bound few =
       record {
         model = record { bound = bound; few = few; all_places = g.all_places; all_values = g.all_values };
         each = λ b i. ap (λ (xs : List Line). has_record xs b) (sym same) ∙ sym (g.marks b i) ∙ had b i;
-        place = λ b i. g.place b i (had b i) ∙ ap (λ (xs : List Line). place_of (record_among xs b)) same;
+        place = λ b i. g.place b i (had b i) ∙ ap (λ (xs : List Line). place_of_record (record_among xs b)) same;
         value = λ b i h l. g.value b i h (had b h) l ∙ ap (λ (xs : List Line). value_in (columns_of (record_among xs b)) (get_or chosen i 0)) same;
       },
     )

@@ -4,7 +4,7 @@ use Rattle.std.specs.List.{range_with_len}
 use Rattle.fixed_worth.specs.declared.limits.TheConstants.{MOST_BLOCKS}
 use Rattle.blocks_file.specs.declared.limits.TheConstants.{MOST_COLUMNS}
 use Rattle.blocks_file.specs.declared.place.Place.{Place}
-use Rattle.blocks_file.specs.Records.{place_of, columns_of, value_in, has_record, record_among, lines_in, count_of}
+use Rattle.blocks_file.specs.Records.{place_of_record, columns_of, value_in, has_record, record_among, lines_in, count_of}
 
 -- What the type shows: the number of blocks, the place of each, and each chosen column's values in millionths.
 pub record BlocksView : Type 0 where
@@ -32,7 +32,7 @@ pub record Denotes (chosen text : List ℕ) (m : BlocksView) : Type 0 where
   pub count : m.blocks ≡ count_of text
   pub each : (b : ℕ) → b < m.blocks → has_record (lines_in text) b ≡ true
   pub all_places : length m.places ≡ m.blocks
-  pub place : (b : ℕ) → b < m.blocks → slice_index_or m.places b origin ≡ place_of (record_among (lines_in text) b)
+  pub place : (b : ℕ) → b < m.blocks → slice_index_or m.places b origin ≡ place_of_record (record_among (lines_in text) b)
   pub all_columns : length m.columns ≡ length chosen
   pub all_values : (i : ℕ) → i < length chosen → length (slice_index_or m.columns i []) ≡ m.blocks
   pub value : (i b : ℕ) → i < length chosen → b < m.blocks → slice_index_or (slice_index_or m.columns i []) b (pos 0) ≡ value_in (columns_of (record_among (lines_in text) b)) (slice_index_or chosen i 0)

@@ -32,9 +32,9 @@ abbrev pub place_at : List ℕ → List ℕ → List ℕ → Place
 place_at x y z = record { x = unwrap_or (coordinate_read x) (pos 0); y = unwrap_or (coordinate_read y) (pos 0); z = unwrap_or (coordinate_read z) (pos 0) }
 
 -- A record's place: its second, third and fourth field.
-abbrev pub place_of : List (List ℕ) → Place
-place_of (block ∷ x ∷ y ∷ z ∷ columns) = place_at x y z
-place_of _ = place_at [] [] []
+abbrev pub place_of_record : List (List ℕ) → Place
+place_of_record (block ∷ x ∷ y ∷ z ∷ columns) = place_at x y z
+place_of_record _ = place_at [] [] []
 
 -- A record's columns: the fields behind its place.
 abbrev pub columns_of : List (List ℕ) → List (List ℕ)

@@ -2,7 +2,7 @@
 use Rattle.std.specs.Prelude.{◌≡◌, ◌≢◌, ℕ, ℤ, pos, ◌+◌, ◌*◌, ◌<◌, ◌≤◌, true, List, [], length, Some, slice_index_or}
 use Rattle.fixed_worth.specs.Record.{Line}
 use Rattle.blocks_file.specs.declared.place.Place.{Place}
-use Rattle.blocks_file.specs.Records.{place_of, columns_of, value_in, value_read, has_record, record_among}
+use Rattle.blocks_file.specs.Records.{place_of_record, columns_of, value_in, value_read, has_record, record_among}
 use Rattle.blocks_file.specs.Denotes.{origin, IsModel}
 
 -- The row has this value wherever this column was chosen, and is otherwise as it was.
@@ -38,5 +38,5 @@ pub record ArePut (from : ℕ) (row old new : List ℤ) : Type 0 where
 pub record AreKept (n : ℕ) (chosen : List ℕ) (lines : List Line) (places : List Place) (values : List ℤ) : Type 0 where
   pub model : IsModel n (length chosen) places values
   pub each : (b : ℕ) → b < n → has_record lines b ≡ true
-  pub place : (b : ℕ) → b < n → slice_index_or places b origin ≡ place_of (record_among lines b)
+  pub place : (b : ℕ) → b < n → slice_index_or places b origin ≡ place_of_record (record_among lines b)
   pub value : (b i : ℕ) → b < n → i < length chosen → slice_index_or values (b * length chosen + i) (pos 0) ≡ value_in (columns_of (record_among lines b)) (slice_index_or chosen i 0)

@@ -51,7 +51,7 @@ pub(crate) fn read_record(
         (λ r. (is_skipped (fields_of text.now) ≡ false)
         × (spec.shape_fault line columns.now (fields_of text.now) ≡ None)
         × (r.block ≡ spec.block_of (fields_of text.now))
-        × (r.place ≡ spec.place_of (fields_of text.now))
+        × (r.place ≡ spec.place_of_record (fields_of text.now))
         × HoldsValues columns.now (spec.columns_of (fields_of text.now)) row.new))
         (λ e. (is_skipped (fields_of text.now) ≡ false) × (spec.shape_fault line columns.now (fields_of text.now) ≡ Some e)) }
 {

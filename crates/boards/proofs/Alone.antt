@@ -14,8 +14,8 @@ use Rattle.machine_law.specs.States.{State, with_value_at, IsQuiet}
 use Rattle.machine_law.specs.Steps.{push_amount, after_push_by, after_give_by, advance_by}
 use Rattle.machine_law.proofs.Law.{runs_keep_law}
 use Rattle.machine_law.proofs.Points.{put-other}
-use Rattle.boards.specs.Boards.{BoardView, shown_state, blocks_of, IsBoard}
-use Rattle.boards.specs.Turns.{HasNoOwn, IsPicked, IsUnserved, IsDue, HasServed}
+use Rattle.boards.specs.Boards.{BoardView, shown_state, blocks_of_board, IsBoard}
+use Rattle.boards.specs.Turns.{HasNoOwn, IsPicked, IsUnserved, IsBlockDue, HasServed}
 use Rattle.boards.specs.Ends.{IsAlone, AreIdleBelow}
 
 -- ---- a step changes the operation of its block alone, and is counted
@@ -72,36 +72,36 @@ idle_not o h = elim (idle_or o) [
   | inr ne ↦ absurd (h ne)
 ]
 
-no_own_idle : (board : BoardView) (own : Option ℕ) (c : ℕ) → HasNoOwn board own → own ≡ Some c → c < blocks_of board → (shown_state board).operation c ≡ Idle
+no_own_idle : (board : BoardView) (own : Option ℕ) (c : ℕ) → HasNoOwn board own → own ≡ Some c → c < blocks_of_board board → (shown_state board).operation c ≡ Idle
 no_own_idle board own c h e l = idle_not ((shown_state board).operation c) (λ work. h c (record { own_is = e; inside = l; at_work = work }))
 
 -- ---- while one block is served to its end
-own_served : (board : BoardView) (from block b : ℕ) → block < blocks_of board → ¬ ((shown_state board).operation block ≡ Idle) → IsPicked board (Some block) from b → b ≡ block
+own_served : (board : BoardView) (from block b : ℕ) → block < blocks_of_board board → ¬ ((shown_state board).operation block ≡ Idle) → IsPicked board (Some block) from b → b ≡ block
 own_served board from block b l work p = elim p [
   | inl own ↦ sym (same_Some block b own.own_is)
   | inr none ↦ absurd (work (no_own_idle board (Some block) block none.0 refl l))
 ]
 
-pub still_idle_below : (old new : BoardView) (from steps block b : ℕ) (more : Bool) → block < blocks_of old → ¬ ((shown_state old).operation block ≡ Idle) → AreIdleBelow old block
-    → IsDue old (Some block) from steps b × HasServed old b new more → AreIdleBelow new block
+pub still_idle_below : (old new : BoardView) (from steps block b : ℕ) (more : Bool) → block < blocks_of_board old → ¬ ((shown_state old).operation block ≡ Idle) → AreIdleBelow old block
+    → IsBlockDue old (Some block) from steps b × HasServed old b new more → AreIdleBelow new block
 still_idle_below old new from steps block b more l work idle h c below =
     let e = own_served old from block b l work h.0.picked in
     (served_changes old new b more h.1).others c (λ q. (let t : block < block = subst (λ x. x < block) (q ∙ e) below in omega (arith, t))) ∙ idle c below
 
 -- ---- while one operation follows another
-pub all_idle_alone : (board : BoardView) → AreIdleBelow board (blocks_of board) → IsAlone (blocks_of board) (shown_state board) None
+pub all_idle_alone : (board : BoardView) → AreIdleBelow board (blocks_of_board board) → IsAlone (blocks_of_board board) (shown_state board) None
 all_idle_alone board idle = record {
   known = λ b q. absurd (none-some b q);
   others = λ c l ne. idle c l;
 }
 
-pub picked_inside : (board : BoardView) (own : Option ℕ) (from b : ℕ) → IsPicked board own from b → b < blocks_of board
+pub picked_inside : (board : BoardView) (own : Option ℕ) (from b : ℕ) → IsPicked board own from b → b < blocks_of_board board
 picked_inside board own from b p = elim p [
   | inl own ↦ own.inside
   | inr none ↦ none.1.inside
 ]
 
-other_idle : (board : BoardView) (own : Option ℕ) (from b c : ℕ) → IsAlone (blocks_of board) (shown_state board) own → IsPicked board own from b → c < blocks_of board → c ≢ b → ((own ≡ Some c) ⊎ ¬ (own ≡ Some c)) → (shown_state board).operation c ≡ Idle
+other_idle : (board : BoardView) (own : Option ℕ) (from b c : ℕ) → IsAlone (blocks_of_board board) (shown_state board) own → IsPicked board own from b → c < blocks_of_board board → c ≢ b → ((own ≡ Some c) ⊎ ¬ (own ≡ Some c)) → (shown_state board).operation c ≡ Idle
 other_idle board own from b c alone p l ne (inr not) = alone.others c l not
 other_idle board own from b c alone p l ne (inl is) = elim p [
   | inl own ↦ absurd (ne (same_Some c b (sym is ∙ own.own_is)))
@@ -128,20 +128,20 @@ goes_on_alone n s b false l others h = record {
   ];
 }
 
-pub still_alone : (old new : BoardView) (own : Option ℕ) (from steps b : ℕ) (more : Bool) → IsAlone (blocks_of old) (shown_state old) own → IsDue old own from steps b × HasServed old b new more
-    → IsAlone (blocks_of new) (shown_state new) (if more then Some b else None)
+pub still_alone : (old new : BoardView) (own : Option ℕ) (from steps b : ℕ) (more : Bool) → IsAlone (blocks_of_board old) (shown_state old) own → IsBlockDue old own from steps b × HasServed old b new more
+    → IsAlone (blocks_of_board new) (shown_state new) (if more then Some b else None)
 still_alone old new own from steps b more alone h =
-    let n : blocks_of new ≡ blocks_of old = ap (λ (x : BoardView). blocks_of x) h.1.rest in
+    let n : blocks_of_board new ≡ blocks_of_board old = ap (λ (x : BoardView). blocks_of_board x) h.1.rest in
     let k = served_changes old new b more h.1 in
-    let others : (c : ℕ) → c < blocks_of new → c ≢ b → (shown_state new).operation c ≡ Idle =
+    let others : (c : ℕ) → c < blocks_of_board new → c ≢ b → (shown_state new).operation c ≡ Idle =
     λ c l ne. k.others c ne ∙ other_idle old own from b c alone h.0.picked (subst (λ x. c < x) n l) ne (own_or own c) in
-    goes_on_alone (blocks_of new) (shown_state new) b more (subst (λ x. b < x) (sym n) (picked_inside old own from b h.0.picked)) others h.1.goes_on
+    goes_on_alone (blocks_of_board new) (shown_state new) b more (subst (λ x. b < x) (sym n) (picked_inside old own from b h.0.picked)) others h.1.goes_on
 
 -- where none has an operation and none waits, all is quiet
-pub unserved_quiet : (board : BoardView) (own : Option ℕ) → IsBoard board → IsAlone (blocks_of board) (shown_state board) own → IsUnserved board own → IsQuiet board.net (shown_state board)
+pub unserved_quiet : (board : BoardView) (own : Option ℕ) → IsBoard board → IsAlone (blocks_of_board board) (shown_state board) own → IsUnserved board own → IsQuiet board.net (shown_state board)
 unserved_quiet board own is alone none =
     let amounts = (runs_keep_law board.net is.over.reached.events (shown_state board) is.over.reached.run).amounts in
-    let idle : (b : ℕ) → b < blocks_of board → (shown_state board).operation b ≡ Idle =
+    let idle : (b : ℕ) → b < blocks_of_board board → (shown_state board).operation b ≡ Idle =
     λ b l. (elim (own_or own b) [
       | inl e ↦ no_own_idle board own b none.no_own e l
       | inr ne ↦ alone.others b l ne

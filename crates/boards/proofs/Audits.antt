@@ -11,7 +11,7 @@ use Rattle.machine_law.proofs.ActiveRuns.{active_is_run}
 use Rattle.async_step.specs.Answers.{Fits}
 use Rattle.boards.specs.Runs.{AreTurnsTo}
 use Rattle.boards.specs.Boards.{BoardView, shown_state, IsTurnBoard, HasSettled}
-use Rattle.boards.specs.Turns.{IsGoing, IsDue, IsAtLimit, IsTurn, IsEnd}
+use Rattle.boards.specs.Turns.{IsGoing, IsBlockDue, IsAtLimit, IsTurn, IsTurnEnd}
 use Rattle.boards.specs.Ends.{HasEnded}
 use Rattle.boards.specs.Records.{RecordView, events_after, written_after, Writes, RecordGoesOn}
 use Rattle.boards.specs.Audits.{AuditView, audit_of, IsAudited, IsAuditEnd, IsAuditTurn, IsToldAs, HasAuditEnded, AuditGoesOn, HasAuditSettled}
@@ -47,7 +47,7 @@ module _ (old new : RecordView) (own : Option ℕ) (from limit : ℕ) (is : IsAu
   has_room : IsGoing old.board (min limit old.room) → length old.events < old.room
   has_room h = let l = min-le_right limit old.room in let r = h.room in let k = is.counted in omega (arith, l, r, k)
 
-  due : (b : ℕ) → IsDue old.board own from (min limit old.room) b → IsDue old.board own from limit b
+  due : (b : ℕ) → IsBlockDue old.board own from (min limit old.room) b → IsBlockDue old.board own from limit b
   due b h = record { going = going h.going; picked = h.picked }
 
   same : (turn : Turn) → events_after old turn ≡ old.events → Writes old turn new → new.board ≡ old.board → audit_of new ≡ audit_of old
@@ -75,7 +75,7 @@ module _ (old new : RecordView) (own : Option ℕ) (from limit : ℕ) (is : IsAu
       let w = is.within in
       subst (λ x. IsAuditEnd (audit_of old) own from limit (audit_of new) x) (sym t.1) (record { going = record { unquiet = h.unquiet; free = h.free; room = t.0 }; full = omega (arith, r, k, w) }, e)
 
-  pub ended : (end told : End) → IsEnd old.board own from (min limit old.room) new.board end → Writes old (Ended end) new → IsToldAs (shown_state new.board).steps limit end told → IsAuditEnd (audit_of old) own from limit (audit_of new) told
+  pub ended : (end told : End) → IsTurnEnd old.board own from (min limit old.room) new.board end → Writes old (Ended end) new → IsToldAs (shown_state new.board).steps limit end told → IsAuditEnd (audit_of old) own from limit (audit_of new) told
   ended Quiet told h writes t = subst (λ x. IsAuditEnd (audit_of old) own from limit (audit_of new) x) (sym t) (h.0, same (Ended Quiet) refl writes h.1)
   ended Stuck told (inl h) writes t = subst (λ x. IsAuditEnd (audit_of old) own from limit (audit_of new) x) (sym t) (inl (h.0, same (Ended Stuck) refl writes h.1))
   ended Stuck told (inr h) writes t = subst (λ x. IsAuditEnd (audit_of old) own from limit (audit_of new) x) (sym t) (inr (h.0, due h.0 h.1, record { room = has_room h.1.going; sticks = h.2; rest = ap audit_of writes }))

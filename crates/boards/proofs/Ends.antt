@@ -15,7 +15,7 @@ use Rattle.async_step.specs.Answers.{Fits}
 use Rattle.async_step.specs.Views.{StateView, state_of}
 use Rattle.boards.specs.Runs.{SomeNextOverflows, IsMadeByTurns, AreTurnsBetween, AreTurnsTo}
 use Rattle.boards.specs.Boards.{BoardView, shown_state, IsBoard, IsTurnBoard, HasSettled}
-use Rattle.boards.specs.Turns.{IsPicked, IsDue, HasNoneDue, HasServed, Sticks, IsStepOf, IsEnd, IsTurn}
+use Rattle.boards.specs.Turns.{IsPicked, IsBlockDue, HasNoneDue, HasServed, Sticks, IsStepOf, IsTurnEnd, IsTurn}
 use Rattle.boards.specs.Ends.{HasEnded, GoesOn}
 use Rattle.boards.specs.declared.turn.Turn.{Turn}
 use Rattle.boards.specs.declared.turn.Turn.TheVariants.{Stepped, Idle as Unserved, Ended}
@@ -46,9 +46,9 @@ turn_of_none old own from steps (Ended Stuck) h = inl (h, refl)
 turn_of_none old own from steps (Ended Limit) h = (inl h, refl)
 turn_of_none old own from steps (Ended Full) h = absurd h
 
-pub turn_of_step : (old new : BoardView) (own : Option ℕ) (from steps b : ℕ) (turn : Turn) → IsDue old own from steps b → IsStepOf old b new turn → IsTurn old own from steps new turn
+pub turn_of_step : (old new : BoardView) (own : Option ℕ) (from steps b : ℕ) (turn : Turn) → IsBlockDue old own from steps b → IsStepOf old b new turn → IsTurn old own from steps new turn
 turn_of_step old new own from steps b (Stepped block more) due h =
-    (subst (λ x. IsDue old own from steps x) (sym h.0) due, subst (λ x. HasServed old x new more) (sym h.0) h.1)
+    (subst (λ x. IsBlockDue old own from steps x) (sym h.0) due, subst (λ x. HasServed old x new more) (sym h.0) h.1)
 turn_of_step old new own from steps b Unserved due h = absurd h
 turn_of_step old new own from steps b (Ended Quiet) due h = absurd h
 turn_of_step old new own from steps b (Ended Stuck) due h = inr (b, due, h)
@@ -67,13 +67,13 @@ pub same_turns : (old new : BoardView) (events : List Event) → new.net ≡ old
 same_turns old new events net_is state_is run = subst (λ (n : NetView). AreTurnsTo n events (shown_state new)) (sym net_is) (subst (λ (v : StateView). AreTurnsTo old.net events (state_of v)) (sym state_is) run)
 
 -- and one turn more, where it makes a step, from whichever state they began
-turns_between : (old new : BoardView) (s : State) (events : List Event) (own : Option ℕ) (from steps b : ℕ) (more : Bool) → IsBoard new → IsDue old own from steps b → HasServed old b new more → AreTurnsBetween old.net s events (shown_state old)
+turns_between : (old new : BoardView) (s : State) (events : List Event) (own : Option ℕ) (from steps b : ℕ) (more : Bool) → IsBoard new → IsBlockDue old own from steps b → HasServed old b new more → AreTurnsBetween old.net s events (shown_state old)
     → AreTurnsBetween old.net s (events ++ next_event old.net (shown_state old) b ∷ []) (shown_state new)
 turns_between old new s events own from steps b more is due h run =
     let fits : Fits old.net (shown_state new) = subst (λ (n : NetView). Fits n (shown_state new)) (ap (λ (x : BoardView). x.net) h.rest) is.over.fits in
     active_more (Fits old.net) old.net s events (next_event old.net (shown_state old) b) (shown_state old) (shown_state new) run h.step (due_reads old own from b due.picked) fits
 
-pub more_turns : (old new : BoardView) (events : List Event) (own : Option ℕ) (from steps b : ℕ) (more : Bool) → IsBoard new → IsDue old own from steps b → HasServed old b new more → AreTurnsTo old.net events (shown_state old)
+pub more_turns : (old new : BoardView) (events : List Event) (own : Option ℕ) (from steps b : ℕ) (more : Bool) → IsBoard new → IsBlockDue old own from steps b → HasServed old b new more → AreTurnsTo old.net events (shown_state old)
     → AreTurnsTo new.net (events ++ next_event old.net (shown_state old) b ∷ []) (shown_state new)
 more_turns old new events own from steps b more is due h run =
     subst (λ (n : NetView). AreTurnsTo n (events ++ next_event old.net (shown_state old) b ∷ []) (shown_state new)) (sym (ap (λ (x : BoardView). x.net) h.rest))
@@ -84,7 +84,7 @@ pub turns_counted : (net : NetView) (events : List Event) (s : State) → AreTur
 turns_counted net events s run = let k = run_counts net (opening net) events s (active_is_run (Fits net) net (opening net) events s run) in omega (arith, k)
 
 -- a turn that makes no step leaves the net and the state
-pub end_same : (old new : BoardView) (own : Option ℕ) (from steps : ℕ) (end : End) → IsEnd old own from steps new end → (new.net ≡ old.net) × (new.state ≡ old.state)
+pub end_same : (old new : BoardView) (own : Option ℕ) (from steps : ℕ) (end : End) → IsTurnEnd old own from steps new end → (new.net ≡ old.net) × (new.state ≡ old.state)
 end_same old new own from steps Quiet h = (ap (λ (x : BoardView). x.net) h.1, ap (λ (x : BoardView). x.state) h.1)
 end_same old new own from steps Stuck (inl h) = (ap (λ (x : BoardView). x.net) h.1, ap (λ (x : BoardView). x.state) h.1)
 end_same old new own from steps Stuck (inr h) = (ap (λ (x : BoardView). x.net) h.2.marked, ap (λ (x : BoardView). x.state) h.2.marked)
@@ -96,7 +96,7 @@ module _ (old new : BoardView) (was : IsTurnBoard old) (is : IsBoard new) where
   still e = subst IsTurnBoard (sym e) was
 
   -- one more step was made
-  served : (own : Option ℕ) (from steps b : ℕ) (more : Bool) → IsDue old own from steps b → HasServed old b new more → IsTurnBoard new
+  served : (own : Option ℕ) (from steps b : ℕ) (more : Bool) → IsBlockDue old own from steps b → HasServed old b new more → IsTurnBoard new
   served own from steps b more due h =
       record {
         is_board = is;
@@ -108,7 +108,7 @@ module _ (old new : BoardView) (was : IsTurnBoard old) (is : IsBoard new) where
       }
 
   -- it is stuck now
-  sticks : (own : Option ℕ) (from steps b : ℕ) → IsDue old own from steps b → Sticks old b new → IsTurnBoard new
+  sticks : (own : Option ℕ) (from steps b : ℕ) → IsBlockDue old own from steps b → Sticks old b new → IsTurnBoard new
   sticks own from steps b due h = record {
     is_board = is;
     made = subst (λ (x : BoardView). IsMadeByTurns x.net (shown_state x)) (sym h.marked) was.made;
@@ -126,14 +126,14 @@ module _ (old new : BoardView) (was : IsTurnBoard old) (is : IsBoard new) where
 
 -- ---- how a run goes on
 -- by a turn that makes a step
-pub served_run : (first old new : BoardView) (own : Option ℕ) (from steps b : ℕ) (more : Bool) (goes : GoesOn first old steps) → IsBoard new → IsDue old own from steps b × HasServed old b new more
+pub served_run : (first old new : BoardView) (own : Option ℕ) (from steps b : ℕ) (more : Bool) (goes : GoesOn first old steps) → IsBoard new → IsBlockDue old own from steps b × HasServed old b new more
     → AreTurnsBetween first.net (shown_state first) (goes.events ++ next_event old.net (shown_state old) b ∷ []) (shown_state new)
 served_run first old new own from steps b more goes is h =
     subst (λ (n : NetView). AreTurnsBetween n (shown_state first) (goes.events ++ next_event old.net (shown_state old) b ∷ []) (shown_state new)) goes.net_is
     (turns_between old new (shown_state first) goes.events own from steps b more is h.0 h.1 (subst (λ (n : NetView). AreTurnsBetween n (shown_state first) goes.events (shown_state old)) (sym goes.net_is) goes.run))
 
 -- by one that makes none
-pub ended_run : (first old new : BoardView) (own : Option ℕ) (from steps : ℕ) (end : End) (goes : GoesOn first old steps) → IsEnd old own from steps new end → AreTurnsBetween first.net (shown_state first) goes.events (shown_state new)
+pub ended_run : (first old new : BoardView) (own : Option ℕ) (from steps : ℕ) (end : End) (goes : GoesOn first old steps) → IsTurnEnd old own from steps new end → AreTurnsBetween first.net (shown_state first) goes.events (shown_state new)
 ended_run first old new own from steps end goes h =
     subst (λ (v : StateView). AreTurnsBetween first.net (shown_state first) goes.events (state_of v)) (sym (end_same old new own from steps end h).1) goes.run
 
@@ -145,7 +145,7 @@ further_run first old new steps goes further =
 
 -- ---- how turns end a run
 module _ (first old new : BoardView) (own : Option ℕ) (from steps : ℕ) (small : steps ≤ MOST_STEPS) (goes : GoesOn first old steps) (is : IsTurnBoard new) where
-  pub ended : (end : End) → IsEnd old own from steps new end → HasEnded new steps end
+  pub ended : (end : End) → IsTurnEnd old own from steps new end → HasEnded new steps end
   ended Quiet h = subst (λ (x : BoardView). IsQuiet x.net (shown_state x)) (sym h.1) h.0
   ended Stuck (inl h) = is.why (ap (λ (x : BoardView). x.stuck) h.1 ∙ h.0.stuck)
   ended Stuck (inr h) = is.why (ap (λ (x : BoardView). x.stuck) h.2.marked)

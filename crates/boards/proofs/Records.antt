@@ -3,8 +3,8 @@ use Rattle.std.proofs.Common.{◌≡◌, ℕ, ◌<◌, ◌≤◌, arith, length,
 use Rattle.machine_law.specs.Steps.{next_event}
 use Rattle.boards.specs.Runs.{AreTurnsTo}
 use Rattle.boards.specs.Boards.{BoardView, shown_state, IsBoard}
-use Rattle.boards.specs.Turns.{IsDue, HasServed, IsStepOf, IsEnd, IsTurn}
-use Rattle.boards.specs.Records.{RecordView, IsRecord, written_by, events_after, written_after, Writes, RecordGoesOn}
+use Rattle.boards.specs.Turns.{IsBlockDue, HasServed, IsStepOf, IsTurnEnd, IsTurn}
+use Rattle.boards.specs.Records.{RecordView, IsRecordBoard, written_by, events_after, written_after, Writes, RecordGoesOn}
 use Rattle.boards.specs.declared.turn.Turn.{Turn}
 use Rattle.boards.specs.declared.turn.Turn.TheVariants.{Stepped, Idle as Unserved, Ended}
 use Rattle.boards.specs.declared.turn.End.{End}
@@ -24,7 +24,7 @@ record_stays r limit within = record {
 }
 
 -- by a turn that makes a step
-pub record_served : (first old new : RecordView) (own : Option ℕ) (from limit b : ℕ) (more : Bool) → IsBoard new.board → RecordGoesOn first old limit → IsDue old.board own from limit b × HasServed old.board b new.board more
+pub record_served : (first old new : RecordView) (own : Option ℕ) (from limit b : ℕ) (more : Bool) → IsBoard new.board → RecordGoesOn first old limit → IsBlockDue old.board own from limit b × HasServed old.board b new.board more
     → Writes old (Stepped b more) new → RecordGoesOn first new limit
 record_served first old new own from limit b more is goes h writes =
     let event = next_event old.board.net (shown_state old.board) b in
@@ -45,7 +45,7 @@ record_served first old new own from limit b more is goes h writes =
     }
 
 -- by one that makes none
-pub record_ended : (first old new : RecordView) (own : Option ℕ) (from limit : ℕ) (end : End) → RecordGoesOn first old limit → IsEnd old.board own from limit new.board end → Writes old (Ended end) new → RecordGoesOn first new limit
+pub record_ended : (first old new : RecordView) (own : Option ℕ) (from limit : ℕ) (end : End) → RecordGoesOn first old limit → IsTurnEnd old.board own from limit new.board end → Writes old (Ended end) new → RecordGoesOn first new limit
 record_ended first old new own from limit end goes h writes =
     let same = end_same old.board new.board own from limit end h in
     record {
@@ -82,7 +82,7 @@ written_is old b new Unserved h = refl
 written_is old b new (Ended end) h = refl
 
 -- where a block is due there is room for its event
-pub room_due : (r : RecordView) (own : Option ℕ) (from steps b capacity : ℕ) → IsRecord r capacity → IsDue r.board own from steps b → (r.records ≡ true → steps ≤ r.room) → r.records ≡ true → length r.events < capacity
+pub room_due : (r : RecordView) (own : Option ℕ) (from steps b capacity : ℕ) → IsRecordBoard r capacity → IsBlockDue r.board own from steps b → (r.records ≡ true → steps ≤ r.room) → r.records ≡ true → length r.events < capacity
 room_due r own from steps b capacity is due room e =
     let k = turns_counted r.board.net r.events (shown_state r.board) (is.made e) in
     omega (arith, k, due.going.room, room e, is.reserved)
@@ -95,7 +95,7 @@ written_turns old new own from steps (Stepped block more) is h e run =
 written_turns old new own from steps Unserved is h e run = same_turns old.board new old.events (ap (λ (b : BoardView). b.net) h.2) (ap (λ (b : BoardView). b.state) h.2) run
 written_turns old new own from steps (Ended end) is h e run = let same = end_same old.board new own from steps end h in same_turns old.board new old.events same.0 same.1 run
 
-pub recorded : (old new : RecordView) (own : Option ℕ) (from steps : ℕ) (turn : Turn) (capacity : ℕ) → IsRecord old capacity → IsBoard new.board → IsTurn old.board own from steps new.board turn → Writes old turn new → IsRecord new capacity
+pub recorded : (old new : RecordView) (own : Option ℕ) (from steps : ℕ) (turn : Turn) (capacity : ℕ) → IsRecordBoard old capacity → IsBoard new.board → IsTurn old.board own from steps new.board turn → Writes old turn new → IsRecordBoard new capacity
 recorded old new own from steps turn capacity was is h writes =
     let records : new.records ≡ old.records = ap (λ (r : RecordView). r.records) writes in
     let room : new.room ≡ old.room = ap (λ (r : RecordView). r.room) writes in

@@ -6,7 +6,7 @@ use Rattle.machine_law.specs.States.{IsQuiet}
 use Rattle.machine_law.specs.Steps.{next_event}
 use Rattle.boards.specs.Runs.{SomeNextOverflows, AreTurnsTo, IsReplayedTo}
 use Rattle.boards.specs.Boards.{BoardView, shown_state, IsTurnBoard, IsOpened, HasSettled}
-use Rattle.boards.specs.Turns.{IsUnserved, IsGoing, IsDue, IsStuck, IsAtLimit, HasServed, Sticks, OfDue}
+use Rattle.boards.specs.Turns.{IsUnserved, IsGoing, IsBlockDue, IsStuck, IsAtLimit, HasServed, Sticks, OfDue}
 use Rattle.boards.specs.Ends.{IsCutOffAt, GoesOn}
 use Rattle.boards.specs.Records.{RecordView}
 use Rattle.boards.specs.declared.turn.Turn.{Turn}
@@ -76,7 +76,7 @@ IsAuditEnd old own from steps new Full = IsFull old steps × (new ≡ old)
 -- What a turn answers, and what it leaves: as a turn at a board, but for a history that has no room. There are fewer steps than are
 -- counted, so the limit is answered where it stands alone.
 abbrev pub IsAuditTurn : AuditView → Option ℕ → ℕ → ℕ → AuditView → Turn → Type 0
-IsAuditTurn old own from steps new (Stepped block more) = IsDue old.board own from steps block × HasWritten old block new more
+IsAuditTurn old own from steps new (Stepped block more) = IsBlockDue old.board own from steps block × HasWritten old block new more
 IsAuditTurn old own from steps new Unserved = MayWrite old steps × IsUnserved old.board own × (new ≡ old)
 IsAuditTurn old own from steps new (Ended end) = IsAuditEnd old own from steps new end
 
@@ -91,7 +91,7 @@ IsToldAs made limit Limit told = ((limit ≤ made) × (told ≡ Limit)) ⊎ ((ma
 IsToldAs made limit Full told = told ≡ Full
 
 -- there is no room for another step, below the limit, and the board isn't quiet
-pub record IsFilled (audit : AuditView) (limit : ℕ) : Type 0 where
+pub record IsAuditFilled (audit : AuditView) (limit : ℕ) : Type 0 where
   pub full : length audit.history ≡ audit.room
   pub below : audit.room < limit
   pub unquiet : ¬ (IsQuiet audit.board.net (shown_state audit.board))
@@ -101,7 +101,7 @@ abbrev pub HasAuditEnded : AuditView → ℕ → End → Type 0
 HasAuditEnded audit limit Quiet = IsQuiet audit.board.net (shown_state audit.board)
 HasAuditEnded audit limit Stuck = SomeNextOverflows audit.board.net (shown_state audit.board)
 HasAuditEnded audit limit Limit = IsCutOffAt audit.board limit
-HasAuditEnded audit limit Full = IsFilled audit limit
+HasAuditEnded audit limit Full = IsAuditFilled audit limit
 
 -- the run goes on over the same net, with the same room, and its further turns, and no others, are added to the history
 pub record AuditGoesOn (old new : AuditView) (limit : ℕ) : Type 0 where

@@ -25,8 +25,8 @@ abbrev pub shown_state : BoardView → State
 shown_state board = state_of board.state
 
 -- how many blocks it is over
-abbrev pub blocks_of : BoardView → ℕ
-blocks_of board = length board.net.worths
+abbrev pub blocks_of_board : BoardView → ℕ
+blocks_of_board board = length board.net.worths
 
 -- The state is one of a run over the net, so all that holds after any run holds of it; and it is stuck only where a number of a run
 -- doesn't fit. Steps of any block may have been made on it.

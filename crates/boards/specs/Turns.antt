@@ -6,7 +6,7 @@ use Rattle.machine_law.specs.Steps.{Step, advance, next_event}
 use Rattle.async_step.specs.declared.limits.TheConstants.{MOST_STEPS}
 use Rattle.async_step.specs.Marks.{IsFirstRound}
 use Rattle.async_step.specs.Answers.{Fits, IsWaiting}
-use Rattle.boards.specs.Boards.{BoardView, shown_state, blocks_of}
+use Rattle.boards.specs.Boards.{BoardView, shown_state, blocks_of_board}
 use Rattle.boards.specs.declared.turn.Turn.{Turn}
 use Rattle.boards.specs.declared.turn.Turn.TheVariants.{Stepped, Idle as Unserved, Ended}
 use Rattle.boards.specs.declared.turn.End.{End}
@@ -17,7 +17,7 @@ use Rattle.boards.specs.declared.turn.End.TheVariants.{Quiet, Stuck, Limit, Full
 -- b is the worker's own block, and has an operation
 pub record IsOwn (board : BoardView) (own : Option ℕ) (b : ℕ) : Type 0 where
   pub own_is : own ≡ Some b
-  pub inside : b < blocks_of board
+  pub inside : b < blocks_of_board board
   pub at_work : ¬ ((shown_state board).operation b ≡ Idle)
 
 -- the worker has no own block with an operation
@@ -27,12 +27,12 @@ HasNoOwn board own = (b : ℕ) → ¬ (IsOwn board own b)
 -- The turn serves block b: the worker's own while its operation goes on, and else the first block at or after one, going round, that
 -- has excess and no operation.
 abbrev pub IsPicked : BoardView → Option ℕ → ℕ → ℕ → Type 0
-IsPicked board own from b = IsOwn board own b ⊎ (HasNoOwn board own × IsFirstRound (IsWaiting (shown_state board)) (blocks_of board) from b)
+IsPicked board own from b = IsOwn board own b ⊎ (HasNoOwn board own × IsFirstRound (IsWaiting (shown_state board)) (blocks_of_board board) from b)
 
 -- there is no block to serve
 pub record IsUnserved (board : BoardView) (own : Option ℕ) : Type 0 where
   pub no_own : HasNoOwn board own
-  pub none_waits : (b : ℕ) → b < blocks_of board → ¬ (IsWaiting (shown_state board) b)
+  pub none_waits : (b : ℕ) → b < blocks_of_board board → ¬ (IsWaiting (shown_state board) b)
 
 -- ---- which block is due, or why none is
 
@@ -43,7 +43,7 @@ pub record IsGoing (board : BoardView) (steps : ℕ) : Type 0 where
   pub room : (shown_state board).steps < steps
 
 -- the run goes on, and the turn serves block b
-pub record IsDue (board : BoardView) (own : Option ℕ) (from steps b : ℕ) : Type 0 where
+pub record IsBlockDue (board : BoardView) (own : Option ℕ) (from steps b : ℕ) : Type 0 where
   pub going : IsGoing board steps
   pub picked : IsPicked board own from b
 
@@ -59,17 +59,17 @@ pub record IsAtLimit (board : BoardView) (steps : ℕ) : Type 0 where
   pub made : steps ≤ (shown_state board).steps
 
 -- why the run is at its end before a step
-abbrev pub IsOver : BoardView → ℕ → End → Type 0
-IsOver board steps Quiet = IsQuiet board.net (shown_state board)
-IsOver board steps Stuck = IsStuck board
-IsOver board steps Limit = IsAtLimit board steps
-IsOver board steps Full = ⊥
+abbrev pub IsRunOver : BoardView → ℕ → End → Type 0
+IsRunOver board steps Quiet = IsQuiet board.net (shown_state board)
+IsRunOver board steps Stuck = IsStuck board
+IsRunOver board steps Limit = IsAtLimit board steps
+IsRunOver board steps Full = ⊥
 
 -- what is answered where no block is due
 abbrev pub HasNoneDue : BoardView → Option ℕ → ℕ → Turn → Type 0
 HasNoneDue board own steps (Stepped block more) = ⊥
 HasNoneDue board own steps Unserved = IsGoing board steps × IsUnserved board own
-HasNoneDue board own steps (Ended end) = IsOver board steps end
+HasNoneDue board own steps (Ended end) = IsRunOver board steps end
 
 -- ---- the step of a block
 
@@ -103,17 +103,17 @@ IsStepOf old b new (Ended Full) = ⊥
 
 -- a turn ends since this holds of the block that is due
 abbrev pub OfDue : BoardView → Option ℕ → ℕ → ℕ → (ℕ → Type 0) → Type 0
-OfDue old own from steps P = (b : ℕ) × IsDue old own from steps b × P b
+OfDue old own from steps P = (b : ℕ) × IsBlockDue old own from steps b × P b
 
 -- why a turn ends the run
-abbrev pub IsEnd : BoardView → Option ℕ → ℕ → ℕ → BoardView → End → Type 0
-IsEnd old own from steps new Quiet = IsQuiet old.net (shown_state old) × (new ≡ old)
-IsEnd old own from steps new Stuck = (IsStuck old × (new ≡ old)) ⊎ OfDue old own from steps (λ b. Sticks old b new)
-IsEnd old own from steps new Limit = (IsAtLimit old steps ⊎ OfDue old own from steps (λ b. IsUncounted old b)) × (new ≡ old)
-IsEnd old own from steps new Full = ⊥
+abbrev pub IsTurnEnd : BoardView → Option ℕ → ℕ → ℕ → BoardView → End → Type 0
+IsTurnEnd old own from steps new Quiet = IsQuiet old.net (shown_state old) × (new ≡ old)
+IsTurnEnd old own from steps new Stuck = (IsStuck old × (new ≡ old)) ⊎ OfDue old own from steps (λ b. Sticks old b new)
+IsTurnEnd old own from steps new Limit = (IsAtLimit old steps ⊎ OfDue old own from steps (λ b. IsUncounted old b)) × (new ≡ old)
+IsTurnEnd old own from steps new Full = ⊥
 
 -- what a turn answers, and what it leaves
 abbrev pub IsTurn : BoardView → Option ℕ → ℕ → ℕ → BoardView → Turn → Type 0
-IsTurn old own from steps new (Stepped block more) = IsDue old own from steps block × HasServed old block new more
+IsTurn old own from steps new (Stepped block more) = IsBlockDue old own from steps block × HasServed old block new more
 IsTurn old own from steps new Unserved = IsGoing old steps × IsUnserved old own × (new ≡ old)
-IsTurn old own from steps new (Ended end) = IsEnd old own from steps new end
+IsTurn old own from steps new (Ended end) = IsTurnEnd old own from steps new end

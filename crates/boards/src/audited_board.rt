@@ -6,7 +6,7 @@ ghost use Rattle.machine_law.specs.declared.events.TheConstants.{MOST_EVENTS};
 ghost use Rattle.machine_law.specs.declared.operations.Operation.TheVariants.{Idle};
 ghost use Rattle.machine_law.specs.States.{IsQuiet};
 ghost use Rattle.async_step.specs.declared.limits.TheConstants.{MOST_STEPS};
-ghost use Rattle.boards.specs.Boards.{shown_state, blocks_of};
+ghost use Rattle.boards.specs.Boards.{shown_state, blocks_of_board};
 ghost use Rattle.boards.specs.Audits.{IsAudited, IsAuditOpened, IsAuditTurn, IsToldAs, HasAuditEnded, AuditGoesOn, HasAuditSettled};
 
 use crate::finishing::finish_recorded;
@@ -56,7 +56,7 @@ impl<G: OrderedGroup> Audited<G> {
 
     /// How many blocks its net has.
     pub fn len(&self) -> u32
-        ensures is { result ≡ blocks_of self.now.board }
+        ensures is { result ≡ blocks_of_board self.now.board }
         ensures audited { IsAudited self.now }
     {
         self.board.len()
@@ -78,7 +78,7 @@ impl<G: OrderedGroup> Audited<G> {
 
     /// Whether block b has an operation.
     pub fn has_operation(&self, b: u32) -> bool
-        requires { b < blocks_of self.now.board }
+        requires { b < blocks_of_board self.now.board }
         ensures { IsTrue result ↔ ¬ ((shown_state self.now.board).operation b ≡ Idle) }
     {
         self.board.has_operation(b)

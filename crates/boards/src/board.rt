@@ -6,8 +6,8 @@ ghost use Rattle.machine_law.specs.declared.operations.Operation.TheVariants.{Id
 ghost use Rattle.machine_law.specs.States.{IsQuiet};
 ghost use Rattle.machine_law.specs.Steps.{next_event};
 ghost use Rattle.async_step.specs.Answers.{saw_as};
-ghost use Rattle.boards.specs.Boards.{shown_state, blocks_of, IsBoard, IsOpened, HasStepped, HasRefused, HasSettled};
-ghost use Rattle.boards.specs.Turns.{IsPicked, IsUnserved, IsDue, HasNoneDue, IsStepOf, IsTurn};
+ghost use Rattle.boards.specs.Boards.{shown_state, blocks_of_board, IsBoard, IsOpened, HasStepped, HasRefused, HasSettled};
+ghost use Rattle.boards.specs.Turns.{IsPicked, IsUnserved, IsBlockDue, HasNoneDue, IsStepOf, IsTurn};
 
 use crate::turn::{End, Turn};
 use async_step::{Event, Saw, State, StepRefusal};
@@ -53,7 +53,7 @@ impl<G: OrderedGroup> Board<G> {
 
     /// How many blocks its net has.
     pub fn len(&self) -> u32
-        ensures is { result ≡ blocks_of self.now }
+        ensures is { result ≡ blocks_of_board self.now }
         ensures board { IsBoard self.now }
     {
         self.net.len()
@@ -82,7 +82,7 @@ impl<G: OrderedGroup> Board<G> {
 
     /// Whether block b has an operation.
     pub fn has_operation(&self, b: u32) -> bool
-        requires { b < blocks_of self.now }
+        requires { b < blocks_of_board self.now }
         ensures { IsTrue result ↔ ¬ ((shown_state self.now).operation b ≡ Idle) }
     {
         self.state.has_operation(b)
@@ -113,7 +113,7 @@ impl<G: OrderedGroup> Board<G> {
     // The block that is due, or what a turn answers where none is.
     pub(crate) fn due(&self, own: Option<u32>, from: u32, steps: u64) -> Result<u32, Turn>
         ensures due { MatchResult result
-            (λ b. IsDue self.now own from steps b)
+            (λ b. IsBlockDue self.now own from steps b)
             (λ turn. HasNoneDue self.now own steps turn) }
         ensures board { IsBoard self.now }
     {
@@ -131,7 +131,7 @@ impl<G: OrderedGroup> Board<G> {
 
     // The event of the step that is next for a block.
     pub(crate) fn next_event(&self, block: u32) -> Event
-        requires { block < blocks_of self.now }
+        requires { block < blocks_of_board self.now }
         ensures { result ≡ next_event self.now.net (shown_state self.now) block }
     {
         Event {
@@ -142,7 +142,7 @@ impl<G: OrderedGroup> Board<G> {
 
     // The step that is next for a block, if it can be made.
     pub(crate) fn serve(&mut self, block: u32) -> Turn
-        requires { block < blocks_of self.old }
+        requires { block < blocks_of_board self.old }
         ensures turn { IsStepOf self.old block self.new result }
         ensures board { IsBoard self.new }
     {

@@ -1,7 +1,7 @@
 //! Makes all steps that are left of a run, on the caller's thread, and tells why the run ends.
 
 ghost use Rattle.std.specs.Prelude.{◌≡◌, ◌+◌, ◌<◌, ◌≤◌, true, MatchOption};
-ghost use Rattle.boards.specs.Boards.{shown_state, blocks_of, IsTurnBoard};
+ghost use Rattle.boards.specs.Boards.{shown_state, blocks_of_board, IsTurnBoard};
 ghost use Rattle.boards.specs.Runs.{AreTurnsTo};
 ghost use Rattle.boards.specs.Records.{RecordGoesOn};
 ghost use Rattle.boards.specs.Ends.{AreIdleBelow, HasEnded, GoesOn};
@@ -14,7 +14,7 @@ use ordered_group::OrderedGroup;
 
 // Ends the operation of a block, if it has one. Answers why the run ends, where it ends before.
 fn end_operation<G: OrderedGroup>(board: &mut Recorded<G>, block: u32, steps: u64) -> Option<End>
-    requires inside { block < blocks_of board.old.board }
+    requires inside { block < blocks_of_board board.old.board }
     requires counted { steps ≤ MOST_STEPS }
     requires room { board.old.records ≡ true → steps ≤ board.old.room }
     requires within { (shown_state board.old.board).steps ≤ steps }
@@ -40,7 +40,7 @@ fn end_operations<G: OrderedGroup>(board: &mut Recorded<G>, steps: u64) -> Optio
     requires room { board.old.records ≡ true → steps ≤ board.old.room }
     requires within { (shown_state board.old.board).steps ≤ steps }
     ensures goes_on { RecordGoesOn board.old board.new steps }
-    ensures end { MatchOption result (AreIdleBelow board.new.board (blocks_of board.new.board)) (λ end. HasEnded board.new.board steps end) }
+    ensures end { MatchOption result (AreIdleBelow board.new.board (blocks_of_board board.new.board)) (λ end. HasEnded board.new.board steps end) }
 {
     for block in 0..board.len() {
         if let Some(end) = end_operation(board, block, steps) {
@@ -55,7 +55,7 @@ fn take_turns<G: OrderedGroup>(board: &mut Recorded<G>, steps: u64) -> End
     requires counted { steps ≤ MOST_STEPS }
     requires room { board.old.records ≡ true → steps ≤ board.old.room }
     requires within { (shown_state board.old.board).steps ≤ steps }
-    requires idle { AreIdleBelow board.old.board (blocks_of board.old.board) }
+    requires idle { AreIdleBelow board.old.board (blocks_of_board board.old.board) }
     ensures goes_on { RecordGoesOn board.old board.new steps }
     ensures end { HasEnded board.new.board steps result }
 {

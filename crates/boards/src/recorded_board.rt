@@ -4,7 +4,7 @@
 ghost use Rattle.std.specs.Prelude.{◌≡◌, ◌↔◌, ◌<◌, ◌≤◌, true, IsTrue, IfOk, vec_len, vec_capacity};
 ghost use Rattle.machine_law.specs.declared.operations.Operation.TheVariants.{Idle};
 ghost use Rattle.machine_law.specs.States.{IsQuiet};
-ghost use Rattle.boards.specs.Boards.{shown_state, blocks_of, IsTurnBoard};
+ghost use Rattle.boards.specs.Boards.{shown_state, blocks_of_board, IsTurnBoard};
 ghost use Rattle.boards.specs.Turns.{IsTurn};
 ghost use Rattle.boards.specs.Runs.{AreTurnsTo};
 ghost use Rattle.boards.specs.Records.{IsRecordOpened, written_by, Writes};
@@ -29,13 +29,13 @@ pub(crate) struct Recorded<G: OrderedGroup> {
 
 impl<G: OrderedGroup> Model for Recorded<G> {
     ghost use Rattle.std.specs.Prelude.{vec_capacity};
-    ghost use Rattle.boards.specs.Records.{RecordView, record_view, IsRecord};
+    ghost use Rattle.boards.specs.Records.{RecordView, record_view, IsRecordBoard};
 
     ghost Value = { RecordView };
 
     ghost view = { λ r. record_view r.board r.events.items r.records r.room };
 
-    ghost invariant = { λ r. IsRecord (record_view r.board r.events.items r.records r.room) (vec_capacity r.events) };
+    ghost invariant = { λ r. IsRecordBoard (record_view r.board r.events.items r.records r.room) (vec_capacity r.events) };
 }
 
 impl<G: OrderedGroup> Recorded<G> {
@@ -63,7 +63,7 @@ impl<G: OrderedGroup> Recorded<G> {
 
     // How many blocks its net has.
     pub(crate) fn len(&self) -> u32
-        ensures is { result ≡ blocks_of self.now.board }
+        ensures is { result ≡ blocks_of_board self.now.board }
         ensures made { IsTurnBoard self.now.board }
         ensures events { self.now.records ≡ true → AreTurnsTo self.now.board.net self.now.events (shown_state self.now.board) }
     {
@@ -89,7 +89,7 @@ impl<G: OrderedGroup> Recorded<G> {
     }
 
     pub(crate) fn has_operation(&self, b: u32) -> bool
-        requires { b < blocks_of self.now.board }
+        requires { b < blocks_of_board self.now.board }
         ensures { IsTrue result ↔ ¬ ((shown_state self.now.board).operation b ≡ Idle) }
     {
         self.board.has_operation(b)

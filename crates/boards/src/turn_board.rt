@@ -4,7 +4,7 @@
 ghost use Rattle.std.specs.Prelude.{◌≡◌, ◌↔◌, ◌<◌, ◌≤◌, IsTrue, IfOk};
 ghost use Rattle.machine_law.specs.declared.operations.Operation.TheVariants.{Idle};
 ghost use Rattle.async_step.specs.declared.limits.TheConstants.{MOST_STEPS};
-ghost use Rattle.boards.specs.Boards.{shown_state, blocks_of, IsTurnBoard, IsOpened};
+ghost use Rattle.boards.specs.Boards.{shown_state, blocks_of_board, IsTurnBoard, IsOpened};
 ghost use Rattle.boards.specs.Turns.{IsTurn};
 ghost use Rattle.boards.specs.Ends.{HasEnded, GoesOn};
 
@@ -52,7 +52,7 @@ impl<G: OrderedGroup> TurnBoard<G> {
 
     /// How many blocks its net has.
     pub fn len(&self) -> u32
-        ensures is { result ≡ blocks_of self.now }
+        ensures is { result ≡ blocks_of_board self.now }
         ensures made { IsTurnBoard self.now }
     {
         self.board.len()
@@ -74,7 +74,7 @@ impl<G: OrderedGroup> TurnBoard<G> {
 
     /// Whether block b has an operation.
     pub fn has_operation(&self, b: u32) -> bool
-        requires { b < blocks_of self.now }
+        requires { b < blocks_of_board self.now }
         ensures { IsTrue result ↔ ¬ ((shown_state self.now).operation b ≡ Idle) }
     {
         self.board.has_operation(b)

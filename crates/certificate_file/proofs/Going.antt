@@ -16,7 +16,7 @@ use Rattle.certificate_file.specs.declared.body_lines.LineKind.{LineKind}
 use Rattle.certificate_file.specs.declared.body_lines.LineKind.TheVariants.{Pit, Source, Rest, Sink, End}
 use Rattle.certificate_file.specs.declared.body_lines.BodyLine.{BodyLine}
 use Rattle.certificate_file.specs.Pieces.{Piece, Unread, Passed, read_line, in_line, no_line, unless_fault, within, number_below, words_of}
-use Rattle.certificate_file.specs.BodyLines.{kind_of, amount_said, amount_in, is_amount, numbered_line, pit_line, block_line, rest_line, end_line, line_with, line_of_words, line_of, is_end, is_of_model, may_follow, line_behind, next_line, end_fault, fault_from, body_fault, lines_in}
+use Rattle.certificate_file.specs.BodyLines.{kind_of, amount_said, amount_in, is_amount, numbered_line, pit_line, block_line, rest_line, end_line, line_with, line_of_words, line_of, is_end, is_of_model, may_follow, line_behind, next_line, end_fault, fault_from, body_fault, lines_of_pieces}
 use Rattle.certificate_file.specs.Certificate.{Covers, UnlessMemory, has_pair, pit_of, block_if_pit, given_amount, gives_source, gives_rest, gives_sink, is_rest, amount_of}
 use Rattle.certificate_file.specs.Gathered.{Gathered, Adds}
 
@@ -191,10 +191,10 @@ sound counts n text line h = sound_words counts n (words_of text) line h
 -- What is gathered, with what is left, is what all lines say; and what is wrong is wrong with what is left.
 pub record Going (counts : Bool) (n : ℕ) (pairs : List (ℕ × ℕ)) (all : Unread) (start : Gathered) (previous : Option BodyLine) (left : Unread) (so : Gathered) : Type 0 where
   pub same_fault : body_fault counts n (has_pair pairs) previous left.number left.pieces ≡ body_fault counts n (has_pair pairs) None all.number all.pieces
-  pub pit : so.pit ++ pit_of (lines_in counts n left.pieces) ≡ start.pit ++ pit_of (lines_in counts n all.pieces)
-  pub source : (b : ℕ) → b < n → given_amount (gives_source b) (amount_at so.flow.source b) (lines_in counts n left.pieces) ≡ given_amount (gives_source b) (amount_at start.flow.source b) (lines_in counts n all.pieces)
-  pub rest : (k : ℕ) → k < length pairs → given_amount (gives_rest (get_or pairs k (0, 0))) (amount_at so.flow.rest k) (lines_in counts n left.pieces) ≡ given_amount (gives_rest (get_or pairs k (0, 0))) (amount_at start.flow.rest k) (lines_in counts n all.pieces)
-  pub sink : (b : ℕ) → b < n → given_amount (gives_sink b) (amount_at so.flow.sink b) (lines_in counts n left.pieces) ≡ given_amount (gives_sink b) (amount_at start.flow.sink b) (lines_in counts n all.pieces)
+  pub pit : so.pit ++ pit_of (lines_of_pieces counts n left.pieces) ≡ start.pit ++ pit_of (lines_of_pieces counts n all.pieces)
+  pub source : (b : ℕ) → b < n → given_amount (gives_source b) (amount_at so.flow.source b) (lines_of_pieces counts n left.pieces) ≡ given_amount (gives_source b) (amount_at start.flow.source b) (lines_of_pieces counts n all.pieces)
+  pub rest : (k : ℕ) → k < length pairs → given_amount (gives_rest (get_or pairs k (0, 0))) (amount_at so.flow.rest k) (lines_of_pieces counts n left.pieces) ≡ given_amount (gives_rest (get_or pairs k (0, 0))) (amount_at start.flow.rest k) (lines_of_pieces counts n all.pieces)
+  pub sink : (b : ℕ) → b < n → given_amount (gives_sink b) (amount_at so.flow.sink b) (lines_of_pieces counts n left.pieces) ≡ given_amount (gives_sink b) (amount_at start.flow.sink b) (lines_of_pieces counts n all.pieces)
   pub covers : Covers n (length pairs) so.flow
 
 -- One line on.
@@ -202,7 +202,7 @@ fault_at : (counts : Bool) (n : ℕ) (has : ℕ → ℕ → Bool) (previous : Op
     → body_fault counts n has previous left.number left.pieces ≡ fault_from (end_fault (left.number + 1) ps) (λ line. body_fault counts n has (Some line) (left.number + 1) ps) (next_line counts n has previous (left.number + 1) p)
 fault_at counts n has previous left p ps e = ap (body_fault counts n has previous left.number) e
 
-lines_at : (counts : Bool) (n : ℕ) (left : Unread) (p : Piece) (ps : List Piece) (line : BodyLine) → left.pieces ≡ p ∷ ps → line_of counts n p.text ≡ Ok line → lines_in counts n left.pieces ≡ cond (is_end line.kind) [] (line ∷ lines_in counts n ps)
+lines_at : (counts : Bool) (n : ℕ) (left : Unread) (p : Piece) (ps : List Piece) (line : BodyLine) → left.pieces ≡ p ∷ ps → line_of counts n p.text ≡ Ok line → lines_of_pieces counts n left.pieces ≡ cond (is_end line.kind) [] (line ∷ lines_of_pieces counts n ps)
 lines_at counts n left p ps line e f = rw (e, f) refl
 
 behind_ok : (counts : Bool) (n : ℕ) (previous : Option BodyLine) (k : ℕ) (p : Piece) (line : BodyLine) → read_line (line_of counts n) k p ≡ Ok line → may_follow previous line ≡ true → line_behind counts n previous k p ≡ Ok line
@@ -224,18 +224,18 @@ goes_on counts n pairs all start previous left next so later line g p f e m c a 
     let has : ℕ → ℕ → Bool = has_pair pairs in
     let read = subst (λ (k : ℕ). read_line (line_of counts n) k p.piece ≡ Ok line) p.number p.read in
     let ok = next_ok counts n has previous (left.number + 1) p.piece line (behind_ok counts n previous (left.number + 1) p.piece line read f) m in
-    let lines : lines_in counts n left.pieces ≡ line ∷ lines_in counts n next.pieces = lines_at counts n left p.piece next.pieces line p.pieces (text_read (line_of counts n) next.number p.piece line p.read) ∙ ap (λ (t : Bool). cond t [] (line ∷ lines_in counts n next.pieces)) e in
+    let lines : lines_of_pieces counts n left.pieces ≡ line ∷ lines_of_pieces counts n next.pieces = lines_at counts n left p.piece next.pieces line p.pieces (text_read (line_of counts n) next.number p.piece line p.read) ∙ ap (λ (t : Bool). cond t [] (line ∷ lines_of_pieces counts n next.pieces)) e in
     let now : body_fault counts n has previous left.number left.pieces ≡ body_fault counts n has (Some line) (left.number + 1) next.pieces =
     fault_at counts n has previous left p.piece next.pieces p.pieces
     ∙ ap (fault_from (end_fault (left.number + 1) next.pieces) (λ l. body_fault counts n has (Some l) (left.number + 1) next.pieces)) ok
     ∙ ap (λ (t : Bool). cond t (end_fault (left.number + 1) next.pieces) (body_fault counts n has (Some line) (left.number + 1) next.pieces)) e in
     record {
       same_fault = ap (λ (k : ℕ). body_fault counts n has (Some line) k next.pieces) p.number ∙ sym now ∙ g.same_fault;
-      pit = ap (λ (bs : List ℕ). bs ++ pit_of (lines_in counts n next.pieces)) a.pit ∙ append_assoc so.pit (block_if_pit line.kind line.block []) (pit_of (lines_in counts n next.pieces)) ∙ ap (λ (bs : List ℕ). so.pit ++ bs) (pit_joins line.kind line.block (pit_of (lines_in counts n next.pieces)))
+      pit = ap (λ (bs : List ℕ). bs ++ pit_of (lines_of_pieces counts n next.pieces)) a.pit ∙ append_assoc so.pit (block_if_pit line.kind line.block []) (pit_of (lines_of_pieces counts n next.pieces)) ∙ ap (λ (bs : List ℕ). so.pit ++ bs) (pit_joins line.kind line.block (pit_of (lines_of_pieces counts n next.pieces)))
           ∙ sym (ap (λ (ls : List BodyLine). so.pit ++ pit_of ls) lines) ∙ g.pit;
-      source = λ b h. ap (λ (x : Amount). given_amount (gives_source b) x (lines_in counts n next.pieces)) (a.source b h) ∙ sym (ap (given_amount (gives_source b) (amount_at so.flow.source b)) lines) ∙ g.source b h;
-      rest = λ k h. ap (λ (x : Amount). given_amount (gives_rest (get_or pairs k (0, 0))) x (lines_in counts n next.pieces)) (a.rest k h) ∙ sym (ap (given_amount (gives_rest (get_or pairs k (0, 0))) (amount_at so.flow.rest k)) lines) ∙ g.rest k h;
-      sink = λ b h. ap (λ (x : Amount). given_amount (gives_sink b) x (lines_in counts n next.pieces)) (a.sink b h) ∙ sym (ap (given_amount (gives_sink b) (amount_at so.flow.sink b)) lines) ∙ g.sink b h;
+      source = λ b h. ap (λ (x : Amount). given_amount (gives_source b) x (lines_of_pieces counts n next.pieces)) (a.source b h) ∙ sym (ap (given_amount (gives_source b) (amount_at so.flow.source b)) lines) ∙ g.source b h;
+      rest = λ k h. ap (λ (x : Amount). given_amount (gives_rest (get_or pairs k (0, 0))) x (lines_of_pieces counts n next.pieces)) (a.rest k h) ∙ sym (ap (given_amount (gives_rest (get_or pairs k (0, 0))) (amount_at so.flow.rest k)) lines) ∙ g.rest k h;
+      sink = λ b h. ap (λ (x : Amount). given_amount (gives_sink b) x (lines_of_pieces counts n next.pieces)) (a.sink b h) ∙ sym (ap (given_amount (gives_sink b) (amount_at so.flow.sink b)) lines) ∙ g.sink b h;
       covers = c;
     }
 

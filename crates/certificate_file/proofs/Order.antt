@@ -15,7 +15,7 @@ use Rattle.certificate_file.specs.declared.body_lines.LineKind.TheVariants.{Pit,
 use Rattle.certificate_file.specs.declared.body_lines.BodyLine.{BodyLine}
 use Rattle.certificate_file.specs.Pieces.{Piece, read_line}
 use Rattle.certificate_file.specs.Header.{◌>>=◌}
-use Rattle.certificate_file.specs.BodyLines.{line_of, is_end, is_of_model, is_above, may_follow, rank, line_behind, next_line, in_order, in_model, end_fault, fault_from, body_fault, lines_in, lines_from}
+use Rattle.certificate_file.specs.BodyLines.{line_of, is_end, is_of_model, is_above, may_follow, rank, line_behind, next_line, in_order, in_model, end_fault, fault_from, body_fault, lines_of_pieces, lines_from}
 use Rattle.certificate_file.specs.Certificate.{pit_of, block_if_pit, is_rest}
 use Rattle.certificate_file.proofs.Going.{Sound, text_read, sound}
 
@@ -71,22 +71,22 @@ met counts n has previous k p line h =
 
 -- The lines of a text without a fault stand in order.
 go_on : (counts : Bool) (n : ℕ) (has : ℕ → ℕ → Bool) (previous : Option BodyLine) (k : ℕ) (p : Piece) (ps : List Piece) (line : BodyLine) (t : Bool) → is_end line.kind ≡ t → line_of counts n p.text ≡ Ok line → may_follow previous line ≡ true → is_of_model has line.kind line ≡ true
-    → cond t (end_fault (k + 1) ps) (body_fault counts n has (Some line) (k + 1) ps) ≡ None → (body_fault counts n has (Some line) (k + 1) ps ≡ None → InOrder (Good counts n has) (Some line) (lines_in counts n ps))
-    → InOrder (Good counts n has) previous (cond t [] (line ∷ lines_in counts n ps))
+    → cond t (end_fault (k + 1) ps) (body_fault counts n has (Some line) (k + 1) ps) ≡ None → (body_fault counts n has (Some line) (k + 1) ps ≡ None → InOrder (Good counts n has) (Some line) (lines_of_pieces counts n ps))
+    → InOrder (Good counts n has) previous (cond t [] (line ∷ lines_of_pieces counts n ps))
 go_on counts n has previous k p ps line true e f m o h ih = tt
 go_on counts n has previous k p ps line false e f m o h ih = (m, record { sound = sound counts n p.text line f; last = e; of_model = o }, ih h)
 
 read_on : (counts : Bool) (n : ℕ) (has : ℕ → ℕ → Bool) (previous : Option BodyLine) (k : ℕ) (p : Piece) (ps : List Piece) (r : Result BodyLine CertFault) → next_line counts n has previous (k + 1) p ≡ r
-    → fault_from (end_fault (k + 1) ps) (λ line. body_fault counts n has (Some line) (k + 1) ps) r ≡ None → ((line : BodyLine) → body_fault counts n has (Some line) (k + 1) ps ≡ None → InOrder (Good counts n has) (Some line) (lines_in counts n ps))
-    → InOrder (Good counts n has) previous (lines_from (lines_in counts n ps) (line_of counts n p.text))
+    → fault_from (end_fault (k + 1) ps) (λ line. body_fault counts n has (Some line) (k + 1) ps) r ≡ None → ((line : BodyLine) → body_fault counts n has (Some line) (k + 1) ps ≡ None → InOrder (Good counts n has) (Some line) (lines_of_pieces counts n ps))
+    → InOrder (Good counts n has) previous (lines_from (lines_of_pieces counts n ps) (line_of counts n p.text))
 read_on counts n has previous k p ps (Err e) f h ih = absurd cc
 read_on counts n has previous k p ps (Ok line) f h ih =
     let q = met counts n has previous (k + 1) p line f in
     let read = text_read (line_of counts n) (k + 1) p line q.read in
     let on = go_on counts n has previous k p ps line (is_end line.kind) refl read q.follows q.of_model h (ih line) in
-    subst (λ (r : Result BodyLine LineFault). InOrder (Good counts n has) previous (lines_from (lines_in counts n ps) r)) (sym read) on
+    subst (λ (r : Result BodyLine LineFault). InOrder (Good counts n has) previous (lines_from (lines_of_pieces counts n ps) r)) (sym read) on
 
-pub stands_in_order : (counts : Bool) (n : ℕ) (has : ℕ → ℕ → Bool) (previous : Option BodyLine) (k : ℕ) (ps : List Piece) → body_fault counts n has previous k ps ≡ None → InOrder (Good counts n has) previous (lines_in counts n ps)
+pub stands_in_order : (counts : Bool) (n : ℕ) (has : ℕ → ℕ → Bool) (previous : Option BodyLine) (k : ℕ) (ps : List Piece) → body_fault counts n has previous k ps ≡ None → InOrder (Good counts n has) previous (lines_of_pieces counts n ps)
 stands_in_order counts n has previous k [] h = absurd cc
 stands_in_order counts n has previous k (p ∷ ps) h =
     read_on counts n has previous k p ps (next_line counts n has previous (k + 1) p) refl h (λ line g. stands_in_order counts n has (Some line) (k + 1) ps g)

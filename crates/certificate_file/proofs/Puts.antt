@@ -8,7 +8,7 @@ use Rattle.closure_net.specs.Network.{FlowView}
 use Rattle.certificate_file.specs.declared.body_lines.LineKind.TheVariants.{Source, Rest, Sink}
 use Rattle.certificate_file.specs.declared.body_lines.LineKind.{LineKind}
 use Rattle.certificate_file.specs.declared.body_lines.BodyLine.{BodyLine}
-use Rattle.certificate_file.specs.Written.{spaced_words, line_words, body_text, amount_lines, pit_at, block_at, pair_at, line_at, flow_lines}
+use Rattle.certificate_file.specs.Written.{spaced_words, line_words, body_text, amount_lines, pit_at, line_of_block, pair_at, line_at, flow_lines}
 
 -- Of all that is to be put, behind what was held at first, this is left.
 pub record Put (a b : Option (List ℕ)) (first now left all : List ℕ) : Type 0 where
@@ -116,7 +116,7 @@ kind_text kind pairs xs = body_text (amount_lines (line_at kind pairs) 0 xs)
 flow_is : (pairs : List (ℕ × ℕ)) (flow : FlowView) (xs ys zs : List Amount) → xs ≡ flow.source → ys ≡ flow.rest → zs ≡ flow.sink → kind_text Source pairs xs ++ (kind_text Rest pairs ys ++ kind_text Sink pairs zs) ≡ body_text (flow_lines pairs flow)
 flow_is pairs flow xs ys zs e f g =
     ap (λ (us : List Amount). kind_text Source pairs us ++ (kind_text Rest pairs ys ++ kind_text Sink pairs zs)) e ∙ ap (λ (us : List Amount). kind_text Source pairs flow.source ++ (kind_text Rest pairs us ++ kind_text Sink pairs zs)) f ∙ ap (λ (us : List Amount). kind_text Source pairs flow.source ++ (kind_text Rest pairs flow.rest ++ kind_text Sink pairs us)) g
-    ∙ flow_parts (amount_lines (block_at Source) 0 flow.source) (amount_lines (pair_at pairs) 0 flow.rest) (amount_lines (block_at Sink) 0 flow.sink)
+    ∙ flow_parts (amount_lines (line_of_block Source) 0 flow.source) (amount_lines (pair_at pairs) 0 flow.rest) (amount_lines (line_of_block Sink) 0 flow.sink)
 
 pub flow_first_failed : (pairs : List (ℕ × ℕ)) (flow : FlowView) (xs : List Amount) (a b : Option (List ℕ)) (p : List ℕ) → xs ≡ flow.source → ReceivedPrefix a b (p ++ kind_text Source pairs xs) → ReceivedPrefix a b (p ++ body_text (flow_lines pairs flow))
 flow_first_failed pairs flow xs a b p e h = first_failed a b p (kind_text Source pairs xs) (kind_text Rest pairs flow.rest) (kind_text Sink pairs flow.sink) _ (flow_is pairs flow xs flow.rest flow.sink e refl refl) h

@@ -23,7 +23,7 @@ use Rattle.certificate_file.specs.declared.body_lines.LineKind.TheVariants.{Pit,
 use Rattle.certificate_file.specs.declared.body_lines.BodyLine.{BodyLine}
 use Rattle.certificate_file.specs.Pieces.{Piece, pieces_of, words_of, read_line, no_line, number_below}
 use Rattle.certificate_file.specs.Header.{header_for, version_in, value_behind, value_behind_both, or_number, wanted_blocks, blocks_said, blocks_in, factor_of, price_said, mill_of, mill_said, price_in, group_named, group_said, group_in}
-use Rattle.certificate_file.specs.BodyLines.{line_of, is_end, rank, is_of_model, may_follow, next_line, end_fault, fault_from, body_fault, lines_from, lines_in}
+use Rattle.certificate_file.specs.BodyLines.{line_of, is_end, rank, is_of_model, may_follow, next_line, end_fault, fault_from, body_fault, lines_from, lines_of_pieces}
 use Rattle.certificate_file.specs.Certificate.{wanted_for}
 use Rattle.certificate_file.specs.ReadBack.{IsPrice}
 use Rattle.certificate_file.specs.Written.{spaced_words, lines_text, line_words, version_for, price_words, header_words, header_with, body_text, end_text}
@@ -64,7 +64,7 @@ rank_most End h = absurd (let z : true ≡ false = h in cc)
 -- The text is read without a fault, and as these lines.
 pub record ReadAs (counts : Bool) (n : ℕ) (has : ℕ → ℕ → Bool) (previous : Option BodyLine) (k : ℕ) (text : List ℕ) (ls : List BodyLine) : Type 0 where
   pub none : body_fault counts n has previous k (pieces_of text) ≡ None
-  pub lines : lines_in counts n (pieces_of text) ≡ ls
+  pub lines : lines_of_pieces counts n (pieces_of text) ≡ ls
 
 abbrev end_line : BodyLine
 end_line = record { kind = End; block = 0; other = 0; worth = pos 0; count = pos 0 }
@@ -83,7 +83,7 @@ read_more counts n has previous k l ls rest b f r =
       none = ap (body_fault counts n has previous k) pieces
           ∙ ap (fault_from (end_fault (k + 1) (pieces_of rest)) (λ m. body_fault counts n has (Some m) (k + 1) (pieces_of rest))) next
           ∙ ap (λ (t : Bool). cond t (end_fault (k + 1) (pieces_of rest)) (body_fault counts n has (Some l) (k + 1) (pieces_of rest))) b.1.last ∙ r.none;
-      lines = ap (lines_in counts n) pieces ∙ ap (lines_from (lines_in counts n (pieces_of rest))) b.0.read ∙ ap (λ (t : Bool). cond t [] (l ∷ lines_in counts n (pieces_of rest))) b.1.last ∙ ap (λ (ms : List BodyLine). l ∷ ms) r.lines;
+      lines = ap (lines_of_pieces counts n) pieces ∙ ap (lines_from (lines_of_pieces counts n (pieces_of rest))) b.0.read ∙ ap (λ (t : Bool). cond t [] (l ∷ lines_of_pieces counts n (pieces_of rest))) b.1.last ∙ ap (λ (ms : List BodyLine). l ∷ ms) r.lines;
     }
 
 pub body_read : (counts : Bool) (n : ℕ) (has : ℕ → ℕ → Bool) (ls : List BodyLine) (previous : Option BodyLine) (k : ℕ) → UpTo 3 previous → InOrder (Both counts n has) previous ls → ReadAs counts n has previous k (body_text ls ++ end_text) ls

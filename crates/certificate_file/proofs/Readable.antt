@@ -19,7 +19,7 @@ use Rattle.certificate_file.specs.declared.body_lines.BodyLine.{BodyLine}
 use Rattle.certificate_file.specs.Pieces.{within, number_below}
 use Rattle.certificate_file.specs.BodyLines.{is_amount, amount_said, amount_in, numbered_line, block_line, line_of_words, line_of}
 use Rattle.certificate_file.specs.ReadBack.{Writable}
-use Rattle.certificate_file.specs.Written.{spaced_words, words_with, line_words, pit_at, block_at}
+use Rattle.certificate_file.specs.Written.{spaced_words, words_with, line_words, pit_at, line_of_block}
 use Rattle.certificate_file.proofs.Amounts.{zero_numbers}
 use Rattle.certificate_file.proofs.Texts.{is_word, are_words, has_no_feed, words_read, spaced_no_feed, decimal_is_word, signed_is_word}
 use Rattle.certificate_file.proofs.Going.{Counted}
@@ -86,23 +86,23 @@ amount_words x f = all_words (signed_decimal x.w) (signed_decimal x.c ∷ []) (s
 amount_short : (x : Amount) → FitsPair x → length (spaced_words (signed_decimal x.w ∷ signed_decimal x.c ∷ [])) ≤ 81
 amount_short x f = let a = signed_short x.w f.0 in let b = signed_short x.c f.1 in omega (arith, length-append (signed_decimal x.w) (32 ∷ signed_decimal x.c))
 
-block_made : (counts : Bool) (n b : ℕ) (kind : LineKind) (x : Amount) → n ≤ MOST_BLOCKS → b < n → is_zero x ≡ false → Writable counts x → block_line counts n kind (decimal b ∷ signed_decimal x.w ∷ signed_decimal x.c ∷ []) ≡ Ok (block_at kind b x)
+block_made : (counts : Bool) (n b : ℕ) (kind : LineKind) (x : Amount) → n ≤ MOST_BLOCKS → b < n → is_zero x ≡ false → Writable counts x → block_line counts n kind (decimal b ∷ signed_decimal x.w ∷ signed_decimal x.c ∷ []) ≡ Ok (line_of_block kind b x)
 block_made counts n b kind x h l z w =
     ap (λ (o : Option ℕ). numbered_line kind o (Some 0) (amount_in counts (signed_decimal x.w) (signed_decimal x.c))) (number_read n b l (omega arith))
     ∙ ap (λ (o : Option (ℤ × ℤ)). numbered_line kind (Some b) (Some 0) o) (amount_read counts x z w.count w.fits)
 
-block_readable : (counts : Bool) (n b : ℕ) (kind : LineKind) (x : Amount) (key : List ℕ) → n ≤ MOST_BLOCKS → b < n → Writable counts x → words_with kind (block_at kind b x) ≡ key ∷ decimal b ∷ signed_decimal x.w ∷ signed_decimal x.c ∷ [] → is_word key ≡ true → length key ≤ 100
-    → line_of_words counts n (key ∷ decimal b ∷ signed_decimal x.w ∷ signed_decimal x.c ∷ []) ≡ Ok (block_at kind b x) → Readable counts n (block_at kind b x)
+block_readable : (counts : Bool) (n b : ℕ) (kind : LineKind) (x : Amount) (key : List ℕ) → n ≤ MOST_BLOCKS → b < n → Writable counts x → words_with kind (line_of_block kind b x) ≡ key ∷ decimal b ∷ signed_decimal x.w ∷ signed_decimal x.c ∷ [] → is_word key ≡ true → length key ≤ 100
+    → line_of_words counts n (key ∷ decimal b ∷ signed_decimal x.w ∷ signed_decimal x.c ∷ []) ≡ Ok (line_of_block kind b x) → Readable counts n (line_of_block kind b x)
 block_readable counts n b kind x key h l w e k s made =
     let d = block_word n b l h in
     let rest = spaced_length (decimal b) (signed_decimal x.w) (signed_decimal x.c ∷ []) 8 81 d.1 (amount_short x w.fits) in
     let all = spaced_length key (decimal b) (signed_decimal x.w ∷ signed_decimal x.c ∷ []) 100 (8 + 1 + 81) s rest in
-    readable counts n (block_at kind b x) key (decimal b ∷ signed_decimal x.w ∷ signed_decimal x.c ∷ []) e (all_words key (decimal b ∷ signed_decimal x.w ∷ signed_decimal x.c ∷ []) k (all_words (decimal b) (signed_decimal x.w ∷ signed_decimal x.c ∷ []) d.0 (amount_words x w.fits))) made (omega (arith, all))
+    readable counts n (line_of_block kind b x) key (decimal b ∷ signed_decimal x.w ∷ signed_decimal x.c ∷ []) e (all_words key (decimal b ∷ signed_decimal x.w ∷ signed_decimal x.c ∷ []) k (all_words (decimal b) (signed_decimal x.w ∷ signed_decimal x.c ∷ []) d.0 (amount_words x w.fits))) made (omega (arith, all))
 
-pub source_readable : (counts : Bool) (n b : ℕ) (x : Amount) → n ≤ MOST_BLOCKS → b < n → Writable counts x → is_zero x ≡ false → Readable counts n (block_at Source b x)
+pub source_readable : (counts : Bool) (n b : ℕ) (x : Amount) → n ≤ MOST_BLOCKS → b < n → Writable counts x → is_zero x ≡ false → Readable counts n (line_of_block Source b x)
 source_readable counts n b x h l w z = block_readable counts n b Source x (codes "SOURCE") h l w refl refl (omega arith) (block_made counts n b Source x h l z w)
 
-pub sink_readable : (counts : Bool) (n b : ℕ) (x : Amount) → n ≤ MOST_BLOCKS → b < n → Writable counts x → is_zero x ≡ false → Readable counts n (block_at Sink b x)
+pub sink_readable : (counts : Bool) (n b : ℕ) (x : Amount) → n ≤ MOST_BLOCKS → b < n → Writable counts x → is_zero x ≡ false → Readable counts n (line_of_block Sink b x)
 sink_readable counts n b x h l w z = block_readable counts n b Sink x (codes "SINK") h l w refl refl (omega arith) (block_made counts n b Sink x h l z w)
 
 -- The line of an amount over a pair.

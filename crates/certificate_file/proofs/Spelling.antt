@@ -17,7 +17,7 @@ use Rattle.certificate_file.specs.declared.body_lines.LineKind.{LineKind}
 use Rattle.certificate_file.specs.declared.body_lines.LineKind.TheVariants.{Pit, Source, Rest, Sink, End}
 use Rattle.certificate_file.specs.declared.body_lines.BodyLine.{BodyLine}
 use Rattle.certificate_file.specs.Pieces.{Piece, within, number_below, words_of, read_line, no_line, in_line, unless_fault}
-use Rattle.certificate_file.specs.BodyLines.{kind_of, is_amount, amount_said, amount_in, pit_line, block_line, rest_line, end_line, line_with, line_of_words, line_of, is_end, next_line, end_fault, fault_from, body_fault, lines_from, lines_in}
+use Rattle.certificate_file.specs.BodyLines.{kind_of, is_amount, amount_said, amount_in, pit_line, block_line, rest_line, end_line, line_with, line_of_words, line_of, is_end, next_line, end_fault, fault_from, body_fault, lines_from, lines_of_pieces}
 use Rattle.certificate_file.specs.Written.{spaced_words, words_with, line_words, body_text, end_text}
 use Rattle.certificate_file.proofs.Texts.{pieces_text, words_make_line}
 use Rattle.certificate_file.proofs.Going.{numbered, text_read, no_line_is}
@@ -158,25 +158,25 @@ nothing_left k [] h = refl
 nothing_left k (p ∷ ps) h = absurd cc
 
 on : (counts : Bool) (n : ℕ) (has : ℕ → ℕ → Bool) (k : ℕ) (p : Piece) (ps : List Piece) (line : BodyLine) (t : Bool) → is_end line.kind ≡ t → p.ended ≡ true → p.text ≡ spaced_words (line_words line)
-    → cond t (end_fault (k + 1) ps) (body_fault counts n has (Some line) (k + 1) ps) ≡ None → (body_fault counts n has (Some line) (k + 1) ps ≡ None → pieces_text ps ≡ body_text (lines_in counts n ps) ++ end_text)
-    → pieces_text (p ∷ ps) ≡ body_text (cond t [] (line ∷ lines_in counts n ps)) ++ end_text
+    → cond t (end_fault (k + 1) ps) (body_fault counts n has (Some line) (k + 1) ps) ≡ None → (body_fault counts n has (Some line) (k + 1) ps ≡ None → pieces_text ps ≡ body_text (lines_of_pieces counts n ps) ++ end_text)
+    → pieces_text (p ∷ ps) ≡ body_text (cond t [] (line ∷ lines_of_pieces counts n ps)) ++ end_text
 on counts n has k p ps line true e f g h ih =
     let last : spaced_words (line_words line) ≡ codes "END" = ap (λ (x : LineKind). spaced_words (words_with x line)) (is_last line.kind e) in
     piece_text p ps (codes "END") f (g ∙ last) ∙ ap (λ (qs : List Piece). codes "END" ++ (10 ∷ pieces_text qs)) (nothing_left (k + 1) ps h)
 on counts n has k p ps line false e f g h ih =
-    piece_text p ps (spaced_words (line_words line)) f g ∙ ap (λ (t : List ℕ). spaced_words (line_words line) ++ (10 ∷ t)) (ih h) ∙ sym (append_assoc (spaced_words (line_words line)) (10 ∷ body_text (lines_in counts n ps)) end_text)
+    piece_text p ps (spaced_words (line_words line)) f g ∙ ap (λ (t : List ℕ). spaced_words (line_words line) ++ (10 ∷ t)) (ih h) ∙ sym (append_assoc (spaced_words (line_words line)) (10 ∷ body_text (lines_of_pieces counts n ps)) end_text)
 
 read_on : (counts : Bool) (n : ℕ) (has : ℕ → ℕ → Bool) (previous : Option BodyLine) (k : ℕ) (p : Piece) (ps : List Piece) (r : Result BodyLine CertFault) → next_line counts n has previous (k + 1) p ≡ r
-    → fault_from (end_fault (k + 1) ps) (λ line. body_fault counts n has (Some line) (k + 1) ps) r ≡ None → ((line : BodyLine) → body_fault counts n has (Some line) (k + 1) ps ≡ None → pieces_text ps ≡ body_text (lines_in counts n ps) ++ end_text)
-    → pieces_text (p ∷ ps) ≡ body_text (lines_from (lines_in counts n ps) (line_of counts n p.text)) ++ end_text
+    → fault_from (end_fault (k + 1) ps) (λ line. body_fault counts n has (Some line) (k + 1) ps) r ≡ None → ((line : BodyLine) → body_fault counts n has (Some line) (k + 1) ps ≡ None → pieces_text ps ≡ body_text (lines_of_pieces counts n ps) ++ end_text)
+    → pieces_text (p ∷ ps) ≡ body_text (lines_from (lines_of_pieces counts n ps) (line_of counts n p.text)) ++ end_text
 read_on counts n has previous k p ps (Err e) f h ih = absurd cc
 read_on counts n has previous k p ps (Ok line) f h ih =
     let q = met counts n has previous (k + 1) p line f in
     let read = text_read (line_of counts n) (k + 1) p line q.read in
     let made = on counts n has k p ps line (is_end line.kind) refl (read_ends (line_of counts n) (k + 1) p line q.read) (line_is counts n p.text line read) h (ih line) in
-    subst (λ (r : Result BodyLine LineFault). pieces_text (p ∷ ps) ≡ body_text (lines_from (lines_in counts n ps) r) ++ end_text) (sym read) made
+    subst (λ (r : Result BodyLine LineFault). pieces_text (p ∷ ps) ≡ body_text (lines_from (lines_of_pieces counts n ps) r) ++ end_text) (sym read) made
 
-pub body_is : (counts : Bool) (n : ℕ) (has : ℕ → ℕ → Bool) (previous : Option BodyLine) (k : ℕ) (ps : List Piece) → body_fault counts n has previous k ps ≡ None → pieces_text ps ≡ body_text (lines_in counts n ps) ++ end_text
+pub body_is : (counts : Bool) (n : ℕ) (has : ℕ → ℕ → Bool) (previous : Option BodyLine) (k : ℕ) (ps : List Piece) → body_fault counts n has previous k ps ≡ None → pieces_text ps ≡ body_text (lines_of_pieces counts n ps) ++ end_text
 body_is counts n has previous k [] h = absurd cc
 body_is counts n has previous k (p ∷ ps) h =
     read_on counts n has previous k p ps (next_line counts n has previous (k + 1) p) refl h (λ line g. body_is counts n has (Some line) (k + 1) ps g)

@@ -18,7 +18,7 @@ use Rattle.certificate_file.specs.declared.body_lines.LineKind.TheVariants.{Pit,
 use Rattle.certificate_file.specs.declared.body_lines.BodyLine.{BodyLine}
 use Rattle.certificate_file.specs.BodyLines.{rank, is_end, may_follow, is_of_model}
 use Rattle.certificate_file.specs.Certificate.{Covers, Denotes, has_pair, pit_of, block_if_pit, amount_of, given_amount, gives_source, gives_rest, gives_sink}
-use Rattle.certificate_file.specs.Written.{pit_at, block_at, pair_at, amount_lines, flow_lines, value_lines}
+use Rattle.certificate_file.specs.Written.{pit_at, line_of_block, pair_at, amount_lines, flow_lines, value_lines}
 use Rattle.certificate_file.proofs.Additions.{present, one_place}
 use Rattle.certificate_file.proofs.Order.{InOrder}
 use Rattle.certificate_file.proofs.LineOrder.{Proper}
@@ -45,7 +45,7 @@ pub higher : (r : ℕ) (p : Option BodyLine) (l : BodyLine) → UpTo r p → r <
 higher r None l u h = refl
 higher r (Some m) l u h = lower_first (rank m.kind) (rank l.kind) (ordering_then (nat_cmp m.block l.block) (nat_cmp m.other l.other)) (omega arith)
 
-block_step : (k : LineKind) (a b : ℕ) (x y : Amount) → a < b → may_follow (Some (block_at k a x)) (block_at k b y) ≡ true
+block_step : (k : LineKind) (a b : ℕ) (x y : Amount) → a < b → may_follow (Some (line_of_block k a x)) (line_of_block k b y) ≡ true
 block_step k a b x y h = same_first (rank k) (ordering_then (nat_cmp a b) (nat_cmp 0 0)) (lower_first a b (nat_cmp 0 0) h)
 
 pit_step : (a b : ℕ) → a < b → may_follow (Some (pit_at a)) (pit_at b) ≡ true
@@ -107,21 +107,21 @@ no_more ls = append-nil ls
 -- The lines of a value, where P holds of each.
 pub record EachLine (P : BodyLine → Type 0) (pairs : List (ℕ × ℕ)) (blocks : List ℕ) (flow : FlowView) : Type 0 where
   pub pit : (i : ℕ) → i < length blocks → P (pit_at (get_or blocks i 0))
-  pub source : Each P (block_at Source) 0 flow.source
+  pub source : Each P (line_of_block Source) 0 flow.source
   pub rest : Each P (pair_at pairs) 0 flow.rest
-  pub sink : Each P (block_at Sink) 0 flow.sink
+  pub sink : Each P (line_of_block Sink) 0 flow.sink
 
 pub value_in_order : (P : BodyLine → Type 0) (n : ℕ) (pairs : List (ℕ × ℕ)) (pit : List ℕ) (flow : FlowView) → IsAscending pit → IsRising pairs → Covers n (length pairs) flow → EachLine P pairs pit flow → InOrder P None (value_lines pairs pit flow)
 value_in_order P n pairs pit flow a r c e =
-    let sources : Rises (block_at Source) n 1 = record { step = λ i j x y h l. block_step Source i j x y h; rank_is = λ i x. omega arith } in
+    let sources : Rises (line_of_block Source) n 1 = record { step = λ i j x y h l. block_step Source i j x y h; rank_is = λ i x. omega arith } in
     let rests : Rises (pair_at pairs) (length pairs) 2 = record { step = λ i j x y h l. pair_step pairs i j x y r h l; rank_is = λ i x. omega arith } in
-    let sinks : Rises (block_at Sink) n 3 = record { step = λ i j x y h l. block_step Sink i j x y h; rank_is = λ i x. omega arith } in
-    let last : (q : Option BodyLine) → UpTo 2 q → InOrder P q (amount_lines (block_at Sink) 0 flow.sink) = λ q u.
-    subst (InOrder P q) (no_more (amount_lines (block_at Sink) 0 flow.sink)) (amounts P (block_at Sink) n 3 sinks flow.sink 0 q [] (omega (arith, c.sinks)) (λ j x g h. higher 2 q (block_at Sink j x) u (omega arith)) e.sink (wider 2 3 q (omega arith) u) (λ p v. tt)) in
-    let middle : (q : Option BodyLine) → UpTo 1 q → InOrder P q (amount_lines (pair_at pairs) 0 flow.rest ++ amount_lines (block_at Sink) 0 flow.sink) = λ q u.
-    amounts P (pair_at pairs) (length pairs) 2 rests flow.rest 0 q (amount_lines (block_at Sink) 0 flow.sink) (omega (arith, c.rests)) (λ j x g h. higher 1 q (pair_at pairs j x) u (omega arith)) e.rest (wider 1 2 q (omega arith) u) last in
+    let sinks : Rises (line_of_block Sink) n 3 = record { step = λ i j x y h l. block_step Sink i j x y h; rank_is = λ i x. omega arith } in
+    let last : (q : Option BodyLine) → UpTo 2 q → InOrder P q (amount_lines (line_of_block Sink) 0 flow.sink) = λ q u.
+    subst (InOrder P q) (no_more (amount_lines (line_of_block Sink) 0 flow.sink)) (amounts P (line_of_block Sink) n 3 sinks flow.sink 0 q [] (omega (arith, c.sinks)) (λ j x g h. higher 2 q (line_of_block Sink j x) u (omega arith)) e.sink (wider 2 3 q (omega arith) u) (λ p v. tt)) in
+    let middle : (q : Option BodyLine) → UpTo 1 q → InOrder P q (amount_lines (pair_at pairs) 0 flow.rest ++ amount_lines (line_of_block Sink) 0 flow.sink) = λ q u.
+    amounts P (pair_at pairs) (length pairs) 2 rests flow.rest 0 q (amount_lines (line_of_block Sink) 0 flow.sink) (omega (arith, c.rests)) (λ j x g h. higher 1 q (pair_at pairs j x) u (omega arith)) e.rest (wider 1 2 q (omega arith) u) last in
     let first : (q : Option BodyLine) → UpTo 0 q → InOrder P q (flow_lines pairs flow) = λ q u.
-    amounts P (block_at Source) n 1 sources flow.source 0 q (amount_lines (pair_at pairs) 0 flow.rest ++ amount_lines (block_at Sink) 0 flow.sink) (omega (arith, c.sources)) (λ j x g h. higher 0 q (block_at Source j x) u (omega arith)) e.source (wider 0 1 q (omega arith) u) middle in
+    amounts P (line_of_block Source) n 1 sources flow.source 0 q (amount_lines (pair_at pairs) 0 flow.rest ++ amount_lines (line_of_block Sink) 0 flow.sink) (omega (arith, c.sources)) (λ j x g h. higher 0 q (line_of_block Source j x) u (omega arith)) e.source (wider 0 1 q (omega arith) u) middle in
     pits P pit None (flow_lines pairs flow) a (first_of_all pit) e.pit tt first
 
 -- What lines give, part by part.
@@ -200,20 +200,20 @@ no_pit line f k (x ∷ xs) = no_pit_at (line k x) (amount_lines line (k + 1) xs)
 
 pit_is : (pairs : List (ℕ × ℕ)) (pit : List ℕ) (flow : FlowView) → pit ≡ pit_of (value_lines pairs pit flow)
 pit_is pairs pit flow =
-    let none : pit_of (flow_lines pairs flow) ≡ [] = pit_append (amount_lines (block_at Source) 0 flow.source) (amount_lines (pair_at pairs) 0 flow.rest ++ amount_lines (block_at Sink) 0 flow.sink)
-    ∙ ap (λ (xs : List ℕ). xs ++ pit_of (amount_lines (pair_at pairs) 0 flow.rest ++ amount_lines (block_at Sink) 0 flow.sink)) (no_pit (block_at Source) (λ k x bs. refl) 0 flow.source)
-    ∙ pit_append (amount_lines (pair_at pairs) 0 flow.rest) (amount_lines (block_at Sink) 0 flow.sink)
-    ∙ ap (λ (xs : List ℕ). xs ++ pit_of (amount_lines (block_at Sink) 0 flow.sink)) (no_pit (pair_at pairs) (λ k x bs. refl) 0 flow.rest)
-    ∙ no_pit (block_at Sink) (λ k x bs. refl) 0 flow.sink in
+    let none : pit_of (flow_lines pairs flow) ≡ [] = pit_append (amount_lines (line_of_block Source) 0 flow.source) (amount_lines (pair_at pairs) 0 flow.rest ++ amount_lines (line_of_block Sink) 0 flow.sink)
+    ∙ ap (λ (xs : List ℕ). xs ++ pit_of (amount_lines (pair_at pairs) 0 flow.rest ++ amount_lines (line_of_block Sink) 0 flow.sink)) (no_pit (line_of_block Source) (λ k x bs. refl) 0 flow.source)
+    ∙ pit_append (amount_lines (pair_at pairs) 0 flow.rest) (amount_lines (line_of_block Sink) 0 flow.sink)
+    ∙ ap (λ (xs : List ℕ). xs ++ pit_of (amount_lines (line_of_block Sink) 0 flow.sink)) (no_pit (pair_at pairs) (λ k x bs. refl) 0 flow.rest)
+    ∙ no_pit (line_of_block Sink) (λ k x bs. refl) 0 flow.sink in
     sym (pit_append (map pit_at pit) (flow_lines pairs flow) ∙ ap (λ (xs : List ℕ). pit_of (map pit_at pit) ++ xs) none ∙ append-nil (pit_of (map pit_at pit)) ∙ pit_of_pits pit)
 
 four_parts : (gives : BodyLine → Bool) (hs ls ms ns : List BodyLine) → given_amount gives zero_amount (hs ++ (ls ++ (ms ++ ns))) ≡ given_amount gives (given_amount gives (given_amount gives (given_amount gives zero_amount hs) ls) ms) ns
 four_parts gives hs ls ms ns = given_append gives zero_amount hs (ls ++ (ms ++ ns)) ∙ given_append gives (given_amount gives zero_amount hs) ls (ms ++ ns) ∙ given_append gives (given_amount gives (given_amount gives zero_amount hs) ls) ms ns
 
-owns_source : (n b : ℕ) → Owns (gives_source b) (block_at Source) n b
+owns_source : (n b : ℕ) → Owns (gives_source b) (line_of_block Source) n b
 owns_source n b = record { mine = λ x. eq-eqb b b refl; others = λ j x h l. ne_eqb j b h; same = λ j x. refl }
 
-owns_sink : (n b : ℕ) → Owns (gives_sink b) (block_at Sink) n b
+owns_sink : (n b : ℕ) → Owns (gives_sink b) (line_of_block Sink) n b
 owns_sink n b = record { mine = λ x. eq-eqb b b refl; others = λ j x h l. ne_eqb j b h; same = λ j x. refl }
 
 other_pair : (ps : List (ℕ × ℕ)) (i j : ℕ) → IsRising ps → i < length ps → j < length ps → j ≢ i → (t : Bool) → (eqb (get_or ps i (0, 0)).0 (get_or ps j (0, 0)).0 && eqb (get_or ps i (0, 0)).1 (get_or ps j (0, 0)).1) ≡ t → t ≡ false
@@ -229,32 +229,32 @@ owns_pair pairs i r h = record {
 
 pub value_says : (n : ℕ) (pairs : List (ℕ × ℕ)) (pit : List ℕ) (flow : FlowView) → IsRising pairs → Covers n (length pairs) flow → Denotes n pairs (value_lines pairs pit flow) pit flow
 value_says n pairs pit flow r c =
-    let s = amount_lines (block_at Source) 0 flow.source in
+    let s = amount_lines (line_of_block Source) 0 flow.source in
     let m = amount_lines (pair_at pairs) 0 flow.rest in
-    let t = amount_lines (block_at Sink) 0 flow.sink in
+    let t = amount_lines (line_of_block Sink) 0 flow.sink in
     record {
       pit = pit_is pairs pit flow;
       covers = c;
       source = λ b h.
           let g = gives_source b in
           let one : given_amount g zero_amount (map pit_at pit) ≡ zero_amount = pits_give_nothing g zero_amount pit (λ a. refl) in
-          let two : given_amount g zero_amount s ≡ amount_at flow.source b = amount_given g (block_at Source) n b (owns_source n b) flow.source 0 b (omega (arith, c.sources)) (omega arith) (omega (arith, c.sources)) in
+          let two : given_amount g zero_amount s ≡ amount_at flow.source b = amount_given g (line_of_block Source) n b (owns_source n b) flow.source 0 b (omega (arith, c.sources)) (omega arith) (omega (arith, c.sources)) in
           let three : (y : Amount) → given_amount g y m ≡ y = λ y. amounts_give_nothing g (pair_at pairs) (length pairs) flow.rest 0 y (omega (arith, c.rests)) (λ j x k l. refl) in
-          let last : (y : Amount) → given_amount g y t ≡ y = λ y. amounts_give_nothing g (block_at Sink) n flow.sink 0 y (omega (arith, c.sinks)) (λ j x k l. refl) in
+          let last : (y : Amount) → given_amount g y t ≡ y = λ y. amounts_give_nothing g (line_of_block Sink) n flow.sink 0 y (omega (arith, c.sinks)) (λ j x k l. refl) in
           sym (four_parts g (map pit_at pit) s m t ∙ ap (λ (y : Amount). given_amount g (given_amount g (given_amount g y s) m) t) one ∙ ap (λ (y : Amount). given_amount g (given_amount g y m) t) two ∙ ap (λ (y : Amount). given_amount g y t) (three (amount_at flow.source b)) ∙ last (amount_at flow.source b));
       rest = λ i h.
           let g = gives_rest (get_or pairs i (0, 0)) in
           let one : given_amount g zero_amount (map pit_at pit) ≡ zero_amount = pits_give_nothing g zero_amount pit (λ a. refl) in
-          let two : given_amount g zero_amount s ≡ zero_amount = amounts_give_nothing g (block_at Source) n flow.source 0 zero_amount (omega (arith, c.sources)) (λ j x k l. refl) in
+          let two : given_amount g zero_amount s ≡ zero_amount = amounts_give_nothing g (line_of_block Source) n flow.source 0 zero_amount (omega (arith, c.sources)) (λ j x k l. refl) in
           let three : given_amount g zero_amount m ≡ amount_at flow.rest i = amount_given g (pair_at pairs) (length pairs) i (owns_pair pairs i r h) flow.rest 0 i (omega (arith, c.rests)) (omega arith) (omega (arith, c.rests)) in
-          let last : (y : Amount) → given_amount g y t ≡ y = λ y. amounts_give_nothing g (block_at Sink) n flow.sink 0 y (omega (arith, c.sinks)) (λ j x k l. refl) in
+          let last : (y : Amount) → given_amount g y t ≡ y = λ y. amounts_give_nothing g (line_of_block Sink) n flow.sink 0 y (omega (arith, c.sinks)) (λ j x k l. refl) in
           sym (four_parts g (map pit_at pit) s m t ∙ ap (λ (y : Amount). given_amount g (given_amount g (given_amount g y s) m) t) one ∙ ap (λ (y : Amount). given_amount g (given_amount g y m) t) two ∙ ap (λ (y : Amount). given_amount g y t) three ∙ last (amount_at flow.rest i));
       sink = λ b h.
           let g = gives_sink b in
           let one : given_amount g zero_amount (map pit_at pit) ≡ zero_amount = pits_give_nothing g zero_amount pit (λ a. refl) in
-          let two : given_amount g zero_amount s ≡ zero_amount = amounts_give_nothing g (block_at Source) n flow.source 0 zero_amount (omega (arith, c.sources)) (λ j x k l. refl) in
+          let two : given_amount g zero_amount s ≡ zero_amount = amounts_give_nothing g (line_of_block Source) n flow.source 0 zero_amount (omega (arith, c.sources)) (λ j x k l. refl) in
           let three : given_amount g zero_amount m ≡ zero_amount = amounts_give_nothing g (pair_at pairs) (length pairs) flow.rest 0 zero_amount (omega (arith, c.rests)) (λ j x k l. refl) in
-          let last : given_amount g zero_amount t ≡ amount_at flow.sink b = amount_given g (block_at Sink) n b (owns_sink n b) flow.sink 0 b (omega (arith, c.sinks)) (omega arith) (omega (arith, c.sinks)) in
+          let last : given_amount g zero_amount t ≡ amount_at flow.sink b = amount_given g (line_of_block Sink) n b (owns_sink n b) flow.sink 0 b (omega (arith, c.sinks)) (omega arith) (omega (arith, c.sinks)) in
           sym (four_parts g (map pit_at pit) s m t ∙ ap (λ (y : Amount). given_amount g (given_amount g (given_amount g y s) m) t) one ∙ ap (λ (y : Amount). given_amount g (given_amount g y m) t) two ∙ ap (λ (y : Amount). given_amount g y t) three ∙ last);
     }
 
@@ -266,7 +266,7 @@ each_all P Q line top f (x ∷ xs) k l q = (f k x (omega arith) (q 0 (omega arit
 abbrev Any : Amount → Type 0
 Any x = Unit {0}
 
-proper_at : (n : ℕ) (has : ℕ → ℕ → Bool) (k b : ℕ) (x : Amount) (kind : LineKind) → b < n → is_zero x ≡ false → is_end kind ≡ false → (kind ≡ Pit → ⊥) → is_of_model has kind (block_at kind b x) ≡ true → Proper n has (block_at kind b x)
+proper_at : (n : ℕ) (has : ℕ → ℕ → Bool) (k b : ℕ) (x : Amount) (kind : LineKind) → b < n → is_zero x ≡ false → is_end kind ≡ false → (kind ≡ Pit → ⊥) → is_of_model has kind (line_of_block kind b x) ≡ true → Proper n has (line_of_block kind b x)
 proper_at n has k b x kind h z e p m = record { block = h; last = e; other = λ _. refl; none = λ q. absurd (p q); some = λ _. z; pair = m }
 
 -- The lines of a value are proper.
@@ -275,7 +275,7 @@ value_proper n pairs pit flow known pairs_known c =
     let has : ℕ → ℕ → Bool = has_pair pairs in
     record {
       pit = λ i h. record { block = known i 0 h; last = refl; other = λ _. refl; none = λ _. refl; some = λ q. absurd (let z : false ≡ true = q in cc); pair = refl };
-      source = each_all (Proper n has) Any (block_at Source) n (λ k x h q z. proper_at n has k k x Source h z refl (λ e. cc) refl) flow.source 0 (omega (arith, c.sources)) (λ j h. tt);
+      source = each_all (Proper n has) Any (line_of_block Source) n (λ k x h q z. proper_at n has k k x Source h z refl (λ e. cc) refl) flow.source 0 (omega (arith, c.sources)) (λ j h. tt);
       rest = each_all (Proper n has) Any (pair_at pairs) (length pairs) (λ k x h q z. record {
         block = (pairs_known k (0, 0) h).0;
         last = refl;
@@ -284,7 +284,7 @@ value_proper n pairs pit flow known pairs_known c =
         some = λ _. z;
         pair = present (get_or pairs k (0, 0)).0 (get_or pairs k (0, 0)).1 pairs k h refl;
       }) flow.rest 0 (omega (arith, c.rests)) (λ j h. tt);
-      sink = each_all (Proper n has) Any (block_at Sink) n (λ k x h q z. proper_at n has k k x Sink h z refl (λ e. cc) refl) flow.sink 0 (omega (arith, c.sinks)) (λ j h. tt);
+      sink = each_all (Proper n has) Any (line_of_block Sink) n (λ k x h q z. proper_at n has k k x Sink h z refl (λ e. cc) refl) flow.sink 0 (omega (arith, c.sinks)) (λ j h. tt);
     }
 
 pub each_both : (P Q : BodyLine → Type 0) (line : ℕ → Amount → BodyLine) (k : ℕ) (xs : List Amount) → Each P line k xs → Each Q line k xs → Each (λ l. P l × Q l) line k xs

@@ -15,8 +15,8 @@ use Rattle.certificate_file.specs.declared.body_lines.BodyLine.{BodyLine}
 use Rattle.certificate_file.specs.declared.cert_fault.CertFault.{CertFault}
 use Rattle.certificate_file.specs.Pieces.{Piece, Unread, pieces_of}
 use Rattle.certificate_file.specs.Header.{header_for}
-use Rattle.certificate_file.specs.BodyLines.{body_fault, lines_in}
-use Rattle.certificate_file.specs.Written.{lines_text, header_words, header_with, body_text, end_text, value_lines, text_of, block_at, pair_at}
+use Rattle.certificate_file.specs.BodyLines.{body_fault, lines_of_pieces}
+use Rattle.certificate_file.specs.Written.{lines_text, header_words, header_with, body_text, end_text, value_lines, text_of, line_of_block, pair_at}
 use Rattle.certificate_file.specs.Certificate.{Covers, IsRead, Denotes, has_pair, fault_of, fault_behind, wanted_for, given_amount, gives_source, gives_rest, gives_sink, pit_of}
 use Rattle.certificate_file.specs.ReadBack.{Writable, AreWritable, IsPrice, IsReadBack}
 use Rattle.certificate_file.specs.Gathered.{Gathered, Adds}
@@ -34,11 +34,11 @@ use Rattle.certificate_file.specs.declared.body_lines.LineKind.TheVariants.{Sour
 
 -- A text without a fault is the text of the value that it gives.
 pub spelled : (counts : Bool) (name : Group) (n : ℕ) (pairs : List (ℕ × ℕ)) (text : List ℕ) (price : Price) (pit : List ℕ) (flow : FlowView) → IsRests (record { blocks = n; pairs = pairs }) → header_for (wanted_for n name) (pieces_of text) ≡ Ok (header_with n price name)
-    → (k : ℕ) → body_fault counts n (has_pair pairs) None k (drop 4 (pieces_of text)) ≡ None → Denotes n pairs (lines_in counts n (drop 4 (pieces_of text))) pit flow → IsAscending pit → All (λ b. b < n) pit → text ≡ text_of (header_with n price name) pairs pit flow
+    → (k : ℕ) → body_fault counts n (has_pair pairs) None k (drop 4 (pieces_of text)) ≡ None → Denotes n pairs (lines_of_pieces counts n (drop 4 (pieces_of text))) pit flow → IsAscending pit → All (λ b. b < n) pit → text ≡ text_of (header_with n price name) pairs pit flow
 spelled counts name n pairs text price pit flow r h k f d a b =
     let has : ℕ → ℕ → Bool = has_pair pairs in
     let ps = drop 4 (pieces_of text) in
-    let ls = lines_in counts n ps in
+    let ls = lines_of_pieces counts n ps in
     let head = lines_text (header_words (header_with n price name)) in
     let mine : InOrder (Proper n has) None ls = in_order_weaker (Good counts n has) (Proper n has) (good_is_proper counts n has) None ls (stands_in_order counts n has None k ps f) in
     let value : InOrder (Proper n has) None (value_lines pairs pit flow) = value_in_order (Proper n has) n pairs pit flow a r.rising d.covers (value_proper n pairs pit flow b r.known d.covers) in
@@ -53,10 +53,10 @@ body_alone counts name n pairs text w h left b g e p k =
     let ok : header_for (wanted_for n name) (pieces_of text) ≡ Ok h = subst (λ (v : Wanted). header_for (Some v) (pieces_of text) ≡ Ok h) same e in
     ap (fault_behind counts n pairs (drop 4 (pieces_of text))) ok ∙ rw (p, k) refl
 
-pub none_ascends : (counts : Bool) (n : ℕ) (pairs : List (ℕ × ℕ)) (left : Unread) (start later : Gathered) → start.pit ≡ [] → body_fault counts n (has_pair pairs) None left.number left.pieces ≡ None → Adds n pairs (lines_in counts n left.pieces) start later → IsAscending later.pit
+pub none_ascends : (counts : Bool) (n : ℕ) (pairs : List (ℕ × ℕ)) (left : Unread) (start later : Gathered) → start.pit ≡ [] → body_fault counts n (has_pair pairs) None left.number left.pieces ≡ None → Adds n pairs (lines_of_pieces counts n left.pieces) start later → IsAscending later.pit
 none_ascends counts n pairs left start later e f a =
-    let is : later.pit ≡ pit_of (lines_in counts n left.pieces) = a.pit ∙ ap (λ (bs : List ℕ). bs ++ pit_of (lines_in counts n left.pieces)) e in
-    subst IsAscending (sym is) (ascending counts n (has_pair pairs) None (lines_in counts n left.pieces) (stands_in_order counts n (has_pair pairs) None left.number left.pieces f))
+    let is : later.pit ≡ pit_of (lines_of_pieces counts n left.pieces) = a.pit ∙ ap (λ (bs : List ℕ). bs ++ pit_of (lines_of_pieces counts n left.pieces)) e in
+    subst IsAscending (sym is) (ascending counts n (has_pair pairs) None (lines_of_pieces counts n left.pieces) (stands_in_order counts n (has_pair pairs) None left.number left.pieces f))
 
 -- The amounts of a start are zero.
 pub record IsEmpty (start : Gathered) : Type 0 where
@@ -66,25 +66,25 @@ pub record IsEmpty (start : Gathered) : Type 0 where
   pub sink : (b : ℕ) → amount_at start.flow.sink b ≡ zero_amount
 
 pub all_read : (counts : Bool) (name : Group) (n : ℕ) (pairs : List (ℕ × ℕ)) (text : List ℕ) (w : Wanted) (h : Header) (left : Unread) (start later : Gathered) → w.blocks ≡ n → w.group ≡ name → header_for (Some w) (pieces_of text) ≡ Ok h → left.pieces ≡ drop 4 (pieces_of text) → left.number ≡ 4
-    → IsEmpty start → IsRests (record { blocks = n; pairs = pairs }) → body_fault counts n (has_pair pairs) None left.number left.pieces ≡ None → Covers n (length pairs) later.flow → Adds n pairs (lines_in counts n left.pieces) start later
+    → IsEmpty start → IsRests (record { blocks = n; pairs = pairs }) → body_fault counts n (has_pair pairs) None left.number left.pieces ≡ None → Covers n (length pairs) later.flow → Adds n pairs (lines_of_pieces counts n left.pieces) start later
     → (fault_of counts name n pairs text ≡ None) × IsRead counts name n pairs text h.blocks h.price later.pit later.flow
 all_read counts name n pairs text w h left start later b g e p k z r f c a =
     let same : w ≡ record { blocks = n; group = name } = λ i. record { blocks = b i; group = g i } in
     let q = header_wanted w (pieces_of text) h e in
     let made : h ≡ record { blocks = n; price = h.price; group = name } = λ i. record { blocks = (q.0 ∙ b) i; price = h.price; group = (q.1 ∙ g) i } in
-    let lines : lines_in counts n left.pieces ≡ lines_in counts n (drop 4 (pieces_of text)) = ap (lines_in counts n) p in
-    let is : later.pit ≡ pit_of (lines_in counts n left.pieces) = a.pit ∙ ap (λ (bs : List ℕ). bs ++ pit_of (lines_in counts n left.pieces)) z.pit in
+    let lines : lines_of_pieces counts n left.pieces ≡ lines_of_pieces counts n (drop 4 (pieces_of text)) = ap (lines_of_pieces counts n) p in
+    let is : later.pit ≡ pit_of (lines_of_pieces counts n left.pieces) = a.pit ∙ ap (λ (bs : List ℕ). bs ++ pit_of (lines_of_pieces counts n left.pieces)) z.pit in
     let order = stands_in_order counts n (has_pair pairs) None left.number left.pieces f in
     let head = subst (λ (v : Wanted). header_for (Some v) (pieces_of text) ≡ Ok h) same e ∙ ap (λ (x : Header). Ok x) made in
-    let says : Denotes n pairs (lines_in counts n (drop 4 (pieces_of text))) later.pit later.flow = record {
+    let says : Denotes n pairs (lines_of_pieces counts n (drop 4 (pieces_of text))) later.pit later.flow = record {
       pit = is ∙ ap pit_of lines;
       covers = c;
-      source = λ i j. a.source i j ∙ ap (λ (x : Amount). given_amount (gives_source i) x (lines_in counts n left.pieces)) (z.source i) ∙ ap (given_amount (gives_source i) zero_amount) lines;
-      rest = λ i j. a.rest i j ∙ ap (λ (x : Amount). given_amount (gives_rest (get_or pairs i (0, 0))) x (lines_in counts n left.pieces)) (z.rest i) ∙ ap (given_amount (gives_rest (get_or pairs i (0, 0))) zero_amount) lines;
-      sink = λ i j. a.sink i j ∙ ap (λ (x : Amount). given_amount (gives_sink i) x (lines_in counts n left.pieces)) (z.sink i) ∙ ap (given_amount (gives_sink i) zero_amount) lines;
+      source = λ i j. a.source i j ∙ ap (λ (x : Amount). given_amount (gives_source i) x (lines_of_pieces counts n left.pieces)) (z.source i) ∙ ap (given_amount (gives_source i) zero_amount) lines;
+      rest = λ i j. a.rest i j ∙ ap (λ (x : Amount). given_amount (gives_rest (get_or pairs i (0, 0))) x (lines_of_pieces counts n left.pieces)) (z.rest i) ∙ ap (given_amount (gives_rest (get_or pairs i (0, 0))) zero_amount) lines;
+      sink = λ i j. a.sink i j ∙ ap (λ (x : Amount). given_amount (gives_sink i) x (lines_of_pieces counts n left.pieces)) (z.sink i) ∙ ap (given_amount (gives_sink i) zero_amount) lines;
     } in
     let rises = none_ascends counts n pairs left start later z.pit f a in
-    let below : All (λ x. x < n) later.pit = subst (All (λ x. x < n)) (sym is) (known counts n (has_pair pairs) None (lines_in counts n left.pieces) order) in (
+    let below : All (λ x. x < n) later.pit = subst (All (λ x. x < n)) (sym is) (known counts n (has_pair pairs) None (lines_of_pieces counts n left.pieces) order) in (
       body_alone counts name n pairs text w h left b g e p k ∙ f,
       record {
         header = head;
@@ -124,9 +124,9 @@ value_readable counts n pairs pit flow r b c w =
     let p = value_proper n pairs pit flow b r.known c in
     record {
       pit = λ i h. (pit_readable counts n (get_or pit i 0) r.blocks (b i 0 h), p.pit i h);
-      source = each_both (Readable counts n) (Proper n (has_pair pairs)) (block_at Source) 0 flow.source (each_all (Readable counts n) (Writable counts) (block_at Source) n (λ k x h q z. source_readable counts n k x r.blocks h q z) flow.source 0 (omega (arith, c.sources)) w.source) p.source;
+      source = each_both (Readable counts n) (Proper n (has_pair pairs)) (line_of_block Source) 0 flow.source (each_all (Readable counts n) (Writable counts) (line_of_block Source) n (λ k x h q z. source_readable counts n k x r.blocks h q z) flow.source 0 (omega (arith, c.sources)) w.source) p.source;
       rest = each_both (Readable counts n) (Proper n (has_pair pairs)) (pair_at pairs) 0 flow.rest (each_all (Readable counts n) (Writable counts) (pair_at pairs) (length pairs) (λ k x h q z. rest_readable counts n (get_or pairs k (0, 0)).0 (get_or pairs k (0, 0)).1 x r.blocks (r.known k (0, 0) h).0 (r.known k (0, 0) h).1 q z) flow.rest 0 (omega (arith, c.rests)) w.rest) p.rest;
-      sink = each_both (Readable counts n) (Proper n (has_pair pairs)) (block_at Sink) 0 flow.sink (each_all (Readable counts n) (Writable counts) (block_at Sink) n (λ k x h q z. sink_readable counts n k x r.blocks h q z) flow.sink 0 (omega (arith, c.sinks)) w.sink) p.sink;
+      sink = each_both (Readable counts n) (Proper n (has_pair pairs)) (line_of_block Sink) 0 flow.sink (each_all (Readable counts n) (Writable counts) (line_of_block Sink) n (λ k x h q z. sink_readable counts n k x r.blocks h q z) flow.sink 0 (omega (arith, c.sinks)) w.sink) p.sink;
     }
 
 -- The text of a value is read without a fault, and as that value.
@@ -141,7 +141,7 @@ read_back counts name n pairs price pit flow r p a b c w =
     let good : ReadAs counts n has None 4 body ls = body_read counts n has ls None 4 tt order in
     let head : header_for (wanted_for n name) (pieces_of text) ≡ Ok (header_with n price name) = header_read n price name body r.blocks p in
     let left : drop 4 (pieces_of text) ≡ pieces_of body = body_left n price name body r.blocks p in
-    let lines : lines_in counts n (drop 4 (pieces_of text)) ≡ ls = ap (lines_in counts n) left ∙ good.lines in
+    let lines : lines_of_pieces counts n (drop 4 (pieces_of text)) ≡ ls = ap (lines_of_pieces counts n) left ∙ good.lines in
     let read : IsRead counts name n pairs text n price pit flow = record {
       header = head;
       same_blocks = refl;

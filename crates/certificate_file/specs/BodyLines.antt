@@ -157,6 +157,6 @@ lines_from behind (Err e) = []
 lines_from behind (Ok line) = cond (is_end line.kind) [] (line ∷ behind)
 
 -- the lines before END
-abbrev pub lines_in : Bool → ℕ → List Piece → List BodyLine
-lines_in counts n [] = []
-lines_in counts n (p ∷ ps) = lines_from (lines_in counts n ps) (line_of counts n p.text)
+abbrev pub lines_of_pieces : Bool → ℕ → List Piece → List BodyLine
+lines_of_pieces counts n [] = []
+lines_of_pieces counts n (p ∷ ps) = lines_from (lines_of_pieces counts n ps) (line_of counts n p.text)

@@ -15,7 +15,7 @@ use Rattle.certificate_file.specs.declared.body_lines.LineKind.TheVariants.{Pit,
 use Rattle.certificate_file.specs.declared.body_lines.BodyLine.{BodyLine}
 use Rattle.certificate_file.specs.Pieces.{Piece, pieces_of}
 use Rattle.certificate_file.specs.Header.{header_for}
-use Rattle.certificate_file.specs.BodyLines.{body_fault, lines_in}
+use Rattle.certificate_file.specs.BodyLines.{body_fault, lines_of_pieces}
 use Rattle.certificate_file.specs.Written.{header_with, text_of}
 
 -- the lines behind the header
@@ -109,7 +109,7 @@ pub record Denotes (n : ℕ) (pairs : List (ℕ × ℕ)) (lines : List BodyLine)
 
 -- the lines of a text behind its header, before END
 abbrev pub lines_of_text : Bool → ℕ → List ℕ → List BodyLine
-lines_of_text counts n text = lines_in counts n (body_of text)
+lines_of_text counts n text = lines_of_pieces counts n (body_of text)
 
 -- The numbers, the pit and the flow that a text without a fault gives; and it is the one text of these.
 pub record IsRead (counts : Bool) (name : Group) (n : ℕ) (pairs : List (ℕ × ℕ)) (text : List ℕ) (blocks : ℕ) (price : Price) (pit : List ℕ) (flow : FlowView) : Type 0 where

@@ -69,8 +69,8 @@ abbrev pub pit_at : ℕ → BodyLine
 pit_at b = record { kind = Pit; block = b; other = 0; worth = pos 0; count = pos 0 }
 
 -- the line of an amount at a block
-abbrev pub block_at : LineKind → ℕ → Amount → BodyLine
-block_at kind b x = record { kind = kind; block = b; other = 0; worth = x.w; count = x.c }
+abbrev pub line_of_block : LineKind → ℕ → Amount → BodyLine
+line_of_block kind b x = record { kind = kind; block = b; other = 0; worth = x.w; count = x.c }
 
 -- the line of the amount over the pair at a place
 abbrev pub pair_at : List (ℕ × ℕ) → ℕ → Amount → BodyLine
@@ -92,7 +92,7 @@ amount_lines line k (x ∷ xs) = cond (is_zero x) (amount_lines line (k + 1) xs)
 
 -- the lines of a flow, in order
 abbrev pub flow_lines : List (ℕ × ℕ) → FlowView → List BodyLine
-flow_lines pairs flow = amount_lines (block_at Source) 0 flow.source ++ (amount_lines (pair_at pairs) 0 flow.rest ++ amount_lines (block_at Sink) 0 flow.sink)
+flow_lines pairs flow = amount_lines (line_of_block Source) 0 flow.source ++ (amount_lines (pair_at pairs) 0 flow.rest ++ amount_lines (line_of_block Sink) 0 flow.sink)
 
 -- the lines of a pit and a flow, in order
 abbrev pub value_lines : List (ℕ × ℕ) → List ℕ → FlowView → List BodyLine

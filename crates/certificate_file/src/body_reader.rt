@@ -3,7 +3,7 @@
 
 ghost use Rattle.std.specs.Prelude.{◌≡◌, ◌∷◌, length, Some, None, Ok, Err, MatchResult};
 ghost use Rattle.certificate_file.specs.BodyLines as spec;
-ghost use Rattle.certificate_file.specs.BodyLines.{body_fault, lines_in};
+ghost use Rattle.certificate_file.specs.BodyLines.{body_fault, lines_of_pieces};
 ghost use Rattle.certificate_file.specs.Certificate.{Covers, UnlessMemory, has_pair};
 ghost use Rattle.certificate_file.specs.Gathered.{Adds};
 
@@ -42,7 +42,7 @@ pub fn read_body<G: OrderedGroup>(
     ensures { MatchResult result
         (λ _. (body_fault G.counts rests.now.blocks (has_pair rests.now.pairs) None pieces.old.number pieces.old.pieces ≡ None)
         × Covers rests.now.blocks (length rests.now.pairs) parts.new.flow
-        × Adds rests.now.blocks rests.now.pairs (lines_in G.counts rests.now.blocks pieces.old.pieces) parts.old parts.new)
+        × Adds rests.now.blocks rests.now.pairs (lines_of_pieces G.counts rests.now.blocks pieces.old.pieces) parts.old parts.new)
         (λ e. UnlessMemory e (body_fault G.counts rests.now.blocks (has_pair rests.now.pairs) None pieces.old.number pieces.old.pieces ≡ Some e)) }
 {
     let counts = counts::<G>();

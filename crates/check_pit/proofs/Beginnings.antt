@@ -4,7 +4,7 @@ use Rattle.certificate_file.specs.declared.cert_fault.CertFault.{CertFault}
 use Rattle.certificate_file.specs.declared.cert_fault.CertFault.TheVariants as fault
 use Rattle.certificate_file.specs.declared.body_lines.BodyLine.{BodyLine}
 use Rattle.certificate_file.specs.Pieces.{Piece, onto_piece, pieces_of, piece_at, no_line}
-use Rattle.certificate_file.specs.BodyLines.{line_of, is_end, may_follow, next_line, end_fault, fault_from, body_fault, lines_in, lines_from}
+use Rattle.certificate_file.specs.BodyLines.{line_of, is_end, may_follow, next_line, end_fault, fault_from, body_fault, lines_of_pieces, lines_from}
 use Rattle.certificate_file.specs.Certificate.{has_pair}
 use Rattle.check_pit.specs.StreamLines.{IsLine}
 use Rattle.check_pit.specs.TakenLines.{held_piece}
@@ -29,7 +29,7 @@ order_added P previous (k ∷ ks) l o m p = (o.0, o.1, order_added P (Some k) ks
 -- with what is held, and its lines are these and then those of what is held.
 pub record BeginsWith (counts : Bool) (n : ℕ) (pairs : List (ℕ × ℕ)) (body held : List ℕ) (number : ℕ) (previous : Option BodyLine) (ls : List BodyLine) : Type 0 where
   pub same_fault : (future : List ℕ) → body_fault counts n (has_pair pairs) None 4 (pieces_of (body ++ future)) ≡ body_fault counts n (has_pair pairs) previous number (pieces_of (held ++ future))
-  pub lines : (future : List ℕ) → lines_in counts n (pieces_of (body ++ future)) ≡ ls ++ lines_in counts n (pieces_of (held ++ future))
+  pub lines : (future : List ℕ) → lines_of_pieces counts n (pieces_of (body ++ future)) ≡ ls ++ lines_of_pieces counts n (pieces_of (held ++ future))
   pub order : InOrder (Good counts n (has_pair pairs)) None ls
   pub last : previous ≡ last_line None ls
 
@@ -41,7 +41,7 @@ begins counts n pairs body = record { same_fault = λ future. refl; lines = λ f
 pub reads_on : (counts : Bool) (n : ℕ) (pairs : List (ℕ × ℕ)) (body held : List ℕ) (number : ℕ) (previous : Option BodyLine) (ls : List BodyLine) (bytes : List ℕ) → BeginsWith counts n pairs body held number previous ls → BeginsWith counts n pairs (body ++ bytes) (held ++ bytes) number previous ls
 reads_on counts n pairs body held number previous ls bytes b = record {
   same_fault = λ future. ap (λ (t : List ℕ). body_fault counts n (has_pair pairs) None 4 (pieces_of t)) (append_assoc body bytes future) ∙ b.same_fault (bytes ++ future) ∙ sym (ap (λ (t : List ℕ). body_fault counts n (has_pair pairs) previous number (pieces_of t)) (append_assoc held bytes future));
-  lines = λ future. ap (λ (t : List ℕ). lines_in counts n (pieces_of t)) (append_assoc body bytes future) ∙ b.lines (bytes ++ future) ∙ sym (ap (λ (t : List ℕ). ls ++ lines_in counts n (pieces_of t)) (append_assoc held bytes future));
+  lines = λ future. ap (λ (t : List ℕ). lines_of_pieces counts n (pieces_of t)) (append_assoc body bytes future) ∙ b.lines (bytes ++ future) ∙ sym (ap (λ (t : List ℕ). ls ++ lines_of_pieces counts n (pieces_of t)) (append_assoc held bytes future));
   order = b.order;
   last = b.last;
 }
@@ -55,10 +55,10 @@ fault_behind_line counts n has held number j previous line h ok future =
     ∙ ap (fault_from (end_fault (number + 1) ps) (λ l. body_fault counts n has (Some l) (number + 1) ps)) ok
 
 lines_behind_line : (counts : Bool) (n : ℕ) (held : List ℕ) (j : ℕ) (line : BodyLine) → IsLine held j → line_of counts n (take j held) ≡ Ok line → (future : List ℕ)
-    → lines_in counts n (pieces_of (held ++ future)) ≡ cond (is_end line.kind) [] (line ∷ lines_in counts n (pieces_of (drop (j + 1) held ++ future)))
+    → lines_of_pieces counts n (pieces_of (held ++ future)) ≡ cond (is_end line.kind) [] (line ∷ lines_of_pieces counts n (pieces_of (drop (j + 1) held ++ future)))
 lines_behind_line counts n held j line h ok future =
     let ps = pieces_of (drop (j + 1) held ++ future) in
-    ap (lines_in counts n) (line_held held j h.ends future) ∙ ap (lines_from (lines_in counts n ps)) ok
+    ap (lines_of_pieces counts n) (line_held held j h.ends future) ∙ ap (lines_from (lines_of_pieces counts n ps)) ok
 
 -- One line on.
 pub takes_line : (counts : Bool) (n : ℕ) (pairs : List (ℕ × ℕ)) (body held : List ℕ) (number j : ℕ) (previous : Option BodyLine) (ls : List BodyLine) (line : BodyLine) → BeginsWith counts n pairs body held number previous ls → IsLine held j
@@ -71,8 +71,8 @@ takes_line counts n pairs body held number j previous ls line b h ok e =
       same_fault = λ future. b.same_fault future ∙ fault_behind_line counts n has held number j previous line h ok future
           ∙ ap (λ (t : Bool). cond t (end_fault (number + 1) (pieces_of (drop (j + 1) held ++ future))) (body_fault counts n has (Some line) (number + 1) (pieces_of (drop (j + 1) held ++ future)))) e;
       lines = λ future. b.lines future
-          ∙ ap (λ (ms : List BodyLine). ls ++ ms) (lines_behind_line counts n held j line h text future ∙ ap (λ (t : Bool). cond t [] (line ∷ lines_in counts n (pieces_of (drop (j + 1) held ++ future)))) e)
-          ∙ sym (append_assoc ls (line ∷ []) (lines_in counts n (pieces_of (drop (j + 1) held ++ future))));
+          ∙ ap (λ (ms : List BodyLine). ls ++ ms) (lines_behind_line counts n held j line h text future ∙ ap (λ (t : Bool). cond t [] (line ∷ lines_of_pieces counts n (pieces_of (drop (j + 1) held ++ future)))) e)
+          ∙ sym (append_assoc ls (line ∷ []) (lines_of_pieces counts n (pieces_of (drop (j + 1) held ++ future))));
       order = order_added (Good counts n has) None ls line b.order (subst (λ (p : Option BodyLine). may_follow p line ≡ true) b.last m.follows) (record { sound = sound counts n (take j held) line text; last = e; of_model = m.of_model });
       last = sym (last_added None ls line);
     }
@@ -80,7 +80,7 @@ takes_line counts n pairs body held number j previous ls line b h ok e =
 -- The last line.
 pub record Ends (counts : Bool) (n : ℕ) (pairs : List (ℕ × ℕ)) (body : List ℕ) (number : ℕ) (left : List ℕ) (ls : List BodyLine) : Type 0 where
   pub fault : (future : List ℕ) → body_fault counts n (has_pair pairs) None 4 (pieces_of (body ++ future)) ≡ end_fault number (pieces_of (left ++ future))
-  pub lines : (future : List ℕ) → lines_in counts n (pieces_of (body ++ future)) ≡ ls
+  pub lines : (future : List ℕ) → lines_of_pieces counts n (pieces_of (body ++ future)) ≡ ls
 
 pub takes_end : (counts : Bool) (n : ℕ) (pairs : List (ℕ × ℕ)) (body held : List ℕ) (number j : ℕ) (previous : Option BodyLine) (ls : List BodyLine) (line : BodyLine) → BeginsWith counts n pairs body held number previous ls → IsLine held j
     → next_line counts n (has_pair pairs) previous (number + 1) (held_piece j held) ≡ Ok line → is_end line.kind ≡ true → Ends counts n pairs body (number + 1) (drop (j + 1) held) ls
@@ -92,21 +92,21 @@ takes_end counts n pairs body held number j previous ls line b h ok e =
       fault = λ future. b.same_fault future ∙ fault_behind_line counts n has held number j previous line h ok future
           ∙ ap (λ (t : Bool). cond t (end_fault (number + 1) (pieces_of (drop (j + 1) held ++ future))) (body_fault counts n has (Some line) (number + 1) (pieces_of (drop (j + 1) held ++ future)))) e;
       lines = λ future. b.lines future
-          ∙ ap (λ (ms : List BodyLine). ls ++ ms) (lines_behind_line counts n held j line h text future ∙ ap (λ (t : Bool). cond t [] (line ∷ lines_in counts n (pieces_of (drop (j + 1) held ++ future)))) e)
+          ∙ ap (λ (ms : List BodyLine). ls ++ ms) (lines_behind_line counts n held j line h text future ∙ ap (λ (t : Bool). cond t [] (line ∷ lines_of_pieces counts n (pieces_of (drop (j + 1) held ++ future)))) e)
           ∙ append-nil ls;
     }
 
 pub ends_on : (counts : Bool) (n : ℕ) (pairs : List (ℕ × ℕ)) (body : List ℕ) (number : ℕ) (left : List ℕ) (ls : List BodyLine) (bytes : List ℕ) → Ends counts n pairs body number left ls → Ends counts n pairs (body ++ bytes) number (left ++ bytes) ls
 ends_on counts n pairs body number left ls bytes e = record {
   fault = λ future. ap (λ (t : List ℕ). body_fault counts n (has_pair pairs) None 4 (pieces_of t)) (append_assoc body bytes future) ∙ e.fault (bytes ++ future) ∙ sym (ap (λ (t : List ℕ). end_fault number (pieces_of t)) (append_assoc left bytes future));
-  lines = λ future. ap (λ (t : List ℕ). lines_in counts n (pieces_of t)) (append_assoc body bytes future) ∙ e.lines (bytes ++ future);
+  lines = λ future. ap (λ (t : List ℕ). lines_of_pieces counts n (pieces_of t)) (append_assoc body bytes future) ∙ e.lines (bytes ++ future);
 }
 
 -- Nothing is left behind the last line.
-pub ends_whole : (counts : Bool) (n : ℕ) (pairs : List (ℕ × ℕ)) (body left : List ℕ) (number : ℕ) (ls : List BodyLine) → Ends counts n pairs body number left ls → left ≡ [] → (body_fault counts n (has_pair pairs) None 4 (pieces_of body) ≡ None) × (lines_in counts n (pieces_of body) ≡ ls)
+pub ends_whole : (counts : Bool) (n : ℕ) (pairs : List (ℕ × ℕ)) (body left : List ℕ) (number : ℕ) (ls : List BodyLine) → Ends counts n pairs body number left ls → left ≡ [] → (body_fault counts n (has_pair pairs) None 4 (pieces_of body) ≡ None) × (lines_of_pieces counts n (pieces_of body) ≡ ls)
 ends_whole counts n pairs body left number ls e none = (
   sym (ap (λ (t : List ℕ). body_fault counts n (has_pair pairs) None 4 (pieces_of t)) (append-nil body)) ∙ e.fault [] ∙ ap (λ (t : List ℕ). end_fault number (pieces_of (t ++ []))) none,
-  sym (ap (λ (t : List ℕ). lines_in counts n (pieces_of t)) (append-nil body)) ∙ e.lines [],
+  sym (ap (λ (t : List ℕ). lines_of_pieces counts n (pieces_of t)) (append-nil body)) ∙ e.lines [],
 )
 
 onto_more : (b : ℕ) (ps : List Piece) (number : ℕ) → end_fault number (onto_piece b ps) ≡ Some (fault.Text (number + 1))

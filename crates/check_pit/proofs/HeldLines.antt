@@ -11,7 +11,7 @@ use Rattle.fixed_worth.specs.declared.limits.TheConstants.{LINE_BYTES}
 use Rattle.certificate_file.specs.declared.cert_fault.CertFault.TheVariants as fault
 use Rattle.certificate_file.specs.Pieces.{Piece, onto_piece, pieces_of, piece_at, no_line}
 use Rattle.check_pit.specs.StreamView.{LineView}
-use Rattle.check_pit.specs.StreamLines.{Reads}
+use Rattle.check_pit.specs.StreamLines.{ReadsSome}
 use Rattle.certificate_file.proofs.Splits.{cut_off}
 
 onto_text : (b : ℕ) (ps : List Piece) → (piece_at (onto_piece b ps) 0).text ≡ b ∷ (piece_at ps 0).text
@@ -67,7 +67,7 @@ pub line_inside : (bs seen : List ℕ) (j : ℕ) → seen ≡ bs → position (�
 line_inside bs seen j same e = let q = position-Some (λ b. eqb b 10) seen j 0 e in omega (arith, q.0, ap length same)
 
 -- what was read in two parts was read
-pub reads_twice : {R : Type 0} (remaining : R → Option (List ℕ)) (start now later : LineView R) → Reads remaining start now → Reads remaining now later → Reads remaining start later
+pub reads_twice : {R : Type 0} (remaining : R → Option (List ℕ)) (start now later : LineView R) → ReadsSome remaining start now → ReadsSome remaining now later → ReadsSome remaining start later
 reads_twice remaining start now later (xs, a) (ys, b) =
     let size = length-append xs ys in
     let s = a.taken in

@@ -18,7 +18,7 @@ use Rattle.closure_net.proofs.Holding.{place_of}
 use Rattle.certificate_file.specs.declared.body_lines.LineKind.{LineKind}
 use Rattle.certificate_file.specs.declared.body_lines.LineKind.TheVariants.{Source, Rest, Sink}
 use Rattle.certificate_file.specs.declared.body_lines.BodyLine.{BodyLine}
-use Rattle.certificate_file.specs.BodyLines.{lines_in, is_of_model}
+use Rattle.certificate_file.specs.BodyLines.{lines_of_pieces, is_of_model}
 use Rattle.certificate_file.specs.Certificate.{Denotes, has_pair, pit_of, amount_of, given_amount, gives_source, gives_rest, gives_sink}
 use Rattle.check_pit.specs.Checks.{NoneBelowZero, AllWithin}
 use Rattle.check_pit.specs.LineSums.{balance_of, residual_behind, worth_of_blocks, flow_of, keeps_by, KeepLimits}
@@ -178,7 +178,7 @@ pub sums_tell : LineSumsTell
 sums_tell counts net number ps rests fine =
     let has : ℕ → ℕ → Bool = has_pair net.pairs in
     let n = length net.worths in
-    let ls = lines_in counts n ps in
+    let ls = lines_of_pieces counts n ps in
     let good = stands_in_order counts n has None number ps fine in
     let order = in_order_weaker (Good counts n has) (Proper n has) (good_is_proper counts n has) None ls good in
     let pit = worth_is net.worths (pit_of ls) (ascending counts n has None ls good) (known counts n has None ls good) in

@@ -21,7 +21,7 @@ use Rattle.certificate_file.specs.Header.{◌>>=◌}
 use Rattle.certificate_file.specs.BodyLines.{line_of, is_of_model, may_follow, in_order, in_model, line_behind, next_line}
 use Rattle.certificate_file.specs.Certificate.{has_pair}
 use Rattle.check_pit.specs.StreamView.{LineView}
-use Rattle.check_pit.specs.StreamLines.{Reads, IsLine}
+use Rattle.check_pit.specs.StreamLines.{ReadsSome, IsLine}
 use Rattle.check_pit.specs.TakenLines.{held_piece, PassesLine, GoesBehind, TakesLine, LacksLine, FaultIs, NoNextLine}
 use Rattle.certificate_file.proofs.Additions.{absent, present}
 use Rattle.check_pit.proofs.Beginnings.{no_line_next}
@@ -140,7 +140,7 @@ fault_as left taken has had p q (Cert fault.NoMemory) f g h = λ future. f futur
 fault_as left taken has had p q (Pit e) f g h = g e h
 
 -- A line that was passed, or not.
-pub passes : {R : Type 0} (remaining : R → Option (List ℕ)) (before mid later : LineView R) (count : ℕ) (m : Reads remaining before mid) → IsLine mid.held count → GoesBehind count mid later → PassesLine remaining before later m.0 count
+pub passes : {R : Type 0} (remaining : R → Option (List ℕ)) (before mid later : LineView R) (count : ℕ) (m : ReadsSome remaining before mid) → IsLine mid.held count → GoesBehind count mid later → PassesLine remaining before later m.0 count
 passes {R = R} remaining before mid later count m h b =
     let r = m.1 in
     record {
@@ -161,7 +161,7 @@ gives f held text count k h e =
 abbrev pub PassedWhere : {R A : Type 0} → LineView R → LineView R → ℕ → Result A StreamFault → Result A CertFault → Type 0
 PassedWhere before later count result read = MatchResult read (λ x. (result ≡ Ok x) × GoesBehind count before later) (λ e. (result ≡ Err (Cert e)) × (later ≡ before))
 
-given_by : {R A : Type 0} (remaining : R → Option (List ℕ)) (f : List ℕ → Result A LineFault) (before mid later : LineView R) (count : ℕ) (result : Result A StreamFault) (read : Result A CertFault) (m : Reads remaining before mid) → IsLine mid.held count
+given_by : {R A : Type 0} (remaining : R → Option (List ℕ)) (f : List ℕ → Result A LineFault) (before mid later : LineView R) (count : ℕ) (result : Result A StreamFault) (read : Result A CertFault) (m : ReadsSome remaining before mid) → IsLine mid.held count
     → read_line f (mid.number + 1) (held_piece count mid.held) ≡ read → PassedWhere mid later count result read → MatchResult result (λ x. TakesLine remaining (read_line f) before later x) (λ e. LacksLine remaining (read_line f) before later e)
 given_by {R = R} {A = A} remaining f before mid later count result (Ok x) m h e p =
     let r = m.1 in
@@ -172,7 +172,7 @@ given_by {R = R} {A = A} remaining f before mid later count result (Err x) m h e
     subst (λ (y : Result A StreamFault). MatchResult y (λ x. TakesLine remaining (read_line f) before later x) (λ e. LacksLine remaining (read_line f) before later e)) (sym p.0)
     (subst (λ (s : LineView R). LacksLine remaining (read_line f) before s (Cert x)) (sym p.1) (m, line_wrong (remaining mid.from) (read_line f) mid count x (line_reads f) h e))
 
-pub line_given : {R A : Type 0} (remaining : R → Option (List ℕ)) (f : List ℕ → Result A LineFault) (before mid later : LineView R) (count number : ℕ) (text : List ℕ) (result : Result A StreamFault) (read : Result A CertFault) → Reads remaining before mid → IsLine mid.held count
+pub line_given : {R A : Type 0} (remaining : R → Option (List ℕ)) (f : List ℕ → Result A LineFault) (before mid later : LineView R) (count number : ℕ) (text : List ℕ) (result : Result A StreamFault) (read : Result A CertFault) → ReadsSome remaining before mid → IsLine mid.held count
     → number ≡ mid.number → text ≡ take count mid.held → read ≡ in_line (number + 1) (f text) → PassedWhere mid later count result read → MatchResult result (λ x. TakesLine remaining (read_line f) before later x) (λ e. LacksLine remaining (read_line f) before later e)
 line_given remaining f before mid later count number text result read m h k t e p =
     given_by remaining f before mid later count result read m h (sym (e ∙ ap (λ (j : ℕ). in_line (j + 1) (f text)) k ∙ gives f mid.held text count (mid.number + 1) h t)) p

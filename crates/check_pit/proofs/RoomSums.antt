@@ -15,7 +15,7 @@ use Rattle.certificate_file.specs.declared.body_lines.BodyLine.{BodyLine}
 use Rattle.certificate_file.specs.Certificate.{block_if_pit, pit_of, amount_of}
 use Rattle.check_pit.specs.LineSums.{brings_by, balance_of, source_by, source_sum, worth_of_blocks, residual_behind, SomeLineSumOverflows}
 use Rattle.std.specs.Option.{is_some}
-use Rattle.check_pit.specs.PitLists.{blocks_of}
+use Rattle.check_pit.specs.PitLists.{blocks_of_pit}
 use Rattle.check_pit.specs.Rooms.{RoomView, IsRoomFor, AreSumsOf, WithLine, SumOverflowsWith, RefusedWhere, PutsLine, RefusesLine, with_balance, with_left}
 use Rattle.certificate_file.proofs.ValueLines.{joins}
 
@@ -157,7 +157,7 @@ with_rest net l before mid later x is h i e m w =
 
 -- ---- the list of a pit that is not made yet
 
-pub blocks_open : (bs : List ℕ) (p : Option (List ℕ)) → is_some p ≡ false → blocks_of bs p ≡ bs
+pub blocks_open : (bs : List ℕ) (p : Option (List ℕ)) → is_some p ≡ false → blocks_of_pit bs p ≡ bs
 blocks_open bs None h = refl
 blocks_open bs (Some pit) h = absurd (let z : true ≡ false = h in cc)
 

@@ -9,12 +9,12 @@ use Rattle.check_pit.specs.declared.stream_fault.StreamFault.{StreamFault}
 use Rattle.fixed_worth.specs.declared.limits.TheConstants.{MOST_BYTES}
 use Rattle.certificate_file.specs.declared.body_lines.BodyLine.{BodyLine}
 use Rattle.certificate_file.specs.Pieces.{Piece, pieces_of, piece_at}
-use Rattle.certificate_file.specs.BodyLines.{is_end, next_line, lines_in}
+use Rattle.certificate_file.specs.BodyLines.{is_end, next_line, lines_of_pieces}
 use Rattle.certificate_file.specs.Certificate.{UnlessMemory, has_pair}
 use Rattle.check_pit.specs.StreamView.{LineView}
 use Rattle.check_pit.specs.StreamLines.{ReadsBytes}
 use Rattle.check_pit.specs.TakenLines.{held_piece, PassesLine, TakesLine, LacksLine, NoPitFault}
-use Rattle.check_pit.specs.StreamChecks.{ReadsOn, fault_of_body, lines_of_body, LinesBegin, IsWhole, BodyRefused, BodyFails}
+use Rattle.check_pit.specs.StreamChecks.{ReadsOn, fault_of_body, lines_of_body, LinesBegin, IsWholeBody, BodyRefused, BodyFails}
 use Rattle.certificate_file.proofs.Going.{always}
 use Rattle.certificate_file.proofs.Order.{Met, met}
 use Rattle.check_pit.proofs.Beginnings.{BeginsWith, begins, reads_on, takes_line, Ends, takes_end, ends_on, ends_whole, wrong_at}
@@ -129,11 +129,11 @@ reading_lacks remaining counts net start now later previous bytes ls e r l =
     )
 
 pub lines_begin : {R : Type 0} (remaining : R → Option (List ℕ)) (counts : Bool) (net : NetView) (start now : LineView R) (previous : Option BodyLine) (bytes : List ℕ) (ls : List BodyLine) → Reading remaining counts net start now previous bytes ls → LinesBegin counts net (start.held ++ bytes) ls
-lines_begin remaining counts net start now previous bytes ls r = λ future. (lines_in counts (length net.worths) (pieces_of (now.held ++ future)), r.begins.lines future)
+lines_begin remaining counts net start now previous bytes ls r = λ future. (lines_of_pieces counts (length net.worths) (pieces_of (now.held ++ future)), r.begins.lines future)
 
 -- Nothing stands behind END.
 pub ended_whole : {R : Type 0} (remaining : R → Option (List ℕ)) (counts : Bool) (net : NetView) (start now : LineView R) (bytes : List ℕ) (ls : List BodyLine) → Ended remaining counts net start now bytes ls → IsAtEnd (remaining now.from) → now.held ≡ [] → now.taken ≤ MOST_BYTES
-    → IsWhole (remaining now.from) now.taken counts net (start.held ++ bytes) × (lines_of_body counts net (start.held ++ bytes) ≡ ls)
+    → IsWholeBody (remaining now.from) now.taken counts net (start.held ++ bytes) × (lines_of_body counts net (start.held ++ bytes) ≡ ls)
 ended_whole remaining counts net start now bytes ls r e h t =
     let w = ends_whole counts (length net.worths) net.pairs (start.held ++ bytes) now.held now.number ls r.ends h in
     (record { ends = e; few = t; none = w.0 }, w.1)

@@ -21,16 +21,16 @@ use Rattle.certificate_file.specs.declared.body_lines.LineKind.{LineKind}
 use Rattle.certificate_file.specs.declared.body_lines.LineKind.TheVariants.{Pit, Source, Rest, Sink, End}
 use Rattle.certificate_file.specs.declared.body_lines.BodyLine.{BodyLine}
 use Rattle.certificate_file.specs.Pieces.{pieces_of}
-use Rattle.certificate_file.specs.BodyLines.{rank, line_of, is_end, is_of_model, may_follow, body_fault, lines_in}
+use Rattle.certificate_file.specs.BodyLines.{rank, line_of, is_end, is_of_model, may_follow, body_fault, lines_of_pieces}
 use Rattle.certificate_file.specs.Certificate.{has_pair, pit_of, block_if_pit}
 use Rattle.check_pit.specs.Checks.{ProvesPit}
 use Rattle.check_pit.specs.LineSums.{worth_of_blocks, keeps_by, KeepLimits}
 use Rattle.check_pit.specs.LineLaws.{LinesTell}
 use Rattle.check_pit.specs.Rooms.{RoomView, AreSumsOf, TakesBlock, MayPut, LineRefused, PutsLine, RefusesLine}
 use Rattle.check_pit.specs.StreamView.{LineView}
-use Rattle.check_pit.specs.StreamLines.{Reads}
+use Rattle.check_pit.specs.StreamLines.{ReadsSome}
 use Rattle.check_pit.specs.TakenLines.{TakesLine}
-use Rattle.check_pit.specs.StreamChecks.{is_pit, is_behind_pits, ReadsOn, fault_of_body, lines_of_body, flow_by, first_pits, LinesBegin, IsWhole, HasPit, BodyRefused, BodyFails, BodyProves, ClosesPit, IsOpenPit, SumsSettle, SumsFail, IsDone, EndFails}
+use Rattle.check_pit.specs.StreamChecks.{is_pit, is_behind_pits, ReadsOn, fault_of_body, lines_of_body, flow_by, first_pits, LinesBegin, IsWholeBody, HasPit, BodyRefused, BodyFails, BodyProves, ClosesPit, IsOpenPit, SumsSettle, SumsFail, IsDone, EndFails}
 use Rattle.certificate_file.proofs.Going.{Sound, sound, text_read}
 use Rattle.certificate_file.proofs.Order.{InOrder, Good, stands_in_order, later_pits, ascending, known}
 use Rattle.check_pit.proofs.LineSums.{pair_place}
@@ -178,11 +178,11 @@ no_pits (b ∷ bs) h = absurd (h 0 (omega arith))
 pit_kind : (kind : LineKind) → kind ≡ Pit → is_pit kind ≡ false → ⊥
 pit_kind kind e f = let z : true ≡ false = sym (ap is_pit e) ∙ f in cc
 
-none_later : (counts : Bool) (net : NetView) (line : BodyLine) (k : ℕ) (left : List ℕ) → Sound counts (length net.worths) line → is_pit line.kind ≡ false → body_fault counts (length net.worths) (has_pair net.pairs) (Some line) k (pieces_of left) ≡ None → pit_of (lines_in counts (length net.worths) (pieces_of left)) ≡ []
+none_later : (counts : Bool) (net : NetView) (line : BodyLine) (k : ℕ) (left : List ℕ) → Sound counts (length net.worths) line → is_pit line.kind ≡ false → body_fault counts (length net.worths) (has_pair net.pairs) (Some line) k (pieces_of left) ≡ None → pit_of (lines_of_pieces counts (length net.worths) (pieces_of left)) ≡ []
 none_later counts net line k left s f h =
     let n = length net.worths in
     let has : ℕ → ℕ → Bool = has_pair net.pairs in
-    let rest = lines_in counts n (pieces_of left) in
+    let rest = lines_of_pieces counts n (pieces_of left) in
     no_pits (pit_of rest) (λ i l. pit_kind line.kind (later_pits counts n has line rest s (stands_in_order counts n has (Some line) k (pieces_of left) h) i l).0 f)
 
 pit_on : {R : Type 0} (remaining : R → Option (List ℕ)) (counts : Bool) (net : NetView) (start later : LineView R) (bytes : List ℕ) (ls : List BodyLine) (line : BodyLine) → Reading remaining counts net start later (Some line) bytes (ls ++ line ∷ []) → Sound counts (length net.worths) line → is_pit line.kind ≡ false
@@ -190,10 +190,10 @@ pit_on : {R : Type 0} (remaining : R → Option (List ℕ)) (counts : Bool) (net
 pit_on remaining counts net start later bytes ls line q s f a =
     let n = length net.worths in
     record {
-      first = λ future. ap (λ (xs : List BodyLine). pit_of (first_pits xs)) (q.begins.lines future) ∙ ap pit_of (first_behind ls (lines_in counts n (pieces_of (later.held ++ future))) line a f);
+      first = λ future. ap (λ (xs : List BodyLine). pit_of (first_pits xs)) (q.begins.lines future) ∙ ap pit_of (first_behind ls (lines_of_pieces counts n (pieces_of (later.held ++ future))) line a f);
       all = λ future h.
           let none = none_later counts net line later.number (later.held ++ future) s f (sym (q.begins.same_fault future) ∙ h) in
-          ap pit_of (q.begins.lines future) ∙ pit_append (ls ++ line ∷ []) (lines_in counts n (pieces_of (later.held ++ future))) ∙ ap (λ (bs : List ℕ). pit_of (ls ++ line ∷ []) ++ bs) none ∙ append-nil (pit_of (ls ++ line ∷ [])) ∙ same_pit ls line f;
+          ap pit_of (q.begins.lines future) ∙ pit_append (ls ++ line ∷ []) (lines_of_pieces counts n (pieces_of (later.held ++ future))) ∙ ap (λ (bs : List ℕ). pit_of (ls ++ line ∷ []) ++ bs) none ∙ append-nil (pit_of (ls ++ line ∷ [])) ∙ same_pit ls line f;
     }
 
 pit_at_end : {R : Type 0} (remaining : R → Option (List ℕ)) (counts : Bool) (net : NetView) (start later : LineView R) (bytes : List ℕ) (ls : List BodyLine) → Ended remaining counts net start later bytes ls → AllPits ls → HasPit counts net (start.held ++ bytes) (pit_of ls)
@@ -265,7 +265,7 @@ settled counts net room ls o t a s =
     }
 
 -- The lines prove the pit.
-pub proves_at : (left : Option (List ℕ)) (taken : ℕ) (counts : Bool) (net : NetView) (body : List ℕ) (room : RoomView) (ls : List BodyLine) → IsRests (record { blocks = length net.worths; pairs = net.pairs }) → IsWhole left taken counts net body → lines_of_body counts net body ≡ ls → AllRead net room ls → SumsSettle net room
+pub proves_at : (left : Option (List ℕ)) (taken : ℕ) (counts : Bool) (net : NetView) (body : List ℕ) (room : RoomView) (ls : List BodyLine) → IsRests (record { blocks = length net.worths; pairs = net.pairs }) → IsWholeBody left taken counts net body → lines_of_body counts net body ≡ ls → AllRead net room ls → SumsSettle net room
     → BodyProves left taken counts net body room.blocks
 proves_at left taken counts net body room ls r w same a s =
     let all = lines_of_body counts net body in
@@ -275,7 +275,7 @@ proves_at left taken counts net body room ls r w same a s =
     subst (BodyProves left taken counts net body) (sym here.sums.blocks) (record { whole = w; denotes = t.denotes; proves = settled counts net room all order t here s })
 
 -- They don't.
-fails_at : (left : Option (List ℕ)) (taken : ℕ) (counts : Bool) (net : NetView) (body : List ℕ) (room : RoomView) (e : PitFault) → LinesTell net (lines_of_body counts net body) → IsWhole left taken counts net body → AreSumsOf net (lines_of_body counts net body) room → SumsFail net room e → BodyRefused left taken counts net body e
+fails_at : (left : Option (List ℕ)) (taken : ℕ) (counts : Bool) (net : NetView) (body : List ℕ) (room : RoomView) (e : PitFault) → LinesTell net (lines_of_body counts net body) → IsWholeBody left taken counts net body → AreSumsOf net (lines_of_body counts net body) room → SumsFail net room e → BodyRefused left taken counts net body e
 fails_at left taken counts net body room pit_fault.WrongSize t w s h = absurd h
 fails_at left taken counts net body room (pit_fault.NotClosed x y) t w s h = absurd h
 fails_at left taken counts net body room pit_fault.Negative t w s h = absurd h
@@ -341,7 +341,7 @@ end_kind Sink h = refl
 end_kind End h = refl
 
 pub end_answered : {R T : Type 0} (remaining : R → Option (List ℕ)) (counts : Bool) (net : NetView) (start now mid later : LineView R) (previous : Option BodyLine) (bytes : List ℕ) (ls : List BodyLine) (line : BodyLine) (before room : RoomView) (result : Result T StreamFault) → IsRests (record { blocks = length net.worths; pairs = net.pairs })
-    → Reading remaining counts net start now previous bytes ls → Summed net previous before ls → ClosesPit net previous line.kind before room → TakesLine remaining (next_of counts net previous) now mid line → is_end line.kind ≡ true → Reads remaining mid later
+    → Reading remaining counts net start now previous bytes ls → Summed net previous before ls → ClosesPit net previous line.kind before room → TakesLine remaining (next_of counts net previous) now mid line → is_end line.kind ≡ true → ReadsSome remaining mid later
     → MatchResult result (λ x. IsDone (remaining later.from) later × SumsSettle net room) (λ e. EndFails (remaining later.from) net room later e) → Answered remaining counts net start later room result
 end_answered remaining counts net start now mid later previous bytes ls line before room result r q s c t e m h =
     let ended = ended_stops remaining counts net start mid later (bytes ++ t.0) m.0 ls (reading_ends remaining counts net start now mid previous bytes ls line q t e) m.1 in

@@ -6,7 +6,7 @@ use Rattle.closure_net.specs.Network.{NetView, FlowView, holds_of}
 use Rattle.closure_net.specs.Closure.{Stays, IsClosed}
 use Rattle.closure_net.specs.Flows.{IsFlow}
 use Rattle.check_pit.specs.Fits.{BalanceFits, BalanceOverflows, SumsFit, SomeSumOverflows}
-use Rattle.check_pit.specs.Checks.{ProvesPit, Sizes, NoneBelowZero, PassesCapacities, AllWithin, AllBalanced, BalancedWhileFit, IsOpen, FaultHolds, FaultStands}
+use Rattle.check_pit.specs.Checks.{ProvesPit, Sizes, NoneBelowZero, PassesCapacities, AllWithin, AllBalanced, BalancedWhileFit, IsOpen, FaultHolds, PitFaultStands}
 use Rattle.check_pit.specs.Balances.{ComesTo, BalanceFault}
 use Rattle.check_pit.specs.declared.pit_fault.PitFault.{PitFault}
 use Rattle.check_pit.specs.declared.pit_fault.PitFault.TheVariants.{WrongSize, NotClosed, Negative, OverCapacity, Unbalanced, NotTight, TooLarge}
@@ -31,7 +31,7 @@ balanced_before net flow b comes over = λ k l fit. elim (cases_lt k b) [
 ]
 
 -- a fault of the balances is one of the check
-pub balance_fault : (net : NetView) (flow : FlowView) (pit : List ℕ) (e : PitFault) → PassesCapacities net flow pit → BalanceFault net flow e → FaultStands net flow pit e
+pub balance_fault : (net : NetView) (flow : FlowView) (pit : List ℕ) (e : PitFault) → PassesCapacities net flow pit → BalanceFault net flow e → PitFaultStands net flow pit e
 balance_fault net flow pit (Unbalanced b) passes h = record { holds = (h.0.known, h.2); first = (passes, h.0.before, h.1) }
 balance_fault net flow pit TooLarge passes h = record { holds = inl (h.0, h.1.known, h.2); first = (passes, balanced_before net flow h.0 h.1 h.2) }
 balance_fault net flow pit WrongSize passes h = absurd h

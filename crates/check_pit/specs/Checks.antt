@@ -99,6 +99,6 @@ NoneBefore net flow pit NotTight = IsFlow net flow × IsOfNet net pit × IsClose
 NoneBefore net flow pit TooLarge = PassesCapacities net flow pit × BalancedWhileFit net flow
 
 -- the fault holds, and it is the first that does
-pub record FaultStands (net : NetView) (flow : FlowView) (pit : List ℕ) (fault : PitFault) : Type 0 where
+pub record PitFaultStands (net : NetView) (flow : FlowView) (pit : List ℕ) (fault : PitFault) : Type 0 where
   pub holds : FaultHolds net flow pit fault
   pub first : NoneBefore net flow pit fault

@@ -6,7 +6,7 @@ use Rattle.closure_net.specs.Network.{NetView, holds_of}
 use Rattle.closure_net.specs.Flows.{Balanced, IsTight}
 use Rattle.certificate_file.specs.declared.body_lines.BodyLine.{BodyLine}
 use Rattle.certificate_file.specs.Pieces.{Piece}
-use Rattle.certificate_file.specs.BodyLines.{body_fault, lines_in}
+use Rattle.certificate_file.specs.BodyLines.{body_fault, lines_of_pieces}
 use Rattle.certificate_file.specs.Certificate.{Denotes, has_pair, pit_of}
 use Rattle.check_pit.specs.Checks.{NoneBelowZero, AllWithin}
 use Rattle.check_pit.specs.LineSums.{balance_of, worth_of_blocks, residual_behind, flow_of, KeepLimits}
@@ -20,4 +20,4 @@ pub record LinesTell (net : NetView) (ls : List BodyLine) : Type 0 where
 
 -- so it is for the lines behind the header of every text without a fault
 abbrev pub LineSumsTell : Type 0
-LineSumsTell = (counts : Bool) (net : NetView) (number : ℕ) (ps : List Piece) → IsRests (record { blocks = length net.worths; pairs = net.pairs }) → body_fault counts (length net.worths) (has_pair net.pairs) None number ps ≡ None → LinesTell net (lines_in counts (length net.worths) ps)
+LineSumsTell = (counts : Bool) (net : NetView) (number : ℕ) (ps : List Piece) → IsRests (record { blocks = length net.worths; pairs = net.pairs }) → body_fault counts (length net.worths) (has_pair net.pairs) None number ps ≡ None → LinesTell net (lines_of_pieces counts (length net.worths) ps)

@@ -8,6 +8,6 @@ pub record PitListView : Type 0 where
   pub is_pit : Bool
 
 -- the blocks of the pit, where it is made
-abbrev pub blocks_of : List ℕ → Option (List ℕ) → List ℕ
-blocks_of bs None = bs
-blocks_of bs (Some pit) = pit
+abbrev pub blocks_of_pit : List ℕ → Option (List ℕ) → List ℕ
+blocks_of_pit bs None = bs
+blocks_of_pit bs (Some pit) = pit

@@ -86,18 +86,18 @@ IsNegative End x = ⊥
 
 -- the amount of a line of this kind is not negative, and more than a block of this worth gets from the source or gives the
 -- sink
-abbrev pub IsOver : LineKind → Amount → Amount → Type 0
-IsOver Pit worth x = ⊥
-IsOver Source worth x = AtMost zero_amount x × ¬ (AtMost x (positive worth))
-IsOver Rest worth x = ⊥
-IsOver Sink worth x = AtMost zero_amount x × ¬ (AtMost x (negative worth))
-IsOver End worth x = ⊥
+abbrev pub IsOverLimit : LineKind → Amount → Amount → Type 0
+IsOverLimit Pit worth x = ⊥
+IsOverLimit Source worth x = AtMost zero_amount x × ¬ (AtMost x (positive worth))
+IsOverLimit Rest worth x = ⊥
+IsOverLimit Sink worth x = AtMost zero_amount x × ¬ (AtMost x (negative worth))
+IsOverLimit End worth x = ⊥
 
 -- Why a line is refused, in this order: its amount is negative; it is more than its block may get or give; or a sum, as it
 -- is with the line, doesn't fit.
 abbrev pub RefusedWhere : NetView → BodyLine → Type 0 → PitFault → Type 0
 RefusedWhere net l overflows Negative = IsNegative l.kind (amount_of l)
-RefusedWhere net l overflows (OverCapacity b) = (b ≡ l.block) × IsOver l.kind (amount_at net.worths l.block) (amount_of l)
+RefusedWhere net l overflows (OverCapacity b) = (b ≡ l.block) × IsOverLimit l.kind (amount_at net.worths l.block) (amount_of l)
 RefusedWhere net l overflows TooLarge = keeps_by l.kind net.worths l × overflows
 RefusedWhere net l overflows WrongSize = ⊥
 RefusedWhere net l overflows (NotClosed b p) = ⊥

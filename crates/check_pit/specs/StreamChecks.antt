@@ -19,7 +19,7 @@ use Rattle.certificate_file.specs.declared.body_lines.LineKind.{LineKind}
 use Rattle.certificate_file.specs.declared.body_lines.LineKind.TheVariants.{Pit, Source, Rest, Sink, End}
 use Rattle.certificate_file.specs.declared.body_lines.BodyLine.{BodyLine}
 use Rattle.certificate_file.specs.Pieces.{pieces_of}
-use Rattle.certificate_file.specs.BodyLines.{body_fault, lines_in}
+use Rattle.certificate_file.specs.BodyLines.{body_fault, lines_of_pieces}
 use Rattle.certificate_file.specs.Certificate.{Denotes, UnlessMemory, has_pair, pit_of}
 use Rattle.check_pit.specs.Checks.{ProvesPit}
 use Rattle.check_pit.specs.Closing.{IsFirstOpen}
@@ -57,7 +57,7 @@ fault_of_body counts net body = body_fault counts (length net.worths) (has_pair 
 
 -- its lines before END
 abbrev pub lines_of_body : Bool → NetView → List ℕ → List BodyLine
-lines_of_body counts net body = lines_in counts (length net.worths) (pieces_of body)
+lines_of_body counts net body = lines_of_pieces counts (length net.worths) (pieces_of body)
 
 -- the flow that lines say
 abbrev pub flow_by : NetView → List BodyLine → FlowView
@@ -68,7 +68,7 @@ abbrev pub LinesBegin : Bool → NetView → List ℕ → List BodyLine → Type
 LinesBegin counts net body ls = (future : List ℕ) → (more : List BodyLine) × (lines_of_body counts net (body ++ future) ≡ ls ++ more)
 
 -- the device has no further byte, few enough were read, and the body has no fault
-pub record IsWhole (left : Option (List ℕ)) (taken : ℕ) (counts : Bool) (net : NetView) (body : List ℕ) : Type 0 where
+pub record IsWholeBody (left : Option (List ℕ)) (taken : ℕ) (counts : Bool) (net : NetView) (body : List ℕ) : Type 0 where
   pub ends : IsAtEnd left
   pub few : taken ≤ MOST_BYTES
   pub none : fault_of_body counts net body ≡ None
@@ -89,9 +89,9 @@ BodyRefused left taken counts net body WrongSize = ⊥
 BodyRefused left taken counts net body (NotClosed b p) = (pit : List ℕ) × HasPit counts net body pit × IsFirstOpen net.pairs (holds_of pit) (b, p)
 BodyRefused left taken counts net body Negative = RefusesSome counts net body Negative
 BodyRefused left taken counts net body (OverCapacity b) = RefusesSome counts net body (OverCapacity b)
-BodyRefused left taken counts net body (Unbalanced b) = IsWhole left taken counts net body × IsFirstNot (Balanced net (flow_by net (lines_of_body counts net body))) (length net.worths) b
+BodyRefused left taken counts net body (Unbalanced b) = IsWholeBody left taken counts net body × IsFirstNot (Balanced net (flow_by net (lines_of_body counts net body))) (length net.worths) b
 BodyRefused left taken counts net body NotTight =
-    IsWhole left taken counts net body × ((b : ℕ) → b < length net.worths → Balanced net (flow_by net (lines_of_body counts net body)) b)
+    IsWholeBody left taken counts net body × ((b : ℕ) → b < length net.worths → Balanced net (flow_by net (lines_of_body counts net body)) b)
     × ¬ (IsTight net (flow_by net (lines_of_body counts net body)) (holds_of (pit_of (lines_of_body counts net body))))
 BodyRefused left taken counts net body TooLarge = RefusesSome counts net body TooLarge
 
@@ -101,7 +101,7 @@ BodyFails left taken counts net body e = FaultIs left taken (λ future x. Unless
 
 -- the body is whole, and its flow proves this pit, which it says
 pub record BodyProves (left : Option (List ℕ)) (taken : ℕ) (counts : Bool) (net : NetView) (body pit : List ℕ) : Type 0 where
-  pub whole : IsWhole left taken counts net body
+  pub whole : IsWholeBody left taken counts net body
   pub denotes : Denotes (length net.worths) net.pairs (lines_of_body counts net body) pit (flow_by net (lines_of_body counts net body))
   pub proves : ProvesPit net (flow_by net (lines_of_body counts net body)) pit
 

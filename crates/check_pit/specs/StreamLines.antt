@@ -17,8 +17,8 @@ pub record ReadsBytes {R : Type 0} (remaining : R → Option (List ℕ)) (before
   pub number : later.number ≡ before.number
 
 -- some bytes were
-abbrev pub Reads : {R : Type 0} → (R → Option (List ℕ)) → LineView R → LineView R → Type 0
-Reads remaining before later = (bytes : List ℕ) × ReadsBytes remaining before later bytes
+abbrev pub ReadsSome : {R : Type 0} → (R → Option (List ℕ)) → LineView R → LineView R → Type 0
+ReadsSome remaining before later = (bytes : List ℕ) × ReadsBytes remaining before later bytes
 
 -- what is held begins with a line of so many bytes, and its line feed
 pub record IsLine (held : List ℕ) (count : ℕ) : Type 0 where

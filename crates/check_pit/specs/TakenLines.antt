@@ -8,7 +8,7 @@ use Rattle.check_pit.specs.declared.stream_fault.StreamFault.{StreamFault}
 use Rattle.check_pit.specs.declared.stream_fault.StreamFault.TheVariants.{Device, InputTooLong, Cert, Pit}
 use Rattle.fixed_worth.specs.declared.limits.TheConstants.{MOST_BYTES}
 use Rattle.check_pit.specs.StreamView.{LineView}
-use Rattle.check_pit.specs.StreamLines.{Reads, IsLine}
+use Rattle.check_pit.specs.StreamLines.{ReadsSome, IsLine}
 use Rattle.certificate_file.specs.Pieces.{Piece, pieces_of, piece_at}
 
 -- the first bytes of what is held, as a line that its line feed ends
@@ -57,4 +57,4 @@ pub record GoesBehind {R : Type 0} (count : ℕ) (before later : LineView R) : T
 
 -- no line was passed, and none can be taken
 abbrev pub LacksLine : {R A : Type 0} → (R → Option (List ℕ)) → (ℕ → Piece → Result A CertFault) → LineView R → LineView R → StreamFault → Type 0
-LacksLine remaining f before later e = Reads remaining before later × NoNextLine (remaining later.from) f later e
+LacksLine remaining f before later e = ReadsSome remaining before later × NoNextLine (remaining later.from) f later e

@@ -8,7 +8,7 @@ ghost use Rattle.prec_file.specs.Rests.{IsFirstNot};
 ghost use Rattle.closure_net.specs.Network.{FlowFits};
 ghost use Rattle.closure_net.specs.Flows.{NoneNegative, Within};
 ghost use Rattle.check_pit.specs.Fits.{SumsFit};
-ghost use Rattle.check_pit.specs.Checks.{ProvesPit, Sizes, IsSound, NoneBelowZero, KeepsWithin, AllWithin, AllBalanced, FaultStands};
+ghost use Rattle.check_pit.specs.Checks.{ProvesPit, Sizes, IsSound, NoneBelowZero, KeepsWithin, AllWithin, AllBalanced, PitFaultStands};
 ghost use Rattle.check_pit.specs.Balances.{BalanceFault};
 
 use crate::accepted::Accepted;
@@ -123,7 +123,7 @@ pub fn check<'a, G: OrderedGroup>(
 ) -> Result<Accepted<'a, G>, PitFault>
     ensures found { MatchResult result
         (λ a. (a.net ≡ net.now) × (a.pit ≡ pit.now) × IsSound net.now flow.now pit.now)
-        (λ e. FaultStands net.now flow.now pit.now e) }
+        (λ e. PitFaultStands net.now flow.now pit.now e) }
     ensures complete { ProvesPit net.now flow.now pit.now → SumsFit net.now flow.now pit.now → IsOk result }
 {
     if !sizes_agree(net, pit, flow) {

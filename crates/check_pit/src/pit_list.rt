@@ -18,11 +18,11 @@ pub struct PitList {
 impl Model for PitList {
     ghost use Rattle.std.specs.Prelude.{vec_capacity};
     ghost use Rattle.std.specs.Option.{is_some};
-    ghost use Rattle.check_pit.specs.PitLists.{PitListView, blocks_of};
+    ghost use Rattle.check_pit.specs.PitLists.{PitListView, blocks_of_pit};
 
     ghost Value = { PitListView };
 
-    ghost view = { λ p. record { blocks = blocks_of p.blocks.items p.pit; space = vec_capacity p.blocks; is_pit = is_some p.pit } };
+    ghost view = { λ p. record { blocks = blocks_of_pit p.blocks.items p.pit; space = vec_capacity p.blocks; is_pit = is_some p.pit } };
 }
 
 impl PitList {

@@ -7,7 +7,7 @@ ghost use Rattle.closure_net.specs.Closure.{IsGreatest, group_worth};
 ghost use Rattle.check_pit.specs.declared.stream_fault.StreamFault.TheVariants as fault;
 ghost use Rattle.certificate_file.specs.BodyLines as line;
 ghost use Rattle.certificate_file.specs.Certificate.{has_pair};
-ghost use Rattle.check_pit.specs.StreamLines.{Reads};
+ghost use Rattle.check_pit.specs.StreamLines.{ReadsSome};
 ghost use Rattle.check_pit.specs.TakenLines.{TakesLine, LacksLine};
 ghost use Rattle.check_pit.specs.StreamChecks as spec;
 ghost use Rattle.check_pit.specs.StreamChecks.{ClosesPit, IsOpenPit, SumsSettle, SumsFail, EndFails, ReadsOn, BodyFails, BodyProves};
@@ -99,7 +99,7 @@ fn check_end<R: CountedRead, G: OrderedGroup>(
 ) -> Result<(), StreamFault>
     requires count { R.failed lines.old.from < 2 ^ 64 - 1 }
     requires size { length room.now.balances ≡ length net.now.worths }
-    ensures reads { Reads R.remaining lines.old lines.new }
+    ensures reads { ReadsSome R.remaining lines.old lines.new }
     ensures end { MatchResult result (λ _. spec.IsDone (R.remaining lines.new.from) lines.new
         × SumsSettle net.now room.now) (λ e. EndFails (R.remaining lines.new.from) net.now room.now lines.new e) }
     ensures device { IsErrOf result StreamFault.Device → R.failed lines.new.from ≡ R.failed lines.old.from + 1 }

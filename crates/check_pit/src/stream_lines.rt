@@ -5,7 +5,7 @@
 
 ghost use Rattle.std.specs.Prelude.{◌≡◌, ℕ, ◌+◌, ◌^◌, ◌-◌, ◌<◌, ◌≤◌, ◌==◌, [], length, drop, take, position, Some, IfOk, IfErr, IsErrOf, MatchResult};
 ghost use Rattle.fixed_worth.specs.declared.limits.TheConstants.{LINE_BYTES, MOST_BYTES};
-ghost use Rattle.check_pit.specs.StreamLines.{Reads, IsLine, NoLine, MoreOrEnd, DoneOrNot, NotDone};
+ghost use Rattle.check_pit.specs.StreamLines.{ReadsSome, IsLine, NoLine, MoreOrEnd, DoneOrNot, NotDone};
 
 use crate::stream_bytes::StreamBytes;
 use crate::stream_fault::StreamFault;
@@ -112,7 +112,7 @@ impl<R: CountedRead> StreamLines<R> {
         requires room { length self.old.held < LINE_BYTES + 1 }
         requires few { self.old.taken ≤ MOST_BYTES }
         requires count { R.failed self.old.from < 2 ^ 64 - 1 }
-        ensures reads { Reads R.remaining self.old self.new }
+        ensures reads { ReadsSome R.remaining self.old self.new }
         ensures more { IfOk result (λ more. MoreOrEnd (R.remaining self.new.from) self.old self.new more) }
         ensures kept { IfOk result (λ _. R.failed self.new.from ≡ R.failed self.old.from) }
         ensures fault { IfErr result (λ e. (e ≡ StreamFault.Device) × (R.failed self.new.from ≡ R.failed self.old.from + 1)) }
@@ -129,7 +129,7 @@ impl<R: CountedRead> StreamLines<R> {
     #[tactic(auto, using(crate::proofs::HeldLines::line_inside))]
     pub fn next_length(&mut self) -> Result<usize, StreamFault>
         requires { R.failed self.old.from < 2 ^ 64 - 1 }
-        ensures reads { Reads R.remaining self.old self.new }
+        ensures reads { ReadsSome R.remaining self.old self.new }
         ensures still { (count : ℕ) → position (λ b. b == 10) self.old.held ≡ Some count → self.new ≡ self.old }
         ensures line { MatchResult result (λ count. IsLine self.new.held count) (λ e. NoLine (R.remaining self.new.from) self.new e) }
         ensures device { IsErrOf result StreamFault.Device → R.failed self.new.from ≡ R.failed self.old.from + 1 }
@@ -156,7 +156,7 @@ impl<R: CountedRead> StreamLines<R> {
     /// Whether the text ends here: where nothing is held, the device is read once.
     pub fn is_done(&mut self) -> Result<bool, StreamFault>
         requires { R.failed self.old.from < 2 ^ 64 - 1 }
-        ensures reads { Reads R.remaining self.old self.new }
+        ensures reads { ReadsSome R.remaining self.old self.new }
         ensures still { 0 < length self.old.held → self.new ≡ self.old }
         ensures done { MatchResult result (λ done. DoneOrNot (R.remaining self.new.from) self.new done) (λ e. NotDone self.new e) }
         ensures device { IsErrOf result StreamFault.Device → R.failed self.new.from ≡ R.failed self.old.from + 1 }

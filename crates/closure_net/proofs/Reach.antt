@@ -6,7 +6,7 @@ use Rattle.prec_file.specs.Rests.{from_at, to_at, numbers_passing, numbers, abov
 use Rattle.prec_file.proofs.Passing.{passing_at, passing_here, passing_after, passing_grows}
 use Rattle.closure_net.specs.Reached.{HasSourceResidual, Carries, Reaches, IsReached}
 use Rattle.closure_net.specs.Network.{NetView, FlowView, holds_of, IsAscending}
-use Rattle.closure_net.specs.Searches.{Passed, Always, above_at, sender_at, SendsAt}
+use Rattle.closure_net.specs.Searches.{PassedPlaces, Always, above_at, sender_at, SendsAt}
 use Rattle.closure_net.proofs.Finds.{holds_grows, get_grows, length_grows}
 use Rattle.closure_net.proofs.Holding.{holds_at, place_of}
 
@@ -19,7 +19,7 @@ pub record Searched (net : NetView) (flow : FlowView) (found : List ℕ) (h : �
 
 module _ (net : NetView) (flow : FlowView) (b : ℕ) where
   -- what is found among the pairs of b
-  down_here : (old new : List ℕ) → Passed Always (above_at net.pairs b) old new (length (above_of net.pairs b)) → (k : ℕ) → k < length net.pairs → from_at net.pairs k ≡ b → holds_of new (to_at net.pairs k) ≡ true
+  down_here : (old new : List ℕ) → PassedPlaces Always (above_at net.pairs b) old new (length (above_of net.pairs b)) → (k : ℕ) → k < length net.pairs → from_at net.pairs k ≡ b → holds_of new (to_at net.pairs k) ≡ true
   down_here old new p k l e =
       let t = eq-eqb (from_at net.pairs k) b e in
       let ks = numbers (from_at net.pairs) b (length net.pairs) in
@@ -39,7 +39,7 @@ module _ (net : NetView) (flow : FlowView) (b : ℕ) where
       let d = r.down k p.below (ap c (eqb-true (from_at net.pairs k) b p.passes) ∙ e) in
       ap c (sym q ∙ at) ∙ d
 
-  up_here : (old new : List ℕ) → Passed (SendsAt net.pairs flow.rest b) (sender_at net.pairs b) old new (length (below_of net.pairs b)) → (k : ℕ) → k < length net.pairs → Carries flow.rest k → to_at net.pairs k ≡ b → holds_of new (from_at net.pairs k) ≡ true
+  up_here : (old new : List ℕ) → PassedPlaces (SendsAt net.pairs flow.rest b) (sender_at net.pairs b) old new (length (below_of net.pairs b)) → (k : ℕ) → k < length net.pairs → Carries flow.rest k → to_at net.pairs k ≡ b → holds_of new (from_at net.pairs k) ≡ true
   up_here old new p k l w e =
       let t = eq-eqb (to_at net.pairs k) b e in
       let j = length (numbers (to_at net.pairs) b k) in
@@ -57,8 +57,8 @@ module _ (net : NetView) (flow : FlowView) (b : ℕ) where
       ap c (sym q) ∙ u
 
   pub searched_more : (old mid new : List ℕ) (h : ℕ) → Searched net flow old h → h < length old → b ≡ get_or old h 0
-      → Passed Always (above_at net.pairs b) old mid (length (above_of net.pairs b))
-      → Passed (SendsAt net.pairs flow.rest b) (sender_at net.pairs b) mid new (length (below_of net.pairs b))
+      → PassedPlaces Always (above_at net.pairs b) old mid (length (above_of net.pairs b))
+      → PassedPlaces (SendsAt net.pairs flow.rest b) (sender_at net.pairs b) mid new (length (below_of net.pairs b))
       → Searched net flow new (h + 1)
   searched_more old mid new h s l e p q =
       let grows : (x : ℕ) → holds_of old x ≡ true → holds_of new x ≡ true = λ x t. holds_grows mid new x q.grown (holds_grows old mid x p.grown t) in

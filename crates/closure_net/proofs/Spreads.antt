@@ -5,14 +5,14 @@ use Rattle.std.proofs.lemmas.List.{get_or-map, length-map}
 use Rattle.closure_net.specs.Network.{holds_of}
 use Rattle.prec_file.specs.Rests.{from_at, to_at, RestsView, IsRests, numbers, above_of, below_of}
 use Rattle.prec_file.proofs.Passing.{passing_at}
-use Rattle.closure_net.specs.Searches.{list_with, Extends, Passed}
+use Rattle.closure_net.specs.Searches.{list_with, Extends, PassedPlaces}
 use Rattle.closure_net.proofs.Finds.{added_extends, added_holds, added_only, holds_grows}
 
 extends-trans : (xs ys zs : List ℕ) → Extends xs ys → Extends ys zs → Extends xs zs
 extends-trans xs ys zs e f = record { more = e.more ++ f.more; is = f.is ∙ ap (λ l. l ++ f.more) e.is ∙ append_assoc xs e.more f.more }
 
 -- a place that does not count
-pub passed_skip : (W : ℕ → Type 0) (g : ℕ → ℕ) (old cur : List ℕ) (i : ℕ) → Passed W g old cur i → ¬ (W i) → Passed W g old cur (i + 1)
+pub passed_skip : (W : ℕ → Type 0) (g : ℕ → ℕ) (old cur : List ℕ) (i : ℕ) → PassedPlaces W g old cur i → ¬ (W i) → PassedPlaces W g old cur (i + 1)
 passed_skip W g old cur i h n = record {
   grown = h.grown;
   upto = λ j l w. elim (cases_eq j i) [
@@ -26,10 +26,10 @@ passed_skip W g old cur i h n = record {
 }
 
 -- a place that counts
-pub passed_add : (W : ℕ → Type 0) (g : ℕ → ℕ) (old cur new : List ℕ) (i y : ℕ) → Passed W g old cur i → W i → g i ≡ y → new ≡ list_with cur y → Passed W g old new (i + 1)
+pub passed_add : (W : ℕ → Type 0) (g : ℕ → ℕ) (old cur new : List ℕ) (i y : ℕ) → PassedPlaces W g old cur i → W i → g i ≡ y → new ≡ list_with cur y → PassedPlaces W g old new (i + 1)
 passed_add W g old cur new i y h w q e =
-    let P : List ℕ → Type 0 = λ xs. Passed W g old xs (i + 1) in
-    let Q : ℕ → Type 0 = λ x. Passed W g old (list_with cur x) (i + 1) in
+    let P : List ℕ → Type 0 = λ xs. PassedPlaces W g old xs (i + 1) in
+    let Q : ℕ → Type 0 = λ x. PassedPlaces W g old (list_with cur x) (i + 1) in
     subst P (sym e) (subst Q q (record {
       grown = extends-trans old cur (list_with cur (g i)) h.grown (added_extends cur (g i));
       upto = λ j l v. elim (cases_eq j i) [
@@ -60,5 +60,5 @@ below_known v b i ks e l =
     subst P (sym e) (λ r. (passing_at (λ j. to_at v.pairs j == b) (length v.pairs) i r).below) l
 
 -- the same list by another name
-pub passed_same : (W : ℕ → Type 0) (g : ℕ → ℕ) (old cur new : List ℕ) (i : ℕ) → new ≡ cur → Passed W g old cur i → Passed W g old new i
-passed_same W g old cur new i e h = let P : List ℕ → Type 0 = λ xs. Passed W g old xs i in subst P (sym e) h
+pub passed_same : (W : ℕ → Type 0) (g : ℕ → ℕ) (old cur new : List ℕ) (i : ℕ) → new ≡ cur → PassedPlaces W g old cur i → PassedPlaces W g old new i
+passed_same W g old cur new i e h = let P : List ℕ → Type 0 = λ xs. PassedPlaces W g old xs i in subst P (sym e) h

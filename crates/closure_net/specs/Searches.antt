@@ -35,7 +35,7 @@ pub record Extends (old new : List ℕ) : Type 0 where
   pub is : new ≡ old ++ more
 
 -- a pass over places: of the first i those that count have their block found, and nothing else was added
-pub record Passed (W : ℕ → Type 0) (g : ℕ → ℕ) (old cur : List ℕ) (i : ℕ) : Type 0 where
+pub record PassedPlaces (W : ℕ → Type 0) (g : ℕ → ℕ) (old cur : List ℕ) (i : ℕ) : Type 0 where
   pub grown : Extends old cur
   pub upto : (j : ℕ) → j < i → W j → holds_of cur (g j) ≡ true
   pub only : (x : ℕ) → holds_of cur x ≡ true → (holds_of old x ≡ true) ⊎ ((j : ℕ) × (j < i) × W j × (g j ≡ x))

@@ -5,7 +5,7 @@ ghost use Rattle.std.specs.Prelude.{◌≡◌, ◌↔◌, ◌<◌, All, IsTrue, 
 ghost use Rattle.prec_file.specs.Rests.{above_of, below_of};
 ghost use Rattle.closure_net.specs.Network.{FlowFits, holds_of};
 ghost use Rattle.closure_net.specs.Reached.{IsReached, HasSourceResidual, Carries};
-ghost use Rattle.closure_net.specs.Searches.{Passed, Always, above_at, sender_at, SendsAt};
+ghost use Rattle.closure_net.specs.Searches.{PassedPlaces, Always, above_at, sender_at, SendsAt};
 
 use crate::flow::Flow;
 use crate::net::Net;
@@ -37,7 +37,7 @@ fn begin<G: OrderedGroup>(search: &mut Search, net: &Net<G>, flow: &Flow<G>)
     requires blocks { search.old.blocks ≡ length net.now.worths }
     requires fits { length flow.now.source ≡ length net.now.worths }
     ensures blocks { search.new.blocks ≡ search.old.blocks }
-    ensures found { Passed (HasSourceResidual net.now.worths flow.now.source) (λ b. b) search.old.found search.new.found (length net.now.worths) }
+    ensures found { PassedPlaces (HasSourceResidual net.now.worths flow.now.source) (λ b. b) search.old.found search.new.found (length net.now.worths) }
 {
     for b in 0..net.len() {
         if has_room(net, flow, b) {
@@ -51,7 +51,7 @@ fn spread_down(search: &mut Search, rests: &Rests, b: u32)
     requires blocks { search.old.blocks ≡ rests.now.blocks }
     requires known { b < rests.now.blocks }
     ensures blocks { search.new.blocks ≡ search.old.blocks }
-    ensures found { Passed Always (above_at rests.now.pairs b) search.old.found search.new.found (length (above_of rests.now.pairs b)) }
+    ensures found { PassedPlaces Always (above_at rests.now.pairs b) search.old.found search.new.found (length (above_of rests.now.pairs b)) }
 {
     // proof: the pairs are of the blocks of `rests`
     let _blocks = rests.len();
@@ -66,7 +66,7 @@ fn spread_up<G: OrderedGroup>(search: &mut Search, rests: &Rests, flow: &Flow<G>
     requires known { b < rests.now.blocks }
     requires fits { length flow.now.rest ≡ length rests.now.pairs }
     ensures blocks { search.new.blocks ≡ search.old.blocks }
-    ensures found { Passed (SendsAt rests.now.pairs flow.now.rest b) (sender_at rests.now.pairs b) search.old.found search.new.found (length (below_of rests.now.pairs b)) }
+    ensures found { PassedPlaces (SendsAt rests.now.pairs flow.now.rest b) (sender_at rests.now.pairs b) search.old.found search.new.found (length (below_of rests.now.pairs b)) }
 {
     // proof: the pairs are of the blocks of `rests`
     let _blocks = rests.len();

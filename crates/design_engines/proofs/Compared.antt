@@ -10,7 +10,7 @@ use Rattle.design_file.specs.Records.{design_of}
 use Rattle.mine_inputs.specs.declared.engine_fault.EngineFault.{EngineFault}
 use Rattle.mine_inputs.specs.declared.engine_fault.EngineFault.TheVariants as engine
 use Rattle.engines.specs.Checking.{LineFails}
-use Rattle.engines.specs.Judgements.{IsAccepted}
+use Rattle.engines.specs.Judgements.{CertificateAccepted}
 use Rattle.mine_inputs.specs.Mines.{MineTexts, mine_texts, priced_texts, mine_of, WorthsRead}
 use Rattle.engines.specs.Readings.{IsProvedPit}
 use Rattle.engines.proofs.Answered.{keeps_self}
@@ -36,7 +36,7 @@ richest Scaled mine e h = h.most
 not_less : (gap best design worth told : ℤ) → gap ≡ best -ℤ told → worth ≡ best → told ≡ design → design ≤ℤ worth → pos 0 ≤ℤ gap
 not_less gap best design worth told g w t le = omega (arith, ints, g, w, t, le)
 
-pub compared : (texts : MineTexts) (design c : List ℕ) (v : DesignView) (name : Group) (count : ℕ) (worth gap : ℤ) → IsValued texts design v → IsAccepted texts c name count worth → gap ≡ worth -ℤ v.worth → IsCompared texts design c v count worth gap
+pub compared : (texts : MineTexts) (design c : List ℕ) (v : DesignView) (name : Group) (count : ℕ) (worth gap : ℤ) → IsValued texts design v → CertificateAccepted texts c name count worth → gap ≡ worth -ℤ v.worth → IsCompared texts design c v count worth gap
 compared texts design c v name count worth gap valued best g =
     let same = one_size texts best.read.blocks valued.blocks best.read.mine.worths_read valued.mine.worths_read in
     let e = holds_of best.read.pit in
@@ -57,7 +57,7 @@ drawn_of texts design v h = record { blocks = h.blocks; mine = h.mine; drawn = h
 -- ---- how it is told
 
 -- the gap doesn't fit
-pub gap_leaves : (texts : MineTexts) (design c : List ℕ) (v : DesignView) (name : Group) (count : ℕ) (worth : ℤ) (w : Option (List ℕ)) → IsValued texts design v → IsAccepted texts c name count worth → ¬ (FitsSigned w128 (worth -ℤ v.worth)) → Compares texts design c w w (Err (value.Design problem.TooLarge))
+pub gap_leaves : (texts : MineTexts) (design c : List ℕ) (v : DesignView) (name : Group) (count : ℕ) (worth : ℤ) (w : Option (List ℕ)) → IsValued texts design v → CertificateAccepted texts c name count worth → ¬ (FitsSigned w128 (worth -ℤ v.worth)) → Compares texts design c w w (Err (value.Design problem.TooLarge))
 gap_leaves texts design c v name count worth w valued best leaves = (inr (record { v = v; valued = valued; name = name; count = count; worth = worth; best = best; leaves = leaves }), keeps_self w)
 
 -- the lines could not be written

@@ -9,7 +9,7 @@ use Rattle.engines.specs.declared.judgement.Verdict.{Verdict}
 use Rattle.mine_inputs.specs.declared.engine_fault.EngineFault.TheVariants as engine
 use Rattle.mine_inputs.specs.FaultStands.{MineFails}
 use Rattle.engines.specs.FaultStands.{Fails}
-use Rattle.engines.specs.Judgements.{IsAccepted, IsJudged}
+use Rattle.engines.specs.Judgements.{CertificateAccepted, IsJudged}
 use Rattle.mine_inputs.specs.Mines.{MineTexts, DenoteMine}
 use Rattle.design_engines.specs.declared.value_fault.DesignProblem.TheVariants as problem
 use Rattle.design_engines.specs.declared.value_fault.ValueFault.{ValueFault}
@@ -40,7 +40,7 @@ pub record GapLeaves (texts : MineTexts) (design certificate : List ℕ) : Type 
   pub name : Group
   pub count : ℕ
   pub worth : ℤ
-  pub best : IsAccepted texts certificate name count worth
+  pub best : CertificateAccepted texts certificate name count worth
   pub leaves : ¬ (FitsSigned w128 (worth -ℤ v.worth))
 
 -- Why the engine answers a fault: it is one that a check would answer, and of the texts of the mine unless the design is read;

@@ -8,7 +8,7 @@ use Rattle.design_file.specs.Records.{design_of}
 use Rattle.engines.specs.declared.judgement.Judgement.TheVariants.{Refused}
 use Rattle.engines.specs.declared.judgement.Verdict.{Verdict}
 use Rattle.engines.specs.declared.judgement.Verdict.TheVariants.{No}
-use Rattle.engines.specs.Judgements.{IsAccepted, IsRefused}
+use Rattle.engines.specs.Judgements.{CertificateAccepted, CertificateRefused}
 use Rattle.mine_inputs.specs.Mines.{MineTexts, DenoteMine, mine_of}
 use Rattle.engines.specs.OutputLines.{judgement_line}
 use Rattle.design_engines.specs.DesignTexts.{IsDesign}
@@ -25,7 +25,7 @@ pub record IsDrawn (texts : MineTexts) (design : List ℕ) : Type 0 where
 pub record IsCompared (texts : MineTexts) (design certificate : List ℕ) (v : DesignView) (count : ℕ) (worth gap : ℤ) : Type 0 where
   pub valued : IsValued texts design v
   pub name : Group
-  pub best : IsAccepted texts certificate name count worth
+  pub best : CertificateAccepted texts certificate name count worth
   pub difference : gap ≡ worth -ℤ v.worth
   pub same : best.read.blocks ≡ valued.blocks
   pub least : IsPit (mine_of valued.blocks texts) (design_of design) → pos 0 ≤ℤ gap
@@ -37,7 +37,7 @@ pub data ComparedView : Type 0 where
 
 abbrev pub IsComparison : MineTexts → List ℕ → List ℕ → ComparedView → Type 0
 IsComparison texts design certificate (beside v count worth gap) = IsCompared texts design certificate v count worth gap
-IsComparison texts design certificate (unproved fault) = IsDrawn texts design × IsRefused texts certificate fault
+IsComparison texts design certificate (unproved fault) = IsDrawn texts design × CertificateRefused texts certificate fault
 
 -- ---- how it is told
 

@@ -7,7 +7,7 @@ ghost use Rattle.std.specs.Io.KnownBytes.{Appends};
 ghost use Rattle.std.specs.String.{string_bytes};
 ghost use Rattle.ordered_group.specs.declared.groups.Group.{Group};
 ghost use Rattle.engines.specs.Checking.{LineFails};
-ghost use Rattle.engines.specs.Judgements.{IsAccepted};
+ghost use Rattle.engines.specs.Judgements.{CertificateAccepted};
 ghost use Rattle.mine_inputs.specs.Mines.{MineTexts};
 ghost use Rattle.mine_inputs.specs.declared.engine_fault.EngineFault.TheVariants as engine;
 ghost use Rattle.design_engines.specs.declared.value_fault.ValueFault.TheVariants as value;
@@ -62,7 +62,7 @@ fn tell_gap<W: CountedWrite>(
 ) -> Result<Verdict, ValueFault>
     requires { W.failed out.old < 2 ^ 64 - 1 }
     ensures answer { (texts : MineTexts) (design c : List ℕ) (name : Group) → IsValued texts design (design_view valued.now)
-        → IsAccepted texts c name count worth → Compares texts design c (W.contents out.old) (W.contents out.new) result }
+        → CertificateAccepted texts c name count worth → Compares texts design c (W.contents out.old) (W.contents out.new) result }
     ensures device { IsErrOf result (value.Engine engine.Device) → W.failed out.new ≡ W.failed out.old + 1 }
     ensures kept { ¬ IsErrOf result (value.Engine engine.Device) → W.failed out.new ≡ W.failed out.old }
 {

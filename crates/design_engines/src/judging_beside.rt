@@ -3,7 +3,7 @@
 ghost use Rattle.std.specs.Prelude.{◌≡◌, ◌+◌, ◌-◌, ◌^◌, ◌<◌, ℕ, List, [], length, IfSome, MatchResult, IsErrOf};
 ghost use Rattle.std.specs.Thread.{IsSync};
 ghost use Rattle.check_pit.specs.CertStreams.{IsReadFor};
-ghost use Rattle.engines.specs.Judging.{IsFresh, IsOpen, StandsBehind, factor_in};
+ghost use Rattle.engines.specs.Judging.{IsFresh, IsUndecided, StandsBehind, factor_in};
 ghost use Rattle.mine_inputs.specs.Mines.{MineTexts};
 ghost use Rattle.engines.specs.Readings.{IsHeader};
 ghost use Rattle.mine_inputs.specs.ReadMines.{AreRead, IsMineRead};
@@ -145,7 +145,7 @@ fn judge_priced<C: CountedRead>(
     stream: &mut CertStream<C>,
 ) -> Result<Beside, ValueFault>
     requires count { C.failed stream.old.lines.from < 2 ^ 64 - 1 }
-    requires open { IsOpen stream.old }
+    requires open { IsUndecided stream.old }
     requires header { IsReadFor rests.blocks group stream.old.header stream.old.fault }
     requires marks { length marks.items ≡ rests.blocks }
     ensures judged { (texts : MineTexts) (c design : List ℕ) → AreRead texts nanos.items rests

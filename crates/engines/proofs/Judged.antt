@@ -18,9 +18,9 @@ use Rattle.certificate_file.specs.Header.{header_of}
 use Rattle.mine_inputs.specs.Limits.{IsWithinLimit}
 use Rattle.mine_inputs.specs.Mines.{MineTexts, precedence_of, price_wanted, mine_of, DenoteMine}
 use Rattle.engines.specs.Readings.{IsHeader, Reads, IsGroupNamed}
-use Rattle.engines.specs.Judgements.{IsAccepted}
+use Rattle.engines.specs.Judgements.{CertificateAccepted}
 use Rattle.mine_inputs.specs.FaultStands.{AreWorths}
-use Rattle.engines.specs.FaultStands.{BodyFails, NetFails, Fails}
+use Rattle.engines.specs.FaultStands.{BodyTextFails, NetFails, Fails}
 use Rattle.closure_net.specs.FaultStands.{WorthsFaultStands}
 use Rattle.closure_net.specs.declared.net.NetFault.{NetFault}
 use Rattle.closure_net.specs.declared.net.NetFault.TheVariants as net
@@ -72,7 +72,7 @@ module _ (name : Group) (block : ℤ → ℕ → Amount) (counts : Bool) (texts 
     known = h.read.known;
   }
 
-  pub accepted : IsWithinLimit certificate → (set_worth : Amount → ℕ → ℕ → ℤ) → SumsTellWorth block set_worth → ProvesPit net flow pit → IsGreatest net (holds_of pit) → (count : ℕ) (worth : ℤ) → count ≡ length pit → worth ≡ set_worth (group_worth net.worths (holds_of pit)) (length net.worths) count → IsAccepted texts certificate name count worth
+  pub accepted : IsWithinLimit certificate → (set_worth : Amount → ℕ → ℕ → ℤ) → SumsTellWorth block set_worth → ProvesPit net flow pit → IsGreatest net (holds_of pit) → (count : ℕ) (worth : ℤ) → count ≡ length pit → worth ≡ set_worth (group_worth net.worths (holds_of pit)) (length net.worths) count → CertificateAccepted texts certificate name count worth
   accepted within set_worth tells proves greatest count worth c w =
       record {
         within = within;
@@ -85,7 +85,7 @@ module _ (name : Group) (block : ℤ → ℕ → Amount) (counts : Bool) (texts 
       }
 
 -- the fault of a certificate's text behind its header, for the net that was made
-body_fails : (name : Group) (block : ℤ → ℕ → Amount) (counts : Bool) (texts : MineTexts) (certificate : List ℕ) (net : NetView) (fault : CertFault) → IsGroupNamed name block counts → IsHeader texts certificate (length net.worths) name → IsNet net → IsNetOf block (mine_of (length net.worths) texts) net → fault_of counts name (length net.worths) net.pairs certificate ≡ Some fault → BodyFails texts certificate (length net.worths) fault
+body_fails : (name : Group) (block : ℤ → ℕ → Amount) (counts : Bool) (texts : MineTexts) (certificate : List ℕ) (net : NetView) (fault : CertFault) → IsGroupNamed name block counts → IsHeader texts certificate (length net.worths) name → IsNet net → IsNetOf block (mine_of (length net.worths) texts) net → fault_of counts name (length net.worths) net.pairs certificate ≡ Some fault → BodyTextFails texts certificate (length net.worths) fault
 body_fails name block counts texts certificate net fault named header is_net of_mine f =
     record {
       group = name;
@@ -120,15 +120,15 @@ net_fails name block counts texts certificate rests worths net.TooLarge a named 
 net_fails name block counts texts certificate rests worths net.NoMemory a named header f = tt
 
 -- what was answered with an accepted pit
-pub judged_accepted : (name : Group) (block : ℤ → ℕ → Amount) (counts : Bool) (texts : MineTexts) (certificate : List ℕ) (net : NetView) (pit : List ℕ) (flow : FlowView) → HasRead name block counts texts certificate net pit flow → IsWithinLimit certificate → (set_worth : Amount → ℕ → ℕ → ℤ) → SumsTellWorth block set_worth → (seen : NetView) (blocks : List ℕ) → seen ≡ net → blocks ≡ pit → ProvesPit net flow pit → IsGreatest seen (holds_of blocks) → (group : Group) (count : ℕ) (worth shown : ℤ) → group ≡ name → count ≡ length blocks → worth ≡ set_worth (group_worth seen.worths (holds_of blocks)) (length seen.worths) count → shown ≡ worth → IsAccepted texts certificate group count shown
+pub judged_accepted : (name : Group) (block : ℤ → ℕ → Amount) (counts : Bool) (texts : MineTexts) (certificate : List ℕ) (net : NetView) (pit : List ℕ) (flow : FlowView) → HasRead name block counts texts certificate net pit flow → IsWithinLimit certificate → (set_worth : Amount → ℕ → ℕ → ℤ) → SumsTellWorth block set_worth → (seen : NetView) (blocks : List ℕ) → seen ≡ net → blocks ≡ pit → ProvesPit net flow pit → IsGreatest seen (holds_of blocks) → (group : Group) (count : ℕ) (worth shown : ℤ) → group ≡ name → count ≡ length blocks → worth ≡ set_worth (group_worth seen.worths (holds_of blocks)) (length seen.worths) count → shown ≡ worth → CertificateAccepted texts certificate group count shown
 judged_accepted name block counts texts certificate net pit flow h within set_worth tells seen blocks e f proves greatest group count worth shown a b w s =
     let G : NetView → Type 0 = λ n. IsGreatest n (holds_of blocks) in
     let H : List ℕ → Type 0 = λ l. IsGreatest net (holds_of l) in
     let size = b ∙ ap length f in
     let told = w ∙ ap (λ (n : NetView). set_worth (group_worth n.worths (holds_of blocks)) (length n.worths) count) e ∙ ap (λ (l : List ℕ). set_worth (group_worth net.worths (holds_of l)) (length net.worths) count) f in
     let all = accepted name block counts texts certificate net pit flow h within set_worth tells proves (subst H f (subst G e greatest)) count worth size told in
-    let S : ℤ → Type 0 = λ z. IsAccepted texts certificate name count z in
-    let N : Group → Type 0 = λ n. IsAccepted texts certificate n count shown in
+    let S : ℤ → Type 0 = λ z. CertificateAccepted texts certificate name count z in
+    let N : Group → Type 0 = λ n. CertificateAccepted texts certificate n count shown in
     subst N (sym a) (subst S (sym s) all)
 
 -- What is known of a net that was made of the worths that were read.

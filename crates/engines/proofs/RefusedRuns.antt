@@ -4,7 +4,7 @@ use Rattle.closure_net.specs.Network.{NetView, FlowView, holds_of}
 use Rattle.closure_net.specs.Reached.{IsReached}
 use Rattle.machine_law.specs.Quiet.{IsSolved}
 use Rattle.workers.specs.Runs.{Settles}
-use Rattle.check_pit.specs.Checks.{IsOfNet, FaultStands}
+use Rattle.check_pit.specs.Checks.{IsOfNet, PitFaultStands}
 use Rattle.check_pit.specs.declared.pit_fault.PitFault.{PitFault}
 use Rattle.check_pit.specs.declared.pit_fault.PitFault.TheVariants.{TooLarge}
 use Rattle.check_pit.proofs.Tightness.{refused_for_size_only}
@@ -16,7 +16,7 @@ pub record IsRefusedForSize (net : NetView) (flow : FlowView) (fault : PitFault)
   pub pit : List ℕ
   pub reached : IsReached net flow (holds_of pit)
   pub of_net : IsOfNet net pit
-  pub stands : FaultStands net flow pit TooLarge
+  pub stands : PitFaultStands net flow pit TooLarge
   pub only : fault ≡ TooLarge
 
 pub refused_for_size : (net : NetView) (flow : FlowView) (fault : PitFault) → IsSolved net flow → IsRefusedFlow net flow fault → IsRefusedForSize net flow fault
@@ -30,7 +30,7 @@ refused_for_size net flow fault solved refused =
       pit = refused.pit;
       reached = reached;
       of_net = of_net;
-      stands = subst (λ (f : PitFault). FaultStands net flow refused.pit f) only refused.stands;
+      stands = subst (λ (f : PitFault). PitFaultStands net flow refused.pit f) only refused.stands;
       only = only;
     }
 

@@ -21,7 +21,7 @@ use Rattle.check_pit.specs.Checks.{ProvesPit}
 use Rattle.certificate_file.specs.Header.{header_for}
 use Rattle.check_pit.specs.LineSums.{keeps_by}
 use Rattle.certificate_file.specs.Pieces.{pieces_of}
-use Rattle.check_pit.specs.Rooms.{IsNegative, IsOver}
+use Rattle.check_pit.specs.Rooms.{IsNegative, IsOverLimit}
 use Rattle.check_pit.proofs.LineFlows.{denoted}
 use Rattle.certificate_file.proofs.LineOrder.{Has, has_good, Proper, given_by, good_is_proper}
 use Rattle.certificate_file.proofs.NamedHeaders.{header_named}
@@ -29,8 +29,8 @@ use Rattle.certificate_file.proofs.Order.{InOrder, Good, in_order_weaker, stands
 use Rattle.certificate_file.proofs.SameLines.{pair_place, tells_rest, tells_sink, tells_source}
 use Rattle.mine_inputs.specs.Mines.{MineTexts, mine_of, price_wanted}
 use Rattle.engines.specs.Readings.{Reads, block_by, counts_by}
-use Rattle.engines.specs.Refusals.{LinesBegin, SomeSumLeaves, TextRefused, flow_for, lines_for}
-use Rattle.engines.specs.Judgements.{IsRefused}
+use Rattle.engines.specs.Refusals.{TextBegins, SomeSumLeaves, TextRefused, flow_for, lines_for}
+use Rattle.engines.specs.Judgements.{CertificateRefused}
 use Rattle.engines.proofs.Alone.{flows_same, nets_same, ok_same}
 
 -- a line that keeps its limits has no negative amount, and none that is too much
@@ -41,7 +41,7 @@ not_negative Rest net l h i = i h
 not_negative Sink net l h i = i h.0
 not_negative End net l h i = i
 
-not_over : (k : LineKind) (net : NetView) (l : BodyLine) → keeps_by k net.worths l → IsOver k (amount_at net.worths l.block) (amount_of l) → ⊥
+not_over : (k : LineKind) (net : NetView) (l : BodyLine) → keeps_by k net.worths l → IsOverLimit k (amount_at net.worths l.block) (amount_of l) → ⊥
 not_over Pit net l h i = i
 not_over Source net l h i = i.1 h.1
 not_over Rest net l h i = i
@@ -93,7 +93,7 @@ record IsProved (counts : Bool) (name : Group) (net : NetView) (text pit : List 
   proves : ProvesPit net flow pit
 
 module _ (counts : Bool) (name : Group) (net : NetView) (text pit : List ℕ) (flow : FlowView) (p : IsProved counts name net text pit flow) where
-  line_kept : (ls : List BodyLine) (l : BodyLine) → LinesBegin counts net text (ls ++ l ∷ []) → keeps_by l.kind net.worths l
+  line_kept : (ls : List BodyLine) (l : BodyLine) → TextBegins counts net text (ls ++ l ∷ []) → keeps_by l.kind net.worths l
   line_kept ls l b = line_keeps net (lines_for counts net text) pit flow p.order p.denotes p.proves.is_flow l (subst (Has l) (sym b.1) (among ls l b.0))
 
   flow_is : flow_for counts net text ≡ flow
@@ -139,7 +139,7 @@ proved_at texts c n x e f proves =
     }
 
 -- a refusal of a text is one by the net of any reading of it
-refused_here : (texts : MineTexts) (c : List ℕ) (e : PitFault) (x : Reads texts c) → IsRefused texts c e → TextRefused (counts_by x.group) x.group x.net c e
+refused_here : (texts : MineTexts) (c : List ℕ) (e : PitFault) (x : Reads texts c) → CertificateRefused texts c e → TextRefused (counts_by x.group) x.group x.net c e
 refused_here texts c e x r =
     let h = ok_same _ _ _ r.header x.header in
     let blocks : r.blocks ≡ x.blocks = ap (λ (z : Header). z.blocks) h in
@@ -151,5 +151,5 @@ refused_here texts c e x r =
     let C : NetView → Type 0 = λ w. TextRefused (counts_by x.group) x.group w c e in
     subst C net (subst B group r.stands)
 
-pub refused_leaves : (texts : MineTexts) (c : List ℕ) (e : PitFault) (x : Reads texts c) → ProvesPit x.net x.flow x.pit → IsRefused texts c e → SomeSumLeaves (counts_by x.group) x.net c
+pub refused_leaves : (texts : MineTexts) (c : List ℕ) (e : PitFault) (x : Reads texts c) → ProvesPit x.net x.flow x.pit → CertificateRefused texts c e → SomeSumLeaves (counts_by x.group) x.net c
 refused_leaves texts c e x proves r = refusal_leaves (counts_by x.group) x.group x.net c x.pit x.flow (proved_at texts c x.blocks x refl (sym x.of_mine.blocks) proves) e (refused_here texts c e x r)

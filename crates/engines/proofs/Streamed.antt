@@ -18,13 +18,13 @@ use Rattle.check_pit.specs.declared.pit_fault.PitFault.TheVariants.{WrongSize, N
 use Rattle.check_pit.specs.declared.stream_fault.StreamFault.{StreamFault}
 use Rattle.check_pit.specs.declared.stream_fault.StreamFault.TheVariants as stream
 use Rattle.certificate_file.specs.Pieces.{pieces_of}
-use Rattle.certificate_file.specs.BodyLines.{body_fault, lines_in}
+use Rattle.certificate_file.specs.BodyLines.{body_fault, lines_of_pieces}
 use Rattle.certificate_file.specs.Certificate.{Denotes, UnlessMemory, fault_behind, fault_of, has_pair, pit_of, wanted_for}
 use Rattle.certificate_file.specs.Header.{header_for}
 use Rattle.check_pit.specs.LineSums.{flow_of}
 use Rattle.check_pit.specs.Checks.{ProvesPit}
 use Rattle.check_pit.specs.StreamView.{LineView}
-use Rattle.check_pit.specs.StreamChecks.{first_pits, ReadsOn, fault_of_body, lines_of_body, IsWhole, BodyRefused, BodyFails, BodyProves}
+use Rattle.check_pit.specs.StreamChecks.{first_pits, ReadsOn, fault_of_body, lines_of_body, IsWholeBody, BodyRefused, BodyFails, BodyProves}
 use Rattle.check_pit.specs.StreamChecks as checks
 use Rattle.certificate_file.proofs.NamedHeaders.{header_named}
 use Rattle.certificate_file.proofs.Order.{stands_in_order, ascending, known}
@@ -32,9 +32,9 @@ use Rattle.certificate_file.proofs.Whole.{spelled}
 use Rattle.mine_inputs.specs.Limits.{IsWithinLimit, IsTooLong}
 use Rattle.mine_inputs.specs.Mines.{MineTexts, DenoteMine, mine_of, price_wanted}
 use Rattle.engines.specs.Readings.{IsHeader, IsGroupNamed}
-use Rattle.engines.specs.Refusals.{LinesBegin, lines_for, flow_for, TextRefused}
+use Rattle.engines.specs.Refusals.{TextBegins, lines_for, flow_for, TextRefused}
 use Rattle.engines.specs.FaultStands.{Fails}
-use Rattle.engines.specs.Judgements.{IsRefused}
+use Rattle.engines.specs.Judgements.{CertificateRefused}
 use Rattle.engines.specs.Judging.{Judges, StandsBehind, of_stream}
 use Rattle.mine_inputs.specs.EngineFaults.{of_certificate}
 use Rattle.engines.proofs.Judged.{HasRead, text_fails}
@@ -51,9 +51,9 @@ module _ (name : Group) (counts : Bool) (net : NetView) (text body left : List �
   text_fault = ap (fault_behind counts (length net.worths) net.pairs (drop 4 (pieces_of text))) s.header ∙ ap (body_fault counts (length net.worths) (has_pair net.pairs) None 4) s.behind
 
   text_lines : lines_for counts net text ≡ lines_of_body counts net (body ++ left)
-  text_lines = ap (lines_in counts (length net.worths)) s.behind
+  text_lines = ap (lines_of_pieces counts (length net.worths)) s.behind
 
-  begins : (ls : List BodyLine) → checks.LinesBegin counts net body ls → LinesBegin counts net text ls
+  begins : (ls : List BodyLine) → checks.LinesBegin counts net body ls → TextBegins counts net text ls
   begins ls b = ((b left).0, text_lines ∙ (b left).1)
 
   ended : IsAtEnd (Some left) → body ++ left ≡ body
@@ -62,10 +62,10 @@ module _ (name : Group) (counts : Bool) (net : NetView) (text body left : List �
   whole_lines : IsAtEnd (Some left) → lines_of_body counts net body ≡ lines_for counts net text
   whole_lines e = sym (text_lines ∙ ap (lines_of_body counts net) (ended e))
 
-  within : IsWhole (Some left) taken counts net body → IsWithinLimit text
+  within : IsWholeBody (Some left) taken counts net body → IsWithinLimit text
   within w = let few = w.few in let all = s.size in let none = ap length w.ends in omega (arith, few, all, none)
 
-  no_fault : IsWhole (Some left) taken counts net body → fault_of counts name (length net.worths) net.pairs text ≡ None
+  no_fault : IsWholeBody (Some left) taken counts net body → fault_of counts name (length net.worths) net.pairs text ≡ None
   no_fault w = text_fault ∙ ap (fault_of_body counts net) (ended w.ends) ∙ w.none
 
   pub refusal : (e : PitFault) → BodyRefused (Some left) taken counts net body e → TextRefused counts name net text e
@@ -107,7 +107,7 @@ module _ (name : Group) (counts : Bool) (net : NetView) (text body left : List �
       let none = no_fault b.whole in
       let fine : body_fault counts n has None 4 (drop 4 (pieces_of text)) ≡ None = sym (ap (fault_behind counts n net.pairs (drop 4 (pieces_of text))) s.header) ∙ none in
       let order = stands_in_order counts n has None 4 (drop 4 (pieces_of text)) fine in
-      let ls = lines_in counts n (drop 4 (pieces_of text)) in
+      let ls = lines_of_pieces counts n (drop 4 (pieces_of text)) in
       let rises = subst IsAscending (sym denotes.pit) (ascending counts n has None ls order) in
       let below = subst (λ (l : List ℕ). All (λ b. b < n) l) (sym denotes.pit) (known counts n has None ls order) in
       record {
@@ -145,7 +145,7 @@ pub record IsAsked (name : Group) (block : ℤ → ℕ → Amount) (counts : Boo
 
 module _ (name : Group) (block : ℤ → ℕ → Amount) (counts : Bool) (texts : MineTexts) (text : List ℕ) (net : NetView) (a : IsAsked name block counts texts text net) where
   module _ (body left : List ℕ) (price : Price) (taken : ℕ) (s : IsSplit name net text body left price taken) where
-    refused : (e : PitFault) → BodyRefused (Some left) taken counts net body e → IsRefused texts text e
+    refused : (e : PitFault) → BodyRefused (Some left) taken counts net body e → CertificateRefused texts text e
     refused e h = record {
       blocks = length net.worths;
       mine = a.mine;

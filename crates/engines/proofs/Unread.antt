@@ -35,7 +35,7 @@ use Rattle.mine_inputs.specs.PricedTexts.{price_keys, columns_said, price_column
 use Rattle.mine_inputs.specs.Mines.{MineTexts, mine_texts, priced_texts, precedence_of, ValuesRead, WorthsRead, mine_of, DenoteMine}
 use Rattle.engines.specs.Readings.{block_by, counts_by, IsHeader, Reads}
 use Rattle.mine_inputs.specs.FaultStands.{PrecFails, ValuesFail, SettingsFail, BlocksFail, TableFails}
-use Rattle.engines.specs.FaultStands.{ModelFails, HeaderFails, BodyFails, PriceDiffers}
+use Rattle.engines.specs.FaultStands.{ModelFails, HeaderFails, BodyTextFails, PriceDiffers}
 use Rattle.engines.proofs.Alone.{ok_same, nets_same}
 use Rattle.engines.proofs.Fitting.{no_model_fails}
 
@@ -49,7 +49,7 @@ declared_is : (k n : ℕ) (fault : Option UpitFault) → upit.unless_fault k fau
 declared_is k n None e = ok_same _ k n refl e
 declared_is k n (Some f) e = absurd (let h : Err f ≡ Ok n = e in cc)
 
-values_fault : (text : List ℕ) (n : ℕ) (fault : UpitFault) → ValuesRead text n → upit.fault_of (upit.count_in (upit.lines_in text)) text ≡ Some fault → ⊥
+values_fault : (text : List ℕ) (n : ℕ) (fault : UpitFault) → ValuesRead text n → upit.fault_of (upit.blocks_declared (upit.lines_in text)) text ≡ Some fault → ⊥
 values_fault text n fault r h =
     let same = declared_is _ n _ r.declared in
     let P : ℕ → Type 0 = λ k. upit.fault_of k text ≡ None in
@@ -157,7 +157,7 @@ model_read texts certificate n group fault r h f =
     let N : Group → Type 0 = λ g. IsNetOf (block_by g) (mine_of n texts) r.net in
     no_model_fails texts n group r.net r.is_net (subst N named (subst M blocks r.of_mine)) fault f
 
-pub body_read : (texts : MineTexts) (certificate : List ℕ) (n : ℕ) (fault : CertFault) → Reads texts certificate → DenoteMine texts n → BodyFails texts certificate n fault → ⊥
+pub body_read : (texts : MineTexts) (certificate : List ℕ) (n : ℕ) (fault : CertFault) → Reads texts certificate → DenoteMine texts n → BodyTextFails texts certificate n fault → ⊥
 body_read texts certificate n fault r m f =
     let h = ok_same _ _ _ r.header f.header in
     let blocks : r.blocks ≡ n = ap (λ (z : Header). z.blocks) h in

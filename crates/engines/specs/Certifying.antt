@@ -4,7 +4,7 @@ use Rattle.ordered_group.specs.Amount.{Amount}
 use Rattle.closure_net.specs.Network.{NetView, FlowView, FlowFits, IsAscending, holds_of}
 use Rattle.closure_net.specs.Closure.{IsGreatest, group_worth}
 use Rattle.closure_net.specs.Reached.{IsReached}
-use Rattle.check_pit.specs.Checks.{IsOfNet, IsSound, FaultStands}
+use Rattle.check_pit.specs.Checks.{IsOfNet, IsSound, PitFaultStands}
 use Rattle.check_pit.specs.declared.pit_fault.PitFault.{PitFault}
 use Rattle.engines.specs.declared.certify.Uncertified.{Uncertified}
 use Rattle.engines.specs.declared.certify.Uncertified.TheVariants.{NoMemory, Refused}
@@ -22,7 +22,7 @@ pub record IsSolution (set_worth : Amount → ℕ → ℕ → ℤ) (net : NetVie
 -- The fault stands for the flow and a pit; where the flow has the net's lengths, the pit is what the source reaches in it.
 pub record IsRefusedFlow (net : NetView) (flow : FlowView) (fault : PitFault) : Type 0 where
   pub pit : List ℕ
-  pub stands : FaultStands net flow pit fault
+  pub stands : PitFaultStands net flow pit fault
   pub reached : FlowFits net flow → IsReached net flow (holds_of pit)
   pub of_net : FlowFits net flow → IsOfNet net pit
 

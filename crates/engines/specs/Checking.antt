@@ -16,7 +16,7 @@ use Rattle.mine_inputs.specs.Limits.{IsTooLong}
 use Rattle.mine_inputs.specs.Mines.{MineTexts}
 use Rattle.engines.specs.Readings.{Reads, counts_by}
 use Rattle.engines.specs.Refusals.{SomeSumLeaves}
-use Rattle.engines.specs.Judgements.{IsAccepted, IsRefused, IsJudged}
+use Rattle.engines.specs.Judgements.{CertificateAccepted, CertificateRefused, IsJudged}
 use Rattle.engines.specs.FaultStands.{Fails}
 use Rattle.engines.specs.OutputLines.{judgement_line}
 
@@ -25,13 +25,13 @@ pub record WritesAccepted (texts : MineTexts) (certificate : List ℕ) (old new 
   pub group : Group
   pub count : ℕ
   pub worth : ℤ
-  pub accepted : IsAccepted texts certificate group count worth
+  pub accepted : CertificateAccepted texts certificate group count worth
   pub written : Appends old new (judgement_line (Accepted group count worth))
 
 -- It wrote REFUSED with a fault that stands.
 pub record WritesRefused (texts : MineTexts) (certificate : List ℕ) (old new : Option (List ℕ)) : Type 0 where
   pub fault : PitFault
-  pub refused : IsRefused texts certificate fault
+  pub refused : CertificateRefused texts certificate fault
   pub written : Appends old new (judgement_line (Refused fault))
 
 -- Nothing was written, or a front of the line of a judgement that stands.

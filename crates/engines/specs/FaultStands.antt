@@ -33,7 +33,7 @@ ModelFails texts n group net_fault.NoMemory = ⊥
 ModelFails texts n group fault = NetFails texts n group fault
 
 -- there is a net of the mine, and for its pairs the certificate has this fault
-pub record BodyFails (texts : MineTexts) (certificate : List ℕ) (n : ℕ) (fault : CertFault) : Type 0 where
+pub record BodyTextFails (texts : MineTexts) (certificate : List ℕ) (n : ℕ) (fault : CertFault) : Type 0 where
   pub group : Group
   pub header : IsHeader texts certificate n group
   pub net : NetView
@@ -53,7 +53,7 @@ PriceDiffers texts certificate n = (header : Header) × (header_of (pieces_of ce
 abbrev pub CertificateFails : MineTexts → List ℕ → ℕ → CertificateProblem → Type 0
 CertificateFails texts certificate n certificate_problem.InputTooLong = IsTooLong certificate
 CertificateFails texts certificate n certificate_problem.WrongPrice = PriceDiffers texts certificate n
-CertificateFails texts certificate n (certificate_problem.Fault fault) = HeaderFails certificate n fault ⊎ BodyFails texts certificate n fault
+CertificateFails texts certificate n (certificate_problem.Fault fault) = HeaderFails certificate n fault ⊎ BodyTextFails texts certificate n fault
 
 -- Why a check answers a fault: one of the texts of the mine; or, where they are read, one of the certificate's or of the mine's net.
 abbrev pub Fails : MineTexts → List ℕ → EngineFault → Type 0

@@ -13,7 +13,7 @@ use Rattle.engines.specs.Readings.{Reads, IsProvedPit, block_by, counts_by, IsHe
 use Rattle.engines.specs.Refusals.{TextRefused}
 
 -- The texts denote a mine and a certificate whose flow proves its pit; that pit has so many blocks and is worth so much.
-pub record IsAccepted (texts : MineTexts) (certificate : List ℕ) (name : Group) (blocks : ℕ) (nanos : ℤ) : Type 0 where
+pub record CertificateAccepted (texts : MineTexts) (certificate : List ℕ) (name : Group) (blocks : ℕ) (nanos : ℤ) : Type 0 where
   pub within : IsWithinLimit certificate
   pub read : Reads texts certificate
   pub group : read.group ≡ name
@@ -23,7 +23,7 @@ pub record IsAccepted (texts : MineTexts) (certificate : List ℕ) (name : Group
   pub worth : worth_of (mine_of read.blocks texts) (holds_of read.pit) ≡ nanos
 
 -- The texts denote a mine and its net, and the header of the certificate is one for it; and the certificate doesn't prove its pit, for this reason.
-pub record IsRefused (texts : MineTexts) (certificate : List ℕ) (fault : PitFault) : Type 0 where
+pub record CertificateRefused (texts : MineTexts) (certificate : List ℕ) (fault : PitFault) : Type 0 where
   pub blocks : ℕ
   pub mine : DenoteMine texts blocks
   pub group : Group
@@ -34,5 +34,5 @@ pub record IsRefused (texts : MineTexts) (certificate : List ℕ) (fault : PitFa
   pub stands : TextRefused (counts_by group) group net certificate fault
 
 abbrev pub IsJudged : MineTexts → List ℕ → Judgement → Type 0
-IsJudged texts certificate (Accepted group count worth) = IsAccepted texts certificate group count worth
-IsJudged texts certificate (Refused fault) = IsRefused texts certificate fault
+IsJudged texts certificate (Accepted group count worth) = CertificateAccepted texts certificate group count worth
+IsJudged texts certificate (Refused fault) = CertificateRefused texts certificate fault

@@ -48,7 +48,7 @@ pub record IsFresh {R : Type 0} (s : CertView R) : Type 0 where
   pub undone : s.is_done ≡ false
 
 -- no fault was answered, and no pit accepted
-pub record IsOpen {R : Type 0} (s : CertView R) : Type 0 where
+pub record IsUndecided {R : Type 0} (s : CertView R) : Type 0 where
   pub fault : s.fault ≡ None
   pub undone : s.is_done ≡ false
 

@@ -7,7 +7,7 @@ use Rattle.closure_net.specs.Mine.{LiesWithin}
 use Rattle.mine_inputs.specs.PricedTexts.{table_of}
 use Rattle.mine_inputs.specs.Mines.{priced_texts, rests_by, mine_of}
 use Rattle.engines.specs.Readings.{TellsSizes}
-use Rattle.engines.specs.Judgements.{IsAccepted}
+use Rattle.engines.specs.Judgements.{CertificateAccepted}
 
 -- The texts name the same prices, and the same blocks rest on the same ones: settings may differ in other keys, and lines in their order.
 pub record IsOneTable (settings blocks precedence settings' blocks' precedence' : List ℕ) : Type 0 where
@@ -17,5 +17,5 @@ pub record IsOneTable (settings blocks precedence settings' blocks' precedence' 
 -- Of two pits that are accepted over one price table, each in amounts that tell sizes, the one at the lower factor lies within the other.
 abbrev pub AcceptedAreNested : Type 0
 AcceptedAreNested = (settings blocks precedence settings' blocks' precedence' lower higher : List ℕ) (j k count count' : ℕ) (worth worth' : ℤ) (name name' : Group) → TellsSizes name → TellsSizes name' → IsOneTable settings blocks precedence settings' blocks' precedence' → j ≤ k
-    → (low : IsAccepted (priced_texts settings blocks precedence j) lower name count worth) (high : IsAccepted (priced_texts settings' blocks' precedence' k) higher name' count' worth')
+    → (low : CertificateAccepted (priced_texts settings blocks precedence j) lower name count worth) (high : CertificateAccepted (priced_texts settings' blocks' precedence' k) higher name' count' worth')
     → LiesWithin (mine_of low.read.blocks (priced_texts settings blocks precedence j)) (holds_of low.read.pit) (holds_of high.read.pit)

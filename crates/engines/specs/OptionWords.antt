@@ -9,8 +9,8 @@ use Rattle.workers.specs.declared.solving.TheConstants.{MOST_WORKERS}
 use Rattle.engines.specs.WholeNumbers.{whole_within}
 
 -- the kind of amount that a word names, if it names one
-abbrev pub group_of : List ℕ → Option Group
-group_of word = cond (bytes_eq word (codes "worth")) (Some Worth) (cond (bytes_eq word (codes "pair")) (Some Pair) (cond (bytes_eq word (codes "scaled")) (Some Scaled) None))
+abbrev pub group_of_word : List ℕ → Option Group
+group_of_word word = cond (bytes_eq word (codes "worth")) (Some Worth) (cond (bytes_eq word (codes "pair")) (Some Pair) (cond (bytes_eq word (codes "scaled")) (Some Scaled) None))
 
 -- the number of workers that a word names, if it names one: a whole number from 1 to 64
 abbrev pub workers_of : List ℕ → Option ℕ
@@ -21,5 +21,5 @@ abbrev pub steps_of : List ℕ → Option ℕ
 steps_of word = whole_within word 1 MOST_STEPS
 
 -- the factor that a word names, if it names one: a whole number from 0 to 10,000
-abbrev pub factor_of : List ℕ → Option ℕ
-factor_of word = whole_within word 0 MOST_FACTOR
+abbrev pub factor_of_word : List ℕ → Option ℕ
+factor_of_word word = whole_within word 0 MOST_FACTOR

@@ -15,7 +15,7 @@ use Rattle.engines.specs.declared.judgement.Judgement.{Judgement}
 use Rattle.engines.specs.declared.judgement.Judgement.TheVariants.{Accepted, Refused}
 use Rattle.mine_inputs.specs.declared.engine_fault.EngineFault.{EngineFault}
 use Rattle.mine_inputs.specs.declared.engine_fault.EngineFault.TheVariants as engine
-use Rattle.mine_inputs.specs.FaultText.{problem_text, certificate_text, slope_text}
+use Rattle.mine_inputs.specs.FaultText.{problem_text, certificate_problem_text, slope_text}
 
 -- what stands behind the worth where worth alone was counted
 abbrev pub group_mark : Group → List ℕ
@@ -50,7 +50,7 @@ problem_words (engine.Settings p) = problem_text settings_fault_text p
 problem_words (engine.Prices fault) = prices_fault_text fault
 problem_words (engine.Slope p) = slope_text p
 problem_words (engine.Model fault) = net_fault_text fault
-problem_words (engine.Certificate p) = certificate_text p
+problem_words (engine.Certificate p) = certificate_problem_text p
 problem_words (engine.Trace p) = problem_text trace_fault_text p
 problem_words engine.Memory = codes "memory"
 problem_words engine.Device = codes "device"

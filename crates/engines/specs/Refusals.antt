@@ -23,16 +23,16 @@ abbrev pub flow_for : Bool → NetView → List ℕ → FlowView
 flow_for counts net text = flow_of (length net.worths) net.pairs (lines_for counts net text)
 
 -- they begin with these
-abbrev pub LinesBegin : Bool → NetView → List ℕ → List BodyLine → Type 0
-LinesBegin counts net text ls = (more : List BodyLine) × (lines_for counts net text ≡ ls ++ more)
+abbrev pub TextBegins : Bool → NetView → List ℕ → List BodyLine → Type 0
+TextBegins counts net text ls = (more : List BodyLine) × (lines_for counts net text ≡ ls ++ more)
 
 -- one of them is refused behind those before it, of which none has an amount that is negative or too large
-abbrev pub RefusesLine : Bool → NetView → List ℕ → PitFault → Type 0
-RefusesLine counts net text e = (ls : List BodyLine) × (l : BodyLine) × LinesBegin counts net text (ls ++ l ∷ []) × KeepLimits net.worths ls × LineRefused net ls l e
+abbrev pub TextRefusesLine : Bool → NetView → List ℕ → PitFault → Type 0
+TextRefusesLine counts net text e = (ls : List BodyLine) × (l : BodyLine) × TextBegins counts net text (ls ++ l ∷ []) × KeepLimits net.worths ls × LineRefused net ls l e
 
 -- some first lines have a sum that doesn't fit: the balance of a block, the worth of the pit, or what the source could still give
 abbrev pub SomeSumLeaves : Bool → NetView → List ℕ → Type 0
-SomeSumLeaves counts net text = (ls : List BodyLine) × LinesBegin counts net text ls × SomeLineSumOverflows net ls
+SomeSumLeaves counts net text = (ls : List BodyLine) × TextBegins counts net text ls × SomeLineSumOverflows net ls
 
 -- the text is read to its end without a fault
 abbrev pub IsFaultless : Bool → Group → NetView → List ℕ → Type 0
@@ -49,10 +49,10 @@ pub record SaysPit (counts : Bool) (name : Group) (net : NetView) (text pit : Li
 abbrev pub TextRefused : Bool → Group → NetView → List ℕ → PitFault → Type 0
 TextRefused counts name net text WrongSize = ⊥
 TextRefused counts name net text (NotClosed b p) = (pit : List ℕ) × SaysPit counts name net text pit × IsFirstOpen net.pairs (holds_of pit) (b, p)
-TextRefused counts name net text Negative = RefusesLine counts net text Negative
-TextRefused counts name net text (OverCapacity b) = RefusesLine counts net text (OverCapacity b)
+TextRefused counts name net text Negative = TextRefusesLine counts net text Negative
+TextRefused counts name net text (OverCapacity b) = TextRefusesLine counts net text (OverCapacity b)
 TextRefused counts name net text (Unbalanced b) = IsFaultless counts name net text × IsFirstNot (Balanced net (flow_for counts net text)) (length net.worths) b
 TextRefused counts name net text NotTight =
     IsFaultless counts name net text × ((b : ℕ) → b < length net.worths → Balanced net (flow_for counts net text) b)
     × ¬ (IsTight net (flow_for counts net text) (holds_of (pit_of (lines_for counts net text))))
-TextRefused counts name net text TooLarge = RefusesLine counts net text TooLarge
+TextRefused counts name net text TooLarge = TextRefusesLine counts net text TooLarge

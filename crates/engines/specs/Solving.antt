@@ -9,7 +9,7 @@ use Rattle.closure_net.specs.Mine.{IsNetOf}
 use Rattle.workers.specs.Runs.{Settles, IsCutOff, SomeStepOverflows}
 use Rattle.workers.specs.declared.solving.SolveFault.{SolveFault}
 use Rattle.workers.specs.declared.solving.SolveFault.TheVariants as run
-use Rattle.check_pit.specs.Checks.{IsOfNet, IsSound, FaultStands}
+use Rattle.check_pit.specs.Checks.{IsOfNet, IsSound, PitFaultStands}
 use Rattle.certificate_file.specs.ReadBack.{IsReadBack}
 use Rattle.check_pit.specs.declared.pit_fault.PitFault.TheVariants as pit_fault
 use Rattle.certificate_file.specs.declared.header.Price.{Price}
@@ -37,7 +37,7 @@ pub record CheckOverflows (net : NetView) (limit : ℕ) : Type 0 where
   pub pit : List ℕ
   pub reached : IsReached net flow (holds_of pit)
   pub of_net : IsOfNet net pit
-  pub stands : FaultStands net flow pit pit_fault.TooLarge
+  pub stands : PitFaultStands net flow pit pit_fault.TooLarge
 
 -- a step of a run, or the check of what it leaves, needs a number that doesn't fit
 abbrev pub SomeNumberOverflows : NetView → ℕ → Type 0

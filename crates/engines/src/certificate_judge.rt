@@ -14,7 +14,7 @@ ghost use Rattle.check_pit.specs.declared.stream_fault.StreamFault.TheVariants a
 ghost use Rattle.mine_inputs.specs.Mines.{MineTexts, DenoteMine};
 ghost use Rattle.engines.specs.Readings.{IsHeader, IsGroupNamed};
 ghost use Rattle.engines.specs.FaultStands.{Fails};
-ghost use Rattle.engines.specs.Judging.{Judges, IsFresh, IsOpen, StandsBehind, of_stream, factor_in};
+ghost use Rattle.engines.specs.Judging.{Judges, IsFresh, IsUndecided, StandsBehind, of_stream, factor_in};
 ghost use Rattle.mine_inputs.specs.ReadMines.{AreRead, IsMineRead};
 
 use crate::judgement::Judgement;
@@ -120,7 +120,7 @@ pub fn header_for<C: CountedRead>(stream: &mut CertStream<C>, n: u32) -> Result<
         (λ header. (header_of (pieces_of c) ≡ Ok header) × StandsBehind C.remaining c stream.new.lines)
         (λ fault. (texts : MineTexts) → DenoteMine texts n → Fails texts c fault)) }
     ensures blocks { IfOk result (λ header. (header.blocks ≡ n) × (stream.new.header ≡ Some header)) }
-    ensures open { IfOk result (λ _. IsOpen stream.new) }
+    ensures open { IfOk result (λ _. IsUndecided stream.new) }
     ensures device { IsErrOf result EngineFault.Device → C.failed stream.new.lines.from ≡ C.failed stream.old.lines.from + 1 }
     ensures kept { ¬ IsErrOf result EngineFault.Device → C.failed stream.new.lines.from ≡ C.failed stream.old.lines.from }
 {
@@ -174,7 +174,7 @@ pub fn judge_in<C: CountedRead>(
     stream: &mut CertStream<C>,
 ) -> Result<Judgement, EngineFault>
     requires count { C.failed stream.old.lines.from < 2 ^ 64 - 1 }
-    requires open { IsOpen stream.old }
+    requires open { IsUndecided stream.old }
     requires header { IsReadFor rests.blocks group stream.old.header stream.old.fault }
     ensures judged { (texts : MineTexts) (c : List ℕ) → AreRead texts nanos.items rests → IsHeader texts c rests.blocks group
         → StandsBehind C.remaining c stream.old.lines → Judges texts c result }
@@ -200,7 +200,7 @@ fn judge_by<G: OrderedGroup, C: CountedRead>(
     stream: &mut CertStream<C>,
 ) -> Result<Judgement, EngineFault>
     requires count { C.failed stream.old.lines.from < 2 ^ 64 - 1 }
-    requires open { IsOpen stream.old }
+    requires open { IsUndecided stream.old }
     requires header { IsReadFor rests.blocks G.name stream.old.header stream.old.fault }
     ensures judged { (texts : MineTexts) (c : List ℕ) → AreRead texts nanos.items rests → IsGroupNamed G.name G.block_parts G.counts
         → IsHeader texts c rests.blocks G.name → StandsBehind C.remaining c stream.old.lines → Judges texts c result }

@@ -18,7 +18,7 @@ ghost use Rattle.settings_file.specs.Keys.{key_name};
 ghost use Rattle.settings_file.specs.FaultText.{settings_fault_text};
 ghost use Rattle.shells.specs.FaultText.{prices_fault_text};
 ghost use Rattle.trace_file.specs.FaultText.{fault_text};
-ghost use Rattle.mine_inputs.specs.FaultText.{problem_text, slope_text, certificate_text};
+ghost use Rattle.mine_inputs.specs.FaultText.{problem_text, slope_text, certificate_problem_text};
 ghost use Rattle.engines.specs.OutputLines.{fault_line, fault_words, input_word, problem_words};
 ghost use Rattle.engines.specs.Statuses.{status_of};
 
@@ -287,7 +287,7 @@ fn push_model(line: &mut ShortLine, fault: &NetFault)
 
 fn push_certificate(line: &mut ShortLine, problem: &CertificateProblem)
     requires { length line.old ≤ 64 }
-    ensures text { line.new ≡ line.old ++ certificate_text problem.now }
+    ensures text { line.new ≡ line.old ++ certificate_problem_text problem.now }
     ensures length { length line.new ≤ length line.old + 60 }
 {
     match problem {

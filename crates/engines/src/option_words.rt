@@ -2,7 +2,7 @@
 //! workers; gives nothing for any other word.
 
 ghost use Rattle.std.specs.Prelude.{◌≡◌, ◌≤◌, IfSome};
-ghost use Rattle.engines.specs.OptionWords.{factor_of, group_of, steps_of, workers_of};
+ghost use Rattle.engines.specs.OptionWords.{factor_of_word, group_of_word, steps_of, workers_of};
 
 use crate::whole_numbers::whole_within;
 use async_step::MOST_STEPS;
@@ -13,7 +13,7 @@ use workers::MOST_WORKERS;
 
 /// The kind of amount that a word names: `worth`, `pair` or `scaled`.
 pub fn group_named(word: &[u8]) -> Option<Group>
-    ensures { result ≡ group_of word.now }
+    ensures { result ≡ group_of_word word.now }
 {
     if word == b"worth".as_slice() {
         Some(Group::Worth)
@@ -28,7 +28,7 @@ pub fn group_named(word: &[u8]) -> Option<Group>
 
 /// The factor that a word names: a whole number of thousandths from 0 to 10,000.
 pub fn factor_named(word: &[u8]) -> Option<Factor>
-    ensures { result ≡ factor_of word.now }
+    ensures { result ≡ factor_of_word word.now }
 {
     match whole_within(word, 0, MOST_FACTOR as u64) {
         Some(number) => Factor::new(number as u32),

@@ -7,7 +7,7 @@ use Rattle.std.proofs.lemmas.List.Folds.{length-prefix_len}
 use Rattle.std.proofs.lemmas.List.{drop-drop}
 use Rattle.std.proofs.lemmas.Bool.Decides.{nat_tests}
 use Rattle.fixed_worth.specs.declared.limits.TheConstants.{LINE_BYTES}
-use Rattle.fixed_worth.specs.Text.{lines_of, BeginsTooLong, is_separator, Run, run_before, runs_from}
+use Rattle.fixed_worth.specs.Text.{lines_of, BeginsTooLong, is_separator, WordRun, run_before, runs_from}
 
 one-add : (n : ℕ) → 1 + n ≡ suc n
 one-add n = omega arith
@@ -41,15 +41,15 @@ first_line [] h = absurd (omega arith)
 first_line (b ∷ bs) h = first_at b bs (eqb b 10) refl (first_line bs)
 
 -- What stands from a place on begins there or later.
-abbrev BeginsFrom : ℕ → List Run → Type 0
+abbrev BeginsFrom : ℕ → List WordRun → Type 0
 BeginsFrom p [] = Unit {0}
 BeginsFrom p (r ∷ rs) = p ≤ r.place
 
-begins_before : (b p : ℕ) (rs : List Run) → BeginsFrom p (run_before b p rs)
+begins_before : (b p : ℕ) (rs : List WordRun) → BeginsFrom p (run_before b p rs)
 begins_before b p [] = omega arith
 begins_before b p (r ∷ rs) = elim (eqb r.place (p + 1)) as (λ t. BeginsFrom p (cond t (record { text = b ∷ r.text; place = p } ∷ rs) (record { text = b ∷ []; place = p } ∷ r ∷ rs))) [ true ↦ omega arith | false ↦ omega arith ]
 
-begins_later : (p : ℕ) (rs : List Run) → BeginsFrom (p + 1) rs → BeginsFrom p rs
+begins_later : (p : ℕ) (rs : List WordRun) → BeginsFrom (p + 1) rs → BeginsFrom p rs
 begins_later p [] h = tt
 begins_later p (r ∷ rs) h = omega arith
 
@@ -58,11 +58,11 @@ begins_from p [] = tt
 begins_from p (b ∷ bs) = elim (is_separator b) as (λ t. BeginsFrom p (cond t (runs_from (p + 1) bs) (run_before b p (runs_from (p + 1) bs)))) [ true ↦ begins_later p (runs_from (p + 1) bs) (begins_from (p + 1) bs) | false ↦ begins_before b p (runs_from (p + 1) bs) ]
 
 -- A byte with a gap behind it is a run of its own.
-alone : (b p : ℕ) (rs : List Run) → BeginsFrom (p + 1 + 1) rs → run_before b p rs ≡ record { text = b ∷ []; place = p } ∷ rs
+alone : (b p : ℕ) (rs : List WordRun) → BeginsFrom (p + 1 + 1) rs → run_before b p rs ≡ record { text = b ∷ []; place = p } ∷ rs
 alone b p [] h = refl
 alone b p (r ∷ rs) h = let e : eqb r.place (p + 1) ≡ false = grind (arith, nat_tests) in rw e refl
 
-joined : (b p : ℕ) (text : List ℕ) (rs : List Run) → run_before b p (record { text = text; place = p + 1 } ∷ rs) ≡ record { text = b ∷ text; place = p } ∷ rs
+joined : (b p : ℕ) (text : List ℕ) (rs : List WordRun) → run_before b p (record { text = text; place = p + 1 } ∷ rs) ≡ record { text = b ∷ text; place = p } ∷ rs
 joined b p text rs = let e : eqb (p + 1) (p + 1) ≡ true = grind (arith, nat_tests) in rw e refl
 
 -- The first w bytes are the first run.
@@ -156,7 +156,7 @@ field_given p g w bs back text rest e f h k m n =
     let same : runs_from p bs ≡ runs_from (p + g) back = gap_skipped p bs ∙ rw (here, e) refl in
     same ∙ rw (m, n, k) (first_run (p + g) back some head)
 
-few_before : (b p : ℕ) (rs : List Run) (n : ℕ) → length rs ≤ n → length (run_before b p rs) ≤ suc n
+few_before : (b p : ℕ) (rs : List WordRun) (n : ℕ) → length rs ≤ n → length (run_before b p rs) ≤ suc n
 few_before b p [] n h = omega arith
 few_before b p (r ∷ rs) n h = elim (eqb r.place (p + 1)) as (λ t. length (cond t (record { text = b ∷ r.text; place = p } ∷ rs) (record { text = b ∷ []; place = p } ∷ r ∷ rs)) ≤ suc n) [ true ↦ omega arith | false ↦ omega arith ]
 

@@ -6,7 +6,7 @@ use Rattle.std.proofs.lemmas.List.Elements.{All-nil, All-cons}
 use Rattle.std.proofs.lemmas.List.Folds.{length-prefix_len}
 use Rattle.std.proofs.lemmas.List.Sums.{prefix_len-le-length, prefix_len_passes, prefix_len_stops}
 use Rattle.std.proofs.lemmas.Bool.{cases_lt}
-use Rattle.fixed_worth.specs.Text.{is_separator, Run, runs_from}
+use Rattle.fixed_worth.specs.Text.{is_separator, WordRun, runs_from}
 use Rattle.fixed_worth.specs.Laws.{IsField, AreInOrder, LiesIn, AreFields}
 use Rattle.fixed_worth.proofs.Cuts.{gap, gap_skipped, gap_stops, first_run}
 use Rattle.fixed_worth.proofs.Bits.{not_true, not_false}
@@ -33,7 +33,7 @@ run_ends line p h =
 abbrev Fresh : List ℕ → ℕ → Type 0
 Fresh line p = p < length line → is_separator (get_or line p 0) ≡ false → (k : ℕ) → k + 1 ≡ p → is_separator (get_or line k 0) ≡ true
 
-record FieldsFrom (line : List ℕ) (p : ℕ) (fields : List Run) : Type 0 where
+record FieldsFrom (line : List ℕ) (p : ℕ) (fields : List WordRun) : Type 0 where
   each : All (IsField line) fields
   ordered : AreInOrder p fields
   complete : (k : ℕ) → p ≤ k → k < length line → is_separator (get_or line k 0) ≡ false → LiesIn k fields
@@ -44,7 +44,7 @@ end_of_gap line p = p + gap (drop p line)
 abbrev width : List ℕ → ℕ → ℕ
 width line q = position_or_len is_separator (drop q line)
 
-abbrev first : List ℕ → ℕ → Run
+abbrev first : List ℕ → ℕ → WordRun
 first line q = record { text = take (width line q) (drop q line); place = q }
 
 behind_gap : (line : List ℕ) (p : ℕ) → runs_from p (drop p line) ≡ runs_from (end_of_gap line p) (drop (end_of_gap line p) line)
@@ -104,7 +104,7 @@ finished line p h = record {
 nothing_left : (line : List ℕ) (p : ℕ) → length line ≤ end_of_gap line p → [] ≡ runs_from p (drop p line)
 nothing_left line p h = sym (behind_gap line p ∙ ap (λ bs. runs_from (end_of_gap line p) bs) (drop_all (end_of_gap line p) line h))
 
-lies : (line : List ℕ) (p k : ℕ) (fields : List Run) → FieldsFrom line (end_of_gap line p + width line (end_of_gap line p)) fields → end_of_gap line p < length line
+lies : (line : List ℕ) (p k : ℕ) (fields : List WordRun) → FieldsFrom line (end_of_gap line p + width line (end_of_gap line p)) fields → end_of_gap line p < length line
     → p ≤ k → k < length line → is_separator (get_or line k 0) ≡ false → LiesIn k (first line (end_of_gap line p) ∷ fields)
 lies line p k fields more h l m e =
     let q = end_of_gap line p in
@@ -132,7 +132,7 @@ gap_before line p fresh h k e =
           ap (λ j. is_separator (get_or line j 0)) (sym i) ∙ gap_byte line p (k - p) (omega arith)
     ]
 
-one_more : (line : List ℕ) (p : ℕ) (fields : List Run) → Fresh line p → end_of_gap line p < length line → FieldsFrom line (end_of_gap line p + width line (end_of_gap line p)) fields
+one_more : (line : List ℕ) (p : ℕ) (fields : List WordRun) → Fresh line p → end_of_gap line p < length line → FieldsFrom line (end_of_gap line p + width line (end_of_gap line p)) fields
     → FieldsFrom line p (first line (end_of_gap line p) ∷ fields)
 one_more line p fields fresh h more =
     let q = end_of_gap line p in

@@ -12,7 +12,7 @@ use Rattle.fixed_worth.specs.Numeral.{is_digit, value_of, is_minus, unsigned_of}
 use Rattle.fixed_worth.specs.Decimal.{first_decimal, is_mark, is_point, whole_part, fraction_part, exponent_of, has_mark, decimal_of}
 use Rattle.fixed_worth.specs.Rounding.{rounded_of}
 use Rattle.fixed_worth.specs.Front.{MayFollow, BeginsWithField, BeginsWithFraction}
-use Rattle.fixed_worth.specs.Text.{Run, is_separator}
+use Rattle.fixed_worth.specs.Text.{WordRun, is_separator}
 use Rattle.fixed_worth.specs.declared.numerals.NumberFault.{NumberFault}
 use Rattle.std.proofs.lemmas.Option.{none-some}
 use Rattle.fixed_worth.proofs.Digits.{value_of-append, value_below}
@@ -223,6 +223,6 @@ behind_point text v k rest some is within all value small left =
     }
 
 -- What was read is the first of the fields.
-pub first_amount_is : (fields : List Run) (read : Result ℤ NumberFault) → Some read ≡ first_decimal fields → (field : Run) × (fields ≡ field ∷ drop 1 fields) × (read ≡ decimal_of field.text)
+pub first_amount_is : (fields : List WordRun) (read : Result ℤ NumberFault) → Some read ≡ first_decimal fields → (field : WordRun) × (fields ≡ field ∷ drop 1 fields) × (read ≡ decimal_of field.text)
 first_amount_is [] read e = absurd (none-some read (sym e))
 first_amount_is (field ∷ fields) read e = (field, refl, ap (λ o. unwrap_or o read) e)

@@ -13,7 +13,7 @@ use Rattle.fixed_worth.specs.declared.numerals.NumberFault.{NumberFault}
 use Rattle.fixed_worth.specs.Front.{BeginsWithField}
 use Rattle.fixed_worth.specs.Numeral.{is_digit, value_of, whole_of}
 use Rattle.fixed_worth.specs.Record.{first_whole, reads, is_remark}
-use Rattle.fixed_worth.specs.Text.{Run, is_separator, runs_from}
+use Rattle.fixed_worth.specs.Text.{WordRun, is_separator, runs_from}
 use Rattle.fixed_worth.proofs.Cuts.{first_run, Runs}
 use Rattle.fixed_worth.proofs.Digits.{value_of-append, value_below, power_fits}
 use Rattle.fixed_worth.proofs.Bits.{not_true, not_false}
@@ -121,11 +121,11 @@ some_before : {X : Type 0} (x y d : X) → Some x ≡ Some y → x ≡ y
 some_before x y d e = ap (λ o. unwrap_or o d) e
 
 -- What was read is the first of the fields.
-pub first_is : (fields : List Run) (read : Result ℕ NumberFault) → Some read ≡ first_whole fields → (field : Run) × (fields ≡ field ∷ drop 1 fields) × (read ≡ whole_of field.text)
+pub first_is : (fields : List WordRun) (read : Result ℕ NumberFault) → Some read ≡ first_whole fields → (field : WordRun) × (fields ≡ field ∷ drop 1 fields) × (read ≡ whole_of field.text)
 first_is [] read e = absurd (none-some read (sym e))
 first_is (field ∷ fields) read e = (field, refl, some_before read (whole_of field.text) read e)
 
-pub no_field : (fields : List Run) → None ≡ first_whole fields → fields ≡ []
+pub no_field : (fields : List WordRun) → None ≡ first_whole fields → fields ≡ []
 no_field [] e = refl
 no_field (field ∷ fields) e = absurd (none-some (whole_of field.text) e)
 

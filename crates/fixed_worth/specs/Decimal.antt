@@ -6,7 +6,7 @@ use Rattle.fixed_worth.specs.declared.numerals.NumberFault.{NumberFault}
 use Rattle.fixed_worth.specs.declared.numerals.NumberFault.TheVariants.{NotANumber, TooLong, TooLarge}
 use Rattle.fixed_worth.specs.Numeral.{is_digit, is_number, value_of, is_minus, unsigned_of, with_sign}
 use Rattle.fixed_worth.specs.Rounding.{rounded_of}
-use Rattle.fixed_worth.specs.Text.{Run}
+use Rattle.fixed_worth.specs.Text.{WordRun}
 
 -- e or E
 unfoldable pub is_mark : ℕ → Bool
@@ -56,7 +56,7 @@ abbrev pub decimal_of : List ℕ → Result ℤ NumberFault
 decimal_of text = cond (not (is_decimal text)) (Err NotANumber) (cond (is_too_long text) (Err TooLong) (with_sign (is_minus text) (most (10 ^ 18) (millionths_of text))))
 
 -- The value that the first of the fields is, or why it is none, where there is a field.
-abbrev pub first_decimal : List Run → Option (Result ℤ NumberFault)
+abbrev pub first_decimal : List WordRun → Option (Result ℤ NumberFault)
 first_decimal [] = None
 first_decimal (field ∷ fields) = Some (decimal_of field.text)
 

@@ -2,7 +2,7 @@
 use Rattle.std.specs.Prelude.{◌≡◌, ℕ, ℤ, ◌+◌, ◌<◌, ◌≤◌, ◌==◌, ◌⊎◌, true, false, cond, List, [], ◌∷◌, ◌++◌, length, take, drop, slice_index, EachIndex, All, Ok}
 use Rattle.std.specs.Fmt.{signed_decimal}
 use Rattle.fixed_worth.specs.Numeral.{plain_of}
-use Rattle.fixed_worth.specs.Text.{is_separator, Run}
+use Rattle.fixed_worth.specs.Text.{is_separator, WordRun}
 
 -- the text with a line feed (10) behind its last line
 abbrev pub with_last_line_feed : List ℕ → List ℕ
@@ -22,7 +22,7 @@ pub record AreLines (text : List ℕ) (lines : List (List ℕ)) : Type 0 where
 
 -- a field is the slice of its line at its place, has a byte, and none that is a separator;
 -- on each side of it is a separator or an end of the line
-pub record IsField (line : List ℕ) (field : Run) : Type 0 where
+pub record IsField (line : List ℕ) (field : WordRun) : Type 0 where
   pub some : 0 < length field.text
   pub inside : field.place + length field.text ≤ length line
   pub slice : field.text ≡ take (length field.text) (drop field.place line)
@@ -31,17 +31,17 @@ pub record IsField (line : List ℕ) (field : Run) : Type 0 where
   pub behind : field.place + length field.text < length line → is_separator (slice_index line (field.place + length field.text)) ≡ true
 
 -- each begins where the one before ends, or later
-abbrev pub AreInOrder : ℕ → List Run → Type 0
+abbrev pub AreInOrder : ℕ → List WordRun → Type 0
 AreInOrder p [] = Unit {0}
 AreInOrder p (field ∷ fields) = (p ≤ field.place) × AreInOrder (field.place + length field.text) fields
 
 -- the place lies in one of the fields
-abbrev pub LiesIn : ℕ → List Run → Type 0
+abbrev pub LiesIn : ℕ → List WordRun → Type 0
 LiesIn k [] = ⊥
 LiesIn k (field ∷ fields) = ((field.place ≤ k) × (k < field.place + length field.text)) ⊎ LiesIn k fields
 
 -- all fields of the line, in its order: each byte that is no separator lies in one
-pub record AreFields (line : List ℕ) (fields : List Run) : Type 0 where
+pub record AreFields (line : List ℕ) (fields : List WordRun) : Type 0 where
   pub each : All (IsField line) fields
   pub ordered : AreInOrder 0 fields
   pub complete : (k : ℕ) → k < length line → is_separator (slice_index line k) ≡ false → LiesIn k fields

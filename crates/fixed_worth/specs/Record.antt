@@ -3,7 +3,7 @@ use Rattle.std.specs.Prelude.{ℕ, ◌+◌, ◌==◌, Bool, true, false, List, [
 use Rattle.std.specs.Result.{result_unwrap_or}
 use Rattle.fixed_worth.specs.declared.numerals.NumberFault.{NumberFault}
 use Rattle.fixed_worth.specs.Numeral.{whole_of}
-use Rattle.fixed_worth.specs.Text.{Run, lines_of}
+use Rattle.fixed_worth.specs.Text.{WordRun, lines_of}
 
 -- A line and its number.
 pub record Line : Type 0 where
@@ -28,7 +28,7 @@ abbrev pub number_of : List ℕ → ℕ
 number_of field = result_unwrap_or (whole_of field) 0
 
 -- The whole number that the first of the fields is, or why it is none, where there is a field.
-abbrev pub first_whole : List Run → Option (Result ℕ NumberFault)
+abbrev pub first_whole : List WordRun → Option (Result ℕ NumberFault)
 first_whole [] = None
 first_whole (field ∷ fields) = Some (whole_of field.text)
 

@@ -4,7 +4,7 @@
 ghost use Rattle.std.specs.Prelude.{◌≡◌, ◌+◌, ◌<◌, ◌≤◌, ◌^◌, ◌==◌, List, length, drop, not, position};
 ghost use Rattle.std.specs.List.{position_or_len};
 ghost use Rattle.std.specs.Iterator.{item_count, YieldsFirstBy};
-ghost use Rattle.fixed_worth.specs.Text.{Run, is_separator, runs_from};
+ghost use Rattle.fixed_worth.specs.Text.{WordRun, is_separator, runs_from};
 ghost use Rattle.fixed_worth.specs.Record.{first_whole};
 ghost use Rattle.fixed_worth.specs.Decimal.{first_decimal};
 
@@ -32,7 +32,7 @@ pub struct Fields<'a> {
 }
 
 impl<'a> Model for Fields<'a> {
-    ghost Value = { List Run };
+    ghost Value = { List WordRun };
 
     ghost view = { λ s. runs_from s.place s.rest.now };
 

@@ -3,7 +3,7 @@ use Rattle.std.proofs.Common.{ℕ, List, refl, sym, subst, Option, Result, Ok, E
 use Rattle.std.specs.Prelude.{MatchResult}
 use Rattle.closure_net.specs.Network.{NetView, FlowView, IsNet}
 use Rattle.word_runner.specs.Openings.{AreNeitherOneNorTwo}
-use Rattle.word_runner.specs.Ends.{IsSolvedBy, SolveFaultStands}
+use Rattle.word_runner.specs.Ends.{IsSolvedBy, WordSolveFaultStands}
 use Rattle.workers.specs.declared.solving.SolveFault.{SolveFault}
 use Rattle.workers.specs.declared.solving.SolveFault.TheVariants as run
 use Rattle.check_pit.specs.Checks.{IsSound}
@@ -19,17 +19,17 @@ use Rattle.engines.specs.Readings.{counts_by}
 use Rattle.engines.specs.Certifying.{IsRefusedFlow}
 use Rattle.engines.proofs.RefusedRuns.{refused_for_size}
 use Rattle.lock_free_engine.specs.Tightness.{RunsAreTight}
-use Rattle.lock_free_engine.specs.LockFreeRuns.{CheckOverflows, LockFreeStands}
+use Rattle.lock_free_engine.specs.LockFreeRuns.{LockFreeCheckOverflows, LockFreeStands}
 use Rattle.lock_free_engine.specs.LockFreeSolving.{IsNoWithoutLock, SolvesNetWithoutLock, lock_free_group}
 
 -- what the source reaches in the flow of a run is refused for sums that overflow, and nothing else
-pub check_overflows : RunsAreTight → (net : NetView) (workers limit : ℕ) (flow : FlowView) (steps : ℕ) (fault : PitFault) → IsNet net → IsSolvedBy net workers limit flow steps → IsRefusedFlow net flow fault → CheckOverflows net workers limit
+pub check_overflows : RunsAreTight → (net : NetView) (workers limit : ℕ) (flow : FlowView) (steps : ℕ) (fault : PitFault) → IsNet net → IsSolvedBy net workers limit flow steps → IsRefusedFlow net flow fault → LockFreeCheckOverflows net workers limit
 check_overflows law net workers limit flow steps fault is solved refused =
     let size = refused_for_size net flow fault (law net workers limit flow steps is solved) refused in
     record { flow = flow; steps = steps; solved = solved; pit = size.pit; reached = size.reached; of_net = size.of_net; stands = size.stands }
 
 -- why a run gives no flow is why it proves no pit: there are one worker or two, and the words are the net's
-pub fault_stands : (net : NetView) (workers limit : ℕ) (fault : SolveFault) → ¬ AreNeitherOneNorTwo workers → SolveFaultStands net workers fault → LockFreeStands net workers limit (unsolved_by fault)
+pub fault_stands : (net : NetView) (workers limit : ℕ) (fault : SolveFault) → ¬ AreNeitherOneNorTwo workers → WordSolveFaultStands net workers fault → LockFreeStands net workers limit (unsolved_by fault)
 fault_stands net workers limit run.BadWorkers few h = absurd (few h)
 fault_stands net workers limit run.Unsettled few h = h.1
 fault_stands net workers limit run.TooLarge few h = inl h.1

@@ -6,7 +6,7 @@ use Rattle.closure_net.specs.Reached.{IsReached}
 use Rattle.machine_law.specs.Conservation.{all_given}
 use Rattle.word_runner.specs.Layout.{units}
 use Rattle.word_runner.specs.Ends.{IsSolvedBy, SomeCutRunIsTooLarge}
-use Rattle.check_pit.specs.Checks.{IsOfNet, FaultStands}
+use Rattle.check_pit.specs.Checks.{IsOfNet, PitFaultStands}
 use Rattle.check_pit.specs.declared.pit_fault.PitFault.TheVariants as pit_fault
 use Rattle.engines.specs.declared.solvers.Unsolved.{Unsolved}
 use Rattle.engines.specs.declared.solvers.Unsolved.TheVariants.{Unsettled, TooLarge, GaveUp, NoMemory, NoThread, Stranger}
@@ -20,24 +20,24 @@ abbrev pub SomeWordOverflows : NetView → Type 0
 SomeWordOverflows net = AtMost (units 9223372036854775808) (all_given net) ⊎ SomeCutRunIsTooLarge net
 
 -- The check of what a run leaves, with the blocks that the source reaches in it, finds a sum that overflows.
-pub record CheckOverflows (net : NetView) (workers limit : ℕ) : Type 0 where
+pub record LockFreeCheckOverflows (net : NetView) (workers limit : ℕ) : Type 0 where
   pub flow : FlowView
   pub steps : ℕ
   pub solved : IsSolvedBy net workers limit flow steps
   pub pit : List ℕ
   pub reached : IsReached net flow (holds_of pit)
   pub of_net : IsOfNet net pit
-  pub stands : FaultStands net flow pit pit_fault.TooLarge
+  pub stands : PitFaultStands net flow pit pit_fault.TooLarge
 
 -- a word of a run, or a sum of the check of what it leaves, overflows
-abbrev pub SomeNumberOverflows : NetView → ℕ → ℕ → Type 0
-SomeNumberOverflows net workers limit = SomeWordOverflows net ⊎ CheckOverflows net workers limit
+abbrev pub SomeLockFreeNumberOverflows : NetView → ℕ → ℕ → Type 0
+SomeLockFreeNumberOverflows net workers limit = SomeWordOverflows net ⊎ LockFreeCheckOverflows net workers limit
 
 -- Why so many workers prove no pit in so many turns. Of what is unsettled nothing is said but that there was a run: no proof speaks
 -- of how far a worker came.
 abbrev pub LockFreeStands : NetView → ℕ → ℕ → Unsolved → Type 0
 LockFreeStands net workers limit Unsettled = HasWords net
-LockFreeStands net workers limit TooLarge = SomeNumberOverflows net workers limit
+LockFreeStands net workers limit TooLarge = SomeLockFreeNumberOverflows net workers limit
 LockFreeStands net workers limit GaveUp = ⊥
 LockFreeStands net workers limit NoMemory = Unit {0}
 LockFreeStands net workers limit NoThread = Unit {0}

@@ -14,7 +14,7 @@ use Rattle.mine_inputs.specs.Mines.{MineTexts, price_wanted}
 use Rattle.engines.specs.Readings.{counts_by}
 use Rattle.engines.specs.NetAnswers.{unsettled_line, too_large_line}
 use Rattle.engines.specs.Solving.{IsCertificateOf, IsTextOf, IsCertificate, IsNetBy, SolveFails}
-use Rattle.lock_free_engine.specs.LockFreeRuns.{HasWords, SomeNumberOverflows}
+use Rattle.lock_free_engine.specs.LockFreeRuns.{HasWords, SomeLockFreeNumberOverflows}
 
 -- the amounts of a run without a lock
 abbrev pub lock_free_group : Group
@@ -24,7 +24,7 @@ lock_free_group = Scaled
 
 -- the line of an answer without a certificate, and why it is answered
 abbrev pub IsNoWithoutLock : NetView → ℕ → ℕ → List ℕ → Type 0
-IsNoWithoutLock net workers limit text = (HasWords net × (text ≡ unsettled_line)) ⊎ (SomeNumberOverflows net workers limit × (text ≡ too_large_line))
+IsNoWithoutLock net workers limit text = (HasWords net × (text ≡ unsettled_line)) ⊎ (SomeLockFreeNumberOverflows net workers limit × (text ≡ too_large_line))
 
 -- the text that answers for a net
 abbrev pub AnswersNetWithoutLock : Price → NetView → ℕ → ℕ → Verdict → List ℕ → Type 0

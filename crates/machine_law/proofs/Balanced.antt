@@ -19,7 +19,7 @@ use Rattle.machine_law.specs.States.{State, opening}
 use Rattle.machine_law.specs.Residual.{capacity, end_label}
 use Rattle.machine_law.specs.Reads.{is_positive, operation_begun_with, better, after_last_port, after_port, after_capacity, after_label}
 use Rattle.machine_law.specs.Steps.{after_look, after_look_by, after_label_at, push_amount, advance, advance_by}
-use Rattle.machine_law.specs.Transit.{sum_on_way, lands, into_sink, into_source, inflow, outflow, amount_given_back, amount_drained}
+use Rattle.machine_law.specs.Transit.{sum_on_way, lands, into_sink, into_source, inflow_at, outflow_at, amount_given_back, amount_drained}
 use Rattle.machine_law.specs.Amounts.{HasAmounts, IsOperation}
 use Rattle.machine_law.specs.Balances.{IsBalanced}
 use Rattle.machine_law.proofs.Numbers.{same, equal}
@@ -80,12 +80,12 @@ module _ (net : NetView) (s : State) (b : ℕ) where
 
 -- ---- the opening
 module _ (net : NetView) where
-  no_inflow : (b : ℕ) → inflow net (λ k. zero_amount) b ≡ zero_amount
-  unfolding inflow
+  no_inflow : (b : ℕ) → inflow_at net (λ k. zero_amount) b ≡ zero_amount
+  unfolding inflow_at
   no_inflow b = total-none _ (length net.pairs) (λ k l. where_so-zero (to_at net.pairs k == b))
 
-  no_outflow : (b : ℕ) → outflow net (λ k. zero_amount) b ≡ zero_amount
-  unfolding outflow
+  no_outflow : (b : ℕ) → outflow_at net (λ k. zero_amount) b ≡ zero_amount
+  unfolding outflow_at
   no_outflow b = total-none _ (length net.pairs) (λ k l. where_so-zero (from_at net.pairs k == b))
 
   nothing_on_way : (f : Port → Amount → Amount) → sum_on_way net f (λ b. Idle) ≡ zero_amount

@@ -15,7 +15,7 @@ use Rattle.closure_net.specs.declared.port.PortKind.TheVariants.{Sink, Forward, 
 use Rattle.machine_law.specs.declared.operations.Operation.{Operation}
 use Rattle.machine_law.specs.declared.operations.Operation.TheVariants.{Idle, Scan, PushDue, TakeDue, GiveDue, RaiseDue}
 use Rattle.machine_law.specs.States.{State}
-use Rattle.machine_law.specs.Transit.{amount_owed, on_way, sum_on_way, lands, lands_by, amount_coming, inflow, outflow}
+use Rattle.machine_law.specs.Transit.{amount_owed, on_way, sum_on_way, lands, lands_by, amount_coming, inflow_at, outflow_at}
 use Rattle.machine_law.specs.Amounts.{HasAmounts, IsOperation}
 use Rattle.machine_law.specs.Balances.{IsBalanced}
 use Rattle.machine_law.proofs.Numbers.{same, Below-absurd}
@@ -40,16 +40,16 @@ unfolding sum_on_way
 coming_nonneg net s x k = total_nonneg (λ b. on_way (lands x) (s.operation b)) (length net.worths) (λ b _. on_way_nonneg net s b x (s.operation b) (k.operation b))
 
 -- where no pair ends at b, nothing comes in over pairs
-inflow_zero : (net : NetView) (s : State) (b : ℕ) → length (ports net b) ≡ 0 → inflow net s.flow b ≡ zero_amount
-unfolding inflow
+inflow_zero : (net : NetView) (s : State) (b : ℕ) → length (ports net b) ≡ 0 → inflow_at net s.flow b ≡ zero_amount
+unfolding inflow_at
 inflow_zero net s b e = total-none (λ k. where_so (to_at net.pairs k == b) (s.flow k)) (length net.pairs) (λ k l.
     elim (cases_eq (to_at net.pairs k) b) [
       | inl at ↦ absurd (let n = has_some (ports net b) (backward_port (from_at net.pairs) k) (has_backward net b k l at) in omega (arith, e, n))
       | inr ne ↦ where_not (to_at net.pairs k == b) (s.flow k) (ne_eqb (to_at net.pairs k) b ne)
     ])
 
-outflow_nonneg : (net : NetView) (s : State) (b : ℕ) → HasAmounts net s → AtMost zero_amount (outflow net s.flow b)
-unfolding outflow
+outflow_nonneg : (net : NetView) (s : State) (b : ℕ) → HasAmounts net s → AtMost zero_amount (outflow_at net s.flow b)
+unfolding outflow_at
 outflow_nonneg net s b k = total_nonneg (λ i. where_so (from_at net.pairs i == b) (s.flow i)) (length net.pairs) (λ i _. where_nonneg (from_at net.pairs i == b) (s.flow i) (k.flow i))
 
 -- an idle block with excess has a port

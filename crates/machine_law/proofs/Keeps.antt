@@ -22,7 +22,7 @@ use Rattle.machine_law.specs.Residual.{room, capacity, capacity_by, end_label, I
 use Rattle.machine_law.specs.Reads.{is_positive, operation_begun_with, better, after_last_port, after_port, after_capacity, after_label}
 use Rattle.machine_law.specs.Steps.{becomes, after_look, after_look_by, after_label_at, push_amount, after_push, after_push_by, after_take, after_give_by, after_raise, advance, advance_by}
 use Rattle.machine_law.specs.Transit.{amount_owed}
-use Rattle.machine_law.specs.Amounts.{HasAmounts, IsWithin, IsWithinBy, IsBest, IsBestIfAny, IsRead, IsHeld, IsDue, IsOperation}
+use Rattle.machine_law.specs.Amounts.{HasAmounts, IsWithin, IsWithinBy, IsBestPort, IsBestIfAny, IsReadCapacity, IsHeld, IsDue, IsOperation}
 use Rattle.machine_law.specs.Balances.{IsBalanced}
 use Rattle.machine_law.proofs.Numbers.{shifted, joined, Below-least, positive-yes}
 use Rattle.machine_law.proofs.Points.{put-other, put-each}
@@ -49,14 +49,14 @@ module _ (net : NetView) (s t : State) (x : ℕ) (m : IsMore net s t x) where
   within_more : (p : Port) (a : Amount) → IsPortOf net x p → IsWithin net s x p a → IsWithin net t x p a
   within_more p a q h = within_by_more p.kind p.other p.slot a q h
 
-  best_more : (best : Best Amount) → IsBest net s x best → IsBest net t x best
+  best_more : (best : Best Amount) → IsBestPort net s x best → IsBestPort net t x best
   best_more best h = record { port = h.port; within = within_more best.port best.capacity h.port h.within }
 
   any_more : (best : Option (Best Amount)) → IsBestIfAny net s x best → IsBestIfAny net t x best
   any_more None h = tt
   any_more (Some best) h = best_more best h
 
-  read_more : (read : Option Amount) (p : Option Port) → ((q : Port) → p ≡ Some q → IsPortOf net x q) → IsRead net s x read p → IsRead net t x read p
+  read_more : (read : Option Amount) (p : Option Port) → ((q : Port) → p ≡ Some q → IsPortOf net x q) → IsReadCapacity net s x read p → IsReadCapacity net t x read p
   read_more None p is h = tt
   read_more (Some a) None is h = h
   read_more (Some a) (Some q) is h = within_more q a (is q refl) h
@@ -235,9 +235,9 @@ module _ (net : NetView) (s : State) (b : ℕ) (k : HasAmounts net s) where
       (λ e. record { inside = ltb-true (place + 1) (length (ports net b)) e; held = h; passed = i; present = tt })
       (λ e. op_ended (s.label b) have best h i)
 
-  any_better : (best : Option (Best Amount)) (new : Best Amount) → IsBestIfAny net s b best → IsBest net s b new → IsBest net s b (better best new)
+  any_better : (best : Option (Best Amount)) (new : Best Amount) → IsBestIfAny net s b best → IsBestPort net s b new → IsBestPort net s b (better best new)
   any_better None new i n = n
-  any_better (Some best) new i n = cond_both (nat_lt new.label best.label) new best (IsBest net s b) (λ e. n) (λ e. i)
+  any_better (Some best) new i n = cond_both (nat_lt new.label best.label) new best (IsBestPort net s b) (λ e. n) (λ e. i)
 
   op_chosen : (have : Amount) (place : ℕ) (best : Option (Best Amount)) (read : Amount) (p : Port) → IsHeld s b have → IsBestIfAny net s b best → IsPortOf net b p → IsWithin net s b p read → IsOperation net s b (after_label (length (ports net b)) (s.label b) have place best read p (end_label net s p))
   op_chosen have place best read p h i q w =
@@ -267,7 +267,7 @@ module _ (net : NetView) (s : State) (b : ℕ) (k : HasAmounts net s) where
   op_looked have place best None e h i = tt
   op_looked have place best (Some p) e h i = op_looked_by have place best p.kind p.other p.slot e h i
 
-  op_weighed : (have : Amount) (place : ℕ) (best : Option (Best Amount)) (read : Amount) (q : Option Port) → slice_get (ports net b) place ≡ q → IsHeld s b have → IsBestIfAny net s b best → IsRead net s b (Some read) q → IsOperation net s b (after_label_at net s b have place best read q)
+  op_weighed : (have : Amount) (place : ℕ) (best : Option (Best Amount)) (read : Amount) (q : Option Port) → slice_get (ports net b) place ≡ q → IsHeld s b have → IsBestIfAny net s b best → IsReadCapacity net s b (Some read) q → IsOperation net s b (after_label_at net s b have place best read q)
   op_weighed have place best read None e h i r = tt
   op_weighed have place best read (Some p) e h i r = op_chosen have place best read p h i (port-at net b place p e) r
 

@@ -22,7 +22,7 @@ use Rattle.machine_law.specs.Residual.{capacity, end_label}
 use Rattle.machine_law.specs.Reads.{is_positive, operation_begun_with, better, after_last_port, after_port, after_capacity, after_label}
 use Rattle.machine_law.specs.Steps.{after_look, after_look_by, after_label_at, advance, advance_by, Run}
 use Rattle.machine_law.specs.Transit.{amount_owed, amount_coming}
-use Rattle.machine_law.specs.Amounts.{HasAmounts, IsOperation, IsWithinBy, IsRead}
+use Rattle.machine_law.specs.Amounts.{HasAmounts, IsOperation, IsWithinBy, IsReadCapacity}
 use Rattle.machine_law.specs.Labels.{steep, IsWalk, IsLevelled, HasLabels}
 use Rattle.machine_law.specs.Law.{IsLawful, StepsKeepLaw, RunsKeepLaw}
 use Rattle.machine_law.proofs.Numbers.{same, shifted, Below-more}
@@ -86,7 +86,7 @@ module _ (net : NetView) (s : State) (b : ℕ) (k : HasAmounts net s) (h : HasLa
   ready_read Backward slot read w = tt
   ready_read Source slot read w = Below-more w.0 w.1
 
-  levelled_weighed : (have : Amount) (place : ℕ) (best : Option (Best Amount)) (read : Amount) (q : Option Port) → slice_get (ports net b) place ≡ q → IsRead net s b (Some read) q → IsWalk net s b have (drop place (ports net b)) best → IsLevelled net s b (after_label_at net s b have place best read q)
+  levelled_weighed : (have : Amount) (place : ℕ) (best : Option (Best Amount)) (read : Amount) (q : Option Port) → slice_get (ports net b) place ≡ q → IsReadCapacity net s b (Some read) q → IsWalk net s b have (drop place (ports net b)) best → IsLevelled net s b (after_label_at net s b have place best read q)
   levelled_weighed have place best read None e r w = tt
   levelled_weighed have place best read (Some p) e r w = levelled_chosen have place best read p e (ready_read p.kind p.slot read r) w
 

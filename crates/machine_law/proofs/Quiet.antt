@@ -19,7 +19,7 @@ use Rattle.machine_law.specs.declared.operations.Operation.{Operation}
 use Rattle.machine_law.specs.declared.operations.Operation.TheVariants.{Idle}
 use Rattle.machine_law.specs.States.{State, IsQuiet}
 use Rattle.machine_law.specs.Residual.{room}
-use Rattle.machine_law.specs.Transit.{amount_owed, on_way, sum_on_way, lands, amount_coming, inflow, outflow}
+use Rattle.machine_law.specs.Transit.{amount_owed, on_way, sum_on_way, lands, amount_coming, inflow_at, outflow_at}
 use Rattle.machine_law.specs.Labels.{steep}
 use Rattle.machine_law.specs.Law.{IsLawful}
 use Rattle.machine_law.specs.Quiet.{IsFlowOf, IsSolved, QuietSolves}
@@ -77,12 +77,12 @@ module _ (net : NetView) (s : State) (flow : FlowView) (known : PairsKnown net) 
   end_same : (end : ℕ → ℕ) (b : ℕ) → at_end end (amount_at flow.rest) (length net.pairs) b ≡ at_end end s.flow (length net.pairs) b
   end_same end b = total-same _ _ (length net.pairs) (λ k l. ap (where_so (end k == b)) (is.rest k l))
 
-  inflow_is : (b : ℕ) → at_end (to_at net.pairs) (amount_at flow.rest) (length net.pairs) b ≡ inflow net s.flow b
-  unfolding inflow
+  inflow_is : (b : ℕ) → at_end (to_at net.pairs) (amount_at flow.rest) (length net.pairs) b ≡ inflow_at net s.flow b
+  unfolding inflow_at
   inflow_is b = end_same (to_at net.pairs) b
 
-  outflow_is : (b : ℕ) → at_end (from_at net.pairs) (amount_at flow.rest) (length net.pairs) b ≡ outflow net s.flow b
-  unfolding outflow
+  outflow_is : (b : ℕ) → at_end (from_at net.pairs) (amount_at flow.rest) (length net.pairs) b ≡ outflow_at net s.flow b
+  unfolding outflow_at
   outflow_is b = end_same (from_at net.pairs) b
 
   -- what the state owes, has, and is to get is zero

@@ -9,35 +9,35 @@ use Rattle.closure_net.specs.Network.{NetView}
 use Rattle.closure_net.specs.declared.port.Port.{Port}
 use Rattle.machine_law.specs.declared.operations.Operation.{Operation}
 use Rattle.machine_law.specs.States.{with_value_at}
-use Rattle.machine_law.specs.Transit.{on_way, sum_on_way, inflow, outflow, amount_given_back, amount_drained}
+use Rattle.machine_law.specs.Transit.{on_way, sum_on_way, inflow_at, outflow_at, amount_given_back, amount_drained}
 use Rattle.machine_law.proofs.Numbers.{Same, same}
 use Rattle.machine_law.proofs.Points.{total-put}
 
 -- ---- the flow of pair k changes, which ends at y
 module _ (net : NetView) (flow : ℕ → Amount) (k y : ℕ) (d : Amount) (x : ℕ) (l : k < length net.pairs) where
-  pub inflow-plus : to_at net.pairs k ≡ y → Same (inflow net (with_value_at flow k (plus (flow k) d)) x) (plus (inflow net flow x) (where_so (y == x) d))
-  unfolding inflow
+  pub inflow-plus : to_at net.pairs k ≡ y → Same (inflow_at net (with_value_at flow k (plus (flow k) d)) x) (plus (inflow_at net flow x) (where_so (y == x) d))
+  unfolding inflow_at
   inflow-plus e = rw (← e) (
       let t = total-put (λ i a. where_so (to_at net.pairs i == x) a) flow k (plus (flow k) d) (length net.pairs) l in
       let g = same (where_so-plus (to_at net.pairs k == x) (flow k) d) in
       record { w = omega (arith, ints, t, g); c = omega (arith, ints, t, g) })
 
-  pub outflow-plus : from_at net.pairs k ≡ y → Same (outflow net (with_value_at flow k (plus (flow k) d)) x) (plus (outflow net flow x) (where_so (y == x) d))
-  unfolding outflow
+  pub outflow-plus : from_at net.pairs k ≡ y → Same (outflow_at net (with_value_at flow k (plus (flow k) d)) x) (plus (outflow_at net flow x) (where_so (y == x) d))
+  unfolding outflow_at
   outflow-plus e = rw (← e) (
       let t = total-put (λ i a. where_so (from_at net.pairs i == x) a) flow k (plus (flow k) d) (length net.pairs) l in
       let g = same (where_so-plus (from_at net.pairs k == x) (flow k) d) in
       record { w = omega (arith, ints, t, g); c = omega (arith, ints, t, g) })
 
-  pub inflow-minus : to_at net.pairs k ≡ y → Same (inflow net (with_value_at flow k (minus (flow k) d)) x) (minus (inflow net flow x) (where_so (y == x) d))
-  unfolding inflow
+  pub inflow-minus : to_at net.pairs k ≡ y → Same (inflow_at net (with_value_at flow k (minus (flow k) d)) x) (minus (inflow_at net flow x) (where_so (y == x) d))
+  unfolding inflow_at
   inflow-minus e = rw (← e) (
       let t = total-put (λ i a. where_so (to_at net.pairs i == x) a) flow k (minus (flow k) d) (length net.pairs) l in
       let g = same (where_so-minus (to_at net.pairs k == x) (flow k) d) in
       record { w = omega (arith, ints, t, g); c = omega (arith, ints, t, g) })
 
-  pub outflow-minus : from_at net.pairs k ≡ y → Same (outflow net (with_value_at flow k (minus (flow k) d)) x) (minus (outflow net flow x) (where_so (y == x) d))
-  unfolding outflow
+  pub outflow-minus : from_at net.pairs k ≡ y → Same (outflow_at net (with_value_at flow k (minus (flow k) d)) x) (minus (outflow_at net flow x) (where_so (y == x) d))
+  unfolding outflow_at
   outflow-minus e = rw (← e) (
       let t = total-put (λ i a. where_so (from_at net.pairs i == x) a) flow k (minus (flow k) d) (length net.pairs) l in
       let g = same (where_so-minus (from_at net.pairs k == x) (flow k) d) in

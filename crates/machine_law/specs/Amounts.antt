@@ -25,19 +25,19 @@ abbrev pub IsWithin : NetView → State → ℕ → Port → Amount → Type 0
 IsWithin net s b port x = IsWithinBy net s b port.kind port.slot x
 
 -- the best port is a port of b, and its capacity is at least what was read
-pub record IsBest (net : NetView) (s : State) (b : ℕ) (best : Best Amount) : Type 0 where
+pub record IsBestPort (net : NetView) (s : State) (b : ℕ) (best : Best Amount) : Type 0 where
   pub port : IsPortOf net b best.port
   pub within : IsWithin net s b best.port best.capacity
 
 abbrev pub IsBestIfAny : NetView → State → ℕ → Option (Best Amount) → Type 0
 IsBestIfAny net s b None = Unit {0}
-IsBestIfAny net s b (Some best) = IsBest net s b best
+IsBestIfAny net s b (Some best) = IsBestPort net s b best
 
 -- the capacity of the present port is at least what was read, if it was
-abbrev pub IsRead : NetView → State → ℕ → Option Amount → Option Port → Type 0
-IsRead net s b None port = Unit {0}
-IsRead net s b (Some x) None = ⊥
-IsRead net s b (Some x) (Some port) = IsWithin net s b port x
+abbrev pub IsReadCapacity : NetView → State → ℕ → Option Amount → Option Port → Type 0
+IsReadCapacity net s b None port = Unit {0}
+IsReadCapacity net s b (Some x) None = ⊥
+IsReadCapacity net s b (Some x) (Some port) = IsWithin net s b port x
 
 -- the amount is positive, and the block has it
 pub record IsHeld (s : State) (b : ℕ) (d : Amount) : Type 0 where
@@ -49,12 +49,12 @@ pub record IsScan (net : NetView) (s : State) (b : ℕ) (have : Amount) (place :
   pub inside : place < length (ports net b)
   pub held : IsHeld s b have
   pub passed : IsBestIfAny net s b best
-  pub present : IsRead net s b read (slice_get (ports net b) place)
+  pub present : IsReadCapacity net s b read (slice_get (ports net b) place)
 
 -- a push or a raise is due
 pub record IsDue (net : NetView) (s : State) (b : ℕ) (have : Amount) (best : Best Amount) : Type 0 where
   pub held : IsHeld s b have
-  pub over : IsBest net s b best
+  pub over : IsBestPort net s b best
 
 -- what holds of an operation of b
 abbrev pub IsOperation : NetView → State → ℕ → Operation Amount → Type 0

@@ -3,11 +3,11 @@ use Rattle.std.specs.Prelude.{◌≡◌, ℕ}
 use Rattle.ordered_group.specs.Amount.{Amount, plus, minus}
 use Rattle.closure_net.specs.Network.{NetView}
 use Rattle.machine_law.specs.States.{State}
-use Rattle.machine_law.specs.Transit.{amount_owed, amount_coming, amount_coming_to_sink, amount_coming_to_source, inflow, outflow, amount_given_back, amount_drained}
+use Rattle.machine_law.specs.Transit.{amount_owed, amount_coming, amount_coming_to_sink, amount_coming_to_source, inflow_at, outflow_at, amount_given_back, amount_drained}
 
 -- what b has of the source and over pairs, less what it gave over pairs and to the sink
 abbrev pub balance : NetView → State → ℕ → Amount
-balance net s b = minus (minus (plus (s.source b) (inflow net s.flow b)) (outflow net s.flow b)) (s.sink b)
+balance net s b = minus (minus (plus (s.source b) (inflow_at net s.flow b)) (outflow_at net s.flow b)) (s.sink b)
 
 -- what b will have once all that is on its way has arrived
 abbrev pub supply : NetView → State → ℕ → Amount

@@ -53,8 +53,8 @@ abbrev pub same_port : Port → Port → Bool
 same_port p q = same_by p.kind q.kind p.slot q.slot
 
 -- whether p is one of these ports
-abbrev pub has : List Port → Port → Bool
-has ps p = list_any (λ q. same_port q p) ps
+abbrev pub has_port : List Port → Port → Bool
+has_port ps p = list_any (λ q. same_port q p) ps
 
 -- whether a label is below that of the best port
 abbrev pub is_under : Option (Best Amount) → ℕ → Bool
@@ -63,7 +63,7 @@ is_under (Some best) label = nat_lt label best.label
 
 -- the capacity of the backward arcs that are passed and end below the best port, or of all that are passed while there is none
 abbrev pub low : NetView → State → ℕ → List Port → Option (Best Amount) → Amount
-low net s b rest best = arcs net (λ k. not (has rest (backward_port (from_at net.pairs) k)) && is_under best (s.label (from_at net.pairs k))) s.flow b
+low net s b rest best = arcs net (λ k. not (has_port rest (backward_port (from_at net.pairs) k)) && is_under best (s.label (from_at net.pairs k))) s.flow b
 
 -- by the kind of port: it isn't backward, and has capacity
 abbrev pub IsOpenBy : NetView → State → ℕ → PortKind → Type 0
@@ -78,20 +78,20 @@ IsAbove None label = ⊥
 IsAbove (Some best) label = best.label ≤ label
 
 -- by the kind of port: a block with this label falls by at most one label over it, unless it is backward; the source's label never changes
-abbrev pub IsNear : NetView → PortKind → ℕ → ℕ → Type 0
-IsNear net Sink own label = own ≤ label + 1
-IsNear net Forward own label = own ≤ label + 1
-IsNear net Backward own label = Unit {0}
-IsNear net Source own label = (own ≤ label + 1) × (length net.worths + 2 ≤ label)
+abbrev pub IsNearLabel : NetView → PortKind → ℕ → ℕ → Type 0
+IsNearLabel net Sink own label = own ≤ label + 1
+IsNearLabel net Forward own label = own ≤ label + 1
+IsNearLabel net Backward own label = Unit {0}
+IsNearLabel net Source own label = (own ≤ label + 1) × (length net.worths + 2 ≤ label)
 
 -- the label that was read at the best port is at most the present one, and near
-pub record IsLevel (net : NetView) (s : State) (b : ℕ) (best : Best Amount) : Type 0 where
+pub record IsBestLabel (net : NetView) (s : State) (b : ℕ) (best : Best Amount) : Type 0 where
   pub recorded : best.label ≤ end_label net s best.port
-  pub near : IsNear net best.port.kind (s.label b) best.label
+  pub near : IsNearLabel net best.port.kind (s.label b) best.label
 
 abbrev pub IsLevelIfAny : NetView → State → ℕ → Option (Best Amount) → Type 0
 IsLevelIfAny net s b None = Unit {0}
-IsLevelIfAny net s b (Some best) = IsLevel net s b best
+IsLevelIfAny net s b (Some best) = IsBestLabel net s b best
 
 -- An operation of b has these ports still to pass. The backward arcs that are passed and end below the best port hold at most what
 -- b will have beyond what the operation has; the steep bound holds also with the best port at the label that was read; and of the
@@ -100,7 +100,7 @@ pub record IsWalk (net : NetView) (s : State) (b : ℕ) (have : Amount) (rest : 
   pub level : IsLevelIfAny net s b best
   pub low_most : AtMost (low net s b rest best) (minus (supply net s b) have)
   pub high_most : AtMost (high net s b best) (supply net s b)
-  pub passed : (p : Port) → IsPortOf net b p → IsOpenBy net s b p.kind → has rest p ≡ false → IsAbove best (end_label net s p)
+  pub passed : (p : Port) → IsPortOf net b p → IsOpenBy net s b p.kind → has_port rest p ≡ false → IsAbove best (end_label net s p)
 
 -- what holds of an operation of b: a push is due where the block stands above the best port, and a raise where it doesn't
 abbrev pub IsLevelled : NetView → State → ℕ → Operation Amount → Type 0

@@ -74,11 +74,11 @@ abbrev pub amount_coming_to_source : NetView → State → Amount
 amount_coming_to_source net s = sum_on_way net into_source s.operation
 
 -- what comes into block b over pairs, and what goes out of it
-unfoldable pub inflow : NetView → (ℕ → Amount) → ℕ → Amount
-inflow net flow b = at_end (to_at net.pairs) flow (length net.pairs) b
+unfoldable pub inflow_at : NetView → (ℕ → Amount) → ℕ → Amount
+inflow_at net flow b = at_end (to_at net.pairs) flow (length net.pairs) b
 
-unfoldable pub outflow : NetView → (ℕ → Amount) → ℕ → Amount
-outflow net flow b = at_end (from_at net.pairs) flow (length net.pairs) b
+unfoldable pub outflow_at : NetView → (ℕ → Amount) → ℕ → Amount
+outflow_at net flow b = at_end (from_at net.pairs) flow (length net.pairs) b
 
 -- what all blocks gave back to the source
 unfoldable pub amount_given_back : NetView → (ℕ → Amount) → Amount

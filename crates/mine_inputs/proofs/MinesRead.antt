@@ -7,7 +7,7 @@ use Rattle.prec_file.specs.Records as prec
 use Rattle.upit_file.specs.Records as upit
 use Rattle.settings_file.specs.Settings.{SettingsView, first_missing}
 use Rattle.certificate_file.specs.declared.header.Price.{Price}
-use Rattle.shells.specs.Prices.{PricesView, NoneNegative, blocks_of, price_of, worth_at}
+use Rattle.shells.specs.Prices.{PricesView, NoRevenueNegative, blocks_of, price_of, worth_at}
 use Rattle.mine_inputs.specs.declared.engine_fault.EngineFault.{EngineFault}
 use Rattle.mine_inputs.specs.declared.engine_fault.EngineFault.TheVariants as engine
 use Rattle.mine_inputs.specs.declared.mines.MineInputs.{MineInputs}
@@ -72,7 +72,7 @@ module _ (o q : Option (List ℕ)) (p : List ℕ) (k : ℕ) where
       pub prices_unread : (e : EngineFault) → IfSome q (λ b. PricesReadFail columns b e) → IfSome o (λ s. IfSome q (λ b. MineFails (priced_texts s b p k) e))
       prices_unread e h = unread e (prices_answer o q (Some p) said e a whole (prices_unsaid q columns said e is h))
 
-      table_known : (s b : List ℕ) (table : PricesView) → NoneNegative table → ReadsSettingsText s said → ReadsPrices (columns_said said) b table → AreWorthsOf (priced_texts s b p k) k (Prices table)
+      table_known : (s b : List ℕ) (table : PricesView) → NoRevenueNegative table → ReadsSettingsText s said → ReadsPrices (columns_said said) b table → AreWorthsOf (priced_texts s b p k) k (Prices table)
       table_known s b table positive r t =
           let known : table ≡ table_of s b = t.is ∙ ap (λ (v : SettingsView). table_by v b) (sym (settings_are s said r.1)) in
           record {
@@ -84,7 +84,7 @@ module _ (o q : Option (List ℕ)) (p : List ℕ) (k : ℕ) where
             price = ap (λ (t : PricesView). price_of t.costs k) known;
           }
 
-      pub prices_read : (table : PricesView) → NoneNegative table → IfSome q (λ b. ReadsPrices columns b table) → IfSome o (λ s. IfSome q (λ b. AreWorthsOf (priced_texts s b p k) k (Prices table)))
+      pub prices_read : (table : PricesView) → NoRevenueNegative table → IfSome q (λ b. ReadsPrices columns b table) → IfSome o (λ s. IfSome q (λ b. AreWorthsOf (priced_texts s b p k) k (Prices table)))
       prices_read table positive h =
           under o (λ s. ReadsSettingsText s said) (λ s. IfSome q (λ b. AreWorthsOf (priced_texts s b p k) k (Prices table))) a (λ s r.
           under q (λ b. ReadsPrices (columns_said said) b table) (λ b. AreWorthsOf (priced_texts s b p k) k (Prices table)) (prices_said q columns said table is h) (λ b t. table_known s b table positive r t))

@@ -11,7 +11,7 @@ use Rattle.settings_file.specs.declared.settings_fault.SettingsFault.TheVariants
 use Rattle.settings_file.specs.Settings.{SettingsView, ReadsSettings, first_missing}
 use Rattle.settings_file.proofs.Known.{settings_are, settings_read}
 use Rattle.prec_file.specs.Records as prec
-use Rattle.shells.specs.Prices.{PricesView, plain_costs, mill_costs, NoneNegative, PricesFaultStands, blocks_of, worth_at, worths_at}
+use Rattle.shells.specs.Prices.{PricesView, plain_costs, mill_costs, NoRevenueNegative, PricesFaultStands, blocks_of, worth_at, worths_at}
 use Rattle.mine_inputs.specs.Mines.{priced_texts}
 use Rattle.mine_inputs.specs.declared.engine_fault.EngineFault.{EngineFault}
 use Rattle.mine_inputs.specs.declared.engine_fault.EngineFault.TheVariants as engine
@@ -111,7 +111,7 @@ prices_told (Some text) columns m (Ok table) h is = prices_made text columns m t
 prices_told (Some text) columns m (Err fault) h f = prices_fail text columns m fault h f
 
 -- the texts that price blocks, and the precedence, were read
-pub all_read : (settings text precedence : List ℕ) (said : SettingsView) (table : PricesView) (rests : RestsView) (n : ℕ) → n ≡ blocks_of table → NoneNegative table → first_missing (price_keys said) said ≡ None → ReadsSettingsText settings said → ReadsPrices (columns_said said) text table → ReadsPrec n precedence rests
+pub all_read : (settings text precedence : List ℕ) (said : SettingsView) (table : PricesView) (rests : RestsView) (n : ℕ) → n ≡ blocks_of table → NoRevenueNegative table → first_missing (price_keys said) said ≡ None → ReadsSettingsText settings said → ReadsPrices (columns_said said) text table → ReadsPrec n precedence rests
     → ArePricesRead settings text precedence table rests
 all_read settings text precedence said table rests n e positive whole s t p =
     let known = settings_are settings said s.1 in
@@ -124,7 +124,7 @@ all_read settings text precedence said table rests n e positive whole s t p =
     let F : ℕ → Type 0 = λ k. prec.fault_of k precedence ≡ None in
     record {
       mine = λ factor. record {
-        worths_read = record { columns = columns; within = t.within; read = subst C (sym known) t.read; count = count; revenues = subst NoneNegative is positive };
+        worths_read = record { columns = columns; within = t.within; read = subst C (sym known) t.read; count = count; revenues = subst NoRevenueNegative is positive };
         precedence_within = p.0;
         precedence_read = subst F (sym p.2) p.1;
       };

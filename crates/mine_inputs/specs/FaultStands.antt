@@ -18,7 +18,7 @@ use Rattle.mine_inputs.specs.Mines.{MineTexts, mine_texts, priced_texts, precede
 -- the values are no text of values: too long, or a fault where as many blocks are wanted as the text declares
 abbrev pub UpitFails : List ℕ → Problem UpitFault → Type 0
 UpitFails text problem.InputTooLong = IsTooLong text
-UpitFails text (problem.Fault fault) = IsWithinLimit text × (upit.fault_of (upit.count_in (upit.lines_in text)) text ≡ Some fault)
+UpitFails text (problem.Fault fault) = IsWithinLimit text × (upit.fault_of (upit.blocks_declared (upit.lines_in text)) text ≡ Some fault)
 
 abbrev pub PrecFails : ℕ → List ℕ → Problem PrecFault → Type 0
 PrecFails n text problem.InputTooLong = IsTooLong text

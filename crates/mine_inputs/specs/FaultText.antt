@@ -18,10 +18,10 @@ abbrev pub problem_output : {F : Type 0} → (F → Option (List ℕ)) → Probl
 problem_output output problem.InputTooLong = Some (codes "InputTooLong")
 problem_output output (problem.Fault fault) = output fault
 
-abbrev pub certificate_text : CertificateProblem → List ℕ
-certificate_text certificate.InputTooLong = codes "InputTooLong"
-certificate_text certificate.WrongPrice = codes "WrongPrice"
-certificate_text (certificate.Fault fault) = fault_text fault
+abbrev pub certificate_problem_text : CertificateProblem → List ℕ
+certificate_problem_text certificate.InputTooLong = codes "InputTooLong"
+certificate_problem_text certificate.WrongPrice = codes "WrongPrice"
+certificate_problem_text (certificate.Fault fault) = fault_text fault
 
 abbrev pub slope_text : SlopeProblem → List ℕ
 slope_text (of.Pattern fault) = pattern_fault_text fault

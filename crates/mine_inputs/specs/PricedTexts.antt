@@ -9,7 +9,7 @@ use Rattle.settings_file.specs.declared.keys.Key.TheVariants.{Revenue, Cost, Pro
 use Rattle.settings_file.specs.declared.settings_fault.SettingsFault.{SettingsFault}
 use Rattle.settings_file.specs.declared.settings_fault.SettingsFault.TheVariants as settings_fault
 use Rattle.settings_file.specs.Settings.{SettingsView, ReadsSettings, AreSettings, settings_of, names_mill, first_missing}
-use Rattle.shells.specs.Prices.{CostsView, plain_costs, mill_costs, PricesView, NoneNegative, PricesFaultStands}
+use Rattle.shells.specs.Prices.{CostsView, plain_costs, mill_costs, PricesView, NoRevenueNegative, PricesFaultStands}
 use Rattle.shells.specs.declared.prices_fault.PricesFault.{PricesFault}
 use Rattle.mine_inputs.specs.declared.engine_fault.Problem.{Problem}
 use Rattle.mine_inputs.specs.declared.engine_fault.Problem.TheVariants as problem
@@ -111,7 +111,7 @@ pub record PricesRead (settings text : List ℕ) (n : ℕ) : Type 0 where
   pub within : IsWithinLimit text
   pub read : blocks.fault_of (price_columns (settings_of settings)) text ≡ None
   pub count : blocks.count_of text ≡ n
-  pub revenues : NoneNegative (table_of settings text)
+  pub revenues : NoRevenueNegative (table_of settings text)
 
 -- a fault of settings that need these keys: one of the text, or a key is missing; want of memory isn't one
 abbrev pub SettingsFaultStands : (SettingsView → List Key) → List ℕ → SettingsFault → Type 0

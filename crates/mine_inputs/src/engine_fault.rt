@@ -50,9 +50,9 @@ pub enum CertificateProblem {
 
 impl fmt::Display for CertificateProblem {
     ghost use Rattle.std.specs.Prelude.{Some};
-    ghost use Rattle.mine_inputs.specs.FaultText.{certificate_text};
+    ghost use Rattle.mine_inputs.specs.FaultText.{certificate_problem_text};
 
-    ghost output = { λ problem. Some (certificate_text problem) };
+    ghost output = { λ problem. Some (certificate_problem_text problem) };
 
     fn fmt<W: fmt::Write>(&self, f: &mut fmt::Formatter<W>) -> fmt::Result {
         match self {

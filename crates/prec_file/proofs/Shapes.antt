@@ -6,7 +6,7 @@ use Rattle.std.specs.Result.{result_unwrap_or}
 use Rattle.std.proofs.lemmas.Bool.{false≢true}
 use Rattle.std.proofs.lemmas.Bool.Decides.{nat_tests}
 use Rattle.std.proofs.lemmas.List.{length-map}
-use Rattle.fixed_worth.specs.Text.{Run}
+use Rattle.fixed_worth.specs.Text.{WordRun}
 use Rattle.fixed_worth.specs.declared.numerals.NumberFault.{NumberFault}
 use Rattle.fixed_worth.specs.Numeral.{whole_of}
 use Rattle.prec_file.specs.declared.prec_fault.PrecFault.{PrecFault}
@@ -33,7 +33,7 @@ pub reads_err : (f : List ℕ) (d : NumberFault) → Err d ≡ whole_of f → re
 reads_err f d e = ap is_ok (sym e)
 
 -- the texts of fields
-abbrev pub texts : List Run → List (List ℕ)
+abbrev pub texts : List WordRun → List (List ℕ)
 texts rs = map (λ r. r.text) rs
 
 two : (k : ℕ) → ltb (suc (suc k)) 2 ≡ false
@@ -75,20 +75,20 @@ sound n line v fs f g gs e m r k s t u =
 pub known : (n v : ℕ) (b : Bool) → (nat_le n v || b) ≡ false → v < n
 known n v b h = grind (arith, nat_tests)
 
-pub texts_length : (rs : List Run) → length (map number_of (map (λ r. r.text) rs)) ≡ length rs
+pub texts_length : (rs : List WordRun) → length (map number_of (map (λ r. r.text) rs)) ≡ length rs
 texts_length rs = simp length-map
 
 pub pairs_at : (v : ℕ) (fs : List (List ℕ)) (f g : List ℕ) (gs : List (List ℕ)) → fs ≡ f ∷ g ∷ gs → is_remark f ≡ false → number_of f ≡ v → pairs_in fs ≡ map (λ p. (v, p)) (map number_of gs)
 pairs_at v fs f g gs e m k = rw (e, m) (ap (λ (w : ℕ). map (λ p. (w, p)) (map number_of gs)) k)
 
 -- The fields of a line of which two were read as numbers, or one and no second one was there.
-pub one_read : (rs ss : List Run) (v : ℕ) → Some (Ok v) ≡ first_whole rs → ss ≡ drop 1 rs → None ≡ first_whole ss → (f : List ℕ) × (texts rs ≡ f ∷ []) × (reads f ≡ true)
+pub one_read : (rs ss : List WordRun) (v : ℕ) → Some (Ok v) ≡ first_whole rs → ss ≡ drop 1 rs → None ≡ first_whole ss → (f : List ℕ) × (texts rs ≡ f ∷ []) × (reads f ≡ true)
 one_read rs ss v a left b =
     let f = first_is rs (Ok v) a in
     let none : drop 1 rs ≡ [] = sym left ∙ no_field ss b in
     (f.0.text, ap texts (f.1 ∙ ap (λ ts. f.0 ∷ ts) none), (reads_ok f.0.text v f.2).0)
 
-pub record TwoRead (rs ts : List Run) (v : ℕ) (read : Result ℕ NumberFault) : Type 0 where
+pub record TwoRead (rs ts : List WordRun) (v : ℕ) (read : Result ℕ NumberFault) : Type 0 where
   pub block : List ℕ
   pub count : List ℕ
   pub fields : texts rs ≡ block ∷ count ∷ texts ts
@@ -98,7 +98,7 @@ pub record TwoRead (rs ts : List Run) (v : ℕ) (read : Result ℕ NumberFault) 
   pub plain : is_remark block ≡ false
   pub fewer : length ts ≤ length rs
 
-pub two_read : (rs ss ts : List Run) (v : ℕ) (read : Result ℕ NumberFault) → Some (Ok v) ≡ first_whole rs → ss ≡ drop 1 rs → Some read ≡ first_whole ss → ts ≡ drop 1 ss → TwoRead rs ts v read
+pub two_read : (rs ss ts : List WordRun) (v : ℕ) (read : Result ℕ NumberFault) → Some (Ok v) ≡ first_whole rs → ss ≡ drop 1 rs → Some read ≡ first_whole ss → ts ≡ drop 1 ss → TwoRead rs ts v read
 two_read rs ss ts v read a left b behind =
     let f = first_is rs (Ok v) a in
     let g = first_is ss read b in

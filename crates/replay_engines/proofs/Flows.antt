@@ -6,7 +6,7 @@ use Rattle.ordered_group.specs.declared.groups.Group.{Group}
 use Rattle.closure_net.specs.Network.{NetView, FlowView, holds_of}
 use Rattle.closure_net.specs.Mine.{IsNetOf}
 use Rattle.machine_law.specs.Quiet.{IsSolved}
-use Rattle.check_pit.specs.Checks.{FaultStands}
+use Rattle.check_pit.specs.Checks.{PitFaultStands}
 use Rattle.check_pit.specs.declared.pit_fault.PitFault.{PitFault}
 use Rattle.engines.specs.Certifying.{IsSolution, IsRefusedFlow}
 use Rattle.engines.specs.declared.judgement.Judgement.TheVariants.{Accepted}
@@ -39,4 +39,4 @@ flow_accepted block counts texts name net flow pit by named set_worth tells grou
 pub flow_refused : (net : NetView) (flow : FlowView) (fault : PitFault) → IsSolved net flow → IsRefusedFlow net flow fault → IsFlowRefused net flow fault
 flow_refused net flow fault solved refused =
     let size = refused_for_size net flow fault solved refused in
-    record { pit = size.pit; reached = size.reached; of_net = size.of_net; stands = subst (λ (f : PitFault). FaultStands net flow size.pit f) (sym size.only) size.stands; only = size.only }
+    record { pit = size.pit; reached = size.reached; of_net = size.of_net; stands = subst (λ (f : PitFault). PitFaultStands net flow size.pit f) (sym size.only) size.stands; only = size.only }

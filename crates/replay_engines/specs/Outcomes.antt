@@ -10,7 +10,7 @@ use Rattle.machine_law.specs.Steps.{Run}
 use Rattle.machine_law.specs.Quiet.{IsFlowOf}
 use Rattle.async_step.specs.Answers.{IsRefusedAt}
 use Rattle.async_step.specs.FaultText.{step_refusal_text}
-use Rattle.check_pit.specs.Checks.{IsOfNet, IsSound, FaultStands}
+use Rattle.check_pit.specs.Checks.{IsOfNet, IsSound, PitFaultStands}
 use Rattle.check_pit.specs.declared.pit_fault.PitFault.{PitFault}
 use Rattle.check_pit.specs.declared.pit_fault.PitFault.TheVariants as pit_fault
 use Rattle.engines.specs.declared.judgement.Judgement.{Judgement}
@@ -41,7 +41,7 @@ pub record IsFlowRefused (net : NetView) (flow : FlowView) (fault : PitFault) : 
   pub pit : List ℕ
   pub reached : IsReached net flow (holds_of pit)
   pub of_net : IsOfNet net pit
-  pub stands : FaultStands net flow pit fault
+  pub stands : PitFaultStands net flow pit fault
   pub only : fault ≡ pit_fault.TooLarge
 
 -- what a check says of the flow, with the pit of the blocks that the source reaches in it

@@ -5,7 +5,7 @@ use Rattle.std.proofs.lemmas.List.Elements.{All-weaker}
 use Rattle.ordered_group.specs.Sets.{worth_in, count_in}
 use Rattle.ordered_group.proofs.BlockSets.{count_in-same}
 use Rattle.bench_report.specs.declared.bench_row.BenchRow.{BenchRow}
-use Rattle.bench_report.specs.Benches.{ReportedBlocks, blocks_at, place_of, IsRow, IsBenchTable}
+use Rattle.bench_report.specs.Benches.{ReportedBlocks, blocks_at, bench_and_shell, IsBenchRow, IsBenchTable}
 
 -- equal sets of blocks that are worth the same are worth the same together
 pub worth_in-agrees : (v w : ℕ → ℤ) (e c : ℕ → Bool) (n : ℕ) → ((b : ℕ) → b < n → v b ≡ w b) → ((b : ℕ) → b < n → e b ≡ c b) → worth_in v e n ≡ worth_in w c n
@@ -24,7 +24,7 @@ module _ (m other : ReportedBlocks) (a : AreAlike m other) where
   at_same : (z : ℤ) (k b : ℕ) → b < m.blocks → blocks_at m z k b ≡ blocks_at other z k b
   at_same z k b l = rw (a.height b l, a.shell b l) refl
 
-  row_same : (r : BenchRow) → IsRow m r → IsRow other r
+  row_same : (r : BenchRow) → IsBenchRow m r → IsBenchRow other r
   row_same r h =
       let e = blocks_at m r.z r.shell in
       let c = blocks_at other r.z r.shell in
@@ -38,9 +38,9 @@ module _ (m other : ReportedBlocks) (a : AreAlike m other) where
 
   pub table_same : (rows : List BenchRow) → IsBenchTable m rows → IsBenchTable other rows
   table_same rows h = record {
-    each = All-weaker (IsRow m) (IsRow other) row_same rows h.each;
+    each = All-weaker (IsBenchRow m) (IsBenchRow other) row_same rows h.each;
     rising = h.rising;
     every = λ b k l s.
         let here : b < m.blocks = omega (arith, l, a.blocks) in
-        subst (λ z. Contains (map place_of rows) (z, k)) (sym (a.height b here)) (h.every b k here (sym (a.shell b here) ∙ s));
+        subst (λ z. Contains (map bench_and_shell rows) (z, k)) (sym (a.height b here)) (h.every b k here (sym (a.shell b here) ∙ s));
   }

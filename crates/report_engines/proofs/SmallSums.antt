@@ -13,7 +13,7 @@ use Rattle.mine_inputs.specs.declared.priced_inputs.ChargeColumns.{ChargeColumns
 use Rattle.mine_inputs.specs.declared.priced_inputs.ChargeColumns.TheVariants.{Plain, Mill}
 use Rattle.mine_inputs.specs.PricedTexts.{place_beside, values_of, first_charges}
 use Rattle.bench_report.specs.Benches.{reported_blocks, blocks_at}
-use Rattle.bench_report.specs.FaultStands.{SameLengths, AllSumsFit, SomeSumOverflows}
+use Rattle.bench_report.specs.FaultStands.{SameLengths, AllSumsFit, SomeBenchSumOverflows}
 use Rattle.report_engines.specs.ReportParts.{IsSmall, IsPricedModel}
 
 -- the most that an amount of a block can be, either way
@@ -89,5 +89,5 @@ module _ (charges : ChargeColumns) (m : BlocksView) (prices : PricesView) (p : I
         sum_fits r.worth (blocks_at r z shell) m.blocks j few l (λ b h. worths_bound k b low h),
       )
 
-  pub none_overflows : (series : SeriesView) (k : ℕ) → m.blocks ≤ MOST_BLOCKS → k ≤ MOST_FACTOR → SomeSumOverflows (reported_blocks m series (place_beside charges) (worths_at prices k)) → ⊥
+  pub none_overflows : (series : SeriesView) (k : ℕ) → m.blocks ≤ MOST_BLOCKS → k ≤ MOST_FACTOR → SomeBenchSumOverflows (reported_blocks m series (place_beside charges) (worths_at prices k)) → ⊥
   none_overflows series k few low o = o.4 (sums_fit series k few low o.0 o.1 o.2 o.3)

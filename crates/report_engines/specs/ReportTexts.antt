@@ -51,7 +51,7 @@ report_factor settings = factor_by (settings_of settings)
 abbrev pub report_blocks : ℕ → List ℕ → List ℕ → List ℕ → (ℕ → ℕ → Bool) → ReportedBlocks
 report_blocks n settings text precedence pit = record {
   blocks = n;
-  height = λ b. (blocks.place_of (blocks.record_among (blocks.lines_in text) b)).z;
+  height = λ b. (blocks.place_of_record (blocks.record_among (blocks.lines_in text) b)).z;
   shell = λ b. find (λ k. pit k b) (factors_said settings);
   tonnes = λ b. cell text (unwrap_or (settings_of settings).tonnes 0) b;
   worth = λ b. worth_by (priced_texts settings text precedence (report_factor settings)) b;

@@ -8,7 +8,7 @@ use Rattle.settings_file.specs.declared.keys.Key.TheVariants.{Revenue, Cost, Ton
 use Rattle.settings_file.specs.declared.settings_fault.SettingsFault.{SettingsFault}
 use Rattle.settings_file.specs.declared.settings_fault.SettingsFault.TheVariants.{NotToml, UnknownKey, BadValue, Missing, NoMemory}
 use Rattle.settings_file.specs.Keys.{key_name, all_known}
-use Rattle.settings_file.specs.Values.{whole_within, factors_of, offsets_of, AreFactors}
+use Rattle.settings_file.specs.Values.{whole_value_within, factors_of, offsets_of, AreFactors}
 
 -- What the type shows: the value of each key, where the text has the key.
 pub record SettingsView : Type 0 where
@@ -72,19 +72,19 @@ then_with (Err e) next = Err e
 
 -- what a table says at the key of costs
 abbrev pub cost_in : Members → Result (Option ℕ) SettingsFault
-cost_in ms = then_with (said_at Cost (whole_within 65535) ms) (beside_mill (has_mill ms))
+cost_in ms = then_with (said_at Cost (whole_value_within 65535) ms) (beside_mill (has_mill ms))
 
 -- The value of each key, or the first key, in this order, whose value is bad.
 abbrev pub values_in : Members → Result SettingsView SettingsFault
 values_in ms =
-    then_with (said_at Revenue (whole_within 65535) ms) (λ revenue.
+    then_with (said_at Revenue (whole_value_within 65535) ms) (λ revenue.
     then_with (cost_in ms) (λ cost.
-    then_with (said_at Tonnes (whole_within 65535) ms) (λ tonnes.
+    then_with (said_at Tonnes (whole_value_within 65535) ms) (λ tonnes.
     then_with (said_at Factors factors_of ms) (λ factors.
-    then_with (said_at Report (whole_within MOST_FACTOR) ms) (λ report.
+    then_with (said_at Report (whole_value_within MOST_FACTOR) ms) (λ report.
     then_with (said_at Offsets offsets_of ms) (λ offsets.
-    then_with (said_at Processing (whole_within 65535) ms) (λ processing.
-    then_with (said_at Mining (whole_within 65535) ms) (λ mining.
+    then_with (said_at Processing (whole_value_within 65535) ms) (λ processing.
+    then_with (said_at Mining (whole_value_within 65535) ms) (λ mining.
     Ok (record { revenue = revenue; cost = cost; tonnes = tonnes; factors = factors; report = report; offsets = offsets; processing = processing; mining = mining })))))))))
 
 -- A name that is no key comes before all bad values.

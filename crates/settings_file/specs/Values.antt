@@ -11,8 +11,8 @@ whole_upto most (Some (pos n)) = cond (nat_le n most) (Some n) None
 whole_upto most (Some (negsuc n)) = None
 whole_upto most None = None
 
-abbrev pub whole_within : ℕ → Data → Option ℕ
-whole_within most d = whole_upto most (as_integer d)
+abbrev pub whole_value_within : ℕ → Data → Option ℕ
+whole_value_within most d = whole_upto most (as_integer d)
 
 -- A whole number from -2^31 to 2^31 - 1, and nothing else. (negsuc n is -1 - n.)
 abbrev pub whole_in_i32 : Option ℤ → Option ℤ
@@ -48,7 +48,7 @@ if_factors (Some ns) = cond ((nat_le 1 (length ns) && nat_le (length ns) MOST_FA
 if_factors None = None
 
 abbrev pub factors_of_items : Option Items → Option (List ℕ)
-factors_of_items (Some ds) = if_factors (all_read (whole_within MOST_FACTOR) ds)
+factors_of_items (Some ds) = if_factors (all_read (whole_value_within MOST_FACTOR) ds)
 factors_of_items None = None
 
 abbrev pub factors_of : Data → Option (List ℕ)

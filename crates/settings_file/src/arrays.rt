@@ -4,7 +4,7 @@
 ghost use Rattle.std.specs.Prelude.{◌≡◌, ◌≤◌, IfOk, IfSome, option_map};
 ghost use Rattle.std.specs.List.{All};
 ghost use Rattle.toml.specs.View.{view, array_view};
-ghost use Rattle.settings_file.specs.Values.{all_read, whole_within, offset_of, are_ascending, factors_of, offsets_of, AreFactors};
+ghost use Rattle.settings_file.specs.Values.{all_read, whole_value_within, offset_of, are_ascending, factors_of, offsets_of, AreFactors};
 
 use crate::values::{number_in_i32, number_within};
 use fixed_worth::{MOST_FACTOR, MOST_FACTORS};
@@ -14,7 +14,7 @@ use toml::value::Array;
 
 // The whole numbers from 0 to `most` that the values are, or `None` where one is something else.
 fn numbers_within(alloc: Global, values: &Array, most: u32) -> Result<Option<Vec<u32>>, AllocError>
-    ensures value { IfOk result (λ o. option_map (λ v. v.items) o ≡ all_read (whole_within most) (array_view values.now)) }
+    ensures value { IfOk result (λ o. option_map (λ v. v.items) o ≡ all_read (whole_value_within most) (array_view values.now)) }
     ensures bound { IfOk result (λ o. IfSome o (λ v. All (λ n. n ≤ most) v.items)) }
 {
     let mut numbers = Vec::new(alloc);

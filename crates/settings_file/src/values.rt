@@ -3,7 +3,7 @@
 
 ghost use Rattle.std.specs.Prelude.{◌≡◌, ◌≤◌, IfSome, IfOk, IfErr};
 ghost use Rattle.toml.specs.View.{view, table_view};
-ghost use Rattle.settings_file.specs.Values.{whole_within, offset_number};
+ghost use Rattle.settings_file.specs.Values.{whole_value_within, offset_number};
 ghost use Rattle.settings_file.specs.Settings.{said_at};
 
 use crate::keys::Key;
@@ -19,7 +19,7 @@ fn greatest_column()
 
 // The whole number from 0 to `most` that a value is.
 pub(crate) fn number_within(value: &Value, most: u32) -> Option<u32>
-    ensures value { result ≡ whole_within most (view value.now) }
+    ensures value { result ≡ whole_value_within most (view value.now) }
     ensures bound { IfSome result (λ n. n ≤ most) }
 {
     match value.as_integer() {
@@ -52,7 +52,7 @@ pub(crate) fn number_in_i32(value: &Value) -> Option<i32>
 
 // The whole number from 0 to `most` at a key, or `None` where the table doesn't have the key.
 pub(crate) fn number_at(table: &Table, key: Key, most: u32) -> Result<Option<u32>, SettingsFault>
-    ensures value { result ≡ said_at key (whole_within most) (table_view table.now) }
+    ensures value { result ≡ said_at key (whole_value_within most) (table_view table.now) }
     ensures bound { IfOk result (λ o. IfSome o (λ n. n ≤ most)) }
     ensures fault { IfErr result (λ e. e ≡ SettingsFault.BadValue key) }
 {

@@ -7,10 +7,10 @@ use Rattle.mine_inputs.specs.declared.engine_fault.EngineFault.TheVariants as en
 use Rattle.engines.specs.declared.judgement.Verdict.{Verdict}
 use Rattle.engines.proofs.Answered.{keeps_self}
 use Rattle.mine_inputs.proofs.PricedAnswers.{under3}
-use Rattle.shell_engines.specs.Answering.{FailsBy, IsCutShort, WritesAtFault, Ends}
+use Rattle.shell_engines.specs.Answering.{FailsBy, IsCutShort, WritesBothAtFault, Ends}
 
 -- nothing was written
-unwritten : (Answers : Verdict → List ℕ → List ℕ → Type 0) (v w : Option (List ℕ)) (e : EngineFault) → WritesAtFault Answers v v w w e
+unwritten : (Answers : Verdict → List ℕ → List ℕ → Type 0) (v w : Option (List ℕ)) (e : EngineFault) → WritesBothAtFault Answers v v w w e
 unwritten Answers v w (engine.Settings q) = (keeps_self v, keeps_self w)
 unwritten Answers v w (engine.Blocks q) = (keeps_self v, keeps_self w)
 unwritten Answers v w (engine.Prices q) = (keeps_self v, keeps_self w)

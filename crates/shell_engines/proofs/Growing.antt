@@ -5,14 +5,14 @@ use Rattle.std.proofs.lemmas.List.{take_more, map_push, get_or_default, get_or-t
 use Rattle.std.proofs.lemmas.List.Elements.{All-append}
 use Rattle.closure_net.specs.Network.{IsAscending}
 use Rattle.shells.specs.Prices.{PricesView}
-use Rattle.shells.specs.Series.{SeriesView, mine_at, IsAbove}
+use Rattle.shells.specs.Series.{SeriesView, mine_at, IsAboveAll}
 use Rattle.shell_engines.specs.declared.shell_rows.ShellRow.{ShellRow}
 use Rattle.shell_engines.specs.ShellTable.{IsRowOf}
 use Rattle.shell_engines.specs.Settling.{IsSettled}
 use Rattle.shell_engines.specs.PitsAtFactors.{IsAdded}
 
 -- a factor of an ascending list is above those before it
-pub above_before : (factors done : List ℕ) (i : ℕ) → IsAscending factors → i < length factors → done ≡ take i factors → IsAbove done (get_or factors i 0)
+pub above_before : (factors done : List ℕ) (i : ℕ) → IsAscending factors → i < length factors → done ≡ take i factors → IsAboveAll done (get_or factors i 0)
 above_before factors done i rising l is j c =
     let held : Contains (take i factors) j = subst (λ (xs : List ℕ). Contains xs j) is c in
     let low : held.0 < i = omega (arith, held.1, length-take-le i factors (omega (arith, l))) in

@@ -9,7 +9,7 @@ use Rattle.closure_net.specs.Mine.{Mine, IsBest, LiesWithin, IsNetOf}
 use Rattle.closure_net.specs.FaultStands.{WorthsFaultStands}
 use Rattle.closure_net.specs.declared.net.NetFault.{NetFault}
 use Rattle.closure_net.specs.declared.net.NetFault.TheVariants as net_fault
-use Rattle.shells.specs.Prices.{PricesView, NoneNegative, worth_at, worths_at}
+use Rattle.shells.specs.Prices.{PricesView, NoRevenueNegative, worth_at, worths_at}
 use Rattle.shells.specs.Series.{mine_at}
 use Rattle.shells.specs.Nesting.{BestPitsAreNested}
 use Rattle.shells.proofs.OverNets.{net_of_over}
@@ -27,7 +27,7 @@ use Rattle.engines.specs.Solving.{IsNetBy}
 use Rattle.engines.proofs.Listed.{is_listed, where_listed, listed_rests}
 use Rattle.mine_inputs.proofs.Priced.{worths_priced}
 use Rattle.shell_engines.specs.declared.shell_rows.ShellRow.{ShellRow}
-use Rattle.shell_engines.specs.ShellTable.{AreRowsOf, table_text, IsLineOf}
+use Rattle.shell_engines.specs.ShellTable.{AreRowsOf, shell_table_text, IsLineOf}
 use Rattle.shell_engines.specs.SeriesTexts.{factors_said, IsSeriesRead}
 use Rattle.shell_engines.specs.Settling.{IsNetAt, NotSolvedStands, NoSeriesStands}
 use Rattle.shell_engines.specs.PitsAtFactors.{IsWant, TellsWhy, IsFaultOf}
@@ -65,7 +65,7 @@ module _ (s t p : List ℕ) (table : PricesView) (rests : RestsView) (r : ArePri
   nested law j k e c le low high =
       let B : (ℕ → Bool) → Mine → Type 0 = λ d m. IsBest m d in
       let W : Mine → Type 0 = λ m. LiesWithin m e c in
-      let none : NoneNegative table = subst NoneNegative (sym r.table) (r.mine j).worths_read.revenues in
+      let none : NoRevenueNegative table = subst NoRevenueNegative (sym r.table) (r.mine j).worths_read.revenues in
       subst W (mine_is j) (law (has_pair rests.pairs) table j k e c none le (subst (B e) (sym (mine_is j)) low) (subst (B c) (sym (mine_is k)) high))
 
   rows_of : (factors : List ℕ) (rows : List ShellRow) → AreRowsOf (mine_at rests.pairs table) factors rows → AreRowsOf (mine_at_factor rests.blocks s t p) factors rows
@@ -86,7 +86,7 @@ module _ (s t p : List ℕ) (table : PricesView) (rests : RestsView) (r : ArePri
   net_fails k fault f = record { worths = worths_at table k; are = (worths_priced s t p table rests k r).worths; stands = f }
 
 module _ (s t p : List ℕ) (table : PricesView) (rests : RestsView) (factors : List ℕ) (read : IsSeriesRead s t p table rests factors) where
-  pub is_table : BestPitsAreNested → (rows : List ShellRow) (text : List ℕ) → AreRowsOf (mine_at rests.pairs table) factors rows → text ≡ table_text rows → IsShellTable s t p text
+  pub is_table : BestPitsAreNested → (rows : List ShellRow) (text : List ℕ) → AreRowsOf (mine_at rests.pairs table) factors rows → text ≡ shell_table_text rows → IsShellTable s t p text
   is_table law rows text are spelled = record {
     size = rests.blocks;
     mine = read.mine.mine;

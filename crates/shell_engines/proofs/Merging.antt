@@ -5,7 +5,7 @@ use Rattle.std.proofs.lemmas.List.{take_more, get_or_default}
 use Rattle.closure_net.specs.Network.{holds_of}
 use Rattle.ordered_group.specs.Sets.{worth_in}
 use Rattle.sub_mines.specs.Parts.{every_block}
-use Rattle.shell_engines.specs.Parting.{ArePut}
+use Rattle.shell_engines.specs.Parting.{AreJoined}
 use Rattle.fixed_worth.proofs.Bits.{or_false}
 
 or_again : (x y z : Bool) → (x || (y || z)) ≡ ((x || y) || z)
@@ -24,7 +24,7 @@ holds_push [] y b = or_false (y == b)
 holds_push (x ∷ xs) y b = ap (λ t. (x == b) || t) (holds_push xs y b) ∙ or_again (x == b) (holds_of xs b) (y == b)
 
 -- a block more of the list
-pub put_second : (e : ℕ → Bool) (blocks : List ℕ) (k : ℕ) (found : List ℕ) → k < length blocks → ArePut e blocks k found → ArePut e blocks (k + 1) (found ++ get_or blocks k 0 ∷ [])
+pub put_second : (e : ℕ → Bool) (blocks : List ℕ) (k : ℕ) (found : List ℕ) → k < length blocks → AreJoined e blocks k found → AreJoined e blocks (k + 1) (found ++ get_or blocks k 0 ∷ [])
 put_second e blocks k found l h = record {
   most = omega (arith, l);
   held = λ b.
@@ -34,7 +34,7 @@ put_second e blocks k found l h = record {
 }
 
 -- a block more of the set
-pub put_first : (first second : List ℕ) (i k : ℕ) (found : List ℕ) → i < length first → ArePut (holds_of (take i first)) second k found → ArePut (holds_of (take (i + 1) first)) second k (found ++ get_or first i 0 ∷ [])
+pub put_first : (first second : List ℕ) (i k : ℕ) (found : List ℕ) → i < length first → AreJoined (holds_of (take i first)) second k found → AreJoined (holds_of (take (i + 1) first)) second k (found ++ get_or first i 0 ∷ [])
 put_first first second i k found l h = record {
   most = h.most;
   held = λ b.

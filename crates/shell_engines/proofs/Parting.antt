@@ -8,14 +8,14 @@ use Rattle.shells.specs.Prices.{PricesView, blocks_of}
 use Rattle.shells.specs.Series.{mine_at}
 use Rattle.shells.proofs.Rising.{mines_rise}
 use Rattle.shells.proofs.Pushes.{mine_is_own}
-use Rattle.sub_mines.specs.Parts.{IsOwn, union_of, difference_of, every_block}
+use Rattle.sub_mines.specs.Parts.{RestsWithin, union_of, difference_of, every_block}
 use Rattle.sub_mines.specs.Renumbered.{IsListed, IsRenumbered, IsImage, number_in}
 use Rattle.sub_mines.specs.Kept.{IsKept}
 use Rattle.sub_mines.proofs.Bounds.{between_by_bounds, best_is_floor, best_is_ceiling, none_is_floor, all_is_ceiling}
 use Rattle.sub_mines.proofs.Kept.{listed, list_image, same_rests, same_tests, passing_is_kept}
 use Rattle.sub_mines.proofs.Together.{best_by_small_mine}
 use Rattle.shell_engines.specs.declared.mine_parts.Part.{Part}
-use Rattle.shell_engines.specs.Parting.{ArePriced, LiesIn, IsPart, mine_among, IsBestAmong}
+use Rattle.shell_engines.specs.Parting.{ArePriced, LiesBetweenLists, IsPart, mine_among, IsBestAmong}
 use Rattle.prec_file.proofs.PairTests.{pair_of_rests}
 use Rattle.sub_mines.proofs.Parts.{not_beside}
 
@@ -79,7 +79,7 @@ higher_within true false t h = refl
 higher_within true true t h = absurd cc
 higher_within false l t h = absurd cc
 
-module _ (pairs : List (ℕ × ℕ)) (prices : PricesView) (factors : List ℕ) (from to place : ℕ) (low kept s : List ℕ) (h : ArePriced pairs prices factors) (part : LiesIn pairs prices factors from to low kept) (first : from ≤ place) (last : place < to)
+module _ (pairs : List (ℕ × ℕ)) (prices : PricesView) (factors : List ℕ) (from to place : ℕ) (low kept s : List ℕ) (h : ArePriced pairs prices factors) (part : LiesBetweenLists pairs prices factors from to low kept) (first : from ≤ place) (last : place < to)
     (ascending : IsAscending s) (places : All (λ i. i < length kept) s) (found : IsBestAmong pairs prices kept (get_or factors place 0) s) where
   abbrev pub k : ℕ
   k = get_or factors place 0
@@ -96,7 +96,7 @@ module _ (pairs : List (ℕ × ℕ)) (prices : PricesView) (factors : List ℕ) 
   is_listed : IsListed (difference_of part.high (holds_of low)) (blocks_of prices) (length kept) (number_in kept)
   is_listed = listed (difference_of part.high (holds_of low)) (blocks_of prices) kept part.are_kept
 
-  own : (j : ℕ) → IsOwn (mine_at pairs prices j)
+  own : (j : ℕ) → RestsWithin (mine_at pairs prices j)
   own j = record { own = (mine_is_own pairs prices j h.rests).own }
 
   renumbered : IsRenumbered (mine_at pairs prices k) (mine_among found.less prices kept k) (number_in kept)
@@ -133,7 +133,7 @@ module _ (pairs : List (ℕ × ℕ)) (prices : PricesView) (factors : List ℕ) 
     pub lifted_best : IsBest (mine_at pairs prices k) (holds_of blocks)
     lifted_best = subst (IsBest (mine_at pairs prices k)) same whole_best
 
-    pub lower_part : LiesIn pairs prices factors from place low inside
+    pub lower_part : LiesBetweenLists pairs prices factors from place low inside
     lower_part = record {
       high = holds_of blocks;
       inside = omega (arith, last, part.inside);
@@ -144,7 +144,7 @@ module _ (pairs : List (ℕ × ℕ)) (prices : PricesView) (factors : List ℕ) 
       are_kept = subst (λ e. IsKept (difference_of e (holds_of low)) (blocks_of prices) inside) same inside_kept;
     }
 
-    pub higher_part : LiesIn pairs prices factors (place + 1) to blocks outside
+    pub higher_part : LiesBetweenLists pairs prices factors (place + 1) to blocks outside
     higher_part = record {
       high = part.high;
       inside = part.inside;
@@ -158,7 +158,7 @@ module _ (pairs : List (ℕ × ℕ)) (prices : PricesView) (factors : List ℕ) 
 -- ---- other parts
 
 -- fewer factors
-pub fewer_factors : (pairs : List (ℕ × ℕ)) (prices : PricesView) (factors : List ℕ) (from to first last : ℕ) (low kept : List ℕ) → from ≤ first → last ≤ to → LiesIn pairs prices factors from to low kept → LiesIn pairs prices factors first last low kept
+pub fewer_factors : (pairs : List (ℕ × ℕ)) (prices : PricesView) (factors : List ℕ) (from to first last : ℕ) (low kept : List ℕ) → from ≤ first → last ≤ to → LiesBetweenLists pairs prices factors from to low kept → LiesBetweenLists pairs prices factors first last low kept
 fewer_factors pairs prices factors from to first last low kept a b h = record {
   high = h.high;
   inside = omega (arith, b, h.inside);
@@ -168,7 +168,7 @@ fewer_factors pairs prices factors from to first last low kept a b h = record {
 }
 
 -- every factor, and every block
-pub whole_part : (pairs : List (ℕ × ℕ)) (prices : PricesView) (factors : List ℕ) → LiesIn pairs prices factors 0 (length factors) [] (numbers_passing every_block (blocks_of prices))
+pub whole_part : (pairs : List (ℕ × ℕ)) (prices : PricesView) (factors : List ℕ) → LiesBetweenLists pairs prices factors 0 (length factors) [] (numbers_passing every_block (blocks_of prices))
 whole_part pairs prices factors = record {
   high = every_block;
   inside = omega arith;
@@ -178,13 +178,13 @@ whole_part pairs prices factors = record {
 }
 
 -- the same lists
-pub same_lists_part : (pairs : List (ℕ × ℕ)) (prices : PricesView) (factors : List ℕ) (from to : ℕ) (low low' kept kept' : List ℕ) → low' ≡ low → kept' ≡ kept → LiesIn pairs prices factors from to low kept → LiesIn pairs prices factors from to low' kept'
+pub same_lists_part : (pairs : List (ℕ × ℕ)) (prices : PricesView) (factors : List ℕ) (from to : ℕ) (low low' kept kept' : List ℕ) → low' ≡ low → kept' ≡ kept → LiesBetweenLists pairs prices factors from to low kept → LiesBetweenLists pairs prices factors from to low' kept'
 same_lists_part pairs prices factors from to low low' kept kept' a b h =
-    subst (λ xs. LiesIn pairs prices factors from to xs kept') (sym a) (subst (λ xs. LiesIn pairs prices factors from to low xs) (sym b) h)
+    subst (λ xs. LiesBetweenLists pairs prices factors from to xs kept') (sym a) (subst (λ xs. LiesBetweenLists pairs prices factors from to low xs) (sym b) h)
 
 -- a part with these places and lists
-pub part_of : (pairs : List (ℕ × ℕ)) (prices : PricesView) (factors : List ℕ) (part : Part) (from to : ℕ) (low kept : List ℕ) → (part.from ≡ from) × (part.to ≡ to) × (part.low.items ≡ low) × (part.kept.items ≡ kept) → LiesIn pairs prices factors from to low kept
+pub part_of : (pairs : List (ℕ × ℕ)) (prices : PricesView) (factors : List ℕ) (part : Part) (from to : ℕ) (low kept : List ℕ) → (part.from ≡ from) × (part.to ≡ to) × (part.low.items ≡ low) × (part.kept.items ≡ kept) → LiesBetweenLists pairs prices factors from to low kept
     → IsPart pairs prices factors part
 part_of pairs prices factors part from to low kept e h =
-    subst (λ n. LiesIn pairs prices factors n part.to part.low.items part.kept.items) (sym e.0)
-    (subst (λ n. LiesIn pairs prices factors from n part.low.items part.kept.items) (sym e.1) (same_lists_part pairs prices factors from to low part.low.items kept part.kept.items e.2 e.3 h))
+    subst (λ n. LiesBetweenLists pairs prices factors n part.to part.low.items part.kept.items) (sym e.0)
+    (subst (λ n. LiesBetweenLists pairs prices factors from n part.low.items part.kept.items) (sym e.1) (same_lists_part pairs prices factors from to low part.low.items kept part.kept.items e.2 e.3 h))

@@ -23,12 +23,12 @@ abbrev pub IsCutShort : List ℕ → List ℕ → Option (List ℕ) → Option (
 IsCutShort table text before after old new = (ReceivedPrefix before after table × Keeps old new) ⊎ (Appends before after table × ReceivedPrefix old new text)
 
 -- what is in both at a fault: what was there before, unless a device failed in writing them
-abbrev pub WritesAtFault : (Verdict → List ℕ → List ℕ → Type 0) → Option (List ℕ) → Option (List ℕ) → Option (List ℕ) → Option (List ℕ) → EngineFault → Type 0
-WritesAtFault Answers before after old new engine.Device =
+abbrev pub WritesBothAtFault : (Verdict → List ℕ → List ℕ → Type 0) → Option (List ℕ) → Option (List ℕ) → Option (List ℕ) → Option (List ℕ) → EngineFault → Type 0
+WritesBothAtFault Answers before after old new engine.Device =
     (Keeps before after × Keeps old new) ⊎ ((verdict : Verdict) × (table : List ℕ) × (text : List ℕ) × Answers verdict table text × IsCutShort table text before after old new)
-WritesAtFault Answers before after old new _ = Keeps before after × Keeps old new
+WritesBothAtFault Answers before after old new _ = Keeps before after × Keeps old new
 
 -- the answer, and what was written with it
 abbrev pub Ends : (Verdict → List ℕ → List ℕ → Type 0) → (EngineFault → Type 0) → Option (List ℕ) → Option (List ℕ) → Option (List ℕ) → Option (List ℕ) → Result Verdict EngineFault → Type 0
 Ends Answers Fails before after old new (Ok verdict) = (table : List ℕ) × (text : List ℕ) × Answers verdict table text × Appends before after table × Appends old new text
-Ends Answers Fails before after old new (Err fault) = Fails fault × WritesAtFault Answers before after old new fault
+Ends Answers Fails before after old new (Err fault) = Fails fault × WritesBothAtFault Answers before after old new fault

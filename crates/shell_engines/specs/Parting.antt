@@ -5,7 +5,7 @@ use Rattle.ordered_group.specs.Amount.{Amount}
 use Rattle.prec_file.specs.Rests.{IsRests, has_pair}
 use Rattle.closure_net.specs.Network.{NetView, holds_of, IsAscending}
 use Rattle.closure_net.specs.Mine.{Mine, IsBest, IsNetOf}
-use Rattle.shells.specs.Prices.{PricesView, blocks_of, worth_at, NoneNegative}
+use Rattle.shells.specs.Prices.{PricesView, blocks_of, worth_at, NoRevenueNegative}
 use Rattle.shells.specs.Series.{mine_at}
 use Rattle.sub_mines.specs.Parts.{union_of, difference_of}
 use Rattle.sub_mines.specs.Bounds.{IsFloor, IsCeiling}
@@ -19,13 +19,13 @@ use Rattle.shell_engines.specs.PitsAtFactors.{IsProved}
 -- pairs and prices of the same blocks, at most `MOST_BLOCKS`, no revenue negative, and factors that rise
 pub record ArePriced (pairs : List (ℕ × ℕ)) (prices : PricesView) (factors : List ℕ) : Type 0 where
   pub rests : IsRests (record { blocks = blocks_of prices; pairs = pairs })
-  pub known : NoneNegative prices
+  pub known : NoRevenueNegative prices
   pub few : blocks_of prices ≤ MOST_BLOCKS
   pub rising : IsAscending factors
 
 -- The best pit at each of the factors from one place to another has the blocks of one list, and beside them none but those of
 -- another: the one is a floor of it, and both together are a ceiling.
-pub record LiesIn (pairs : List (ℕ × ℕ)) (prices : PricesView) (factors : List ℕ) (from to : ℕ) (low kept : List ℕ) : Type 0 where
+pub record LiesBetweenLists (pairs : List (ℕ × ℕ)) (prices : PricesView) (factors : List ℕ) (from to : ℕ) (low kept : List ℕ) : Type 0 where
   pub high : ℕ → Bool
   pub inside : to ≤ length factors
   pub floor : (i : ℕ) → from ≤ i → i < to → IsFloor (mine_at pairs prices (slice_index factors i)) (holds_of low)
@@ -34,7 +34,7 @@ pub record LiesIn (pairs : List (ℕ × ℕ)) (prices : PricesView) (factors : L
 
 -- the same of a part
 abbrev pub IsPart : List (ℕ × ℕ) → PricesView → List ℕ → Part → Type 0
-IsPart pairs prices factors part = LiesIn pairs prices factors part.from part.to part.low.items part.kept.items
+IsPart pairs prices factors part = LiesBetweenLists pairs prices factors part.from part.to part.low.items part.kept.items
 
 -- the mine of the blocks of a list, by their places in it
 abbrev pub mine_among : List (ℕ × ℕ) → PricesView → List ℕ → ℕ → Mine
@@ -64,11 +64,11 @@ pub record IsLeft (pairs : List (ℕ × ℕ)) (prices : PricesView) (factors : L
   pub some : part.from < part.to
 
 -- what was found are best pits, and what is left are parts with some factor
-pub record IsLevel (pairs : List (ℕ × ℕ)) (prices : PricesView) (factors : List ℕ) (level : Level) : Type 0 where
+pub record IsSearchLevel (pairs : List (ℕ × ℕ)) (prices : PricesView) (factors : List ℕ) (level : Level) : Type 0 where
   pub found : All (IsProved pairs prices) level.found.items
   pub left : All (IsLeft pairs prices factors) level.parts.items
 
 -- a list holds the blocks of a set and the first so many of another list
-pub record ArePut (e : ℕ → Bool) (blocks : List ℕ) (next : ℕ) (found : List ℕ) : Type 0 where
+pub record AreJoined (e : ℕ → Bool) (blocks : List ℕ) (next : ℕ) (found : List ℕ) : Type 0 where
   pub most : next ≤ length blocks
   pub held : (b : ℕ) → holds_of found b ≡ union_of e (holds_of (take next blocks)) b

@@ -24,12 +24,12 @@ abbrev pub row_text : ShellRow → List ℕ
 row_text row = codes "SHELL " ++ (decimal row.factor ++ (codes " " ++ (decimal row.blocks ++ (codes " " ++ amount_text 9 row.worth))))
 
 -- the same with its line feed
-abbrev pub row_line : ShellRow → List ℕ
-row_line row = row_text row ++ 10 ∷ []
+abbrev pub shell_row_line : ShellRow → List ℕ
+shell_row_line row = row_text row ++ 10 ∷ []
 
 -- the lines of all rows
-abbrev pub table_text : List ShellRow → List ℕ
-table_text rows = flat_map row_line rows
+abbrev pub shell_table_text : List ShellRow → List ℕ
+shell_table_text rows = flat_map shell_row_line rows
 
 -- the line that is written where no pit is proved at a factor, by the reason
 abbrev pub IsLineOf : ℕ → Unsolved → List ℕ → Type 0

@@ -16,7 +16,7 @@ use Rattle.engines.specs.Solving.{IsNetBy}
 use Rattle.shell_engines.specs.declared.shell_rows.ShellRow.{ShellRow}
 use Rattle.shell_engines.specs.Settling.{NotSolvedStands}
 use Rattle.shell_engines.specs.Answering.{FailsBy, Ends}
-use Rattle.shell_engines.specs.ShellTable.{AreRowsOf, table_text, IsLineOf}
+use Rattle.shell_engines.specs.ShellTable.{AreRowsOf, shell_table_text, IsLineOf}
 use Rattle.shell_engines.specs.SeriesTexts.{KeysKnown, factors_said, SeriesMineFails}
 use Rattle.shell_engines.specs.BlockTables.{mine_at_factor, IsTableIfAsked}
 
@@ -43,7 +43,7 @@ pub record IsShellTable (settings blocks precedence text : List ℕ) : Type 0 wh
   pub rows : List ShellRow
   pub rows_are : AreRowsOf (mine_at_factor size settings blocks precedence) (factors_said settings) rows
   pub nested : AreNested (mine_at_factor size settings blocks precedence)
-  pub spelled : text ≡ table_text rows
+  pub spelled : text ≡ shell_table_text rows
 
 -- At one of the factors of the settings no pit is proved, for a reason that stands.
 pub record IsNoTable (settings blocks precedence : List ℕ) (effort : Effort) (text : List ℕ) : Type 0 where

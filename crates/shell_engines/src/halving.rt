@@ -4,7 +4,7 @@
 ghost use Rattle.std.specs.Prelude.{◌≡◌, ℕ, ◌<◌, ◌≤◌, ◌++◌, ◌∷◌, [], All, List, cond, nat_lt, IfOk, OnOk, IfSome};
 ghost use Rattle.shells.specs.Prices.{PricesView};
 ghost use Rattle.shell_engines.specs.PitsAtFactors.{IsProved};
-ghost use Rattle.shell_engines.specs.Parting.{ArePriced, AreHalved, IsLeft, IsLevel};
+ghost use Rattle.shell_engines.specs.Parting.{ArePriced, AreHalved, IsLeft, IsSearchLevel};
 
 use crate::best_pits::BestPit;
 use crate::mine_parts::{Halved, Part, solved_part, whole};
@@ -46,7 +46,7 @@ impl Level {
 
     // Takes up what a part gave.
     fn take(&mut self, halves: Halved) -> Result<(), AllocError>
-        ensures { (pairs : List (ℕ × ℕ)) (prices : PricesView) (factors : List ℕ) → IsLevel pairs prices factors self.old → AreHalved pairs prices factors halves → OnOk result (IsLevel pairs prices factors self.new) }
+        ensures { (pairs : List (ℕ × ℕ)) (prices : PricesView) (factors : List ℕ) → IsSearchLevel pairs prices factors self.old → AreHalved pairs prices factors halves → OnOk result (IsSearchLevel pairs prices factors self.new) }
     {
         let Halved {
             best,
@@ -94,7 +94,7 @@ fn solved_by<T: SeriesProgress>(
 ) -> Result<Level, AllocError>
     requires priced { ArePriced mine.now.rests.pairs mine.now.prices mine.now.factors.items }
     requires left { All (IsLeft mine.now.rests.pairs mine.now.prices mine.now.factors.items) parts.now }
-    ensures { IfOk result (IsLevel mine.now.rests.pairs mine.now.prices mine.now.factors.items) }
+    ensures { IfOk result (IsSearchLevel mine.now.rests.pairs mine.now.prices mine.now.factors.items) }
 {
     let factors = mine.factors.as_slice();
     let mut level = Level::new(alloc);
@@ -124,7 +124,7 @@ fn level_of<R: Threads + Sync, T: SeriesProgress + Sync>(
 ) -> Result<Level, AllocError>
     requires priced { ArePriced mine.now.rests.pairs mine.now.prices mine.now.factors.items }
     requires left { All (IsLeft mine.now.rests.pairs mine.now.prices mine.now.factors.items) parts.now }
-    ensures { IfOk result (IsLevel mine.now.rests.pairs mine.now.prices mine.now.factors.items) }
+    ensures { IfOk result (IsSearchLevel mine.now.rests.pairs mine.now.prices mine.now.factors.items) }
 {
     let taken = AtomicU64::new(0);
     let threads = effort.workers as usize;
@@ -135,7 +135,7 @@ fn level_of<R: Threads + Sync, T: SeriesProgress + Sync>(
         threads.min(parts.len()),
         &|_thread: usize| -> Result<Level, AllocError>
             requires { ArePriced mine.now.rests.pairs mine.now.prices mine.now.factors.items × All (IsLeft mine.now.rests.pairs mine.now.prices mine.now.factors.items) parts.now }
-            ensures { IfOk result (IsLevel mine.entry.now.rests.pairs mine.entry.now.prices mine.entry.now.factors.items) }
+            ensures { IfOk result (IsSearchLevel mine.entry.now.rests.pairs mine.entry.now.prices mine.entry.now.factors.items) }
         { solved_by(alloc, mine, parts, &taken, turns, gate) },
     )?;
     let mut all = Level::new(alloc);

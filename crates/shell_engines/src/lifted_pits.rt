@@ -12,7 +12,7 @@ ghost use Rattle.shells.specs.Series.{mine_at};
 ghost use Rattle.sub_mines.specs.Parts.{union_of, difference_of, every_block};
 ghost use Rattle.sub_mines.specs.Renumbered.{number_in};
 ghost use Rattle.shell_engines.specs.PitsAtFactors.{IsProved};
-ghost use Rattle.shell_engines.specs.Parting.{ArePut};
+ghost use Rattle.shell_engines.specs.Parting.{AreJoined};
 
 use crate::best_pits::BestPit;
 use crate::shell_rows::ShellRow;
@@ -68,7 +68,7 @@ fn put_below(
     bound: u32,
 ) -> Result<usize, AllocError>
     requires { from ≤ length blocks.now }
-    ensures { (e : ℕ → Bool) → ArePut e blocks.now from found.old.items → IfOk result (λ to. ArePut e blocks.now to found.new.items) }
+    ensures { (e : ℕ → Bool) → AreJoined e blocks.now from found.old.items → IfOk result (λ to. AreJoined e blocks.now to found.new.items) }
 {
     for k in from..blocks.len() {
         if bound <= blocks[k] {

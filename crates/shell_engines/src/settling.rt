@@ -4,7 +4,7 @@
 ghost use Rattle.std.specs.Prelude.{◌≡◌, ℕ, ◌+◌, ◌<◌, List, take, length, All, Contains, OnOk, IfOk, IfErr, MatchResult};
 ghost use Rattle.ordered_group.specs.Block.{scaled_block};
 ghost use Rattle.settings_file.specs.Values.{AreFactors};
-ghost use Rattle.shells.specs.Series.{IsAbove, rests_in};
+ghost use Rattle.shells.specs.Series.{IsAboveAll, rests_in};
 ghost use Rattle.shell_engines.specs.Settling.{IsSettled, NoSeriesStands};
 ghost use Rattle.shell_engines.specs.PitsAtFactors.{IsAdded, IsProved};
 
@@ -37,7 +37,7 @@ pub struct Shells {
 impl Shells {
     // Adds the best pit at a factor above the others.
     fn add(&mut self, factor: Factor, best: &BestPit) -> Result<(), AllocError>
-        requires above { IsAbove self.old.series.factors factor }
+        requires above { IsAboveAll self.old.series.factors factor }
         requires at { best.now.row.factor ≡ factor }
         requires proved { IsProved self.old.series.pairs self.old.series.prices best.now }
         requires room { length self.old.series.factors < MOST_FACTORS }

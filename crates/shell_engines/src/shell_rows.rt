@@ -2,7 +2,7 @@
 
 ghost use Rattle.std.specs.Prelude.{◌≡◌, Some, IfOk};
 ghost use Rattle.std.specs.String.{string_bytes};
-ghost use Rattle.shell_engines.specs.ShellTable.{row_text, row_line, table_text};
+ghost use Rattle.shell_engines.specs.ShellTable.{row_text, shell_row_line, shell_table_text};
 
 use fixed_worth::Nanos;
 use std::alloc::{AllocError, Global};
@@ -30,7 +30,7 @@ impl fmt::Display for ShellRow {
 
 // The line of a row.
 fn line_of(alloc: Global, row: ShellRow) -> Result<String, AllocError>
-    ensures { IfOk result (λ line. string_bytes line ≡ row_line row) }
+    ensures { IfOk result (λ line. string_bytes line ≡ shell_row_line row) }
 {
     format!(in alloc; "{row}\n")
 }
@@ -40,7 +40,7 @@ fn line_of(alloc: Global, row: ShellRow) -> Result<String, AllocError>
 /// # Errors
 /// Memory was refused.
 pub fn table_of(alloc: Global, rows: &[ShellRow]) -> Result<Vec<u8>, AllocError>
-    ensures { IfOk result (λ text. text.items ≡ table_text rows.now) }
+    ensures { IfOk result (λ text. text.items ≡ shell_table_text rows.now) }
 {
     let mut text: Vec<u8> = Vec::new(alloc);
     for i in 0..rows.len() {

@@ -4,7 +4,7 @@ use Rattle.std.specs.List.{Contains}
 use Rattle.std.proofs.lemmas.Bool.{cases_lt}
 use Rattle.std.proofs.lemmas.List.{get_or_default, get_or_append_left}
 use Rattle.closure_net.specs.Network.{IsAscending}
-use Rattle.shells.specs.Series.{IsAbove}
+use Rattle.shells.specs.Series.{IsAboveAll}
 
 last_at : (xs : List ℕ) (k : ℕ) → get_or (xs ++ k ∷ []) (length xs) 0 ≡ k
 last_at [] k = refl
@@ -15,7 +15,7 @@ one_last k x c =
     let z : c.0 ≡ 0 = omega (arith, c.1) in
     sym c.2 ∙ ap (λ i. get_or (k ∷ []) i x) z
 
-pub rising_more : (factors : List ℕ) (k : ℕ) → IsAscending factors → IsAbove factors k → IsAscending (factors ++ k ∷ [])
+pub rising_more : (factors : List ℕ) (k : ℕ) → IsAscending factors → IsAboveAll factors k → IsAscending (factors ++ k ∷ [])
 rising_more factors k rising above i j l m =
     let size = length-append factors (k ∷ []) in
     elim (cases_lt j (length factors)) [
@@ -28,7 +28,7 @@ rising_more factors k rising above i j l m =
     ]
 
 -- what is above the last is above all
-pub above_last : (xs : List ℕ) (k : ℕ) → IsAscending xs → get_or xs (length xs - 1) 0 < k → IsAbove xs k
+pub above_last : (xs : List ℕ) (k : ℕ) → IsAscending xs → get_or xs (length xs - 1) 0 < k → IsAboveAll xs k
 above_last xs k rising low j c =
     let at : get_or xs c.0 0 ≡ j = get_or_default xs c.0 0 j c.1 ∙ c.2 in
     elim (cases_lt c.0 (length xs - 1)) [
@@ -39,7 +39,7 @@ above_last xs k rising low j c =
           omega (arith, at, same, low)
     ]
 
-pub last_below : (xs : List ℕ) (k : ℕ) → ¬ (length xs ≡ 0) → IsAbove xs k → get_or xs (length xs - 1) 0 < k
+pub last_below : (xs : List ℕ) (k : ℕ) → ¬ (length xs ≡ 0) → IsAboveAll xs k → get_or xs (length xs - 1) 0 < k
 last_below xs k some above =
     let l : length xs - 1 < length xs = omega (arith, some) in
     above (get_or xs (length xs - 1) 0) (length xs - 1, l, get_or_default xs (length xs - 1) _ 0 l)

@@ -12,7 +12,7 @@ use Rattle.ordered_group.proofs.BlockSets.{worth_in-same, count_in-same}
 use Rattle.closure_net.specs.Mine.{Mine, worth_of, count_of, AreSame, IsBest}
 use Rattle.shells.specs.Prices.{PricesView}
 use Rattle.prec_file.specs.Rests.{has_pair}
-use Rattle.shells.specs.Series.{mine_at, SeriesView, shell_at, is_upto, upto, IsSeries, IsAbove, with_shell, IsPushed}
+use Rattle.shells.specs.Series.{mine_at, SeriesView, shell_at, is_upto, upto, IsSeries, IsAboveAll, with_shell, IsPushed}
 use Rattle.shells.proofs.Rising.{best_is_nested}
 use Rattle.shells.proofs.Factors.{one_last, rising_more}
 
@@ -46,7 +46,7 @@ at_old (Some x) t j k l = refl
 at_old None true j k l = lt-leb k j l
 at_old None false j k l = refl
 
-module _ (s t : SeriesView) (k : ℕ) (e : ℕ → Bool) (h : IsSeries s) (above : IsAbove s.factors k) (best : IsBest (mine_at s.pairs s.prices k) e)
+module _ (s t : SeriesView) (k : ℕ) (e : ℕ → Bool) (h : IsSeries s) (above : IsAboveAll s.factors k) (best : IsBest (mine_at s.pairs s.prices k) e)
     (own : IsOwn (mine_at s.pairs s.prices k)) (pushed : IsPushed s t k e) where
   -- a block with a shell is in the best pit at the higher factor
   pub has_shell : (b x : ℕ) → b < length s.prices.revenue → shell_at s.shells b ≡ Some x → (x ≤ k) × (e b ≡ true)
@@ -88,7 +88,7 @@ shell_known (Some y) t k x factors h e = Contains-append_left factors (k ∷ [])
 shell_known None true k x factors h e = Contains-append_right factors (k ∷ []) x (subst (Contains (k ∷ [])) (same_Some _ _ e) (0, omega arith, refl))
 shell_known None false k x factors h e = absurd cc
 
-pub push_keeps : (s t : SeriesView) (k : ℕ) (e : ℕ → Bool) → IsSeries s → IsAbove s.factors k → length s.factors < 64 → IsBest (mine_at s.pairs s.prices k) e → IsPushed s t k e → IsSeries t
+pub push_keeps : (s t : SeriesView) (k : ℕ) (e : ℕ → Bool) → IsSeries s → IsAboveAll s.factors k → length s.factors < 64 → IsBest (mine_at s.pairs s.prices k) e → IsPushed s t k e → IsSeries t
 push_keeps s t k e h above room best p =
     let own = λ (j : ℕ). mine_is_own s.pairs s.prices j h.rests in
     record {

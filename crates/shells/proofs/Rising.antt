@@ -4,7 +4,7 @@ use Rattle.std.proofs.lemmas.Int.{ints, clamps}
 use Rattle.std.proofs.Math.IntN.{pos-*ℤ-pos}
 use Rattle.closure_net.specs.Mine.{RisesTo}
 use Rattle.closure_net.proofs.BestPits.{best_is_within}
-use Rattle.shells.specs.Prices.{CostsView, plain_costs, mill_costs, PricesView, number_at, worth_after, NoneNegative}
+use Rattle.shells.specs.Prices.{CostsView, plain_costs, mill_costs, PricesView, number_at, worth_after, NoRevenueNegative}
 use Rattle.shells.specs.Series.{mine_of_prices}
 use Rattle.shells.specs.Nesting.{BestPitsAreNested}
 
@@ -20,7 +20,7 @@ left_rises : (costs : CostsView) (b : ℕ) (x y : ℤ) → x ≤ℤ y → worth_
 left_rises (plain_costs cost) b x y le = omega (arith, ints, le)
 left_rises (mill_costs processing mining) b x y le = omega (arith, ints, clamps, le)
 
-pub mines_rise : (above : ℕ → ℕ → Bool) (table : PricesView) (j k : ℕ) → NoneNegative table → j ≤ k → RisesTo (mine_of_prices above table j) (mine_of_prices above table k)
+pub mines_rise : (above : ℕ → ℕ → Bool) (table : PricesView) (j k : ℕ) → NoRevenueNegative table → j ≤ k → RisesTo (mine_of_prices above table j) (mine_of_prices above table k)
 mines_rise above table j k known le = record {
   blocks = refl;
   rests = λ b p. refl;

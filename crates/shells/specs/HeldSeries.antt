@@ -12,7 +12,7 @@ shown_costs (Plain cost) = plain_costs cost.items
 shown_costs (Mill processing mining) = mill_costs processing.items mining.items
 
 -- what a series in memory is: there is room for 64 factors, and its pairs are of so many blocks
-pub record IsHeld (s : SeriesView) (room blocks : ℕ) : Type 0 where
+pub record IsHeldSeries (s : SeriesView) (room blocks : ℕ) : Type 0 where
   pub series : IsSeries s
   pub reserved : MOST_FACTORS ≤ room
   pub sized : blocks ≡ blocks_of s.prices

@@ -47,8 +47,8 @@ abbrev pub worths_at : PricesView → ℕ → List ℤ
 worths_at table k = map (worth_at table k) (range_with_len 0 (blocks_of table))
 
 -- no revenue is negative
-abbrev pub NoneNegative : PricesView → Type 0
-NoneNegative table = (b : ℕ) → b < blocks_of table → pos 0 ≤ℤ number_at table.revenue b
+abbrev pub NoRevenueNegative : PricesView → Type 0
+NoRevenueNegative table = (b : ℕ) → b < blocks_of table → pos 0 ≤ℤ number_at table.revenue b
 
 -- each charge is there for n blocks
 abbrev pub AreCharged : CostsView → ℕ → Type 0
@@ -59,7 +59,7 @@ AreCharged (mill_costs processing mining) n = (length processing ≡ n) × (leng
 pub record IsTable (table : PricesView) : Type 0 where
   pub charged : AreCharged table.costs (length table.revenue)
   pub blocks : blocks_of table ≤ MOST_BLOCKS
-  pub revenues : NoneNegative table
+  pub revenues : NoRevenueNegative table
 
 -- b is the first block with a negative revenue
 pub record IsFirstNegative (revenue : List ℤ) (b : ℕ) : Type 0 where

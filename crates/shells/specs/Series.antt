@@ -65,8 +65,8 @@ OpenFaultStands n table Full = ⊥
 OpenFaultStands n table NoMemory = n ≡ blocks_of table
 
 -- k is above every factor
-abbrev pub IsAbove : List ℕ → ℕ → Type 0
-IsAbove factors k = (j : ℕ) → Contains factors j → j < k
+abbrev pub IsAboveAll : List ℕ → ℕ → Type 0
+IsAboveAll factors k = (j : ℕ) → Contains factors j → j < k
 
 -- a block of the pit gets the factor as its shell where it had none
 abbrev pub with_shell : Option ℕ → Bool → ℕ → Option ℕ
@@ -101,7 +101,7 @@ pub record IsOver (block : ℤ → ℕ → Amount) (ps : List (ℕ × ℕ)) (tab
 
 -- why a push is refused
 abbrev pub PushFaultStands : (ℤ → ℕ → Amount) → SeriesView → ℕ → NetView → SeriesFault → Type 0
-PushFaultStands block s k net NotHigher = ¬ (IsAbove s.factors k)
-PushFaultStands block s k net WrongModel = IsAbove s.factors k × ¬ (IsOver block s.pairs s.prices k net)
-PushFaultStands block s k net Full = IsAbove s.factors k × IsOver block s.pairs s.prices k net × (length s.factors ≡ MOST_FACTORS)
+PushFaultStands block s k net NotHigher = ¬ (IsAboveAll s.factors k)
+PushFaultStands block s k net WrongModel = IsAboveAll s.factors k × ¬ (IsOver block s.pairs s.prices k net)
+PushFaultStands block s k net Full = IsAboveAll s.factors k × IsOver block s.pairs s.prices k net × (length s.factors ≡ MOST_FACTORS)
 PushFaultStands block s k net NoMemory = ⊥

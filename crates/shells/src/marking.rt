@@ -3,7 +3,7 @@
 
 ghost use Rattle.std.specs.Prelude.{◌≡◌, ◌<◌, ◌≤◌, ℕ, length, ◌↔◌, IsTrue};
 ghost use Rattle.closure_net.specs.Network.{IsAscending, holds_of};
-ghost use Rattle.shells.specs.Series.{shell_at, with_shell, IsAbove};
+ghost use Rattle.shells.specs.Series.{shell_at, with_shell, IsAboveAll};
 
 use closure_net::Pit;
 use fixed_worth::MOST_BLOCKS;
@@ -21,7 +21,7 @@ fn shell_with(shell: Option<u32>, held: bool, k: u32) -> Option<u32>
 // Whether k is above each of these.
 pub(crate) fn is_above_all(factors: &[u32], k: u32) -> bool
     requires { IsAscending factors.now }
-    ensures { IsTrue result ↔ IsAbove factors.now k }
+    ensures { IsTrue result ↔ IsAboveAll factors.now k }
 {
     let count = factors.len();
     count == 0 || factors[count - 1] < k

@@ -5,7 +5,7 @@ ghost use Rattle.std.specs.Prelude.{◌≡◌, ◌<◌, ◌≤◌, ◌↔◌, le
 ghost use Rattle.closure_net.specs.Mine.{IsBest};
 ghost use Rattle.closure_net.specs.Network.{holds_of};
 ghost use Rattle.shells.specs.Prices.{blocks_of};
-ghost use Rattle.shells.specs.Series.{mine_at, rests_in, shell_at, opened_series, OpenFaultStands, IsAbove, IsOver, IsPushed, IsShell, IsSeries, PushFaultStands};
+ghost use Rattle.shells.specs.Series.{mine_at, rests_in, shell_at, opened_series, OpenFaultStands, IsAboveAll, IsOver, IsPushed, IsShell, IsSeries, PushFaultStands};
 
 use crate::factor::Factor;
 use crate::marking::{give_shells, is_above_all};
@@ -35,13 +35,13 @@ pub struct Series {
 impl Model for Series {
     ghost use Rattle.std.specs.Prelude.{vec_capacity};
     ghost use Rattle.shells.specs.Series.{SeriesView};
-    ghost use Rattle.shells.specs.HeldSeries.{IsHeld};
+    ghost use Rattle.shells.specs.HeldSeries.{IsHeldSeries};
 
     ghost Value = { SeriesView };
 
     ghost view = { λ s. record { pairs = s.rests.pairs; prices = s.prices; factors = s.factors.items; shells = s.shells.items } };
 
-    ghost invariant = { λ s. IsHeld (record { pairs = s.rests.pairs; prices = s.prices; factors = s.factors.items; shells = s.shells.items }) (vec_capacity s.factors) s.rests.blocks };
+    ghost invariant = { λ s. IsHeldSeries (record { pairs = s.rests.pairs; prices = s.prices; factors = s.factors.items; shells = s.shells.items }) (vec_capacity s.factors) s.rests.blocks };
 }
 
 impl Series {
@@ -102,7 +102,7 @@ impl Series {
     /// no shell gets this one. Where `push` compares the net with the pairs and the prices, here the caller's proof stands
     /// for it. Takes no memory.
     pub fn push_best(&mut self, factor: Factor, pit: &Pit)
-        requires above { IsAbove self.old.factors factor }
+        requires above { IsAboveAll self.old.factors factor }
         requires best { IsBest (mine_at self.old.pairs self.old.prices factor) (holds_of pit.now) }
         requires room { length self.old.factors < MOST_FACTORS }
         ensures { IsPushed self.old self.new factor (holds_of pit.now) }
@@ -112,7 +112,7 @@ impl Series {
 
     // Whether the factor is above each that is held.
     fn is_higher(&self, factor: Factor) -> bool
-        ensures { IsTrue result ↔ IsAbove self.now.factors factor }
+        ensures { IsTrue result ↔ IsAboveAll self.now.factors factor }
     {
         is_above_all(self.factors(), factor.get())
     }
@@ -134,7 +134,7 @@ impl Series {
 
     // Adds the best pit at a factor above the others.
     fn put(&mut self, k: u32, pit: &Pit)
-        requires above { IsAbove self.old.factors k }
+        requires above { IsAboveAll self.old.factors k }
         requires best { IsBest (mine_at self.old.pairs self.old.prices k) (holds_of pit.now) }
         requires room { length self.old.factors < MOST_FACTORS }
         ensures { IsPushed self.old self.new k (holds_of pit.now) }

@@ -5,7 +5,7 @@ use Rattle.slope.specs.declared.pattern.TheConstants.{MOST_OFFSETS}
 use Rattle.slope.specs.Lists.{AreMoreThan}
 use Rattle.slope.specs.Offsets.{Offset}
 use Rattle.slope.specs.Patterns.{IsNear, IsInCone, ConeFaultStands}
-use Rattle.slope.specs.Gathering.{Collects, IsLevel, IsBelowLevel, IsBelowRow, IsBelowPoint, RefusalStands}
+use Rattle.slope.specs.Gathering.{Collects, IsLevel, IsBelowLevel, IsBelowRow, IsBelowPoint, OffsetRefusalStands}
 use Rattle.slope.specs.declared.pattern_fault.PatternFault.{PatternFault}
 use Rattle.slope.specs.declared.pattern_fault.PatternFault.TheVariants.{NotUpward, TooMany, NoMemory}
 use Rattle.slope.proofs.Gathering.{collected_same, collected_more, too_many, more_weaker}
@@ -124,7 +124,7 @@ module _ (run rise k : ℕ) (x y : ℤ) (os : List Offset) (c : Collects (IsBelo
       m
 
   -- why an offset that is near enough wasn't added
-  pub refused : (e : PatternFault) → 1 ≤ k → IsNear run rise (x, y, pos k) → RefusalStands os e → ConeFaultStands k run rise e
+  pub refused : (e : PatternFault) → 1 ≤ k → IsNear run rise (x, y, pos k) → OffsetRefusalStands os e → ConeFaultStands k run rise e
   refused (NotUpward i) s n h = h
   refused TooMany s n h = points_full s n h
   refused NoMemory s n h = tt

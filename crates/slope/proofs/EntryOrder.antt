@@ -9,8 +9,8 @@ use Rattle.std.proofs.lemmas.Bool.{and_parts, cases_lt, eqb-true}
 use Rattle.std.proofs.lemmas.List.Elements.{All-from_recursion}
 use Rattle.blocks_file.specs.Denotes.{BlocksView}
 use Rattle.prec_file.proofs.Sorting.{then_tie}
-use Rattle.slope.specs.Offsets.{Before}
-use Rattle.slope.specs.Gathering.{Entry, entry_at, entry_of, AreEntries, AreEntriesOf, AreInOrder, BeforeEntry, IsRepeatAt}
+use Rattle.slope.specs.Offsets.{OffsetBefore}
+use Rattle.slope.specs.Gathering.{Entry, entry_at, entry_of, AreEntries, AreEntriesOf, AreEntriesInOrder, BeforeEntry, IsRepeatAt}
 use Rattle.slope.proofs.OffsetSorting.{offset_cmp, offset_eq, offset_ties, offset_same, offsets_total, before, before_itself, before_trans}
 
 abbrev pub entry_cmp : Entry → Entry → Ordering
@@ -58,7 +58,7 @@ rises (e ∷ es) s i zero d h l = absurd (omega arith)
 rises (e ∷ es) s zero (suc j) d h l = entry_before e (get_or es j d) (All-from_recursion (λ y. entry_cmp e y ≡ Less) es s.0 j d (omega arith))
 rises (e ∷ es) s (suc i) (suc j) d h l = rises es s.1 i j d (omega arith) (omega arith)
 
-pub in_order_from_sorted : (es : List Entry) → IsStrictlySortedBy entry_cmp es → AreInOrder es
+pub in_order_from_sorted : (es : List Entry) → IsStrictlySortedBy entry_cmp es → AreEntriesInOrder es
 in_order_from_sorted es s = record { rises = rises es s }
 
 -- the entries of all blocks, listed and then put in another order
@@ -77,7 +77,7 @@ entries_moved m es fs h there back = record {
         (subst (λ n. n < m.blocks) block k_known, is ∙ ap (entry_of m) block)
 
 -- where two entries have one key, the second of them and the one before it have
-pub neighbours : (es : List Entry) → AreInOrder es → (p q : ℕ) → p < q → q < length es → (entry_at es p).0 ≡ (entry_at es q).0 → IsRepeatAt es (q - 1)
+pub neighbours : (es : List Entry) → AreEntriesInOrder es → (p q : ℕ) → p < q → q < length es → (entry_at es p).0 ≡ (entry_at es q).0 → IsRepeatAt es (q - 1)
 neighbours es o p q h l e =
     let d : Entry = ((pos 0, pos 0, pos 0), 0) in
     let next : q - 1 + 1 ≡ q = omega (arith, h) in
@@ -85,8 +85,8 @@ neighbours es o p q h l e =
       | inl far ↦ elim (o.rises (q - 1) q d (omega (arith, h)) l) [
         | inr s ↦ s.0
         | inl b ↦ elim (o.rises p (q - 1) d far (omega (arith, l))) [
-          | inl a ↦ absurd (before_itself (entry_at es q).0 (subst (λ x. Before x (entry_at es q).0) e (before_trans _ _ _ a b)))
-          | inr s ↦ absurd (before_itself (entry_at es q).0 (subst (λ x. Before x (entry_at es q).0) (sym s.0 ∙ e) b))
+          | inl a ↦ absurd (before_itself (entry_at es q).0 (subst (λ x. OffsetBefore x (entry_at es q).0) e (before_trans _ _ _ a b)))
+          | inr s ↦ absurd (before_itself (entry_at es q).0 (subst (λ x. OffsetBefore x (entry_at es q).0) (sym s.0 ∙ e) b))
         ]
       ]
       | inr near ↦

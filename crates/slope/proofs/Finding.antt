@@ -6,7 +6,7 @@ use Rattle.std.proofs.lemmas.Int.{ints}
 use Rattle.blocks_file.specs.declared.place.Place.{Place}
 use Rattle.blocks_file.specs.Denotes.{BlocksView}
 use Rattle.slope.specs.Places.{place_of, AreApartBelow}
-use Rattle.slope.specs.Offsets.{Offset, Before, IsRising}
+use Rattle.slope.specs.Offsets.{Offset, OffsetBefore, AreOffsetsRising}
 use Rattle.slope.specs.Slopes.{upward, offset_between}
 use Rattle.slope.specs.Gathering.{place_key, IsIndex, IsFinding}
 use Rattle.slope.specs.declared.up.Up.{Up}
@@ -22,12 +22,12 @@ key_same p q e =
     λ i. record { x = a i; y = b i; z = d i }
 
 -- a key stands at one place of keys that rise
-one_key : (keys : List Offset) (i j : ℕ) (d : Offset) → IsRising keys → i < length keys → j < length keys → get_or keys i d ≡ get_or keys j d → i ≡ j
+one_key : (keys : List Offset) (i j : ℕ) (d : Offset) → AreOffsetsRising keys → i < length keys → j < length keys → get_or keys i d ≡ get_or keys j d → i ≡ j
 one_key keys i j d r k l e = elim (cases_order i j) [
   | inl same ↦ same
   | inr w ↦ elim w [
-    | inl below ↦ absurd (before_itself (get_or keys j d) (subst (λ x. Before x (get_or keys j d)) e (r.rises i j d below l)))
-    | inr above ↦ absurd (before_itself (get_or keys j d) (subst (Before (get_or keys j d)) e (r.rises j i d above k)))
+    | inl below ↦ absurd (before_itself (get_or keys j d) (subst (λ x. OffsetBefore x (get_or keys j d)) e (r.rises i j d below l)))
+    | inr above ↦ absurd (before_itself (get_or keys j d) (subst (OffsetBefore (get_or keys j d)) e (r.rises j i d above k)))
   ]
 ]
 

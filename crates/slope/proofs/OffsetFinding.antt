@@ -8,11 +8,11 @@ use Rattle.std.proofs.lemmas.Cmp.{int_ranked}
 use Rattle.std.proofs.lemmas.Int.{ints}
 use Rattle.std.proofs.lemmas.Bool.{cases_lt}
 use Rattle.std.proofs.lemmas.List.Sorted.{IsNonDecreasingBy-from_default}
-use Rattle.slope.specs.Offsets.{Offset, Before, IsRising}
+use Rattle.slope.specs.Offsets.{Offset, OffsetBefore, AreOffsetsRising}
 use Rattle.slope.proofs.OffsetSorting.{offset_cmp, offset_ties, offset_same, offsets_total, clash}
 
 -- the order of two offsets by that of their numbers
-less_from : (x y : Offset) (o p q : Ordering) → MatchOrdering o (x.0 <ℤ y.0) (x.0 ≡ y.0) (y.0 <ℤ x.0) → MatchOrdering p (x.1 <ℤ y.1) (x.1 ≡ y.1) (y.1 <ℤ x.1) → MatchOrdering q (x.2 <ℤ y.2) (x.2 ≡ y.2) (y.2 <ℤ x.2) → Before x y → ordering_then (ordering_then o p) q ≡ Less
+less_from : (x y : Offset) (o p q : Ordering) → MatchOrdering o (x.0 <ℤ y.0) (x.0 ≡ y.0) (y.0 <ℤ x.0) → MatchOrdering p (x.1 <ℤ y.1) (x.1 ≡ y.1) (y.1 <ℤ x.1) → MatchOrdering q (x.2 <ℤ y.2) (x.2 ≡ y.2) (y.2 <ℤ x.2) → OffsetBefore x y → ordering_then (ordering_then o p) q ≡ Less
 less_from x y Less p q h k l b = refl
 less_from x y Equal p q h k l (inl b) = absurd (omega (arith, ints, h, b))
 less_from x y Equal Less q h k l (inr b) = refl
@@ -25,7 +25,7 @@ less_from x y Equal Greater q h k l (inr (e, inr (f, b))) = absurd (omega (arith
 less_from x y Greater p q h k l (inl b) = absurd (omega (arith, ints, h, b))
 less_from x y Greater p q h k l (inr (e, b)) = absurd (omega (arith, ints, h, e))
 
-before_less : (x y : Offset) → Before x y → offset_cmp x y ≡ Less
+before_less : (x y : Offset) → OffsetBefore x y → offset_cmp x y ≡ Less
 before_less x y b = less_from x y (int_cmp x.0 y.0) (int_cmp x.1 y.1) (int_cmp x.2 y.2) (int_ranked x.0 y.0 _ refl) (int_ranked x.1 y.1 _ refl) (int_ranked x.2 y.2 _ refl) b
 
 no_higher : (x y t : Offset) (o p : Ordering) → offset_cmp x t ≡ o → offset_cmp y t ≡ p → offset_cmp x y ≡ Less → ordering_index o ≤ ordering_index p
@@ -43,7 +43,7 @@ no_higher x y t o Less e f h =
     let less : o ≡ Less = sym e ∙ offsets_total.trans x y t h f in
     rw less (omega arith)
 
-rises_to : (os : List Offset) (t : Offset) → IsRising os → IsNonDecreasingBy (λ y. ordering_index (offset_cmp y t)) os
+rises_to : (os : List Offset) (t : Offset) → AreOffsetsRising os → IsNonDecreasingBy (λ y. ordering_index (offset_cmp y t)) os
 rises_to os t r = IsNonDecreasingBy-from_default (λ y. ordering_index (offset_cmp y t)) os t (λ i j l h. elim (cases_lt i j) [
   | inl below ↦ no_higher (get_or os i t) (get_or os j t) t _ _ refl refl (before_less _ _ (r.rises i j t below h))
   | inr least ↦
@@ -62,7 +62,7 @@ not_greater : (t : Offset) → offset_cmp t t ≡ Greater → ⊥
 not_greater t e = apart (sym (sym e ∙ offsets_total.antisymm t t ∙ ap ordering_reverse e))
 
 -- what a binary search says of the offsets
-pub offset_found : (os : List Offset) (t : Offset) (r : Result ℕ ℕ) → IsSearchInRange r (length os) → IsBinarySearchResult (λ y. offset_cmp y t) os r → IsRising os → MatchResult r (λ i. Contains os t) (λ i. Contains os t → ⊥)
+pub offset_found : (os : List Offset) (t : Offset) (r : Result ℕ ℕ) → IsSearchInRange r (length os) → IsBinarySearchResult (λ y. offset_cmp y t) os r → AreOffsetsRising os → MatchResult r (λ i. Contains os t) (λ i. Contains os t → ⊥)
 offset_found os t (Ok i) within h rising = (i, within, offset_same (get_or os i t) t (offset_ties (get_or os i t) t ∙ ap is_eq (h t)))
 offset_found os t (Err i) within h rising = λ c.
     let point = h (rises_to os t rising) in
@@ -72,6 +72,6 @@ offset_found os t (Err i) within h rising = λ c.
     ]
 
 -- whether one was found says whether it is among them
-pub found_decides : (os : List Offset) (t : Offset) (r : Result ℕ ℕ) (b : Bool) → IsSearchInRange r (length os) → IsBinarySearchResult (λ y. offset_cmp y t) os r → IsRising os → b ≡ is_ok r → IsTrue b ↔ Contains os t
+pub found_decides : (os : List Offset) (t : Offset) (r : Result ℕ ℕ) (b : Bool) → IsSearchInRange r (length os) → IsBinarySearchResult (λ y. offset_cmp y t) os r → AreOffsetsRising os → b ≡ is_ok r → IsTrue b ↔ Contains os t
 found_decides os t (Ok i) b within h rising e = (λ k. offset_found os t (Ok i) within h rising, λ k. e)
 found_decides os t (Err i) b within h rising e = (λ k. absurd (clash b k e), λ k. absurd (offset_found os t (Err i) within h rising k))

@@ -10,7 +10,7 @@ use Rattle.std.proofs.lemmas.Bool.Decides.{Decides-and, Decides-int_eq}
 use Rattle.std.proofs.lemmas.Int.{ints}
 use Rattle.std.proofs.lemmas.List.Elements.{All-from_recursion}
 use Rattle.prec_file.proofs.Sorting.{then_tie}
-use Rattle.slope.specs.Offsets.{Offset, IsRising, Before}
+use Rattle.slope.specs.Offsets.{Offset, AreOffsetsRising, OffsetBefore}
 
 abbrev pub offset_cmp : Offset → Offset → Ordering
 offset_cmp x y = ordering_then (ordering_then (int_cmp x.0 y.0) (int_cmp x.1 y.1)) (int_cmp x.2 y.2)
@@ -58,7 +58,7 @@ offsets_alike =
     let P : (Offset → Offset → Bool) → Type 0 = λ f. IsEquivalence f in
     subst P e (eq_by_cmp_equiv offsets_total)
 
-less_before : (x y : Offset) (o p q : Ordering) → MatchOrdering o (x.0 <ℤ y.0) (x.0 ≡ y.0) (y.0 <ℤ x.0) → MatchOrdering p (x.1 <ℤ y.1) (x.1 ≡ y.1) (y.1 <ℤ x.1) → MatchOrdering q (x.2 <ℤ y.2) (x.2 ≡ y.2) (y.2 <ℤ x.2) → ordering_then (ordering_then o p) q ≡ Less → Before x y
+less_before : (x y : Offset) (o p q : Ordering) → MatchOrdering o (x.0 <ℤ y.0) (x.0 ≡ y.0) (y.0 <ℤ x.0) → MatchOrdering p (x.1 <ℤ y.1) (x.1 ≡ y.1) (y.1 <ℤ x.1) → MatchOrdering q (x.2 <ℤ y.2) (x.2 ≡ y.2) (y.2 <ℤ x.2) → ordering_then (ordering_then o p) q ≡ Less → OffsetBefore x y
 less_before x y Less p q h k l e = inl h
 less_before x y Equal Less q h k l e = inr (h, inl k)
 less_before x y Equal Equal Less h k l e = inr (h, inr (k, l))
@@ -67,26 +67,26 @@ less_before x y Equal Equal Greater h k l e = absurd cc
 less_before x y Equal Greater q h k l e = absurd cc
 less_before x y Greater p q h k l e = absurd cc
 
-pub before : (x y : Offset) → offset_cmp x y ≡ Less → Before x y
+pub before : (x y : Offset) → offset_cmp x y ≡ Less → OffsetBefore x y
 before x y e = less_before x y (int_cmp x.0 y.0) (int_cmp x.1 y.1) (int_cmp x.2 y.2) (int_ranked x.0 y.0 _ refl) (int_ranked x.1 y.1 _ refl) (int_ranked x.2 y.2 _ refl) e
 
-rises : (os : List Offset) → IsStrictlySortedBy offset_cmp os → (i j : ℕ) (d : Offset) → i < j → j < length os → Before (get_or os i d) (get_or os j d)
+rises : (os : List Offset) → IsStrictlySortedBy offset_cmp os → (i j : ℕ) (d : Offset) → i < j → j < length os → OffsetBefore (get_or os i d) (get_or os j d)
 unfolding IsStrictlySortedBy
 rises [] s i j d h l = absurd (omega arith)
 rises (o ∷ os) s i zero d h l = absurd (omega arith)
 rises (o ∷ os) s zero (suc j) d h l = before o (get_or os j d) (All-from_recursion (λ y. offset_cmp o y ≡ Less) os s.0 j d (omega arith))
 rises (o ∷ os) s (suc i) (suc j) d h l = rises os s.1 i j d (omega arith) (omega arith)
 
-pub rising_from_sorted : (os : List Offset) → IsStrictlySortedBy offset_cmp os → IsRising os
+pub rising_from_sorted : (os : List Offset) → IsStrictlySortedBy offset_cmp os → AreOffsetsRising os
 rising_from_sorted os s = record { rises = rises os s }
 
 -- offsets go one way
-pub before_itself : (x : Offset) → Before x x → ⊥
+pub before_itself : (x : Offset) → OffsetBefore x x → ⊥
 before_itself x (inl h) = omega (arith, ints, h)
 before_itself x (inr (e, inl h)) = omega (arith, ints, h)
 before_itself x (inr (e, inr (f, h))) = omega (arith, ints, h)
 
-pub before_trans : (x y z : Offset) → Before x y → Before y z → Before x z
+pub before_trans : (x y z : Offset) → OffsetBefore x y → OffsetBefore y z → OffsetBefore x z
 before_trans x y z (inl a) (inl b) = inl (omega (arith, ints, a, b))
 before_trans x y z (inl a) (inr (f, b)) = inl (omega (arith, ints, a, f))
 before_trans x y z (inr (e, a)) (inl b) = inl (omega (arith, ints, e, b))

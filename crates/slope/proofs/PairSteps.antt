@@ -10,12 +10,12 @@ use Rattle.blocks_file.specs.declared.place.Place.{Place}
 use Rattle.blocks_file.specs.Denotes.{BlocksView}
 use Rattle.prec_file.specs.Rests.{RestsView}
 use Rattle.prec_file.specs.Rests.{IsRising as IsPairRising}
-use Rattle.slope.specs.Offsets.{Offset, IsPattern, IsRising, IsUpward, Before}
+use Rattle.slope.specs.Offsets.{Offset, IsPattern, AreOffsetsRising, IsUpward, OffsetBefore}
 use Rattle.slope.specs.Places.{place_of, AreApartBelow}
 use Rattle.slope.specs.Slopes.{upward, offset_between, IsSlopePair, IsSelected, AreSlopes, SlopeFaultStands}
 use Rattle.slope.specs.declared.selection.Selection.{Selection}
 use Rattle.slope.specs.declared.selection.Selection.TheVariants.{Every, Reduced}
-use Rattle.slope.specs.Gathering.{SurroundingsView, ArePlacesOf, StandsAt, StandsNone, offset_at, Collects, IsPairBelow, IsPairUpTo, PairFaultStands, PairRefusalStands}
+use Rattle.slope.specs.Gathering.{SurroundingsView, ArePlacesOf, StandsAtOffset, StandsNone, offset_at, Collects, IsPairBelow, IsPairUpTo, PairFaultStands, PairRefusalStands}
 use Rattle.slope.specs.declared.up.Up.{Up}
 use Rattle.slope.specs.declared.up.Up.TheVariants.{PlusZ, MinusZ}
 use Rattle.slope.specs.declared.slope_fault.SlopeFault.{SlopeFault}
@@ -25,13 +25,13 @@ use Rattle.slope.proofs.OffsetSorting.{before_itself}
 use Rattle.slope.proofs.Finding.{one_place}
 
 -- an offset is none of those in front of it
-fresh : (os : List Offset) → IsRising os → (i : ℕ) (d : Offset) → i < length os → Contains (take i os) (get_or os i d) → ⊥
+fresh : (os : List Offset) → AreOffsetsRising os → (i : ℕ) (d : Offset) → i < length os → Contains (take i os) (get_or os i d) → ⊥
 fresh os r i d l (k, m, e) =
     let x = get_or os i d in
     let size = length-take-le i os (omega arith) in
     let below : k < i = omega arith in
     let same : get_or os k d ≡ x = get_or_default os k d x (omega arith) ∙ sym (get_or-take i os k x below) ∙ e in
-    before_itself x (subst (λ y. Before y x) same (r.rises k i d below l))
+    before_itself x (subst (λ y. OffsetBefore y x) same (r.rises k i d below l))
 
 -- selected pairs are slope pairs
 pub slope_of : (s : Selection) (m : BlocksView) (os : List Offset) (up : Up) (q : ℕ × ℕ) → IsSelected s m os up q → IsSlopePair m os up q
@@ -47,9 +47,9 @@ module _ (v : SurroundingsView) (m : BlocksView) (os : List Offset) (up : Up) (s
   is_as : v ≡ record { model = m; offsets = os; up = up; from = v.from }
   is_as = λ j. record { model = same.of_model j; offsets = same.of_offsets j; up = same.of_up j; from = v.from }
 
-  pub every_at : (p : ℕ) → StandsAt v i p → IsSelected Every m os up (b, p) × (offset_between up (place_of m b) (place_of m p) ≡ offset_at os i)
+  pub every_at : (p : ℕ) → StandsAtOffset v i p → IsSelected Every m os up (b, p) × (offset_between up (place_of m b) (place_of m p) ≡ offset_at os i)
   every_at p h =
-      let stands = subst (λ x. StandsAt x i p) is_as h in
+      let stands = subst (λ x. StandsAtOffset x i p) is_as h in
       let at = ap (λ (f : Place). offset_between up f (place_of m p)) (sym from) ∙ stands.there in
       (slope_at m os up b p i _ l known stands.known at, at)
 
@@ -108,7 +108,7 @@ module _ (m : BlocksView) (os : List Offset) (up : Up) (s : Selection) (b i : �
     ];
   })
 
-  module _ (r : IsRising os) (apart : AreApartBelow m m.blocks) (p : ℕ) (selected : IsSelected s m os up (b, p)) (at : offset_between up (place_of m b) (place_of m p) ≡ get_or os i d) where
+  module _ (r : AreOffsetsRising os) (apart : AreApartBelow m m.blocks) (p : ℕ) (selected : IsSelected s m os up (b, p)) (at : offset_between up (place_of m b) (place_of m p) ≡ get_or os i d) where
     not_yet : IsPairUpTo m os up s b i (b, p) → ⊥
     not_yet h = elim (h.below) [
       | inl f ↦ omega (arith, f)

@@ -3,10 +3,10 @@ use Rattle.std.proofs.Common.{◌≡◌, ℕ, ◌+◌, ◌-◌, ◌<◌, ◌≤�
 use Rattle.std.proofs.lemmas.Bool.{cases_lt, cases_order}
 use Rattle.std.proofs.lemmas.List.{get_or_default, get_or-map, length-map}
 use Rattle.blocks_file.specs.Denotes.{BlocksView}
-use Rattle.slope.specs.Offsets.{Offset, Before}
+use Rattle.slope.specs.Offsets.{Offset, OffsetBefore}
 use Rattle.slope.specs.Places.{place_of}
 use Rattle.slope.specs.Slopes.{IsFirstRepeat}
-use Rattle.slope.specs.Gathering.{Entry, entry_at, entry_of, place_key, AreEntriesOf, AreInOrder, IsRepeatAt, HaveNoRepeat, IsEarliestAmong, IsEarliestRepeat, IsEarlierRepeat, IsIndex}
+use Rattle.slope.specs.Gathering.{Entry, entry_at, entry_of, place_key, AreEntriesOf, AreEntriesInOrder, IsRepeatAt, HaveNoRepeat, IsEarliestAmong, IsEarliestRepeat, IsEarlierRepeat, IsIndex}
 use Rattle.slope.proofs.OffsetSorting.{before_itself}
 use Rattle.slope.proofs.EntryOrder.{neighbours}
 use Rattle.slope.proofs.Finding.{key_same}
@@ -80,7 +80,7 @@ pub all_told : (es : List Entry) (c : ℕ) (repeat : Option (ℕ × ℕ)) → le
 all_told es c None l h = λ k r. h k (let n = r.inside in omega (arith, n, l)) r
 all_told es c (Some repeat) l h = record { place = h.place; stands = h.stands; first = h.first; again = h.again; least = λ k n r. h.least k (omega (arith, n, l)) r }
 
-module _ (m : BlocksView) (es : List Entry) (a : AreEntriesOf m es) (o : AreInOrder es) where
+module _ (m : BlocksView) (es : List Entry) (a : AreEntriesOf m es) (o : AreEntriesInOrder es) where
   d : Entry
   d = ((pos 0, pos 0, pos 0), 0)
 
@@ -111,7 +111,7 @@ module _ (m : BlocksView) (es : List Entry) (a : AreEntriesOf m es) (o : AreInOr
                 let next : q.0 - 1 + 1 ≡ q.0 = omega (arith, first) in
                 (q.0 - 1, neighbours es o p.0 q.0 first q.1 keys, ap (λ k. (entry_at es k).1) next ∙ bq)
             | inr turned ↦ elim (o.rises q.0 p.0 ((pos 0, pos 0, pos 0), 0) turned p.1) [
-              | inl b ↦ absurd (before_itself (entry_at es p.0).0 (subst (λ x. Before x (entry_at es p.0).0) (sym keys) b))
+              | inl b ↦ absurd (before_itself (entry_at es p.0).0 (subst (λ x. OffsetBefore x (entry_at es p.0).0) (sym keys) b))
               | inr s ↦
                   let l = s.1 in
                   absurd (omega (arith, l, bp, bq, below))
@@ -132,7 +132,7 @@ module _ (m : BlocksView) (es : List Entry) (a : AreEntriesOf m es) (o : AreInOr
       let at : place_of m b ≡ place_of m c = key_same (place_of m b) (place_of m c) (sym key_x ∙ h.stands.same ∙ key_y) in
       record {
         earlier = elim (o.rises k (k + 1) ((pos 0, pos 0, pos 0), 0) (omega arith) n) [
-          | inl s ↦ absurd (before_itself (entry_at es (k + 1)).0 (subst (λ z. Before z (entry_at es (k + 1)).0) h.stands.same s))
+          | inl s ↦ absurd (before_itself (entry_at es (k + 1)).0 (subst (λ z. OffsetBefore z (entry_at es (k + 1)).0) h.stands.same s))
           | inr s ↦ let l = s.1 in omega (arith, l, first, again)
         ];
         known = let l = y.0 in omega (arith, l, again);
@@ -159,7 +159,7 @@ module _ (m : BlocksView) (es : List Entry) (a : AreEntriesOf m es) (o : AreInOr
               let k = key i f (omega (arith, l, in_list)) in
               let n = key j f in_list in
               elim (o.rises i j ((pos 0, pos 0, pos 0), 0) l in_list) [
-                | inl b ↦ subst (λ x. Before x (get_or keys j f)) (sym k) (subst (Before (entry_at es i).0) (sym n) b)
+                | inl b ↦ subst (λ x. OffsetBefore x (get_or keys j f)) (sym k) (subst (OffsetBefore (entry_at es i).0) (sym n) b)
                 | inr s ↦ absurd (none (j - 1) (neighbours es o i j l in_list s.0))
               ];
         };

@@ -12,7 +12,7 @@ use Rattle.slope.specs.Offsets.{Offset}
 use Rattle.slope.specs.Places.{place_of}
 use Rattle.slope.specs.Slopes.{upward, offset_between, IsSelected, LeadsOver}
 use Rattle.slope.specs.declared.selection.Selection.TheVariants.{Reduced}
-use Rattle.slope.specs.Gathering.{offset_at, rest_after, IsFirstStep, AreFirstSteps, AreStepsOfEach, SurroundingsView, ArePlacesOf, StandsAt, StandsNone, StandsAtSome, StandsAtNone}
+use Rattle.slope.specs.Gathering.{offset_at, rest_after, IsFirstStep, AreFirstSteps, AreStepsOfEach, SurroundingsView, ArePlacesOf, StandsAtOffset, StandsNone, StandsAtSome, StandsAtNone}
 use Rattle.slope.specs.declared.up.Up.{Up}
 use Rattle.slope.specs.declared.up.Up.TheVariants.{PlusZ, MinusZ}
 use Rattle.slope.proofs.PairSteps.{slope_at}
@@ -29,9 +29,9 @@ rest_between up from over to =
     let d = rest_of_height up from.z over.z to.z in
     λ i. (a i, b i, d i)
 
-module _ (v : SurroundingsView) (b : ℕ) (known : b < v.model.blocks) (from : v.from ≡ place_of v.model b) (i p : ℕ) (steps : List ℕ) (of : AreFirstSteps v.offsets (offset_at v.offsets i) (length v.offsets) steps) (stands : StandsAt v i p) where
+module _ (v : SurroundingsView) (b : ℕ) (known : b < v.model.blocks) (from : v.from ≡ place_of v.model b) (i p : ℕ) (steps : List ℕ) (of : AreFirstSteps v.offsets (offset_at v.offsets i) (length v.offsets) steps) (stands : StandsAtOffset v i p) where
   -- from b
-  pub at_from : (a q : ℕ) → StandsAt v a q → offset_between v.up (place_of v.model b) (place_of v.model q) ≡ offset_at v.offsets a
+  pub at_from : (a q : ℕ) → StandsAtOffset v a q → offset_between v.up (place_of v.model b) (place_of v.model q) ≡ offset_at v.offsets a
   at_from a q s = ap (λ (f : Place). offset_between v.up f (place_of v.model q)) (sym from) ∙ s.there
 
   -- a block at a first step lies between
@@ -71,11 +71,11 @@ module _ (v : SurroundingsView) (m : BlocksView) (os : List Offset) (up : Up) (s
   steps_of = subst (λ xs. AreFirstSteps xs (offset_at xs i) (length xs) steps) same.of_offsets of
 
   -- a block that stands there, where none stands at a first step, makes a reduced pair
-  pub selected_at : (p : ℕ) → StandsAt v i p × StandsAtNone v steps → IsSelected Reduced m os up (b, p) × (offset_between up (place_of m b) (place_of m p) ≡ offset_at os i)
+  pub selected_at : (p : ℕ) → StandsAtOffset v i p × StandsAtNone v steps → IsSelected Reduced m os up (b, p) × (offset_between up (place_of m b) (place_of m p) ≡ offset_at os i)
   unfolding w
   selected_at p h =
       let e : v ≡ w = places_are v m os up same in
-      let stands : StandsAt w i p = subst (λ x. StandsAt x i p) e h.0 in
+      let stands : StandsAtOffset w i p = subst (λ x. StandsAtOffset x i p) e h.0 in
       let none : StandsAtNone w steps = subst (λ x. StandsAtNone x steps) e h.1 in
       let at = at_from w b known from i p steps steps_of stands i p stands in
       ((slope_at m os up b p i _ l known stands.known at, leads_over_none w b known from i p steps steps_of stands none), at)
@@ -85,7 +85,7 @@ module _ (v : SurroundingsView) (m : BlocksView) (os : List Offset) (up : Up) (s
   unfolding w
   passed_at h p selected at =
       let e : v ≡ w = places_are v m os up same in
-      let stands : StandsAt w i p = record { known = selected.0.top; there = ap (λ (f : Place). offset_between up f (place_of m p)) from ∙ at } in
+      let stands : StandsAtOffset w i p = record { known = selected.0.top; there = ap (λ (f : Place). offset_between up f (place_of m p)) from ∙ at } in
       elim h [
         | inl some ↦ selected.1 (leads_over w b known from i p steps steps_of stands (subst (λ x. StandsAtSome x steps) e some))
         | inr none ↦ subst (λ x. StandsNone x i) e none p stands

@@ -9,7 +9,7 @@ use Rattle.blocks_file.specs.declared.place.Place.{Place}
 use Rattle.blocks_file.specs.Denotes.{BlocksView}
 use Rattle.slope.specs.Lists.{AreMoreThan}
 use Rattle.prec_file.specs.Rests.{RowsView}
-use Rattle.slope.specs.Offsets.{Offset, Before, IsRising}
+use Rattle.slope.specs.Offsets.{Offset, OffsetBefore, AreOffsetsRising}
 use Rattle.slope.specs.Patterns.{IsNear}
 use Rattle.slope.specs.Places.{place_of}
 use Rattle.slope.specs.Slopes.{IsSelected, IsFirstRepeat, offset_between}
@@ -55,10 +55,10 @@ pub record IsBelowPoint (run rise : ℕ) (k x y : ℤ) (o : Offset) : Type 0 whe
   pub below : (o.2 <ℤ k) ⊎ ((o.2 ≡ k) × ((o.0 <ℤ x) ⊎ ((o.0 ≡ x) × (o.1 <ℤ y))))
 
 -- Why an offset isn't added to others: there are 4,096 already, or fewer and no memory for one more.
-abbrev pub RefusalStands : List Offset → PatternFault → Type 0
-RefusalStands offsets (pattern.NotUpward i) = ⊥
-RefusalStands offsets pattern.TooMany = MOST_OFFSETS ≤ length offsets
-RefusalStands offsets pattern.NoMemory = length offsets < MOST_OFFSETS
+abbrev pub OffsetRefusalStands : List Offset → PatternFault → Type 0
+OffsetRefusalStands offsets (pattern.NotUpward i) = ⊥
+OffsetRefusalStands offsets pattern.TooMany = MOST_OFFSETS ≤ length offsets
+OffsetRefusalStands offsets pattern.NoMemory = length offsets < MOST_OFFSETS
 
 -- The coordinates have 32 bits.
 abbrev pub IsPlace : Place → Type 0
@@ -94,10 +94,10 @@ pub record AreEntriesOf (m : BlocksView) (entries : List Entry) : Type 0 where
 
 -- By key, and where keys are equal by block.
 abbrev pub BeforeEntry : Entry → Entry → Type 0
-BeforeEntry d e = Before d.0 e.0 ⊎ ((d.0 ≡ e.0) × (d.1 < e.1))
+BeforeEntry d e = OffsetBefore d.0 e.0 ⊎ ((d.0 ≡ e.0) × (d.1 < e.1))
 
 -- Each entry is before all later ones.
-pub record AreInOrder (entries : List Entry) : Type 0 where
+pub record AreEntriesInOrder (entries : List Entry) : Type 0 where
   pub rises : AllPairs BeforeEntry entries
 
 -- Entry k and the next one have one key.
@@ -128,7 +128,7 @@ IsEarlierRepeat (Some repeat) other result = ((result ≡ repeat) ⊎ (result �
 
 -- The keys rise, and each block is found by the key of its place, and nothing else.
 pub record IsIndex (m : BlocksView) (keys : List Offset) (blocks : List ℕ) : Type 0 where
-  pub rising : IsRising keys
+  pub rising : AreOffsetsRising keys
   pub as_many : length blocks ≡ length keys
   pub stands : (i : ℕ) (d : Offset) (e : ℕ) → i < length keys → (slice_index_or blocks i e < m.blocks) × (place_key (place_of m (slice_index_or blocks i e)) ≡ slice_index_or keys i d)
   pub finds : (b : ℕ) → b < m.blocks → (i : ℕ) × (i < length keys) × ((e : ℕ) → slice_index_or blocks i e ≡ b)
@@ -136,11 +136,11 @@ pub record IsIndex (m : BlocksView) (keys : List Offset) (blocks : List ℕ) : T
 
 -- The list ends at a place, or what stands there is above the key.
 abbrev pub IsEndOrBelow : List Offset → Offset → ℕ → Type 0
-IsEndOrBelow keys key at = (at ≡ length keys) ⊎ Before key (slice_index_or keys at key)
+IsEndOrBelow keys key at = (at ≡ length keys) ⊎ OffsetBefore key (slice_index_or keys at key)
 
 -- The list begins at a place, or what stands in front of it is below the key.
 abbrev pub IsStartOrAbove : List Offset → Offset → ℕ → Type 0
-IsStartOrAbove keys key at = (at ≡ 0) ⊎ Before (slice_index_or keys (at - 1) key) key
+IsStartOrAbove keys key at = (at ≡ 0) ⊎ OffsetBefore (slice_index_or keys (at - 1) key) key
 
 -- What a search for a key tells: where it stands, or that it isn't among the keys, and a place to look on from.
 abbrev pub IsFinding : List Offset → Offset → Result ℕ ℕ → Type 0
@@ -222,19 +222,19 @@ pub record ArePlacesOf (v : SurroundingsView) (m : BlocksView) (offsets : List O
   pub of_up : v.up ≡ up
 
 -- Block p stands at offset i.
-pub record StandsAt (v : SurroundingsView) (i p : ℕ) : Type 0 where
+pub record StandsAtOffset (v : SurroundingsView) (i p : ℕ) : Type 0 where
   pub known : p < v.model.blocks
   pub there : offset_between v.up v.from (place_of v.model p) ≡ offset_at v.offsets i
 
 -- No block stands at offset i.
 abbrev pub StandsNone : SurroundingsView → ℕ → Type 0
-StandsNone v i = (p : ℕ) → StandsAt v i p → ⊥
+StandsNone v i = (p : ℕ) → StandsAtOffset v i p → ⊥
 
 -- What was seen at offset i is what stands there.
 abbrev pub IsSight : SurroundingsView → ℕ → Sight → Type 0
 IsSight v i sight.Unasked = Unit {0}
 IsSight v i sight.Nothing = StandsNone v i
-IsSight v i (sight.Block p) = StandsAt v i p
+IsSight v i (sight.Block p) = StandsAtOffset v i p
 
 -- The index is that of the model, and what was seen stands there.
 pub record AreSeen (v : SurroundingsView) (keys : List Offset) (blocks : List ℕ) (seen : List Sight) : Type 0 where
@@ -247,7 +247,7 @@ pub record StandsAtSome (v : SurroundingsView) (steps : List ℕ) : Type 0 where
   pub step : ℕ
   pub among : Contains steps step
   pub block : ℕ
-  pub stands : StandsAt v step block
+  pub stands : StandsAtOffset v step block
 
 -- No block stands at any of these offsets.
 abbrev pub StandsAtNone : SurroundingsView → List ℕ → Type 0

@@ -11,21 +11,21 @@ abbrev pub IsUpward : Offset → Type 0
 IsUpward o = pos 1 ≤ℤ o.2
 
 -- Offsets go by their first number, then by the second, and then by the third.
-abbrev pub Before : Offset → Offset → Type 0
-Before x y = (x.0 <ℤ y.0) ⊎ ((x.0 ≡ y.0) × ((x.1 <ℤ y.1) ⊎ ((x.1 ≡ y.1) × (x.2 <ℤ y.2))))
+abbrev pub OffsetBefore : Offset → Offset → Type 0
+OffsetBefore x y = (x.0 <ℤ y.0) ⊎ ((x.0 ≡ y.0) × ((x.1 <ℤ y.1) ⊎ ((x.1 ≡ y.1) × (x.2 <ℤ y.2))))
 
 -- Each offset is before all later ones.
-pub record IsRising (offsets : List Offset) : Type 0 where
-  pub rises : AllPairs Before offsets
+pub record AreOffsetsRising (offsets : List Offset) : Type 0 where
+  pub rises : AllPairs OffsetBefore offsets
 
 -- The offsets that have a property, each once and in order.
 pub record AreOffsets (P : Offset → Type 0) (offsets : List Offset) : Type 0 where
-  pub rising : IsRising offsets
+  pub rising : AreOffsetsRising offsets
   pub held : (o : Offset) → P o → Contains offsets o
   pub only : (o : Offset) → Contains offsets o → P o
 
 -- What every pattern is: few offsets, in order and each once, all of which lead up.
 pub record IsPattern (offsets : List Offset) : Type 0 where
-  pub rising : IsRising offsets
+  pub rising : AreOffsetsRising offsets
   pub upward : All IsUpward offsets
   pub few : length offsets ≤ MOST_OFFSETS

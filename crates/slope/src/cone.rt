@@ -3,7 +3,7 @@
 
 ghost use Rattle.std.specs.Prelude.{◌≡◌, ◌≤◌, ◌<◌, ◌+◌, ◌++◌, ◌∷◌, ◌+ℤ◌, ◌-ℤ◌, [], pos, IsTrue, ◌↔◌, MatchResult, length, unsigned_abs};
 ghost use Rattle.slope.specs.Patterns.{IsInCone, IsNear, ConeFaultStands};
-ghost use Rattle.slope.specs.Gathering.{Collects, IsLevel, IsBelowLevel, IsBelowRow, RefusalStands};
+ghost use Rattle.slope.specs.Gathering.{Collects, IsLevel, IsBelowLevel, IsBelowRow, OffsetRefusalStands};
 
 use crate::PatternFault;
 use crate::pattern::{MOST_CONE_NUMBER, MOST_OFFSETS};
@@ -46,7 +46,7 @@ fn coordinate(reach: u32, step: u32) -> i32
 fn add(offsets: &mut Vec<(i32, i32, i32)>, offset: (i32, i32, i32)) -> Result<(), PatternFault>
     ensures { MatchResult result
         (λ _. (offsets.new.items ≡ offsets.old.items ++ offset ∷ []) × (length offsets.new.items ≤ MOST_OFFSETS))
-        (RefusalStands offsets.old.items) }
+        (OffsetRefusalStands offsets.old.items) }
 {
     if offsets.len() >= MOST_OFFSETS {
         return Err(PatternFault::TooMany);

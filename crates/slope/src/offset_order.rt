@@ -1,11 +1,11 @@
 //! Puts a list of offsets in order and drops repeats.
 
 ghost use Rattle.std.specs.Prelude.{◌≤◌, length, Contains};
-ghost use Rattle.slope.specs.Offsets.{Offset, IsRising};
+ghost use Rattle.slope.specs.Offsets.{Offset, AreOffsetsRising};
 
 // The offsets in order, each once.
 pub(crate) fn in_order(mut offsets: Vec<(i32, i32, i32)>) -> Vec<(i32, i32, i32)>
-    ensures rising { IsRising result.items }
+    ensures rising { AreOffsetsRising result.items }
     ensures held { (o : Offset) → Contains offsets.items o → Contains result.items o }
     ensures only { (o : Offset) → Contains result.items o → Contains offsets.items o }
     ensures fewer { length result.items ≤ length offsets.items }

@@ -3,7 +3,7 @@
 
 ghost use Rattle.std.specs.Prelude.{◌≡◌, IfOk, MatchOption, MatchResult, map};
 ghost use Rattle.blocks_file.specs.Denotes.{BlocksView};
-ghost use Rattle.slope.specs.Gathering.{place_key, AreEntries, AreEntriesOf, AreInOrder, HaveNoRepeat, IsEarlierRepeat, IsEarliestRepeat, IsIndex, IndexFaultStands};
+ghost use Rattle.slope.specs.Gathering.{place_key, AreEntries, AreEntriesOf, AreEntriesInOrder, HaveNoRepeat, IsEarlierRepeat, IsEarliestRepeat, IsIndex, IndexFaultStands};
 
 use crate::SlopeFault;
 use blocks_file::{BlockModel, Place};
@@ -52,7 +52,7 @@ fn entries_of(alloc: Global, model: &BlockModel) -> Result<Vec<(PlaceKey, u32)>,
 
 // The entries by their keys, and by their blocks where keys are equal.
 fn in_order(mut entries: Vec<(PlaceKey, u32)>) -> Vec<(PlaceKey, u32)>
-    ensures order { AreInOrder result.items }
+    ensures order { AreEntriesInOrder result.items }
     ensures same { (m : BlocksView) → AreEntries m m.blocks entries.items → AreEntriesOf m result.items }
 {
     entries.sort_unstable();

@@ -3,7 +3,7 @@
 ghost use Rattle.std.specs.Prelude.{◌≡◌, ◌≢◌, ℕ, ◌<◌, ◌≤◌, IfSome, IsTrue, MatchOption, length};
 ghost use Rattle.slope.specs.Places.{place_of};
 ghost use Rattle.slope.specs.Slopes.{offset_between};
-ghost use Rattle.slope.specs.Offsets.{IsRising};
+ghost use Rattle.slope.specs.Offsets.{AreOffsetsRising};
 ghost use Rattle.slope.specs.Gathering.{IsEndOrBelow, IsStartOrAbove, IsFinding, IsIndex};
 
 use crate::Up;
@@ -60,7 +60,7 @@ fn is_above_to(keys: &[PlaceKey], key: PlaceKey, at: usize) -> bool
 
 // What the keys at a place and in front of it tell of this one.
 fn told(keys: &[PlaceKey], key: PlaceKey, at: usize) -> Option<Result<usize, usize>>
-    requires rising { IsRising keys.now }
+    requires rising { AreOffsetsRising keys.now }
     requires inside { at ≤ length keys.now }
     ensures { IfSome result (IsFinding keys.now key) }
 {
@@ -76,7 +76,7 @@ fn told(keys: &[PlaceKey], key: PlaceKey, at: usize) -> Option<Result<usize, usi
 // The place of the key, or the place of the first key after it where it isn't among them. It is looked for near the guess
 // first, and nothing rests on a good guess but time.
 pub(crate) fn found(keys: &[PlaceKey], key: PlaceKey, guess: usize) -> Result<usize, usize>
-    requires { IsRising keys.now }
+    requires { AreOffsetsRising keys.now }
     ensures { IsFinding keys.now key result }
 {
     if guess < keys.len() && keys[guess] == key {

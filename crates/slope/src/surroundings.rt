@@ -2,7 +2,7 @@
 
 ghost use Rattle.std.specs.Prelude.{◌≡◌, ◌<◌, ◌⊎◌, true, false, All, MatchOption, MatchResult, length};
 ghost use Rattle.slope.specs.Places.{place_of};
-ghost use Rattle.slope.specs.Gathering.{ArePlacesOf, AreFirstSteps, IsIndex, StandsAt, StandsNone, StandsAtSome, StandsAtNone, offset_at};
+ghost use Rattle.slope.specs.Gathering.{ArePlacesOf, AreFirstSteps, IsIndex, StandsAtOffset, StandsNone, StandsAtSome, StandsAtNone, offset_at};
 
 use crate::guesses::Guesses;
 use crate::place_index::PlaceIndex;
@@ -81,7 +81,7 @@ impl<'a> Surroundings<'a> {
     pub(crate) fn at(&mut self, i: usize) -> Option<u32>
         requires { i < length self.old.offsets }
         ensures same { self.new ≡ self.old }
-        ensures stands { MatchOption result (StandsNone self.old i) (StandsAt self.old i) }
+        ensures stands { MatchOption result (StandsNone self.old i) (StandsAtOffset self.old i) }
     {
         match self.seen[i] {
             Sight::Unasked => {
@@ -125,7 +125,7 @@ impl<'a> Surroundings<'a> {
         ensures first { AreFirstSteps self.old.offsets (offset_at self.old.offsets i) (length self.old.offsets) steps.now }
         ensures stands { MatchOption result
             (StandsAtSome self.old steps.now ⊎ StandsNone self.old i)
-            (λ p. StandsAt self.old i p × StandsAtNone self.old steps.now) }
+            (λ p. StandsAtOffset self.old i p × StandsAtNone self.old steps.now) }
     {
         if self.any_at(steps) { None } else { self.at(i) }
     }

@@ -3,7 +3,7 @@
 
 ghost use Rattle.std.specs.Prelude.{◌≡◌, ◌↔◌, ◌≤◌, ◌-ℤ◌, IfOk, IsTrue, Contains, length};
 ghost use Rattle.slope.specs.declared.pattern.TheConstants.{MOST_OFFSETS};
-ghost use Rattle.slope.specs.Offsets.{IsRising};
+ghost use Rattle.slope.specs.Offsets.{AreOffsetsRising};
 ghost use Rattle.slope.specs.Gathering.{AreFirstSteps, AreStepsOfEach, rest_after};
 
 use std::alloc::{AllocError, Global};
@@ -55,7 +55,7 @@ fn rest_offset(step: (i32, i32, i32), whole: (i32, i32, i32)) -> (i64, i64, i64)
 
 // Whether an offset of the pattern leads on from the place at the step to that at the whole.
 fn leads_on(wide: &[(i64, i64, i64)], step: (i32, i32, i32), whole: (i32, i32, i32)) -> bool
-    requires { IsRising wide.now }
+    requires { AreOffsetsRising wide.now }
     ensures { IsTrue result ↔ Contains wide.now (rest_after step whole) }
 {
     let left = rest_offset(step, whole);
@@ -69,7 +69,7 @@ fn steps_to(
     wide: &[(i64, i64, i64)],
     whole: (i32, i32, i32),
 ) -> Result<Vec<u32>, AllocError>
-    requires rising { IsRising offsets.now }
+    requires rising { AreOffsetsRising offsets.now }
     requires few { length offsets.now ≤ MOST_OFFSETS }
     requires wide { wide.now ≡ offsets.now }
     ensures { IfOk result (λ v. AreFirstSteps offsets.now whole (length offsets.now) v.items) }
@@ -89,7 +89,7 @@ pub(crate) fn first_steps(
     alloc: Global,
     offsets: &[(i32, i32, i32)],
 ) -> Result<Vec<Vec<u32>>, AllocError>
-    requires rising { IsRising offsets.now }
+    requires rising { AreOffsetsRising offsets.now }
     requires few { length offsets.now ≤ MOST_OFFSETS }
     ensures { IfOk result (λ v. AreStepsOfEach offsets.now (length offsets.now) v.items) }
 {

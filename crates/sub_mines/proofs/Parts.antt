@@ -6,7 +6,7 @@ use Rattle.ordered_group.specs.Sets.{worth_in, count_in}
 use Rattle.ordered_group.proofs.BlockSets.{worth_in-same, count_in-same, count_in-within}
 use Rattle.closure_net.specs.Mine.{Mine, IsPit, worth_of, count_of, AreSame, IsBest, LiesWithin}
 use Rattle.closure_net.proofs.BestPits.{best_from_fewest, agree}
-use Rattle.sub_mines.specs.Parts.{IsOwn, union_of, intersection_of, difference_of, part, LiesBetween}
+use Rattle.sub_mines.specs.Parts.{RestsWithin, union_of, intersection_of, difference_of, part, LiesBetween}
 
 -- ---- of best pits
 
@@ -20,7 +20,7 @@ fewest_of mine e c h p same =
       | inr l ↦ l
     ]
 
-pub best_of_same : (mine : Mine) (e c : ℕ → Bool) → IsOwn mine → IsBest mine e → AreSame mine c e → IsBest mine c
+pub best_of_same : (mine : Mine) (e c : ℕ → Bool) → RestsWithin mine → IsBest mine e → AreSame mine c e → IsBest mine c
 best_of_same mine e c o h s =
     let worth : worth_of mine c ≡ worth_of mine e = worth_in-same mine.worth c e mine.blocks s in
     let count : count_of mine c ≡ count_of mine e = count_in-same c e mine.blocks s in
@@ -104,7 +104,7 @@ count_cuts low c (suc n) h = omega (arith, count_cuts low c n (λ b l. h b (omeg
 
 -- ---- the part between two pits
 
-module _ (mine : Mine) (low high : ℕ → Bool) (own : IsOwn mine) (known : LiesBetween mine low high) where
+module _ (mine : Mine) (low high : ℕ → Bool) (own : RestsWithin mine) (known : LiesBetween mine low high) where
   -- a pit of the part is one of the mine with the lower pit
   pub lift_is_pit : (s : ℕ → Bool) → IsPit (part mine (difference_of high low)) s → IsPit mine (union_of low (intersection_of s (difference_of high low)))
   lift_is_pit s h b p r t =
@@ -212,7 +212,7 @@ inside_same true f q h = refl
 inside_same false true q h = sym (h refl)
 inside_same false false q h = refl
 
-pub best_by_part : (mine : Mine) (low high f : ℕ → Bool) → IsOwn mine → LiesBetween mine low high → IsBest (part mine (difference_of high low)) f → IsBest mine (union_of low f)
+pub best_by_part : (mine : Mine) (low high f : ℕ → Bool) → RestsWithin mine → LiesBetween mine low high → IsBest (part mine (difference_of high low)) f → IsBest mine (union_of low f)
 best_by_part mine low high f own known h =
     best_of_same mine (union_of low (intersection_of f (difference_of high low))) (union_of low f) own (best_lifts mine low high own known f h)
     (λ b l. inside_same (low b) (f b) (difference_of high low b) (best_inside mine (difference_of high low) f h b l))

@@ -7,7 +7,7 @@ use Rattle.ordered_group.proofs.BlockSets.{worth_in-same, count_in-same, count_i
 use Rattle.closure_net.specs.Mine.{Mine, IsPit, worth_of, count_of, IsBest}
 use Rattle.closure_net.proofs.BestPits.{best_from_fewest}
 use Rattle.ordered_group.proofs.Totals.{within_first}
-use Rattle.sub_mines.specs.Parts.{IsOwn, union_of, intersection_of, difference_of, part}
+use Rattle.sub_mines.specs.Parts.{RestsWithin, union_of, intersection_of, difference_of, part}
 use Rattle.sub_mines.specs.Renumbered.{IsListed, IsRenumbered, IsImage}
 use Rattle.sub_mines.proofs.Parts.{fewest_of, not_beside, count_cuts}
 
@@ -112,7 +112,7 @@ worth_in-worths v w e (suc n) h = rw (worth_in-worths v w e n (λ b l. h b (omeg
 
 -- ---- pits there and here
 
-module _ (mine small : Mine) (set : ℕ → Bool) (at : ℕ → ℕ) (own : IsOwn mine) (listed : IsListed set mine.blocks small.blocks at) (is : IsRenumbered mine small at) where
+module _ (mine small : Mine) (set : ℕ → Bool) (at : ℕ → ℕ) (own : RestsWithin mine) (listed : IsListed set mine.blocks small.blocks at) (is : IsRenumbered mine small at) where
   pulled_is_pit : (d : ℕ → Bool) → IsPit (part mine set) d → IsPit small (λ i. d (at i))
   pulled_is_pit d h i j r t =
       let low = is.own.own i j r in
@@ -196,7 +196,7 @@ joined_worth : (v : ℕ → ℤ) (low high t : ℕ → Bool) (n : ℕ) → ((b :
 joined_worth v low high t zero h = omega (arith, ints)
 joined_worth v low high t (suc n) h = omega (arith, ints, joined_worth v low high t n (λ b l. h b (omega (arith, l))), cut_term (low n) (t n) (high n) (v n) (h n (omega arith)))
 
-pub row_by_small : (mine small : Mine) (low high : ℕ → Bool) (at : ℕ → ℕ) (s t : ℕ → Bool) → IsOwn mine → IsListed (difference_of high low) mine.blocks small.blocks at → IsRenumbered mine small at
+pub row_by_small : (mine small : Mine) (low high : ℕ → Bool) (at : ℕ → ℕ) (s t : ℕ → Bool) → RestsWithin mine → IsListed (difference_of high low) mine.blocks small.blocks at → IsRenumbered mine small at
     → IsImage mine.blocks small.blocks at s t
     → (worth_of mine (union_of low t) ≡ worth_of mine low +ℤ worth_of small s) × (count_of mine (union_of low t) ≡ count_of mine low + count_of small s)
 row_by_small mine small low high at s t own listed is im =

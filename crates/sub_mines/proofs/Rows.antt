@@ -8,7 +8,7 @@ use Rattle.prec_file.specs.Rests.{above_of, from_at, to_at, first_of, numbers, I
 use Rattle.prec_file.proofs.Finding.{above_at, above_has}
 use Rattle.closure_net.specs.Network.{IsAscending}
 use Rattle.sub_mines.specs.Kept.{IsPartPairs}
-use Rattle.sub_mines.specs.Among.{ArePlaces, IsAmong, AreRows, AreRowsAnd}
+use Rattle.sub_mines.specs.Among.{ArePlacesAmong, IsAmong, AreRowsAmong, AreRowsAnd}
 
 -- ---- places
 
@@ -25,14 +25,14 @@ none_yet zero b = refl
 none_yet (suc n) zero = refl
 none_yet (suc n) (suc b) = none_yet n b
 
-pub places_begun : (n : ℕ) (kept : List ℕ) → ArePlaces n kept 0 (replicate n 0)
+pub places_begun : (n : ℕ) (kept : List ℕ) → ArePlacesAmong n kept 0 (replicate n 0)
 places_begun n kept = record {
   size = length-replicate n 0;
   at = λ j l. absurd (omega (arith, l));
   only = λ b l some. absurd (some (none_yet n b));
 }
 
-pub place_more : (n : ℕ) (kept : List ℕ) (i v : ℕ) (places : List ℕ) → IsAscending kept → i < length kept → get_or kept i 0 < n → v ≡ i + 1 → ArePlaces n kept i places → ArePlaces n kept (i + 1) (set places (get_or kept i 0) v)
+pub place_more : (n : ℕ) (kept : List ℕ) (i v : ℕ) (places : List ℕ) → IsAscending kept → i < length kept → get_or kept i 0 < n → v ≡ i + 1 → ArePlacesAmong n kept i places → ArePlacesAmong n kept (i + 1) (set places (get_or kept i 0) v)
 place_more n kept i v places rising l low e h =
     let k = get_or kept i 0 in
     let inside : k < length places = rw h.size low in
@@ -65,14 +65,14 @@ read : (pairs : List (ℕ × ℕ)) (q : ℕ × ℕ) (c : Contains pairs q) → g
 read pairs q c = get_or_default pairs c.0 (0, 0) q c.1 ∙ c.2
 
 module _ (pairs : List (ℕ × ℕ)) (kept : List ℕ) (row : ℕ) (found : List (ℕ × ℕ)) where
-  pub row_begun : AreRows pairs kept row found → AreRowsAnd pairs kept row 0 found
+  pub row_begun : AreRowsAmong pairs kept row found → AreRowsAnd pairs kept row 0 found
   row_begun h = record {
     held = h.held;
     more = λ j u l k e. absurd (omega (arith, l));
     only = λ i j c. let x = h.only i j c in let l = x.0 in (omega (arith, l), x.1);
   }
 
-  pub row_ended : (t : ℕ) → length (above_of pairs (get_or kept row 0)) ≤ t → AreRowsAnd pairs kept row t found → AreRows pairs kept (row + 1) found
+  pub row_ended : (t : ℕ) → length (above_of pairs (get_or kept row 0)) ≤ t → AreRowsAnd pairs kept row t found → AreRowsAmong pairs kept (row + 1) found
   row_ended t all h = record {
     held = λ i j l a. elim (cases_lt i row) [
       | inl below ↦ h.held i j below a
@@ -89,7 +89,7 @@ module _ (pairs : List (ℕ × ℕ)) (kept : List ℕ) (row : ℕ) (found : List
     only = λ i j c. let x = h.only i j c in let l = x.0 in (omega (arith, l), x.1);
   }
 
-module _ (pairs : List (ℕ × ℕ)) (kept : List ℕ) (row t n : ℕ) (places : List ℕ) (found : List (ℕ × ℕ)) (p : ℕ) (h : AreRowsAnd pairs kept row t found) (known : ArePlaces n kept (length kept) places)
+module _ (pairs : List (ℕ × ℕ)) (kept : List ℕ) (row t n : ℕ) (places : List ℕ) (found : List (ℕ × ℕ)) (p : ℕ) (h : AreRowsAnd pairs kept row t found) (known : ArePlacesAmong n kept (length kept) places)
     (here : get_or (above_of pairs (get_or kept row 0)) t 0 ≡ p) where
   -- the block isn't in the list
   pub row_passed : get_or places p 0 ≡ 0 → AreRowsAnd pairs kept row (t + 1) found
@@ -147,10 +147,10 @@ above_known v b t h l =
 
 -- ---- all rows
 
-pub rows_known : (pairs : List (ℕ × ℕ)) (kept : List ℕ) (found : List (ℕ × ℕ)) → AreRows pairs kept (length kept) found → All (IsKnown (length kept)) found
+pub rows_known : (pairs : List (ℕ × ℕ)) (kept : List ℕ) (found : List (ℕ × ℕ)) → AreRowsAmong pairs kept (length kept) found → All (IsKnown (length kept)) found
 rows_known pairs kept found h = All-weaker (Contains found) (IsKnown (length kept)) (λ q c. let x = h.only q.0 q.1 c in (x.0, x.1.second)) found (All-contains_itself found)
 
-pub rows_are_part : (pairs : List (ℕ × ℕ)) (kept : List ℕ) (found sorted : List (ℕ × ℕ)) → AreApart pairs → AreRows pairs kept (length kept) found → ArePairsOf found sorted → IsPartPairs kept pairs sorted
+pub rows_are_part : (pairs : List (ℕ × ℕ)) (kept : List ℕ) (found sorted : List (ℕ × ℕ)) → AreApart pairs → AreRowsAmong pairs kept (length kept) found → ArePairsOf found sorted → IsPartPairs kept pairs sorted
 rows_are_part pairs kept found sorted apart h s = record {
   known = λ i j c. let x = h.only i j (s.only (i, j) c).0 in (x.0, x.1.second);
   same = λ i j l k. (

@@ -2,7 +2,7 @@
 use Rattle.std.specs.Prelude.{◌≡◌, ◌↔◌, ℕ, ◌+◌, ◌+ℤ◌, Bool, List, All, ◌<◌, length, map}
 use Rattle.closure_net.specs.Network.{holds_of, IsAscending}
 use Rattle.closure_net.specs.Mine.{Mine, IsPit, worth_of, count_of, IsBest, LiesWithin, RisesTo}
-use Rattle.sub_mines.specs.Parts.{IsOwn, union_of, difference_of, no_block, every_block, part, LiesBetween}
+use Rattle.sub_mines.specs.Parts.{RestsWithin, union_of, difference_of, no_block, every_block, part, LiesBetween}
 use Rattle.sub_mines.specs.Bounds.{IsFloor, IsCeiling}
 use Rattle.prec_file.specs.Rests.{numbers_passing}
 use Rattle.sub_mines.specs.Kept.{IsKept}
@@ -11,19 +11,19 @@ use Rattle.sub_mines.specs.Renumbered.{IsListed, IsRenumbered, IsImage, number_i
 -- Where the best pit is known to lie between two pits, it is the lower one with the best pit of the blocks between them:
 -- the second makes the first, and the first gives the second.
 abbrev pub BestByPart : Type 0
-BestByPart = (mine : Mine) (low high f : ℕ → Bool) → IsOwn mine → LiesBetween mine low high → IsBest (part mine (difference_of high low)) f → IsBest mine (union_of low f)
+BestByPart = (mine : Mine) (low high f : ℕ → Bool) → RestsWithin mine → LiesBetween mine low high → IsBest (part mine (difference_of high low)) f → IsBest mine (union_of low f)
 
 abbrev pub PartOfBest : Type 0
-PartOfBest = (mine : Mine) (low high e : ℕ → Bool) → IsOwn mine → LiesBetween mine low high → IsBest mine e
+PartOfBest = (mine : Mine) (low high e : ℕ → Bool) → RestsWithin mine → LiesBetween mine low high → IsBest mine e
     → LiesWithin mine low e × LiesWithin mine e high × IsBest (part mine (difference_of high low)) (difference_of e low)
 
 -- Within: where the best pit lies within a pit, a set is best exactly where it is best of that pit's blocks alone.
 abbrev pub BestWithin : Type 0
-BestWithin = (mine : Mine) (high e : ℕ → Bool) → IsOwn mine → LiesBetween mine no_block high → IsBest mine e ↔ IsBest (part mine high) e
+BestWithin = (mine : Mine) (high e : ℕ → Bool) → RestsWithin mine → LiesBetween mine no_block high → IsBest mine e ↔ IsBest (part mine high) e
 
 -- The rest: where the best pit has all of a pit, it is that pit with the best one of the other blocks.
 abbrev pub BestOfRest : Type 0
-BestOfRest = (mine : Mine) (low f : ℕ → Bool) → IsOwn mine → LiesBetween mine low every_block → IsBest (part mine (difference_of every_block low)) f → IsBest mine (union_of low f)
+BestOfRest = (mine : Mine) (low f : ℕ → Bool) → RestsWithin mine → LiesBetween mine low every_block → IsBest (part mine (difference_of every_block low)) f → IsBest mine (union_of low f)
 
 -- What is known beforehand: the best pit itself; or a floor and a ceiling.
 abbrev pub KnownByBest : Type 0
@@ -42,22 +42,22 @@ BestBounds = (mine later : Mine) (e c : ℕ → Bool) → RisesTo mine later →
 
 -- Between two best pits, one where blocks are worth no more and one where they are worth no less.
 abbrev pub BestBetween : Type 0
-BestBetween = (earlier mine later : Mine) (low high f : ℕ → Bool) → IsOwn mine → RisesTo earlier mine → RisesTo mine later → IsBest earlier low → IsBest later high
+BestBetween = (earlier mine later : Mine) (low high f : ℕ → Bool) → RestsWithin mine → RisesTo earlier mine → RisesTo mine later → IsBest earlier low → IsBest later high
     → IsBest (part mine (difference_of high low)) f → IsBest mine (union_of low f)
 
 -- The best pit of the small mine is that of the part whose blocks it numbers anew.
 abbrev pub BestByNumbers : Type 0
-BestByNumbers = (mine small : Mine) (set : ℕ → Bool) (at : ℕ → ℕ) (s t : ℕ → Bool) → IsOwn mine → IsListed set mine.blocks small.blocks at → IsRenumbered mine small at
+BestByNumbers = (mine small : Mine) (set : ℕ → Bool) (at : ℕ → ℕ) (s t : ℕ → Bool) → RestsWithin mine → IsListed set mine.blocks small.blocks at → IsRenumbered mine small at
     → IsImage mine.blocks small.blocks at s t → IsBest small s → IsBest (part mine set) t
 
 -- All of it: the lower pit with the image of the best pit of the small mine.
 abbrev pub BestBySmallMine : Type 0
-BestBySmallMine = (mine small : Mine) (low high : ℕ → Bool) (at : ℕ → ℕ) (s t : ℕ → Bool) → IsOwn mine → LiesBetween mine low high
+BestBySmallMine = (mine small : Mine) (low high : ℕ → Bool) (at : ℕ → ℕ) (s t : ℕ → Bool) → RestsWithin mine → LiesBetween mine low high
     → IsListed (difference_of high low) mine.blocks small.blocks at → IsRenumbered mine small at → IsImage mine.blocks small.blocks at s t → IsBest small s → IsBest mine (union_of low t)
 
 -- What it is worth and how many blocks it has: the lower pit's and the small mine's together.
 abbrev pub RowBySmallMine : Type 0
-RowBySmallMine = (mine small : Mine) (low high : ℕ → Bool) (at : ℕ → ℕ) (s t : ℕ → Bool) → IsOwn mine → IsListed (difference_of high low) mine.blocks small.blocks at → IsRenumbered mine small at
+RowBySmallMine = (mine small : Mine) (low high : ℕ → Bool) (at : ℕ → ℕ) (s t : ℕ → Bool) → RestsWithin mine → IsListed (difference_of high low) mine.blocks small.blocks at → IsRenumbered mine small at
     → IsImage mine.blocks small.blocks at s t
     → (worth_of mine (union_of low t) ≡ worth_of mine low +ℤ worth_of small s) × (count_of mine (union_of low t) ≡ count_of mine low + count_of small s)
 

@@ -1,7 +1,7 @@
 -- Some of a mine's blocks with numbers of their own.
 use Rattle.std.specs.Prelude.{◌≡◌, ℕ, ◌<◌, Bool, List, IsTrue, slice_index_or}
 use Rattle.closure_net.specs.Mine.{Mine}
-use Rattle.sub_mines.specs.Parts.{IsOwn}
+use Rattle.sub_mines.specs.Parts.{RestsWithin}
 
 -- The numbers at 0, at 1 and so on to at (m - 1) are those below n that are in the set, ascending.
 pub record IsListed (set : ℕ → Bool) (n m : ℕ) (at : ℕ → ℕ) : Type 0 where
@@ -12,7 +12,7 @@ pub record IsListed (set : ℕ → Bool) (n m : ℕ) (at : ℕ → ℕ) : Type 0
 
 -- Block i of the small mine is block at i of the mine.
 pub record IsRenumbered (mine small : Mine) (at : ℕ → ℕ) : Type 0 where
-  pub own : IsOwn small
+  pub own : RestsWithin small
   pub rests : (i j : ℕ) → i < small.blocks → j < small.blocks → small.rests i j ≡ mine.rests (at i) (at j)
   pub worth : (i : ℕ) → i < small.blocks → small.worth i ≡ mine.worth (at i)
 

@@ -3,7 +3,7 @@
 ghost use Rattle.std.specs.Prelude.{◌≡◌, ◌<◌, ◌≤◌, ◌+◌, All, IfOk, OnOk, length};
 ghost use Rattle.closure_net.specs.Network.{IsAscending};
 ghost use Rattle.sub_mines.specs.Kept.{IsPartPairs};
-ghost use Rattle.sub_mines.specs.Among.{ArePlaces, AreRows};
+ghost use Rattle.sub_mines.specs.Among.{ArePlacesAmong, AreRowsAmong};
 
 use prec_file::{ListedPairs, MOST_PAIRS, Predecessors, Rests};
 use std::alloc::{AllocError, Global};
@@ -12,7 +12,7 @@ use std::alloc::{AllocError, Global};
 fn places_of(alloc: Global, n: u32, kept: &[u32]) -> Result<Vec<u32>, AllocError>
     requires ascending { IsAscending kept.now }
     requires below { All (λ b. b < n) kept.now }
-    ensures { IfOk result (λ v. ArePlaces n kept.now (length kept.now) v.items) }
+    ensures { IfOk result (λ v. ArePlacesAmong n kept.now (length kept.now) v.items) }
 {
     let mut places: Vec<u32> = vec![in alloc; 0; n as usize]?;
     for i in 0..kept.len() {
@@ -30,11 +30,11 @@ fn add_row(
     row: u32,
 ) -> Result<(), AllocError>
     requires below { All (λ b. b < rests.now.blocks) kept.now }
-    requires places { ArePlaces rests.now.blocks kept.now (length kept.now) places.now }
+    requires places { ArePlacesAmong rests.now.blocks kept.now (length kept.now) places.now }
     requires inside { row < length kept.now }
     requires few { length pairs.old.items ≤ MOST_PAIRS }
-    requires so_far { AreRows rests.now.pairs kept.now row pairs.old.items }
-    ensures rows { OnOk result (AreRows rests.now.pairs kept.now (row + 1) pairs.new.items) }
+    requires so_far { AreRowsAmong rests.now.pairs kept.now row pairs.old.items }
+    ensures rows { OnOk result (AreRowsAmong rests.now.pairs kept.now (row + 1) pairs.new.items) }
     ensures few { OnOk result (length pairs.new.items ≤ MOST_PAIRS) }
 {
     // proof: what is known of the pairs
@@ -59,9 +59,9 @@ fn rows_of(
     places: &[u32],
 ) -> Result<Vec<(u32, u32)>, AllocError>
     requires below { All (λ b. b < rests.now.blocks) kept.now }
-    requires places { ArePlaces rests.now.blocks kept.now (length kept.now) places.now }
+    requires places { ArePlacesAmong rests.now.blocks kept.now (length kept.now) places.now }
     requires size { length kept.now ≤ rests.now.blocks }
-    ensures { IfOk result (λ v. AreRows rests.now.pairs kept.now (length kept.now) v.items × (length v.items ≤ MOST_PAIRS)) }
+    ensures { IfOk result (λ v. AreRowsAmong rests.now.pairs kept.now (length kept.now) v.items × (length v.items ≤ MOST_PAIRS)) }
 {
     let _ = rests.len();
     let mut pairs = Vec::new(alloc);

@@ -15,7 +15,7 @@ use Rattle.fixed_worth.specs.Text.{is_separator, fields_of}
 use Rattle.fixed_worth.proofs.Lengths.{printed_micros_short}
 use Rattle.upit_file.specs.declared.upit_fault.UpitFault.TheVariants.{Text}
 use Rattle.upit_file.specs.Header.{is_long, fields_in, is_end}
-use Rattle.upit_file.specs.Body.{block_of, value_of, shape_fault, record_fault, line_fault, is_record_of, has_record, value_among, first_fault, before_end}
+use Rattle.upit_file.specs.Body.{block_of, value_of_record, shape_fault, record_fault, line_fault, is_record_of, has_record, value_among, first_fault, before_end}
 use Rattle.upit_file.specs.Writing.{record_line, record_lines}
 use Rattle.fixed_worth.proofs.Joined.{is_one_line, is_word, fields_cut}
 use Rattle.fixed_worth.proofs.NextLine.{line, short}
@@ -55,7 +55,7 @@ record IsRecordOf (b : ℕ) (v : ℤ) (l : Line) : Type 0 where
   kept : is_skipped (fields_in l) ≡ false
   shape : shape_fault l.number (fields_in l) ≡ None
   block : block_of (fields_in l) ≡ b
-  worth : value_of (fields_in l) ≡ v
+  worth : value_of_record (fields_in l) ≡ v
 
 two_shape : (line b : ℕ) (v : ℤ) → b < MOST_BLOCKS → unsigned_abs v ≤ 10 ^ 18 → shape_fault line (decimal b ∷ amount_text 6 v ∷ []) ≡ None
 two_shape line b v h s = rw (whole_of-decimal b (omega arith), printed_read v s) refl
@@ -63,7 +63,7 @@ two_shape line b v h s = rw (whole_of-decimal b (omega arith), printed_read v s)
 two_block : (b : ℕ) (v : ℤ) → b < MOST_BLOCKS → block_of (decimal b ∷ amount_text 6 v ∷ []) ≡ b
 two_block b v h = rw (whole_of-decimal b (omega arith)) refl
 
-two_worth : (b : ℕ) (v : ℤ) → unsigned_abs v ≤ 10 ^ 18 → value_of (decimal b ∷ amount_text 6 v ∷ []) ≡ v
+two_worth : (b : ℕ) (v : ℤ) → unsigned_abs v ≤ 10 ^ 18 → value_of_record (decimal b ∷ amount_text 6 v ∷ []) ≡ v
 two_worth b v s = rw (printed_read v s) refl
 
 is_record : (k b : ℕ) (v : ℤ) → b < MOST_BLOCKS → unsigned_abs v ≤ 10 ^ 18 → IsRecordOf b v (line k (record_line b v))
@@ -76,7 +76,7 @@ is_record k b v h s =
       kept = ap is_skipped f ∙ decimal_is_no_remark b (omega arith);
       shape = ap (shape_fault k) f ∙ two_shape k b v h s;
       block = ap block_of f ∙ two_block b v h;
-      worth = ap value_of f ∙ two_worth b v s;
+      worth = ap value_of_record f ∙ two_worth b v s;
     }
 
 record_of : (b j : ℕ) (v : ℤ) (l : Line) → IsRecordOf b v l → is_record_of j (fields_in l) ≡ eqb b j
@@ -110,14 +110,14 @@ values_back k b zero (v ∷ vs) h m s =
     let r = is_record (k + 1) b v (omega arith) s.0 in
     let here : eqb b (b + 0) ≡ true = grind (arith, nat_tests) in
     let t : is_record_of (b + 0) (fields_in l) ≡ true = record_of b (b + 0) v l r ∙ here in
-    ap (λ x. cond x (value_of (fields_in l)) (value_among (numbered_lines (k + 1) (record_lines (b + 1) vs)) (b + 0))) t ∙ r.worth
+    ap (λ x. cond x (value_of_record (fields_in l)) (value_among (numbered_lines (k + 1) (record_lines (b + 1) vs)) (b + 0))) t ∙ r.worth
 values_back k b (suc i) (v ∷ vs) h m s =
     let l = line (k + 1) (record_line b v) in
     let r = is_record (k + 1) b v (omega arith) s.0 in
     let other : eqb b (b + suc i) ≡ false = grind (arith, nat_tests) in
     let t : is_record_of (b + suc i) (fields_in l) ≡ false = record_of b (b + suc i) v l r ∙ other in
     let j : b + suc i ≡ b + 1 + i = omega arith in
-    ap (λ x. cond x (value_of (fields_in l)) (value_among (numbered_lines (k + 1) (record_lines (b + 1) vs)) (b + suc i))) t
+    ap (λ x. cond x (value_of_record (fields_in l)) (value_among (numbered_lines (k + 1) (record_lines (b + 1) vs)) (b + suc i))) t
     ∙ ap (value_among (numbered_lines (k + 1) (record_lines (b + 1) vs))) j ∙ values_back (k + 1) (b + 1) i vs (omega arith) (omega arith) s.1
 
 -- The records end at EOF.

@@ -13,7 +13,7 @@ use Rattle.fixed_worth.specs.Record.{Line, numbered_lines, is_skipped}
 use Rattle.upit_file.specs.declared.upit_fault.UpitFault.{UpitFault}
 use Rattle.upit_file.specs.declared.upit_fault.UpitFault.TheVariants.{UnknownBlock, Repeated}
 use Rattle.upit_file.specs.Header.{is_end, fields_in}
-use Rattle.upit_file.specs.Body.{block_of, value_of, shape_fault, block_fault, record_fault, is_record_of, has_record, value_among, first_fault, before_end}
+use Rattle.upit_file.specs.Body.{block_of, value_of_record, shape_fault, block_fault, record_fault, is_record_of, has_record, value_among, first_fault, before_end}
 use Rattle.fixed_worth.proofs.NextLine.{line, short, Next, next_is}
 use Rattle.fixed_worth.proofs.Bits.{or_true}
 
@@ -33,10 +33,10 @@ has-push before l b = list_any-append (λ x. is_record_of b (fields_in x)) befor
 -- A line that is no record of b leaves b's value.
 value_other : (before : List Line) (l : Line) (b : ℕ) → is_record_of b (fields_in l) ≡ false → value_among (before ++ l ∷ []) b ≡ value_among before b
 value_other [] l b e = rw e refl
-value_other (x ∷ xs) l b e = ap (cond (is_record_of b (fields_in x)) (value_of (fields_in x))) (value_other xs l b e)
+value_other (x ∷ xs) l b e = ap (cond (is_record_of b (fields_in x)) (value_of_record (fields_in x))) (value_other xs l b e)
 
 -- A block's first record gives its value.
-value_first : (before : List Line) (l : Line) (b : ℕ) → has_record before b ≡ false → is_record_of b (fields_in l) ≡ true → value_among (before ++ l ∷ []) b ≡ value_of (fields_in l)
+value_first : (before : List Line) (l : Line) (b : ℕ) → has_record before b ≡ false → is_record_of b (fields_in l) ≡ true → value_among (before ++ l ∷ []) b ≡ value_of_record (fields_in l)
 value_first [] l b h e = rw e refl
 value_first (x ∷ xs) l b h e =
     let p = or_parts (is_record_of b (fields_in x)) (has_record xs b) h in
@@ -107,7 +107,7 @@ mark_at seen before block b l i h r false e =
     let ne : b ≢ block = grind (arith, nat_tests) in
     get_or-set_other seen block b true false ne ∙ h ∙ sym (has-push before l b ∙ ap (λ t. has_record before b || t) (r ∙ e) ∙ or-false (has_record before b))
 
-worth_at : (values : List ℤ) (before : List Line) (block b : ℕ) (v : ℤ) (l : Line) → block < length values → get_or values b (pos 0) ≡ value_among before b → is_record_of b (fields_in l) ≡ eqb block b → has_record before block ≡ false → v ≡ value_of (fields_in l)
+worth_at : (values : List ℤ) (before : List Line) (block b : ℕ) (v : ℤ) (l : Line) → block < length values → get_or values b (pos 0) ≡ value_among before b → is_record_of b (fields_in l) ≡ eqb block b → has_record before block ≡ false → v ≡ value_of_record (fields_in l)
     → (t : Bool) → eqb block b ≡ t → get_or (set values block v) b (pos 0) ≡ value_among (before ++ l ∷ []) b
 worth_at values before block b v l i h r new is true e =
     let same : block ≡ b = grind (arith, nat_tests) in
@@ -117,7 +117,7 @@ worth_at values before block b v l i h r new is false e =
     get_or-set_other values block b v (pos 0) ne ∙ h ∙ sym (value_other before l b (r ∙ e))
 
 pub keeps : (n block : ℕ) (v : ℤ) (all : List Line) (seen marked : List Bool) (values others : List ℤ) (left next : Left) (k : ℕ) (text : List ℕ) → Kept n all seen values left → Next left next k text → is_end (fields_of text) ≡ false
-    → is_skipped (fields_of text) ≡ false → shape_fault k (fields_of text) ≡ None → block ≡ block_of (fields_of text) → v ≡ value_of (fields_of text) → block_fault (length seen) (λ b. get_or seen b false) k block ≡ None
+    → is_skipped (fields_of text) ≡ false → shape_fault k (fields_of text) ≡ None → block ≡ block_of (fields_of text) → v ≡ value_of_record (fields_of text) → block_fault (length seen) (λ b. get_or seen b false) k block ≡ None
     → marked ≡ set seen block true → others ≡ set values block v → Kept n all marked others next
 keeps n block v all seen marked values others left next k text g h e s f is worth w m o =
     let l = line k text in
@@ -129,7 +129,7 @@ keeps n block v all seen marked values others left next k text g h e s f is wort
     let i : block < length seen = omega (arith, new.0, g.all_seen) in
     let i2 : block < length values = omega (arith, new.0, g.all_values) in
     let r : (b : ℕ) → is_record_of b (fields_in l) ≡ eqb block b = λ b. record_is k text b small s ∙ ap (λ (x : ℕ). eqb x b) (sym is) in
-    let here : value_of (fields_in l) ≡ v = rw small (sym worth) in
+    let here : value_of_record (fields_in l) ≡ v = rw small (sym worth) in
     record {
       before = g.before ++ l ∷ [];
       fault = j.0;

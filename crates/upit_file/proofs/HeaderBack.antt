@@ -11,7 +11,7 @@ use Rattle.std.proofs.lemmas.List.{take_all}
 use Rattle.fixed_worth.specs.declared.limits.TheConstants.{MOST_BLOCKS}
 use Rattle.upit_file.specs.declared.limits.TheConstants.{NAME_BYTES}
 use Rattle.fixed_worth.specs.Record.{Line}
-use Rattle.fixed_worth.specs.Text.{Run, is_separator, run_before, runs_from}
+use Rattle.fixed_worth.specs.Text.{WordRun, is_separator, run_before, runs_from}
 use Rattle.fixed_worth.proofs.Cuts.{first_run}
 use Rattle.upit_file.specs.declared.key.Key.{Key}
 use Rattle.upit_file.specs.declared.key.Key.TheVariants.{Name, FileType, Blocks, Objective}
@@ -29,7 +29,7 @@ abbrev last_of : ℕ → List ℕ → ℕ
 last_of b [] = b
 last_of b (c ∷ cs) = last_of c cs
 
-ends_before : (b p e : ℕ) (rs : List Run) → 0 < length rs → last_end e (run_before b p rs) ≡ last_end e rs
+ends_before : (b p e : ℕ) (rs : List WordRun) → 0 < length rs → last_end e (run_before b p rs) ≡ last_end e rs
 ends_before b p e [] h = absurd (omega arith)
 ends_before b p e (r ∷ rs) h = by_place (eqb r.place (p + 1)) refl
   where
@@ -37,14 +37,14 @@ ends_before b p e (r ∷ rs) h = by_place (eqb r.place (p + 1)) refl
     by_place true f = let k : p + suc (length r.text) ≡ r.place + length r.text = grind (arith, nat_tests) in ap (λ n. last_end n rs) k
     by_place false f = refl
 
-some_before : (b p : ℕ) (rs : List Run) → 0 < length (run_before b p rs)
+some_before : (b p : ℕ) (rs : List WordRun) → 0 < length (run_before b p rs)
 some_before b p [] = omega arith
 some_before b p (r ∷ rs) = elim (eqb r.place (p + 1)) as (λ t. 0 < length (cond t (record { text = b ∷ r.text; place = p } ∷ rs) (record { text = b ∷ []; place = p } ∷ r ∷ rs))) [ true ↦ omega arith | false ↦ omega arith ]
 
-abbrev EndsAt : ℕ → List Run → ℕ → Type 0
+abbrev EndsAt : ℕ → List WordRun → ℕ → Type 0
 EndsAt e rs n = (0 < length rs) × (last_end e rs ≡ n)
 
-ends_step : (p e b n : ℕ) (rs : List Run) (t : Bool) → EndsAt e rs n → EndsAt e (cond t rs (run_before b p rs)) n
+ends_step : (p e b n : ℕ) (rs : List WordRun) (t : Bool) → EndsAt e rs n → EndsAt e (cond t rs (run_before b p rs)) n
 ends_step p e b n rs true h = h
 ends_step p e b n rs false h = (some_before b p rs, ends_before b p e rs h.0 ∙ h.1)
 
@@ -97,28 +97,28 @@ name_whole (c ∷ cs) h = (name_parts c cs h).whole
 name_runs : (name : List ℕ) → runs_from 0 (codes "NAME: " ++ name) ≡ record { text = codes "NAME"; place = 0 } ∷ runs_from 6 name
 unfolding is_separator
 name_runs name =
-    let key : Run = record { text = codes "NAME"; place = 0 } in
-    word_run 0 (codes "NAME") (58 ∷ 32 ∷ name) refl refl ∙ ap (λ (rs : List Run). key ∷ rs) (gap_run 4 58 (32 ∷ name) refl ∙ gap_run 5 32 name refl)
+    let key : WordRun = record { text = codes "NAME"; place = 0 } in
+    word_run 0 (codes "NAME") (58 ∷ 32 ∷ name) refl refl ∙ ap (λ (rs : List WordRun). key ∷ rs) (gap_run 4 58 (32 ∷ name) refl ∙ gap_run 5 32 name refl)
 
-second_is : (line : List ℕ) (key r : Run) (rs : List Run) (n : ℕ) → r.place ≡ 6 → last_end 0 (r ∷ rs) ≡ n → length line ≤ n → from_second line (key ∷ r ∷ rs) ≡ drop 6 line
+second_is : (line : List ℕ) (key r : WordRun) (rs : List WordRun) (n : ℕ) → r.place ≡ 6 → last_end 0 (r ∷ rs) ≡ n → length line ≤ n → from_second line (key ∷ r ∷ rs) ≡ drop 6 line
 second_is line key r rs n e f h = ap (λ p. drop p (take (last_end 0 (r ∷ rs)) line)) e ∙ ap (λ m. drop 6 (take m line)) f ∙ ap (drop 6) (take_all n line h)
 
 pub name_back : (name : List ℕ) → is_name name ≡ true → name_in (codes "NAME: " ++ name) ≡ name
 name_back [] h = ap (from_second (codes "NAME: ")) (name_runs [])
 name_back (c ∷ cs) h =
     let p = name_parts c cs h in
-    let key : Run = record { text = codes "NAME"; place = 0 } in
+    let key : WordRun = record { text = codes "NAME"; place = 0 } in
     let line = codes "NAME: " ++ (c ∷ cs) in
     let w = position_or_len is_separator (c ∷ cs) in
-    let r : Run = record { text = take w (c ∷ cs); place = 6 } in
+    let r : WordRun = record { text = take w (c ∷ cs); place = 6 } in
     let rest = runs_from (6 + w) (drop w (c ∷ cs)) in
     let runs : runs_from 6 (c ∷ cs) ≡ r ∷ rest = first_run 6 (c ∷ cs) (omega arith) p.first in
     let end : last_end 0 (r ∷ rest) ≡ 6 + length (c ∷ cs) = ap (last_end 0) (sym runs) ∙ (ends_at 6 0 c cs p.last).1 in
-    ap (from_second line) (name_runs (c ∷ cs) ∙ ap (λ (rs : List Run). key ∷ rs) runs) ∙ second_is line key r rest (6 + length (c ∷ cs)) refl end (omega arith)
+    ap (from_second line) (name_runs (c ∷ cs) ∙ ap (λ (rs : List WordRun). key ∷ rs) runs) ∙ second_is line key r rest (6 + length (c ∷ cs)) refl end (omega arith)
 
 -- ---- the four lines
 
-abbrev texts : List Run → List (List ℕ)
+abbrev texts : List WordRun → List (List ℕ)
 texts rs = map (λ r. r.text) rs
 
 name_key : (fields : List (List ℕ)) → key_in (codes "NAME" ∷ fields) ≡ Name
@@ -156,9 +156,9 @@ objective_key = refl
 count_runs : (n : ℕ) → n < 2 ^ 64 → runs_from 0 (codes "NBLOCKS: " ++ decimal n) ≡ record { text = codes "NBLOCKS"; place = 0 } ∷ record { text = decimal n; place = 9 } ∷ []
 unfolding is_separator
 count_runs n h =
-    let key : Run = record { text = codes "NBLOCKS"; place = 0 } in
+    let key : WordRun = record { text = codes "NBLOCKS"; place = 0 } in
     word_run 0 (codes "NBLOCKS") (58 ∷ 32 ∷ decimal n) refl refl
-    ∙ ap (λ (rs : List Run). key ∷ rs) (gap_run 7 58 (32 ∷ decimal n) refl ∙ gap_run 8 32 (decimal n) refl ∙ word_alone 9 (decimal n) (decimal_is_word n h))
+    ∙ ap (λ (rs : List WordRun). key ∷ rs) (gap_run 7 58 (32 ∷ decimal n) refl ∙ gap_run 8 32 (decimal n) refl ∙ word_alone 9 (decimal n) (decimal_is_word n h))
 
 count_sound_fields : (n line : ℕ) → n ≤ MOST_BLOCKS → count_fault n line (codes "NBLOCKS" ∷ decimal n ∷ []) ≡ None
 count_sound_fields n line h =

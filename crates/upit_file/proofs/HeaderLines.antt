@@ -6,7 +6,7 @@ use Rattle.fixed_worth.specs.Text.{Left}
 use Rattle.fixed_worth.specs.Record.{Line, numbered_lines}
 use Rattle.upit_file.specs.declared.upit_fault.UpitFault.{UpitFault}
 use Rattle.upit_file.specs.Header.{header, last_name, after_header, first_count, header_lines_fault, end_fault, header_fault}
-use Rattle.upit_file.specs.Records.{count_in}
+use Rattle.upit_file.specs.Records.{blocks_declared}
 
 -- The first fault from here on, where an NBLOCKS record came before or not.
 abbrev pub fault_from : ℕ → Bool → ℕ → List Line → Option UpitFault
@@ -16,7 +16,7 @@ fault_from n counted total ls = option_or (header_lines_fault n (header ls)) (en
 pub record Going (n : ℕ) (all : List Line) (name : List ℕ) (wanted counted : Option ℕ) (left : Left) : Type 0 where
   pub fault : fault_from n (is_some counted) (length all) (numbered_lines left.number left.lines) ≡ header_fault n all
   pub name_so : last_name name (header (numbered_lines left.number left.lines)) ≡ last_name [] (header all)
-  pub wanted_so : unwrap_or (option_or counted wanted) (count_in (numbered_lines left.number left.lines)) ≡ n
+  pub wanted_so : unwrap_or (option_or counted wanted) (blocks_declared (numbered_lines left.number left.lines)) ≡ n
   pub rest : after_header (numbered_lines left.number left.lines) ≡ after_header all
   pub total : left.number + length left.lines ≡ length all
 
@@ -24,7 +24,7 @@ pub length-numbered : (k : ℕ) (lines : List (List ℕ)) → length (numbered_l
 length-numbered k [] = refl
 length-numbered k (l ∷ ls) = ap suc (length-numbered (k + 1) ls)
 
-pub begins : (n : ℕ) (wanted : Option ℕ) (left : Left) → left.number ≡ 0 → n ≡ unwrap_or wanted (count_in (numbered_lines 0 left.lines)) → Going n (numbered_lines 0 left.lines) [] wanted None left
+pub begins : (n : ℕ) (wanted : Option ℕ) (left : Left) → left.number ≡ 0 → n ≡ unwrap_or wanted (blocks_declared (numbered_lines 0 left.lines)) → Going n (numbered_lines 0 left.lines) [] wanted None left
 begins n wanted left z e = record {
   fault = rw z refl;
   name_so = rw z refl;

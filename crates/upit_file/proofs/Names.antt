@@ -7,7 +7,7 @@ use Rattle.std.proofs.lemmas.Bool.Decides.{nat_tests}
 use Rattle.std.proofs.lemmas.List.{get_or-drop, get_or-take, length-take}
 use Rattle.fixed_worth.specs.declared.limits.TheConstants.{MOST_BLOCKS}
 use Rattle.upit_file.specs.declared.limits.TheConstants.{NAME_BYTES}
-use Rattle.fixed_worth.specs.Text.{is_separator, Run, runs_from, lines_of}
+use Rattle.fixed_worth.specs.Text.{is_separator, WordRun, runs_from, lines_of}
 use Rattle.fixed_worth.specs.Record.{Line, numbered_lines}
 use Rattle.fixed_worth.specs.Laws.{IsField, AreInOrder}
 use Rattle.fixed_worth.proofs.FieldLaws.{fields_are}
@@ -19,10 +19,10 @@ use Rattle.upit_file.specs.declared.upit_fault.UpitFault.TheVariants.{Text}
 use Rattle.upit_file.specs.Header.{is_long, fields_in, key_in, ends_header, header, last_end, from_second, name_in, name_behind, last_name, header_line_fault, header_lines_fault, header_fault}
 use Rattle.upit_file.specs.Records.{is_name, is_upit}
 
-rest : (line : List ℕ) (r : Run) (rs : List Run) → All (IsField line) (r ∷ rs) → All (IsField line) rs
+rest : (line : List ℕ) (r : WordRun) (rs : List WordRun) → All (IsField line) (r ∷ rs) → All (IsField line) rs
 rest line r rs a = λ k d h. a (suc k) d (omega arith)
 
-last_within : (line : List ℕ) (e : ℕ) (rs : List Run) → e ≤ length line → All (IsField line) rs → AreInOrder e rs → (e ≤ last_end e rs) × (last_end e rs ≤ length line)
+last_within : (line : List ℕ) (e : ℕ) (rs : List WordRun) → e ≤ length line → All (IsField line) rs → AreInOrder e rs → (e ≤ last_end e rs) × (last_end e rs ≤ length line)
 last_within line e [] h a o = (omega arith, h)
 last_within line e (r ∷ rs) h a o =
     let f : IsField line r = a 0 r (omega arith) in
@@ -30,22 +30,22 @@ last_within line e (r ∷ rs) h a o =
     (omega (arith, ih.0, o.0), ih.1)
 
 -- The name begins in its line before it ends there.
-pub name_within : (line : List ℕ) (key r : Run) (rs : List Run) → runs_from 0 line ≡ key ∷ r ∷ rs → (r.place < last_end 0 (r ∷ rs)) × (last_end 0 (r ∷ rs) ≤ length line)
+pub name_within : (line : List ℕ) (key r : WordRun) (rs : List WordRun) → runs_from 0 line ≡ key ∷ r ∷ rs → (r.place < last_end 0 (r ∷ rs)) × (last_end 0 (r ∷ rs) ≤ length line)
 name_within line key r rs e =
     let all = fields_are line in
-    let each : All (IsField line) (r ∷ rs) = rest line key (r ∷ rs) (subst (λ (fs : List Run). All (IsField line) fs) e all.each) in
-    let ordered = subst (λ (fs : List Run). AreInOrder 0 fs) e all.ordered in
+    let each : All (IsField line) (r ∷ rs) = rest line key (r ∷ rs) (subst (λ (fs : List WordRun). All (IsField line) fs) e all.each) in
+    let ordered = subst (λ (fs : List WordRun). AreInOrder 0 fs) e all.ordered in
     let f : IsField line r = each 0 r (omega arith) in
     let w = last_within line (r.place + length r.text) rs f.inside (rest line r rs each) ordered.1.1 in
     (omega (arith, w.0, f.some), w.1)
 
 -- A byte of a field, in its line.
-byte_of : (line : List ℕ) (r : Run) (k : ℕ) → IsField line r → k < length r.text → is_separator (get_or line (r.place + k) 0) ≡ false
+byte_of : (line : List ℕ) (r : WordRun) (k : ℕ) → IsField line r → k < length r.text → is_separator (get_or line (r.place + k) 0) ≡ false
 byte_of line r k f h =
     let e : get_or r.text k 0 ≡ get_or line (r.place + k) 0 = ap (λ (xs : List ℕ). get_or xs k 0) f.slice ∙ get_or-take (length r.text) (drop r.place line) k 0 h ∙ get_or-drop r.place line k 0 in
     ap is_separator (sym e) ∙ f.bytes k h
 
-last_byte : (line : List ℕ) (r : Run) (rs : List Run) → All (IsField line) (r ∷ rs) → is_separator (get_or line (last_end 0 (r ∷ rs) - 1) 0) ≡ false
+last_byte : (line : List ℕ) (r : WordRun) (rs : List WordRun) → All (IsField line) (r ∷ rs) → is_separator (get_or line (last_end 0 (r ∷ rs) - 1) 0) ≡ false
 last_byte line r [] a =
     let f : IsField line r = a 0 r (omega arith) in
     let i : r.place + (length r.text - 1) ≡ r.place + length r.text - 1 = omega (arith, f.some) in
@@ -81,12 +81,12 @@ slice_is_name line p e h i whole first last few =
     rw (some, most, no_feed, a, b) refl
 
 -- What a NAME record gives is a name.
-from_second_is_name : (line : List ℕ) (rs : List Run) → runs_from 0 line ≡ rs → NoLineFeed line → length (from_second line rs) ≤ NAME_BYTES → is_name (from_second line rs) ≡ true
+from_second_is_name : (line : List ℕ) (rs : List WordRun) → runs_from 0 line ≡ rs → NoLineFeed line → length (from_second line rs) ≤ NAME_BYTES → is_name (from_second line rs) ≡ true
 from_second_is_name line [] e whole few = refl
 from_second_is_name line (key ∷ []) e whole few = refl
 from_second_is_name line (key ∷ r ∷ rs) e whole few =
     let w = name_within line key r rs e in
-    let each : All (IsField line) (r ∷ rs) = rest line key (r ∷ rs) (subst (λ (fs : List Run). All (IsField line) fs) e (fields_are line).each) in
+    let each : All (IsField line) (r ∷ rs) = rest line key (r ∷ rs) (subst (λ (fs : List WordRun). All (IsField line) fs) e (fields_are line).each) in
     let f : IsField line r = each 0 r (omega arith) in
     let z : r.place + 0 ≡ r.place = omega arith in
     let first : is_separator (get_or line r.place 0) ≡ false = ap (λ (k : ℕ). is_separator (get_or line k 0)) (sym z) ∙ byte_of line r 0 f f.some in
@@ -150,10 +150,10 @@ read_is_upit n text lines given name values e f g h len few =
     rw (named_so, small) refl
 
 -- The same, where the fields were given one after another.
-pub name_bounds : (line : List ℕ) (end : ℕ) (all seconds thirds left : List Run) (key r : Run) → all ≡ runs_from 0 line → all ≡ key ∷ seconds → seconds ≡ r ∷ thirds → left ≡ [] → last_end end left ≡ last_end (r.place + length r.text) thirds
+pub name_bounds : (line : List ℕ) (end : ℕ) (all seconds thirds left : List WordRun) (key r : WordRun) → all ≡ runs_from 0 line → all ≡ key ∷ seconds → seconds ≡ r ∷ thirds → left ≡ [] → last_end end left ≡ last_end (r.place + length r.text) thirds
     → (r.place < end) × (end ≤ length line)
 name_bounds line end all seconds thirds left key r e f g none last =
-    let runs : runs_from 0 line ≡ key ∷ r ∷ thirds = sym e ∙ f ∙ ap (λ (rs : List Run). key ∷ rs) g in
+    let runs : runs_from 0 line ≡ key ∷ r ∷ thirds = sym e ∙ f ∙ ap (λ (rs : List WordRun). key ∷ rs) g in
     let same : end ≡ last_end 0 (r ∷ thirds) = sym (ap (last_end end) none) ∙ last in
     let w = name_within line key r thirds runs in
     (omega (arith, w.0), omega (arith, w.1))

@@ -2,7 +2,7 @@
 use Rattle.std.proofs.Common.{◌≡◌, ℕ, true, List, [], ◌∷◌, map, drop, Some, None, Ok, ℤ, pos, refl, sym, ap, ◌∙◌}
 use Rattle.std.specs.Prelude.{is_some, is_ok, unwrap_or}
 use Rattle.std.specs.Result.{result_ok, result_unwrap_or}
-use Rattle.fixed_worth.specs.Text.{Run}
+use Rattle.fixed_worth.specs.Text.{WordRun}
 use Rattle.fixed_worth.specs.Record.{first_whole, reads, number_of}
 use Rattle.fixed_worth.specs.Decimal.{first_decimal, decimal_of}
 use Rattle.fixed_worth.proofs.FirstNumbers.{first_is, no_field, number_no_remark}
@@ -15,7 +15,7 @@ record_of_two line block value f g good is read =
     let some : is_some (result_ok (decimal_of g)) ≡ true = ap (λ r. is_some (result_ok r)) (sym read) in
     (number_no_remark f good, refl, rw (good, some) refl, sym is, ap (λ r. unwrap_or (result_ok r) (pos 0)) read)
 
-pub is_value : (fields left behind : List Run) (block : ℕ) (value : ℤ) → Some (Ok block) ≡ first_whole fields → left ≡ drop 1 fields → Some (Ok value) ≡ first_decimal left → behind ≡ drop 1 left → None ≡ first_whole behind
+pub is_value : (fields left behind : List WordRun) (block : ℕ) (value : ℤ) → Some (Ok block) ≡ first_whole fields → left ≡ drop 1 fields → Some (Ok value) ≡ first_decimal left → behind ≡ drop 1 left → None ≡ first_whole behind
     → (line : ℕ) → IsRecord line (map (λ r. r.text) fields) (Value block value)
 is_value fields left behind block value a e b h none line =
     let f = first_is fields (Ok block) a in

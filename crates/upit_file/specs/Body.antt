@@ -14,10 +14,10 @@ block_of [] = 0
 block_of (block ∷ fields) = number_of block
 
 -- The value that a record gives, in millionths: its second field.
-abbrev pub value_of : List (List ℕ) → ℤ
-value_of [] = pos 0
-value_of (block ∷ []) = pos 0
-value_of (block ∷ value ∷ fields) = unwrap_or (value_read value) (pos 0)
+abbrev pub value_of_record : List (List ℕ) → ℤ
+value_of_record [] = pos 0
+value_of_record (block ∷ []) = pos 0
+value_of_record (block ∷ value ∷ fields) = unwrap_or (value_read value) (pos 0)
 
 -- What is wrong with a record by itself.
 abbrev pub shape_fault : ℕ → List (List ℕ) → Option UpitFault
@@ -46,7 +46,7 @@ has_record ls b = list_any (λ l. is_record_of b (fields_in l)) ls
 -- The value of block b: that of its first record, and 0 where it has none.
 abbrev pub value_among : List Line → ℕ → ℤ
 value_among [] b = pos 0
-value_among (l ∷ ls) b = cond (is_record_of b (fields_in l)) (value_of (fields_in l)) (value_among ls b)
+value_among (l ∷ ls) b = cond (is_record_of b (fields_in l)) (value_of_record (fields_in l)) (value_among ls b)
 
 -- The fault of the first faulty line, if any, behind these lines.
 abbrev pub first_fault : ℕ → List Line → List Line → Option UpitFault

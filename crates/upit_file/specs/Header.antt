@@ -4,7 +4,7 @@ use Rattle.std.specs.Option.{option_or}
 use Rattle.std.specs.Str.{bytes_eq}
 use Rattle.fixed_worth.specs.declared.limits.TheConstants.{MOST_BLOCKS, LINE_BYTES}
 use Rattle.upit_file.specs.declared.limits.TheConstants.{NAME_BYTES}
-use Rattle.fixed_worth.specs.Text.{Run, fields_of, runs_from}
+use Rattle.fixed_worth.specs.Text.{WordRun, fields_of, runs_from}
 use Rattle.fixed_worth.specs.Record.{Line, reads, number_of}
 use Rattle.upit_file.specs.declared.key.Key.{Key}
 use Rattle.upit_file.specs.declared.key.Key.TheVariants.{Name, FileType, Blocks, Objective, End, Other}
@@ -56,12 +56,12 @@ after_header [] = []
 after_header (l ∷ ls) = cond (ends_header (key_in (fields_in l))) (l ∷ ls) (after_header ls)
 
 -- Where the last of these fields ends; e where there is none.
-abbrev pub last_end : ℕ → List Run → ℕ
+abbrev pub last_end : ℕ → List WordRun → ℕ
 last_end e [] = e
 last_end e (field ∷ fields) = last_end (field.place + length field.text) fields
 
 -- The line from its second field's first byte to its last field's last; nothing where there is no second field.
-abbrev pub from_second : List ℕ → List Run → List ℕ
+abbrev pub from_second : List ℕ → List WordRun → List ℕ
 from_second line [] = []
 from_second line (key ∷ []) = []
 from_second line (key ∷ field ∷ fields) = drop field.place (take (last_end 0 (field ∷ fields)) line)

@@ -18,12 +18,12 @@ unless_fault n None = Ok n
 unless_fault n (Some e) = Err e
 
 -- The number of blocks that the first NBLOCKS record of the header names; 0 where there is none.
-abbrev pub count_in : List Line → ℕ
-count_in ls = unwrap_or (first_count (header ls)) 0
+abbrev pub blocks_declared : List Line → ℕ
+blocks_declared ls = unwrap_or (first_count (header ls)) 0
 
 -- The number of blocks that the text declares, or the first fault of its header.
 abbrev pub declared_of : List ℕ → Result ℕ UpitFault
-declared_of text = unless_fault (count_in (lines_in text)) (header_fault (count_in (lines_in text)) (lines_in text))
+declared_of text = unless_fault (blocks_declared (lines_in text)) (header_fault (blocks_declared (lines_in text)) (lines_in text))
 
 -- The first fault of the text where n blocks are wanted.
 abbrev pub fault_of : ℕ → List ℕ → Option UpitFault

@@ -61,7 +61,7 @@ pub(crate) fn read_header<'a>(
     wanted: Option<u32>,
 ) -> Result<Header<'a>, UpitFault>
     requires { lines.old.number ≡ 0 }
-    ensures { let all = numbered_lines 0 lines.old.lines in let n = unwrap_or wanted (records.count_in all) in MatchResult result
+    ensures { let all = numbered_lines 0 lines.old.lines in let n = unwrap_or wanted (records.blocks_declared all) in MatchResult result
         (λ header. (header.blocks ≡ n) × (header.blocks ≤ MOST_BLOCKS) × (spec.header_fault n all ≡ None)
         × (header.name.now ≡ spec.last_name [] (spec.header all))
         × (drop 1 (spec.after_header all) ≡ numbered_lines lines.new.number lines.new.lines))

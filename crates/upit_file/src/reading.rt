@@ -41,10 +41,10 @@ pub fn read_upit(alloc: Global, text: &[u8], n: u32) -> Result<Upit, UpitFault>
 /// The name and the values of a text, as [`read_upit`] gives them for the wanted number of blocks, and where none is
 /// wanted for the number that the text itself declares.
 pub fn read_values(alloc: Global, text: &[u8], wanted: Option<u32>) -> Result<Upit, UpitFault>
-    ensures value { let n = unwrap_or wanted (spec.count_in (spec.lines_in text.now)) in MatchResult result
+    ensures value { let n = unwrap_or wanted (spec.blocks_declared (spec.lines_in text.now)) in MatchResult result
         (λ upit. (spec.fault_of n text.now ≡ None) × spec.Denotes n text.now upit)
         (λ e. spec.UnlessMemory e (spec.fault_of n text.now ≡ Some e)) }
-    ensures header { (fault : UpitFault) → header_fault (unwrap_or wanted (spec.count_in (spec.lines_in text.now))) (spec.lines_in text.now) ≡ Some fault
+    ensures header { (fault : UpitFault) → header_fault (unwrap_or wanted (spec.blocks_declared (spec.lines_in text.now))) (spec.lines_in text.now) ≡ Some fault
         → result ≡ Err fault }
 {
     let mut lines = Lines::new(text);

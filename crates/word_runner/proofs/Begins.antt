@@ -20,7 +20,7 @@ use Rattle.machine_law.specs.Operations.{operation_as}
 use Rattle.machine_law.specs.States as law
 use Rattle.word_runner.specs.declared.view.View.{View}
 use Rattle.word_runner.specs.Layout.{count, units, Cells, excess_at, label_at, source_at, room_at, flow_at}
-use Rattle.word_runner.specs.Views.{of_block, Ruled, Sees, IsOwn, first_view, start_words, IsStart, IsMadeBy}
+use Rattle.word_runner.specs.Views.{of_block, Ruled, Sees, IsSeatsOwn, first_view, start_words, IsStart, IsMadeBy}
 use Rattle.word_runner.specs.Halves.{IsSole, IsHalf, half, left_half, right_half, joined_view, spent_view}
 use Rattle.word_runner.proofs.SeatViews.{free_operation, seats_set, append_none}
 
@@ -107,7 +107,7 @@ begins key gain loss q =
     units_same x y e = let w = ap (λ (a : Amount). a.w) e in omega (arith, ints)
 
 -- ---- one seat and two
-pub sole_owns : (v : View) (b : ℕ) → IsSole v → IsOwn v b
+pub sole_owns : (v : View) (b : ℕ) → IsSole v → IsSeatsOwn v b
 sole_owns v b s = record { live = s.live; serves = ap (λ (k : ℕ). b % k) s.workers ∙ one b ∙ sym s.number }
   where
     one : (b : ℕ) → b % 1 ≡ 0
@@ -170,8 +170,8 @@ joins key id o v w q p s r at ne at' =
     let views = set s.views id both in
     let there : get_elem? s.views o ≡ some w = ⊎_elim (λ (t : (o ≡ id) × (both ≡ w)). absurd (ne t.0)) (λ (t : (o ≢ id) × (get_elem? s.views o ≡ some w)). t.1) (at_set s.views id o both w at') in
     let yours = r.seats o w there in
-    let even : (b : ℕ) → b % 2 ≡ 0 → IsOwn v b = λ b z. record { live = q.live; serves = ap (λ (k : ℕ). b % k) q.workers ∙ z ∙ sym q.number } in
-    let odd : (b : ℕ) → b % 2 ≡ 1 → IsOwn w b = λ b z. record { live = p.live; serves = ap (λ (k : ℕ). b % k) p.workers ∙ z ∙ sym p.number } in
+    let even : (b : ℕ) → b % 2 ≡ 0 → IsSeatsOwn v b = λ b z. record { live = q.live; serves = ap (λ (k : ℕ). b % k) q.workers ∙ z ∙ sym q.number } in
+    let odd : (b : ℕ) → b % 2 ≡ 1 → IsSeatsOwn w b = λ b z. record { live = p.live; serves = ap (λ (k : ℕ). b % k) p.workers ∙ z ∙ sym p.number } in
     let idle : (b : ℕ) → b < count net → r.machine.operation b ≡ Idle = λ b l. dite (ℕ_discrete (b % 2) 0)
     (λ z. mine.operation b l (even b z) ∙ ap (operation_as units) (free_operation v b q.free))
     (λ z. yours.operation b l (odd b (omega arith)) ∙ ap (operation_as units) (free_operation w b p.free)) in
@@ -199,7 +199,7 @@ joins key id o v w q p s r at ne at' =
             label = λ b l h run. absurd (dead (sym run));
             flow = λ b l h run. absurd (dead (sym run));
           }))
-          (λ (t : (j ≢ id) × (get_elem? s.views j ≡ some x)). let old = r.seats j x t.1 in let none_own : (b : ℕ) → b < count net → IsOwn x b → ⊥ = λ b l h. dite (ℕ_discrete (b % 2) 0)
+          (λ (t : (j ≢ id) × (get_elem? s.views j ≡ some x)). let old = r.seats j x t.1 in let none_own : (b : ℕ) → b < count net → IsSeatsOwn x b → ⊥ = λ b l h. dite (ℕ_discrete (b % 2) 0)
           (λ z. t.0 (sym (old.owns b l h) ∙ mine.owns b l (even b z)))
           (λ z. nj (sym (old.owns b l h) ∙ yours.owns b l (odd b (omega arith)))) in record {
             owns = λ b l h. absurd (none_own b l h);

@@ -11,12 +11,12 @@ use Rattle.word_runner.specs.declared.view.View.{View}
 use Rattle.word_runner.specs.Layout.{width}
 use Rattle.word_runner.specs.StepWords.{after, word_after, push_units, word_after_push}
 use Rattle.word_runner.specs.Views.{Ruled}
-use Rattle.word_runner.specs.Turns.{Sat, stopped_after, labels_after, event_of, view_after_turn, TurnsSeat, block_of}
-use Rattle.word_runner.specs.Seats.{IsNextAt, Reads, Adds, Subtracts, Stores}
+use Rattle.word_runner.specs.Turns.{Sat, stopped_after, labels_after, event_of_operation, view_after_turn, TurnsSeat, block_of_view}
+use Rattle.word_runner.specs.Seats.{IsNextAt, StepReads, StepAdds, Subtracts, Stores}
 use Rattle.word_runner.proofs.Writes.{Fits, push_fits}
 use Rattle.word_runner.proofs.KeepsRule.{turns}
 
-reads : (o : Operation ℕ) (x : ℕ) → Reads o → x ≡ word_after o x
+reads : (o : Operation ℕ) (x : ℕ) → StepReads o → x ≡ word_after o x
 reads Idle x h = refl
 reads (Scan have place read best) x h = refl
 reads (PushDue have best) x h = absurd h
@@ -30,7 +30,7 @@ pushes_more Forward have read x e f = omega (arith, f)
 pushes_more Backward have read x e f = absurd cc
 pushes_more Source have read x e f = absurd cc
 
-adds : (o : Operation ℕ) (k x : ℕ) → Adds o k → Fits o x → (x + k) % 2 ^ 64 ≡ word_after o x
+adds : (o : Operation ℕ) (k x : ℕ) → StepAdds o k → Fits o x → (x + k) % 2 ^ 64 ≡ word_after o x
 adds Idle k x h f = absurd h
 adds (Scan have place read best) k x h f = absurd h
 adds (PushDue have best) k x h f = ap (λ (z : ℕ). (x + z) % 2 ^ 64) h.1 ∙ pushes_more best.port.kind have best.capacity x h.0 f
@@ -71,17 +71,17 @@ unread_by net b label (RaiseDue have best) k x y h = (refl, refl)
 unread : (b : ℕ) (v : View) (k x y : ℕ) → Stores v.operation k → view_after_turn b v x ≡ view_after_turn b v y
 unread b v k x y h =
     let e = unread_by v.net b (get_or v.labels b 0) v.operation k x y h in
-    λ j. record v { labels = labels_after v.labels b v.operation; block = b; operation = e.0 j; stopped = e.1 j; made = v.made ++ event_of v.net b v.operation ∷ [] }
+    λ j. record v { labels = labels_after v.labels b v.operation; block = b; operation = e.0 j; stopped = e.1 j; made = v.made ++ event_of_operation v.net b v.operation ∷ [] }
 
 -- the same at the words of a table whose key is the seat's net
 module _ (key : NetView) (slots id b i : ℕ) (me : Sat) (e : me.0.net ≡ key) (n : IsNextAt me.0 b i) where
   pub allows : (a : ℕ) (f : ℕ → ℕ) → ((x : ℕ) → x < 2 ^ 64 → Fits me.0.operation x → f x ≡ word_after me.0.operation x) → Allows (Ruled key) slots id me i f (TurnsSeat (step slots i a 0 none) me)
   allows a f h = subst (λ (z : NetView × ℕ). Allows (Ruled z.0) slots id me z.1 f (TurnsSeat (step slots z.1 a 0 none) me)) (λ k. (e k, sym n.word k)) (turns slots id a b me f n.may h)
 
-  pub loads : Reads me.0.operation → Allows (Ruled key) slots id me i (λ n. n) (TurnsSeat (step slots i 0 0 none) me)
+  pub loads : StepReads me.0.operation → Allows (Ruled key) slots id me i (λ n. n) (TurnsSeat (step slots i 0 0 none) me)
   loads h = allows 0 (λ n. n) (λ x l f. reads me.0.operation x h)
 
-  pub gives : (k : ℕ) → Adds me.0.operation k → Allows (Ruled key) slots id me i (λ n. (n + k) % 2 ^ 64) (TurnsSeat (step slots i k 0 none) me)
+  pub gives : (k : ℕ) → StepAdds me.0.operation k → Allows (Ruled key) slots id me i (λ n. (n + k) % 2 ^ 64) (TurnsSeat (step slots i k 0 none) me)
   gives k h = allows k (λ n. (n + k) % 2 ^ 64) (λ x l f. adds me.0.operation k x h f)
 
   pub takes : (k : ℕ) → Subtracts me.0.operation k → Allows (Ruled key) slots id me i (λ n. (n + (2 ^ 64 - k)) % 2 ^ 64) (TurnsSeat (step slots i k 0 none) me)
@@ -92,7 +92,7 @@ module _ (key : NetView) (slots id b i : ℕ) (me : Sat) (e : me.0.net ≡ key) 
   puts k h s r homes at small =
       let g = allows k (λ _. k) (λ x l f. stores me.0.operation k x h) s r homes at small in
       let x : ℕ = get_or s.words i 0 in
-      let z = unread (block_of me.0 i) me.0 k x k h in
+      let z = unread (block_of_view me.0 i) me.0 k x k h in
       (g.0, g.1, g.2, g.3, (g.4.0 ∙ z, g.4.1, g.4.2, g.4.3))
 
   pub in_table : (words : ℕ) → words ≡ width key → i < words

@@ -15,8 +15,8 @@ use Rattle.word_runner.specs.Layout.{units}
 use Rattle.word_runner.specs.Seats.{Own, WordsView}
 use Rattle.word_runner.specs.CutNets.{IsCutNet}
 use Rattle.word_runner.specs.Openings.{AreNeitherOneNorTwo}
-use Rattle.word_runner.specs.Runs.{steps_made_by, SomeIsBusy, IsQuietRunOf, IsOpenRunOf, IsSettled, SettleFaultStands}
-use Rattle.word_runner.specs.Ends.{IsQuietEnd, EndFaultStands, RunFaultStands, SolveFaultStands, IsSolvedBy}
+use Rattle.word_runner.specs.Runs.{steps_made_by, SomeIsBusy, IsQuietRunOf, IsOpenRunOf, IsRunSettled, SettleFaultStands}
+use Rattle.word_runner.specs.Ends.{IsQuietEnd, EndFaultStands, WordRunFaultStands, WordSolveFaultStands, IsSolvedBy}
 
 -- what follows on either side of a result
 pub on_sides : {A B : Type 0} (P R : A → Type 0) (Q S : B → Type 0) (r : Result A B) → ((a : A) → P a → R a) → ((b : B) → Q b → S b) → MatchResult r P Q → MatchResult r R S
@@ -41,33 +41,33 @@ last_two xs ys zs s t e f l =
 
 -- ---- what closing the words says of the seats that were handed in
 module _ (w : WordsView) (xs : List Own) (m : List Event) (Busy : Type 0) (is : m ≡ steps_made_by xs) (busy : Busy → SomeIsBusy xs) where
-  settled : (flow : FlowView) → IsQuietEnd w.cut m flow → IsSettled w xs flow
+  settled : (flow : FlowView) → IsQuietEnd w.cut m flow → IsRunSettled w xs flow
   settled flow h = record { quiet = subst (λ (z : List Event). IsQuietRunOf w.cut z flow) is h.quiet; greatest = h.greatest }
 
   unsettled : (f : SettleFault) → EndFaultStands w.cut m Busy f → SettleFaultStands w xs f
   unsettled Unsettled h = elim h [ inl b ↦ inl (busy b) | inr o ↦ inr (subst (IsOpenRunOf w.cut) is o) ]
   unsettled NoMemory h = tt
 
-  pub closed : (r : Result FlowView SettleFault) → MatchResult r (λ flow. IsQuietEnd w.cut m flow) (λ f. EndFaultStands w.cut m Busy f) → MatchResult r (λ flow. IsSettled w xs flow) (λ f. SettleFaultStands w xs f)
+  pub closed : (r : Result FlowView SettleFault) → MatchResult r (λ flow. IsQuietEnd w.cut m flow) (λ f. EndFaultStands w.cut m Busy f) → MatchResult r (λ flow. IsRunSettled w xs flow) (λ f. SettleFaultStands w xs f)
   closed r h = on_sides _ _ _ _ r settled unsettled h
 
 pub closed_one : (w : WordsView) (xs : List Own) (s : Own) → xs ≡ s ∷ [] → (r : Result FlowView SettleFault) → MatchResult r (λ flow. IsQuietEnd w.cut s.place.me.0.made flow) (λ f. EndFaultStands w.cut s.place.me.0.made (¬ (s.operation ≡ Idle)) f)
-    → MatchResult r (λ flow. IsSettled w xs flow) (λ f. SettleFaultStands w xs f)
+    → MatchResult r (λ flow. IsRunSettled w xs flow) (λ f. SettleFaultStands w xs f)
 closed_one w xs s e r h =
-    subst (λ (z : List Own). MatchResult r (λ flow. IsSettled w z flow) (λ f. SettleFaultStands w z f)) (sym e)
+    subst (λ (z : List Own). MatchResult r (λ flow. IsRunSettled w z flow) (λ f. SettleFaultStands w z f)) (sym e)
     (closed w (s ∷ []) s.place.me.0.made (¬ (s.operation ≡ Idle)) (sym (append-nil s.place.me.0.made)) (λ b. (0, s, refl, b)) r h)
 
 pub closed_two : (w : WordsView) (xs : List Own) (s t : Own) → xs ≡ s ∷ t ∷ [] → (r : Result FlowView SettleFault)
     → MatchResult r (λ flow. IsQuietEnd w.cut (s.place.me.0.made ++ t.place.me.0.made) flow) (λ f. EndFaultStands w.cut (s.place.me.0.made ++ t.place.me.0.made) (¬ (s.operation ≡ Idle) ⊎ ¬ (t.operation ≡ Idle)) f)
-    → MatchResult r (λ flow. IsSettled w xs flow) (λ f. SettleFaultStands w xs f)
+    → MatchResult r (λ flow. IsRunSettled w xs flow) (λ f. SettleFaultStands w xs f)
 closed_two w xs s t e r h =
-    subst (λ (z : List Own). MatchResult r (λ flow. IsSettled w z flow) (λ f. SettleFaultStands w z f)) (sym e)
+    subst (λ (z : List Own). MatchResult r (λ flow. IsRunSettled w z flow) (λ f. SettleFaultStands w z f)) (sym e)
     (closed w (s ∷ t ∷ []) (s.place.me.0.made ++ t.place.me.0.made) (¬ (s.operation ≡ Idle) ⊎ ¬ (t.operation ≡ Idle)) (ap (λ (z : List Event). s.place.me.0.made ++ z) (sym (append-nil t.place.me.0.made)))
     (λ b. elim b [ inl x ↦ (0, s, refl, x) | inr x ↦ (1, t, refl, x) ]) r h)
 
 -- ---- whole runs
 module _ (net cut : NetView) (workers : ℕ) (good : ¬ (AreNeitherOneNorTwo workers)) (small : AtMost (all_given net) (units 9223372036854775807)) (is_cut : IsCutNet net cut) where
-  pub fault_ends : (f : SolveFault) → RunFaultStands cut f → SolveFaultStands net workers f
+  pub fault_ends : (f : SolveFault) → WordRunFaultStands cut f → WordSolveFaultStands net workers f
   fault_ends solve.BadWorkers h = absurd h
   fault_ends solve.Unsettled h = (good, small)
   fault_ends solve.TooLarge h = (good, inr (record { cut = cut; is_cut = is_cut; large = h }))

@@ -2,7 +2,7 @@
 use Rattle.std.proofs.Common.{◌≡◌, ℕ, true, refl}
 use Rattle.machine_law.specs.declared.operations.Operation.{Operation}
 use Rattle.machine_law.specs.declared.operations.Operation.TheVariants.{Idle, Scan, PushDue, TakeDue, GiveDue, RaiseDue}
-use Rattle.word_runner.specs.Views.{is_idle}
+use Rattle.machine_law.specs.Operations.{is_idle}
 
 pub free_is : (o : Operation ℕ) → is_idle o ≡ true → o ≡ Idle
 free_is Idle e = refl

@@ -26,8 +26,8 @@ use Rattle.machine_law.proofs.Conserved.{runs_conserve}
 use Rattle.word_runner.specs.declared.view.View.{View}
 use Rattle.word_runner.specs.Layout.{units, count, Cells, flow_at}
 use Rattle.word_runner.specs.StepWords.{word_of, word_after, after, capacity_word, push_units, word_after_push}
-use Rattle.word_runner.specs.Views.{Ruled, Sees, IsOwn}
-use Rattle.word_runner.specs.Turns.{Sat, stopped_after, event_of, view_after_turn, TurnsSeat, IsPlaced, CanTurn, overfull, RaisesTooFar, SomeFlowIsTooLarge, SomeLabelIsTooLarge, IsLargeBy}
+use Rattle.word_runner.specs.Views.{Ruled, Sees, IsSeatsOwn}
+use Rattle.word_runner.specs.Turns.{Sat, stopped_after, event_of_operation, view_after_turn, TurnsSeat, IsPlaced, CanTurn, overfull, RaisesTooFar, SomeFlowIsTooLarge, SomeLabelIsTooLarge, IsLargeBy}
 use Rattle.word_runner.proofs.Units.{units_above}
 use Rattle.word_runner.proofs.Shows.{operation_shown, labels_shown, labels_else}
 use Rattle.word_runner.proofs.Writes.{Fits, fits, placed, cells_shown, flow_shown}
@@ -53,7 +53,7 @@ module _ (s : State (Unit {0}) View) (id b : ℕ) (v : View) (q : CanTurn v b) (
   x = get_or s.words i 0
 
   abbrev e : Event
-  e = event_of net b o
+  e = event_of_operation net b o
 
   known : All (IsKnown (count net)) net.pairs
   known = r.is_net.rests.known
@@ -74,7 +74,7 @@ module _ (s : State (Unit {0}) View) (id b : ℕ) (v : View) (q : CanTurn v b) (
   lawful = subst (IsOperation net t b) was ((runs_keep_law net r.events t r.run).amounts.operation b)
 
   own_flow : (k : ℕ) → k < length net.pairs → from_at net.pairs k ≡ b → get_or s.words (flow_at net k) 0 < 2 ^ 63
-  own_flow k l f = mine.flow k l (subst (IsOwn v) (sym f) q.own) q.runs
+  own_flow k l f = mine.flow k l (subst (IsSeatsOwn v) (sym f) q.own) q.runs
 
   pub fit : Fits o x
   fit = fits net known t s.words r.cells b q.block o lawful r.small (runs_conserve net r.events t known r.run) (runs_conserve net (r.events ++ e ∷ []) u known runs) own_flow
@@ -86,7 +86,7 @@ module _ (s : State (Unit {0}) View) (id b : ℕ) (v : View) (q : CanTurn v b) (
   placed_after = placed net u b (view_after_turn b v x).operation
       (subst (IsOperation net u b) (ap (λ (f : ℕ → _). f b) operation_is ∙ put-same t.operation b _) ((runs_keep_law net (r.events ++ e ∷ []) u runs).amounts.operation b))
 
-  apart : (j : ℕ) (y : View) → j ≢ id → get_elem? s.views j ≡ some y → (c : ℕ) → c < count net → IsOwn y c → c ≢ b
+  apart : (j : ℕ) (y : View) → j ≢ id → get_elem? s.views j ≡ some y → (c : ℕ) → c < count net → IsSeatsOwn y c → c ≢ b
   apart j y ne at' c l own is = ne (sym ((r.seats j y at').owns c l own) ∙ ap r.owner is ∙ mine.owns b q.block q.own)
 
   sees_mine : Sees net u r.owner (set s.words i (word_after o x)) id (view_after_turn b v x)

@@ -10,7 +10,7 @@ use Rattle.closure_net.specs.Network.{NetView}
 use Rattle.machine_law.specs.Conservation.{all_given}
 use Rattle.machine_law.proofs.Conserved.{runs_conserve}
 use Rattle.word_runner.specs.declared.view.View.{View}
-use Rattle.word_runner.specs.Views.{Ruled, Sees, IsOwn, IsMadeBy}
+use Rattle.word_runner.specs.Views.{Ruled, Sees, IsSeatsOwn, IsMadeBy}
 use Rattle.word_runner.specs.Turns.{Sat}
 use Rattle.word_runner.specs.Halves.{LooksUp}
 use Rattle.word_runner.proofs.SeatViews.{seats_set}
@@ -30,7 +30,7 @@ loaded_more : (net : NetView) (s : State (Unit {0}) View) (id : ℕ) (v : View) 
 loaded_more net s id v l r at =
     let mine = r.seats id v at in
     let made = r.made id v at in
-    let same : (b : ℕ) → IsOwn (record v { loaded = l }) b → IsOwn v b = λ b o. record { live = o.live; serves = o.serves } in
+    let same : (b : ℕ) → IsSeatsOwn (record v { loaded = l }) b → IsSeatsOwn v b = λ b o. record { live = o.live; serves = o.serves } in
     record {
       events = r.events;
       machine = r.machine;

@@ -9,11 +9,12 @@ use Rattle.closure_net.specs.Network.{NetView}
 use Rattle.machine_law.specs.declared.events.Event.{Event}
 use Rattle.machine_law.specs.declared.operations.Operation.{Operation}
 use Rattle.machine_law.specs.declared.operations.Operation.TheVariants.{Idle, Scan, PushDue, TakeDue, GiveDue, RaiseDue}
+use Rattle.machine_law.specs.Operations.{is_idle}
 use Rattle.word_runner.specs.declared.view.View.{View}
 use Rattle.word_runner.specs.Layout.{count}
 use Rattle.word_runner.specs.StepWords.{word_of}
-use Rattle.word_runner.specs.Views.{IsOwn, of_block, IsMade, IsMadeBy, operation_at, is_idle}
-use Rattle.word_runner.specs.Turns.{block_of, CanTurn}
+use Rattle.word_runner.specs.Views.{IsSeatsOwn, of_block, IsMade, IsMadeBy, operation_in_view}
+use Rattle.word_runner.specs.Turns.{block_of_view, CanTurn}
 
 pub seats_set : (P : ℕ → View → Type 0) (vs : List View) (me : ℕ) (w : View) → P me w → ((j : ℕ) (v : View) → j ≢ me → get_elem? vs j ≡ some v → P j v)
     → (j : ℕ) (v : View) → get_elem? (set vs me w) j ≡ some v → P j v
@@ -21,24 +22,24 @@ seats_set P vs me w mine others j v e = ⊎_elim (λ (t : (j ≡ me) × (w ≡ v
     (λ (t : (j ≢ me) × (get_elem? vs j ≡ some v)). others j v t.0 t.1) (at_set vs me j w v e)
 
 -- a seat with no operation shows none
-pub free_operation : (v : View) (c : ℕ) → v.operation ≡ Idle → operation_at v c ≡ Idle
+pub free_operation : (v : View) (c : ℕ) → v.operation ≡ Idle → operation_in_view v c ≡ Idle
 free_operation v c e = ap (λ o. cond (v.block == c) o Idle) e ∙ both (v.block == c)
   where
     both : (b : Bool) → cond {A = Operation ℕ} b Idle Idle ≡ Idle
     both true = refl
     both false = refl
 
-pub operation_here : (v : View) (b : ℕ) → v.block ≡ b → operation_at v b ≡ v.operation
+pub operation_here : (v : View) (b : ℕ) → v.block ≡ b → operation_in_view v b ≡ v.operation
 operation_here v b e = ap (λ z. cond z v.operation Idle) (eq-eqb v.block b e)
 
-pub operation_else : (v : View) (b : ℕ) → v.block ≢ b → operation_at v b ≡ Idle
+pub operation_else : (v : View) (b : ℕ) → v.block ≢ b → operation_in_view v b ≡ Idle
 operation_else v b e = ap (λ z. cond z v.operation Idle) (ne_eqb v.block b e)
 
 -- what a seat that may turn shows
-pub shown_here : (v : View) (b : ℕ) → CanTurn v b → operation_at v b ≡ v.operation
+pub shown_here : (v : View) (b : ℕ) → CanTurn v b → operation_in_view v b ≡ v.operation
 shown_here v b q = elim q.here [ inl e ↦ free_operation v b e ∙ sym e | inr e ↦ operation_here v b e ]
 
-pub shown_else : (v : View) (b c : ℕ) → CanTurn v b → c ≢ b → operation_at v c ≡ Idle
+pub shown_else : (v : View) (b c : ℕ) → CanTurn v b → c ≢ b → operation_in_view v c ≡ Idle
 shown_else v b c q ne = elim q.here [ inl e ↦ free_operation v c e | inr e ↦ operation_else v c (λ h. ne (sym h ∙ e)) ]
 
 block_by : (v : View) (b : ℕ) (o : Operation ℕ) → v.operation ≡ o → (o ≡ Idle) ⊎ (v.block ≡ b) → cond (is_idle o) (word_of v.net b o - 2) v.block ≡ b
@@ -49,7 +50,7 @@ block_by v b (TakeDue d p) e h = elim h [ inl f ↦ absurd cc | inr f ↦ f ]
 block_by v b (GiveDue d p) e h = elim h [ inl f ↦ absurd cc | inr f ↦ f ]
 block_by v b (RaiseDue have best) e h = elim h [ inl f ↦ absurd cc | inr f ↦ f ]
 
-pub block_is : (v : View) (b : ℕ) → CanTurn v b → block_of v (word_of v.net b v.operation) ≡ b
+pub block_is : (v : View) (b : ℕ) → CanTurn v b → block_of_view v (word_of v.net b v.operation) ≡ b
 block_is v b q = block_by v b v.operation refl q.here
 
 pub append_none : (xs : List Event) → xs ++ [] ≡ xs
@@ -65,11 +66,11 @@ module _ (net : NetView) (es : List Event) (e : Event) where
   elsewhere c xs ne = longer c xs ∙ ap (λ (x : List Event). of_block c xs ++ x) (ap (λ (z : Bool). cond z (e ∷ []) []) (ne_eqb e.block c (λ q. ne (sym q)))) ∙ append_none (of_block c xs)
 
   pub made_more : (vs : List View) (me : ℕ) (v w : View) → IsMade net es vs → get_elem? vs me ≡ some v
-      → ((j : ℕ) (u : View) → j ≢ me → get_elem? vs j ≡ some u → (c : ℕ) → c < count net → IsOwn u c → c ≢ e.block)
-      → w.made ≡ v.made ++ e ∷ [] → IsOwn v e.block → ((c : ℕ) → IsOwn w c ↔ IsOwn v c) → IsMade net (es ++ e ∷ []) (set vs me w)
+      → ((j : ℕ) (u : View) → j ≢ me → get_elem? vs j ≡ some u → (c : ℕ) → c < count net → IsSeatsOwn u c → c ≢ e.block)
+      → w.made ≡ v.made ++ e ∷ [] → IsSeatsOwn v e.block → ((c : ℕ) → IsSeatsOwn w c ↔ IsSeatsOwn v c) → IsMade net (es ++ e ∷ []) (set vs me w)
   made_more vs me v w m at others is mine same = seats_set (λ j u. IsMadeBy net (es ++ e ∷ []) u) vs me w
       (record {
         own = λ c l o. longer c es ∙ ap (λ (x : List Event). x ++ of_block c (e ∷ [])) ((m me v at).own c l ((same c).0 o)) ∙ sym (longer c v.made) ∙ ap (λ (x : List Event). of_block c x) (sym is);
-        other = λ c l no. ap (λ (x : List Event). of_block c x) is ∙ elsewhere c v.made (λ q. no ((same c).1 (subst (IsOwn v) (sym q) mine))) ∙ (m me v at).other c l (λ o. no ((same c).1 o));
+        other = λ c l no. ap (λ (x : List Event). of_block c x) is ∙ elsewhere c v.made (λ q. no ((same c).1 (subst (IsSeatsOwn v) (sym q) mine))) ∙ (m me v at).other c l (λ o. no ((same c).1 o));
       })
       (λ j u ne at'. record { own = λ c l o. elsewhere c es (others j u ne at' c l o) ∙ (m j u at').own c l o; other = (m j u at').other })

@@ -38,13 +38,13 @@ abbrev pub SomeRunIsTooLarge : NetView → Type 0
 SomeRunIsTooLarge cut = SomeFlowIsTooLarge cut ⊎ SomeLabelIsTooLarge cut
 
 -- why turns over this net left no flow; nothing is said of what is unsettled, since no proof speaks of how far a worker came
-abbrev pub RunFaultStands : NetView → SolveFault → Type 0
-RunFaultStands cut solve.BadWorkers = ⊥
-RunFaultStands cut solve.Unsettled = Unit {0}
-RunFaultStands cut solve.TooLarge = SomeRunIsTooLarge cut
-RunFaultStands cut solve.StrangerNet = ⊥
-RunFaultStands cut solve.NoMemory = Unit {0}
-RunFaultStands cut solve.NoThread = ⊥
+abbrev pub WordRunFaultStands : NetView → SolveFault → Type 0
+WordRunFaultStands cut solve.BadWorkers = ⊥
+WordRunFaultStands cut solve.Unsettled = Unit {0}
+WordRunFaultStands cut solve.TooLarge = SomeRunIsTooLarge cut
+WordRunFaultStands cut solve.StrangerNet = ⊥
+WordRunFaultStands cut solve.NoMemory = Unit {0}
+WordRunFaultStands cut solve.NoThread = ⊥
 
 -- One or two workers made so many steps over the net cut at its total, at most the limit. They left it quiet, with this flow, which
 -- is a greatest one of the net.
@@ -66,13 +66,13 @@ pub record SomeCutRunIsTooLarge (net : NetView) : Type 0 where
   pub large : SomeRunIsTooLarge cut
 
 -- why a whole run gives no flow
-abbrev pub SolveFaultStands : NetView → ℕ → SolveFault → Type 0
-SolveFaultStands net workers solve.BadWorkers = AreNeitherOneNorTwo workers
-SolveFaultStands net workers solve.Unsettled = ¬ (AreNeitherOneNorTwo workers) × AtMost (all_given net) (units 9223372036854775807)
-SolveFaultStands net workers solve.TooLarge = ¬ (AreNeitherOneNorTwo workers) × (AtMost (units 9223372036854775808) (all_given net) ⊎ SomeCutRunIsTooLarge net)
-SolveFaultStands net workers solve.StrangerNet = ⊥
-SolveFaultStands net workers solve.NoMemory = ¬ (AreNeitherOneNorTwo workers)
-SolveFaultStands net workers solve.NoThread = ¬ (AreNeitherOneNorTwo workers) × AtMost (all_given net) (units 9223372036854775807)
+abbrev pub WordSolveFaultStands : NetView → ℕ → SolveFault → Type 0
+WordSolveFaultStands net workers solve.BadWorkers = AreNeitherOneNorTwo workers
+WordSolveFaultStands net workers solve.Unsettled = ¬ (AreNeitherOneNorTwo workers) × AtMost (all_given net) (units 9223372036854775807)
+WordSolveFaultStands net workers solve.TooLarge = ¬ (AreNeitherOneNorTwo workers) × (AtMost (units 9223372036854775808) (all_given net) ⊎ SomeCutRunIsTooLarge net)
+WordSolveFaultStands net workers solve.StrangerNet = ⊥
+WordSolveFaultStands net workers solve.NoMemory = ¬ (AreNeitherOneNorTwo workers)
+WordSolveFaultStands net workers solve.NoThread = ¬ (AreNeitherOneNorTwo workers) × AtMost (all_given net) (units 9223372036854775807)
 
 -- the faults of words as faults of a run
 abbrev pub solve_fault : WordsFault → SolveFault

@@ -34,7 +34,7 @@ pub record IsBegun (net : NetView) (workers : ℕ) (w : WordsView) (s : Own) : T
 
 -- The same with a seat for each worker. So the words are opened only where what the source gives is below 2^63 units.
 -- By `cut` and `within` together a block of the cut net gives the sink the lesser of what the net's block does and the total.
-pub record IsOpened (net : NetView) (workers : ℕ) (w : WordsView) (seats : List Own) : Type 0 where
+pub record AreOpenedSeats (net : NetView) (workers : ℕ) (w : WordsView) (seats : List Own) : Type 0 where
   pub cut : IsCutNet net w.cut
   pub within : AreWithin w.cut w.total
   pub workers_are : w.workers ≡ workers

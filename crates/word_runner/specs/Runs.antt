@@ -19,7 +19,7 @@ use Rattle.word_runner.specs.Seats.{WordsView, Own, IsServing, IsServed}
 use Rattle.word_runner.specs.CutNets.{IsCutNet}
 
 -- a seat of this number that has taken its turns, and how many steps it made
-pub record HasServed (w : WordsView) (number workers turns : ℕ) (s : Own) (steps : ℕ) : Type 0 where
+pub record SeatHasServed (w : WordsView) (number workers turns : ℕ) (s : Own) (steps : ℕ) : Type 0 where
   pub served : IsServed w.shared number workers s
   pub within : steps ≤ turns
   pub made : s.stopped ≡ false → length s.place.me.0.made ≡ steps
@@ -63,7 +63,7 @@ abbrev pub IsGreatestUncut : NetView → FlowView → Type 0
 IsGreatestUncut cut flow = (net : NetView) → IsNet net → IsCutNet net cut → IsGreatestFlow net flow
 
 -- the run that the seats made is quiet, and this is its flow
-pub record IsSettled (w : WordsView) (seats : List Own) (flow : FlowView) : Type 0 where
+pub record IsRunSettled (w : WordsView) (seats : List Own) (flow : FlowView) : Type 0 where
   pub quiet : IsQuietRunOf w.cut (steps_made_by seats) flow
   pub greatest : IsGreatestUncut w.cut flow
 

@@ -9,6 +9,7 @@ use Rattle.closure_net.specs.declared.port.PortKind.TheVariants.{Forward}
 use Rattle.machine_law.specs.Conservation.{all_given}
 use Rattle.machine_law.specs.declared.operations.Operation.{Operation}
 use Rattle.machine_law.specs.declared.operations.Operation.TheVariants.{Idle, Scan, PushDue, TakeDue, GiveDue, RaiseDue}
+use Rattle.machine_law.specs.Operations.{is_idle}
 use Rattle.word_runner.specs.declared.view.View.{View}
 use Rattle.word_runner.specs.declared.table.Rule.{Rule}
 use Rattle.word_runner.specs.declared.turns.WordTurn.{WordTurn}
@@ -16,8 +17,7 @@ use Rattle.word_runner.specs.declared.turns.WordTurn.TheVariants.{Stepped, TooLa
 use mathlib.Core.Option.{some}
 use Rattle.word_runner.specs.Layout.{units, source_at, flow_at, room_at, count, width}
 use Rattle.word_runner.specs.StepWords.{word_of, push_units}
-use Rattle.word_runner.specs.Views.{is_idle}
-use Rattle.word_runner.specs.Turns.{view_after_turn, RaisesTooFar, IsLargeBy, SomeFlowIsTooLarge, SomeLabelIsTooLarge, IsPlaced, CanTurn, event_of}
+use Rattle.word_runner.specs.Turns.{view_after_turn, RaisesTooFar, IsLargeBy, SomeFlowIsTooLarge, SomeLabelIsTooLarge, IsPlaced, CanTurn, event_of_operation}
 
 -- the seat is of these words
 pub record IsSeat (w : Shared (Unit {0}) View NetView Rule) (s : Seat (Unit {0}) View) : Type 0 where
@@ -48,22 +48,22 @@ pub record IsSame (s s' : Seat (Unit {0}) View) : Type 0 where
   pub slots : s'.me.1 ≡ s.me.1
 
 -- the step reads its word
-abbrev pub Reads : Operation ℕ → Type 0
-Reads Idle = Unit {0}
-Reads (Scan have place read best) = Unit {0}
-Reads (PushDue have best) = ⊥
-Reads (TakeDue d port) = ⊥
-Reads (GiveDue d port) = ⊥
-Reads (RaiseDue have best) = ⊥
+abbrev pub StepReads : Operation ℕ → Type 0
+StepReads Idle = Unit {0}
+StepReads (Scan have place read best) = Unit {0}
+StepReads (PushDue have best) = ⊥
+StepReads (TakeDue d port) = ⊥
+StepReads (GiveDue d port) = ⊥
+StepReads (RaiseDue have best) = ⊥
 
 -- the step adds k to its word
-abbrev pub Adds : Operation ℕ → ℕ → Type 0
-Adds Idle k = ⊥
-Adds (Scan have place read best) k = ⊥
-Adds (PushDue have best) k = (best.port.kind ≡ Forward) × (k ≡ have)
-Adds (TakeDue d port) k = ⊥
-Adds (GiveDue d port) k = k ≡ d
-Adds (RaiseDue have best) k = ⊥
+abbrev pub StepAdds : Operation ℕ → ℕ → Type 0
+StepAdds Idle k = ⊥
+StepAdds (Scan have place read best) k = ⊥
+StepAdds (PushDue have best) k = (best.port.kind ≡ Forward) × (k ≡ have)
+StepAdds (TakeDue d port) k = ⊥
+StepAdds (GiveDue d port) k = k ≡ d
+StepAdds (RaiseDue have best) k = ⊥
 
 -- the step takes k from its word
 abbrev pub Subtracts : Operation ℕ → ℕ → Type 0
@@ -133,9 +133,9 @@ pub data IsTooLarge (b : ℕ) (v : View) (stopped : Bool) (w : View) : Type 0 wh
 
 -- What a turn answers. A step was made where neither the seat had stopped, nor the step would have raised a label too far, nor its
 -- push brought a word to 2^63 or more.
-abbrev pub IsTurn : ℕ → View → Operation ℕ → Bool → View → Bool → WordTurn → Type 0
-IsTurn b v o stopped w stopped' (Stepped event more) = (stopped ≡ false) × (stopped' ≡ false) × ¬ (RaisesTooFar o) × (w.stopped ≡ false) × Turned b v w × (event ≡ event_of v.net b v.operation) × (more ≡ not (is_idle w.operation))
-IsTurn b v o stopped w stopped' TooLarge = (stopped' ≡ true) × IsTooLarge b v stopped w
+abbrev pub IsWordTurn : ℕ → View → Operation ℕ → Bool → View → Bool → WordTurn → Type 0
+IsWordTurn b v o stopped w stopped' (Stepped event more) = (stopped ≡ false) × (stopped' ≡ false) × ¬ (RaisesTooFar o) × (w.stopped ≡ false) × Turned b v w × (event ≡ event_of_operation v.net b v.operation) × (more ≡ not (is_idle w.operation))
+IsWordTurn b v o stopped w stopped' TooLarge = (stopped' ≡ true) × IsTooLarge b v stopped w
 
 -- v became w by a load of each arrival, and the answer is whether they sum to the total
 pub record HasArrived (v w : View) (total : ℕ) (answer : Bool) : Type 0 where

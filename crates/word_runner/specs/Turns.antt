@@ -10,7 +10,7 @@ use Rattle.machine_law.specs.declared.events.Event.{Event}
 use Rattle.machine_law.specs.declared.operations.Best.{Best}
 use Rattle.machine_law.specs.declared.operations.Operation.{Operation}
 use Rattle.machine_law.specs.declared.operations.Operation.TheVariants.{Idle, Scan, PushDue, TakeDue, GiveDue, RaiseDue}
-use Rattle.machine_law.specs.Operations.{operation_as}
+use Rattle.machine_law.specs.Operations.{is_idle, operation_as}
 use Rattle.machine_law.specs.States as law
 use Rattle.machine_law.specs.States.{opening}
 use Rattle.machine_law.specs.Residual.{IsPortOf}
@@ -18,14 +18,14 @@ use Rattle.machine_law.specs.Steps.{Run, next_of}
 use Rattle.word_runner.specs.declared.view.View.{View}
 use Rattle.word_runner.specs.Layout.{units, count}
 use Rattle.word_runner.specs.StepWords.{after}
-use Rattle.word_runner.specs.Views.{is_idle, IsOwn}
+use Rattle.word_runner.specs.Views.{IsSeatsOwn}
 
 abbrev pub Sat : Type 0
 Sat = Me (Unit {0}) View
 
 -- the block whose step is next at this word
-abbrev pub block_of : View → ℕ → ℕ
-block_of v i = if is_idle v.operation then i - 2 else v.block
+abbrev pub block_of_view : View → ℕ → ℕ
+block_of_view v i = if is_idle v.operation then i - 2 else v.block
 
 -- the labels after the next step of block b, whose operation this is
 abbrev pub labels_after : List ℕ → ℕ → Operation ℕ → List ℕ
@@ -52,8 +52,8 @@ stopped_after (GiveDue d port) x = false
 stopped_after (RaiseDue have best) x = false
 
 -- the event of the step that is next
-abbrev pub event_of : NetView → ℕ → Operation ℕ → Event
-event_of net b o = record { block = b; kind = next_of net b (operation_as units o) }
+abbrev pub event_of_operation : NetView → ℕ → Operation ℕ → Event
+event_of_operation net b o = record { block = b; kind = next_of net b (operation_as units o) }
 
 -- v after its next step, at b, where the word was x
 abbrev pub view_after_turn : ℕ → View → ℕ → View
@@ -62,7 +62,7 @@ view_after_turn b v x = record v {
   block = b;
   operation = after v.net b (slice_index v.labels b) v.operation x;
   stopped = stopped_after v.operation x;
-  made = v.made ++ event_of v.net b v.operation ∷ [];
+  made = v.made ++ event_of_operation v.net b v.operation ∷ [];
 }
 
 -- the places and the ports of an operation of b are there
@@ -114,12 +114,12 @@ pub record IsLargeBy (net : NetView) (stopped : Bool) (o : Operation ℕ) : Type
   pub label : RaisesTooFar o → SomeLabelIsTooLarge net
 
 abbrev pub TurnsSeat : Step (Unit {0}) → Sat → ℕ → Sat → Type 0
-TurnsSeat st m r m' = (m'.0 ≡ view_after_turn (block_of m.0 st.word) m.0 r) × IsPlaced m.0.net (block_of m.0 st.word) m'.0.operation × (m'.1 ≡ m.1) × IsLargeBy m.0.net m'.0.stopped m'.0.operation
+TurnsSeat st m r m' = (m'.0 ≡ view_after_turn (block_of_view m.0 st.word) m.0 r) × IsPlaced m.0.net (block_of_view m.0 st.word) m'.0.operation × (m'.1 ≡ m.1) × IsLargeBy m.0.net m'.0.stopped m'.0.operation
 
 -- v may make the next step of b
 pub record CanTurn (v : View) (b : ℕ) : Type 0 where
   pub block : b < count v.net
-  pub own : IsOwn v b
+  pub own : IsSeatsOwn v b
   pub runs : v.stopped ≡ false
   pub wide : length v.labels ≡ count v.net
   pub here : (v.operation ≡ Idle) ⊎ (v.block ≡ b)

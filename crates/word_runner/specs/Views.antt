@@ -1,5 +1,5 @@
 -- What a seat's view shows of the state, and the rule that holds between any two operations on the words.
-use Rattle.std.specs.Prelude.{◌≡◌, ℕ, ◌<◌, ◌%◌, ◌^◌, ◌==◌, Bool, true, false, if◌then◌else◌, List, [], ◌∷◌, ◌++◌, length, replicate, slice_index}
+use Rattle.std.specs.Prelude.{◌≡◌, ℕ, ◌<◌, ◌%◌, ◌^◌, ◌==◌, true, false, if◌then◌else◌, List, [], ◌∷◌, ◌++◌, length, replicate, slice_index}
 use Rattle.std.specs.List.{filter}
 use mathlib.Core.Option.{some}
 use lib.ListN.{get_elem?}
@@ -10,7 +10,7 @@ use Rattle.prec_file.specs.Rests.{from_at}
 use Rattle.closure_net.specs.Network.{NetView, IsNet}
 use Rattle.machine_law.specs.declared.events.Event.{Event}
 use Rattle.machine_law.specs.declared.operations.Operation.{Operation}
-use Rattle.machine_law.specs.declared.operations.Operation.TheVariants.{Idle, Scan, PushDue, TakeDue, GiveDue, RaiseDue}
+use Rattle.machine_law.specs.declared.operations.Operation.TheVariants.{Idle}
 use Rattle.machine_law.specs.Operations.{operation_as}
 use Rattle.machine_law.specs.States as law
 use Rattle.machine_law.specs.States.{opening}
@@ -19,29 +19,21 @@ use Rattle.machine_law.specs.Conservation.{all_given}
 use Rattle.word_runner.specs.declared.view.View.{View}
 use Rattle.word_runner.specs.Layout.{units, count, flow_at, Cells}
 
-abbrev pub is_idle : Operation ℕ → Bool
-is_idle Idle = true
-is_idle (Scan have place read best) = false
-is_idle (PushDue have best) = false
-is_idle (TakeDue d port) = false
-is_idle (GiveDue d port) = false
-is_idle (RaiseDue have best) = false
-
 -- the operation of b that v shows
-abbrev pub operation_at : View → ℕ → Operation ℕ
-operation_at v b = if v.block == b then v.operation else Idle
+abbrev pub operation_in_view : View → ℕ → Operation ℕ
+operation_in_view v b = if v.block == b then v.operation else Idle
 
 -- the view is of a seat at work, and block b is one that the seat serves
-pub record IsOwn (v : View) (b : ℕ) : Type 0 where
+pub record IsSeatsOwn (v : View) (b : ℕ) : Type 0 where
   pub live : v.live ≡ true
   pub serves : b % v.workers ≡ v.number
 
 -- the seat j has the view v
 pub record Sees (net : NetView) (t : law.State) (owner : ℕ → ℕ) (ws : List ℕ) (j : ℕ) (v : View) : Type 0 where
-  pub owns : (b : ℕ) → b < count net → IsOwn v b → owner b ≡ j
-  pub operation : (b : ℕ) → b < count net → IsOwn v b → t.operation b ≡ operation_as units (operation_at v b)
-  pub label : (b : ℕ) → b < count net → IsOwn v b → v.stopped ≡ false → t.label b ≡ slice_index v.labels b
-  pub flow : (k : ℕ) → k < length net.pairs → IsOwn v (from_at net.pairs k) → v.stopped ≡ false → slice_index ws (flow_at net k) < 2 ^ 63
+  pub owns : (b : ℕ) → b < count net → IsSeatsOwn v b → owner b ≡ j
+  pub operation : (b : ℕ) → b < count net → IsSeatsOwn v b → t.operation b ≡ operation_as units (operation_in_view v b)
+  pub label : (b : ℕ) → b < count net → IsSeatsOwn v b → v.stopped ≡ false → t.label b ≡ slice_index v.labels b
+  pub flow : (k : ℕ) → k < length net.pairs → IsSeatsOwn v (from_at net.pairs k) → v.stopped ≡ false → slice_index ws (flow_at net k) < 2 ^ 63
 
 -- the steps of b
 abbrev pub of_block : ℕ → List Event → List Event
@@ -49,8 +41,8 @@ of_block b es = filter (λ e. e.block == b) es
 
 -- the run's steps at a seat's own blocks are those that the seat made there, in their order, and it made none elsewhere
 pub record IsMadeBy (net : NetView) (es : List Event) (v : View) : Type 0 where
-  pub own : (b : ℕ) → b < count net → IsOwn v b → of_block b es ≡ of_block b v.made
-  pub other : (b : ℕ) → b < count net → ¬ (IsOwn v b) → of_block b v.made ≡ []
+  pub own : (b : ℕ) → b < count net → IsSeatsOwn v b → of_block b es ≡ of_block b v.made
+  pub other : (b : ℕ) → b < count net → ¬ (IsSeatsOwn v b) → of_block b v.made ≡ []
 
 -- and so at each seat
 abbrev pub IsMade : NetView → List Event → List View → Type 0

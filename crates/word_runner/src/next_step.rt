@@ -2,10 +2,9 @@
 //! becomes too large.
 
 ghost use Rattle.std.specs.Prelude.{◌≡◌, ◌<◌, IsTrue, length, ◌↔◌};
-ghost use Rattle.machine_law.specs.Operations.{operation_as};
+ghost use Rattle.machine_law.specs.Operations.{is_idle as is_free, operation_as};
 ghost use Rattle.machine_law.specs.Steps.{next_of};
 ghost use Rattle.word_runner.specs.Layout.{units};
-ghost use Rattle.word_runner.specs.Views.{is_idle as is_free};
 ghost use Rattle.word_runner.specs.Turns.{IsPlaced, stopped_after, RaisesTooFar};
 
 use closure_net::{Net, PortKind};

@@ -5,7 +5,7 @@ ghost use Rattle.std.specs.Prelude.{◌≡◌, ◌<◌, ◌≤◌, ◌^◌, IfOk
 ghost use Rattle.machine_law.specs.declared.operations.Operation.TheVariants.{Idle};
 ghost use Rattle.word_runner.specs.Views.{start_words};
 ghost use Rattle.word_runner.specs.CutNets.{AreGains};
-ghost use Rattle.word_runner.specs.Openings.{IsFirst, AreFirst, IsBegun, IsOpened, OpeningFaultStands, WordsFaultStands};
+ghost use Rattle.word_runner.specs.Openings.{IsFirst, AreFirst, IsBegun, AreOpenedSeats, OpeningFaultStands, WordsFaultStands};
 
 use crate::amounts::{gains, losses};
 use crate::cutting::cut_net;
@@ -191,7 +191,7 @@ impl Words {
         workers: u32,
     ) -> Result<(Words, Vec<WordSeat>), WordsFault>
         ensures answer { MatchResult result
-            (λ r. IsOpened net.now workers r.0 r.1.items)
+            (λ r. AreOpenedSeats net.now workers r.0 r.1.items)
             (λ e. WordsFaultStands net.now workers e) }
     {
         if workers < 1 || workers > 2 {

@@ -3,7 +3,7 @@
 
 ghost use Rattle.std.specs.Prelude.{◌≡◌, ◌+◌, ◌<◌, ◌^◌, ◌++◌, false, MatchResult};
 ghost use Rattle.word_runner.specs.Seats.{IsServed};
-ghost use Rattle.word_runner.specs.Ends.{solve_fault, settle_fault, IsQuietEnd, RunFaultStands, IsSolvedBy, SolveFaultStands};
+ghost use Rattle.word_runner.specs.Ends.{solve_fault, settle_fault, IsQuietEnd, WordRunFaultStands, IsSolvedBy, WordSolveFaultStands};
 
 use crate::net_words::Words;
 use crate::opening::{split, words_of};
@@ -44,7 +44,7 @@ fn solved_by_one(alloc: Global, words: Words, ran: Served) -> Result<Solved<Scal
     requires { IsServed words.shared 0 1 ran.seat }
     ensures { MatchResult result
         (λ solved. IsQuietEnd words.cut ran.seat.place.me.0.made solved.flow × (solved.steps ≡ ran.steps) × (ran.seat.stopped ≡ false))
-        (λ fault. RunFaultStands words.cut fault) }
+        (λ fault. WordRunFaultStands words.cut fault) }
 {
     let Served { seat, steps } = ran;
     if seat.stopped {
@@ -67,7 +67,7 @@ fn solved_by_two(
     requires steps { left.steps + right.steps < 2 ^ 64 }
     ensures { MatchResult result
         (λ solved. IsQuietEnd words.cut (left.seat.place.me.0.made ++ right.seat.place.me.0.made) solved.flow × (solved.steps ≡ left.steps + right.steps) × (left.seat.stopped ≡ false) × (right.seat.stopped ≡ false))
-        (λ fault. RunFaultStands words.cut fault) }
+        (λ fault. WordRunFaultStands words.cut fault) }
 {
     let steps = left.steps + right.steps;
     if left.seat.stopped || right.seat.stopped {
@@ -102,7 +102,7 @@ pub fn solve_words<R: Threads + Wait + Sync, T: Gate>(
 ) -> Result<Solved<Scaled>, SolveFault>
     ensures { MatchResult result
         (λ solved. IsSolvedBy net.now workers steps solved.flow solved.steps)
-        (λ fault. SolveFaultStands net.now workers fault) }
+        (λ fault. WordSolveFaultStands net.now workers fault) }
 {
     if workers < 1 || workers > 2 {
         return Err(SolveFault::BadWorkers);

@@ -3,9 +3,10 @@
 
 ghost use Rattle.std.specs.Prelude.{◌≡◌, ◌<◌, ◌+◌, ◌⊎◌, ◌^◌, true, length};
 ghost use Rattle.machine_law.specs.declared.operations.Operation.TheVariants.{Idle};
-ghost use Rattle.word_runner.specs.Views.{IsOwn, is_idle as is_free};
+ghost use Rattle.machine_law.specs.Operations.{is_idle as is_free};
+ghost use Rattle.word_runner.specs.Views.{IsSeatsOwn};
 ghost use Rattle.word_runner.specs.Turns.{labels_after, RaisesTooFar};
-ghost use Rattle.word_runner.specs.Seats.{IsSeat, IsNextAt, HasTurned, HasLoaded, HasArrived, IsSame, IsTold, IsTurn};
+ghost use Rattle.word_runner.specs.Seats.{IsSeat, IsNextAt, HasTurned, HasLoaded, HasArrived, IsSame, IsTold, IsWordTurn};
 
 use crate::choices::{after, push_units};
 use crate::layout::next_word;
@@ -110,11 +111,11 @@ impl WordSeat {
     /// made. From then on the seat makes no steps and answers the same.
     pub fn turn(&mut self, words: &Words, b: u32) -> WordTurn
         requires words { IsSeat words.now.shared self.old.place }
-        requires block { (b < length words.now.cut.worths) × IsOwn self.old.place.me.0 b × ((self.old.operation ≡ Idle) ⊎ (self.old.block ≡ b)) }
+        requires block { (b < length words.now.cut.worths) × IsSeatsOwn self.old.place.me.0 b × ((self.old.operation ≡ Idle) ⊎ (self.old.block ≡ b)) }
         ensures seat { IsSeat words.now.shared self.new.place }
         ensures same { IsSame self.old.place self.new.place }
         ensures told { IsTold self.new.place self.new.labels self.new.block self.new.operation self.new.stopped }
-        ensures answer { IsTurn b self.old.place.me.0 self.old.operation self.old.stopped self.new.place.me.0 self.new.stopped result }
+        ensures answer { IsWordTurn b self.old.place.me.0 self.old.operation self.old.stopped self.new.place.me.0 self.new.stopped result }
     {
         if self.stopped {
             return WordTurn::TooLarge;

@@ -3,7 +3,7 @@
 
 ghost use Rattle.std.specs.Prelude.{◌≡◌, ◌<◌, ◌≤◌, ◌+◌, ◌^◌, length, MatchResult};
 ghost use Rattle.word_runner.specs.Openings.{IsFirst};
-ghost use Rattle.word_runner.specs.Runs.{IsRound, HasServed};
+ghost use Rattle.word_runner.specs.Runs.{IsRound, SeatHasServed};
 
 use crate::net_words::Words;
 use crate::seats::WordSeat;
@@ -61,7 +61,7 @@ fn step_at(words: &Words, round: Round, _number: u32, _turn: u64) -> Result<Roun
     requires block { (round.at < length words.now.cut.worths) × (_number < words.now.workers) × (_turn + 1 < 2 ^ 64) }
     ensures { MatchResult result
         (λ next. IsRound words.now _number next.seat next.at next.steps (_turn + 1))
-        (λ served. HasServed words.now _number words.now.workers (_turn + 1) served.seat served.steps) }
+        (λ served. SeatHasServed words.now _number words.now.workers (_turn + 1) served.seat served.steps) }
 {
     // proof: a net has at most `MOST_BLOCKS` blocks
     let _few = words.net.rests().len();
@@ -111,7 +111,7 @@ fn look_at(words: &Words, round: Round, number: u32, _turn: u64) -> Result<Round
     requires over { (length words.now.cut.worths ≤ round.at) × (number < words.now.workers) }
     ensures { MatchResult result
         (λ next. IsRound words.now number next.seat next.at next.steps (_turn + 1))
-        (λ served. HasServed words.now number words.now.workers (_turn + 1) served.seat served.steps) }
+        (λ served. SeatHasServed words.now number words.now.workers (_turn + 1) served.seat served.steps) }
 {
     let Round {
         seat,
@@ -161,7 +161,7 @@ pub(crate) fn take_turn(
     requires few { (number < words.now.workers) × (turn + 1 < 2 ^ 64) }
     ensures { MatchResult result
         (λ next. IsRound words.now number next.seat next.at next.steps (turn + 1))
-        (λ served. HasServed words.now number words.now.workers (turn + 1) served.seat served.steps) }
+        (λ served. SeatHasServed words.now number words.now.workers (turn + 1) served.seat served.steps) }
 {
     let blocks = words.net.rests().len();
     if round.at < blocks {
@@ -210,7 +210,7 @@ pub fn serve<T: Gate>(
 ) -> Served
     requires few { number < words.now.workers }
     requires first { IsFirst words.now number words.now.workers seat }
-    ensures { HasServed words.now number words.now.workers turns result.seat result.steps }
+    ensures { SeatHasServed words.now number words.now.workers turns result.seat result.steps }
 {
     let mut round = first_round(seat, number);
     for turn in 0..turns {

@@ -5,7 +5,7 @@ ghost use Rattle.std.specs.Prelude.{◌≡◌, ◌+◌, ◌≤◌, ◌⊎◌, sl
 ghost use Rattle.std.specs.Mem.Slots.{slots_items, slots_len, IsFull};
 ghost use Rattle.machine_law.specs.declared.operations.Operation.TheVariants.{Idle};
 ghost use Rattle.word_runner.specs.Seats.{IsSeat, IsWorker, IsServed};
-ghost use Rattle.word_runner.specs.Runs.{AreSeats, IsSettled, SettleFaultStands};
+ghost use Rattle.word_runner.specs.Runs.{AreSeats, IsRunSettled, SettleFaultStands};
 ghost use Rattle.word_runner.specs.Ends.{IsQuietEnd, CloseFaultStands, EndFaultStands};
 
 use crate::flows::flow_of;
@@ -133,7 +133,7 @@ impl Words {
     pub fn settle(self, alloc: Global, seats: Vec<WordSeat>) -> Result<Flow<Scaled>, SettleFault>
         requires { AreSeats self seats.items }
         ensures { MatchResult result
-            (λ flow. IsSettled self seats.items flow)
+            (λ flow. IsRunSettled self seats.items flow)
             (λ fault. SettleFaultStands self seats.items fault) }
     {
         // proof: there are one or two workers, so one or two seats

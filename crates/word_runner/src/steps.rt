@@ -2,7 +2,7 @@
 //! block.
 
 ghost use Rattle.std.specs.Prelude.{◌<◌};
-ghost use Rattle.word_runner.specs.Seats.{IsSeat, IsNextAt, HasTurned, IsSame, Reads, Adds, Subtracts, Stores};
+ghost use Rattle.word_runner.specs.Seats.{IsSeat, IsNextAt, HasTurned, IsSame, StepReads, StepAdds, Subtracts, Stores};
 
 use crate::plays::Turned;
 use crate::table::{SharedWords, TableSeat};
@@ -10,7 +10,7 @@ use crate::table::{SharedWords, TableSeat};
 /// Makes the next step of block b, which reads the word `at`. Returns what it read.
 pub fn load_next(words: &SharedWords, place: &mut TableSeat, _b: u32, at: usize) -> u64
     requires seat { IsSeat words.now place.old }
-    requires next { IsNextAt place.old.me.0 _b at × Reads place.old.me.0.operation }
+    requires next { IsNextAt place.old.me.0 _b at × StepReads place.old.me.0.operation }
     ensures same { IsSame place.old place.new }
     ensures view { HasTurned _b place.old.me.0 result place.new.me.0 }
 {
@@ -20,7 +20,7 @@ pub fn load_next(words: &SharedWords, place: &mut TableSeat, _b: u32, at: usize)
 /// Makes the next step of block b, which adds k to the word `at`. Returns what the word was before.
 pub fn add_next(words: &SharedWords, place: &mut TableSeat, _b: u32, at: usize, k: u64) -> u64
     requires seat { IsSeat words.now place.old }
-    requires next { IsNextAt place.old.me.0 _b at × Adds place.old.me.0.operation k }
+    requires next { IsNextAt place.old.me.0 _b at × StepAdds place.old.me.0.operation k }
     ensures same { IsSame place.old place.new }
     ensures view { HasTurned _b place.old.me.0 result place.new.me.0 }
 {

@@ -3,7 +3,7 @@
 
 ghost use Rattle.std.specs.Prelude.{◌≡◌, IfSome};
 ghost use Rattle.word_runner.specs.Openings.{IsFirst};
-ghost use Rattle.word_runner.specs.Runs.{HasServed};
+ghost use Rattle.word_runner.specs.Runs.{SeatHasServed};
 
 use crate::net_words::Words;
 use crate::seats::WordSeat;
@@ -24,7 +24,7 @@ struct Worker<'a> {
 }
 
 impl<'a> Promise<Served> for Worker<'a> {
-    ghost kept_by = { λ p r. HasServed p.words.now p.number 2 p.turns r.seat r.steps };
+    ghost kept_by = { λ p r. SeatHasServed p.words.now p.number 2 p.turns r.seat r.steps };
 }
 
 /// Lets two workers take their turns, each in a thread of its own, and hands their seats back. None where a thread couldn't be
@@ -40,7 +40,7 @@ pub fn serve_both<R: Threads + Wait + Sync, T: Gate>(
     requires two { words.now.workers ≡ 2 }
     requires left { IsFirst words.now 0 2 left }
     requires right { IsFirst words.now 1 2 right }
-    ensures { IfSome result (λ s. HasServed words.now 0 2 turns s.0.seat s.0.steps × HasServed words.now 1 2 turns s.1.seat s.1.steps) }
+    ensures { IfSome result (λ s. SeatHasServed words.now 0 2 turns s.0.seat s.0.steps × SeatHasServed words.now 1 2 turns s.1.seat s.1.steps) }
 {
     let flag = AtomicBool::new(false);
     let stop = &flag;
@@ -51,7 +51,7 @@ pub fn serve_both<R: Threads + Wait + Sync, T: Gate>(
             requires two { words.now.workers ≡ 2 }
             requires left { IsFirst words.now 0 2 left }
             requires right { IsFirst words.now 1 2 right }
-            ensures { IfSome result (λ s. HasServed words.entry.now 0 2 turns s.0.seat s.0.steps × HasServed words.entry.now 1 2 turns s.1.seat s.1.steps) }
+            ensures { IfSome result (λ s. SeatHasServed words.entry.now 0 2 turns s.0.seat s.0.steps × SeatHasServed words.entry.now 1 2 turns s.1.seat s.1.steps) }
         {
             let first = scope.spawn_with(
                 Worker {
@@ -62,7 +62,7 @@ pub fn serve_both<R: Threads + Wait + Sync, T: Gate>(
                 move || -> Served
                     requires two { words.now.workers ≡ 2 }
                     requires left { IsFirst words.now 0 2 left }
-                    ensures { HasServed words.entry.now 0 2 turns result.seat result.steps }
+                    ensures { SeatHasServed words.entry.now 0 2 turns result.seat result.steps }
                 { serve(words, stop, gate, left, 0, turns) },
             );
             let second = scope.spawn_with(
@@ -74,7 +74,7 @@ pub fn serve_both<R: Threads + Wait + Sync, T: Gate>(
                 move || -> Served
                     requires two { words.now.workers ≡ 2 }
                     requires right { IsFirst words.now 1 2 right }
-                    ensures { HasServed words.entry.now 1 2 turns result.seat result.steps }
+                    ensures { SeatHasServed words.entry.now 1 2 turns result.seat result.steps }
                 { serve(words, stop, gate, right, 1, turns) },
             );
             match (first, second) {

@@ -12,7 +12,7 @@ abbrev pub AreBadWorkers : ℕ → Type 0
 AreBadWorkers workers = (workers < 1) ⊎ (MOST_WORKERS < workers)
 
 -- a board over the net, with at most the steps of the limit
-pub record IsLeft (net : NetView) (limit : ℕ) (board : BoardView) : Type 0 where
+pub record IsBoardLeft (net : NetView) (limit : ℕ) (board : BoardView) : Type 0 where
   pub net_is : board.net ≡ net
   pub within : (shown_state board).steps ≤ most_steps limit
 

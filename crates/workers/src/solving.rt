@@ -3,7 +3,7 @@
 ghost use Rattle.std.specs.Prelude.{◌≡◌, ◌↔◌, ◌<◌, ◌≤◌, IsTrue, MatchResult, IsErrOf};
 ghost use Rattle.boards.specs.Boards.{shown_state};
 ghost use Rattle.workers.specs.Runs.{most_steps, Settles};
-ghost use Rattle.workers.specs.Solving.{AreBadWorkers, IsLeft, IsLoss, RunFaultStands, SolveFaultStands};
+ghost use Rattle.workers.specs.Solving.{AreBadWorkers, IsBoardLeft, IsLoss, RunFaultStands, SolveFaultStands};
 
 use crate::gate::Gate;
 use crate::locked::{Locked, Shared};
@@ -128,7 +128,7 @@ pub(crate) fn most_steps(limit: u64) -> u64
 
 // Whether a board is over the net, and no more steps were made on it than the limit allows.
 fn is_left<G: OrderedGroup>(board: &TurnBoard<G>, net: &Net<G>, limit: u64) -> bool
-    ensures { IsTrue result → IsLeft net.now limit board.now }
+    ensures { IsTrue result → IsBoardLeft net.now limit board.now }
 {
     board.is_over(net) && board.count() <= most_steps(limit)
 }
@@ -144,7 +144,7 @@ fn board_after<G: OrderedGroup, R: Threads + Wait + Sync, T: Gate>(
 ) -> Result<TurnBoard<G>, SolveFault>
 where
     Locked<TurnBoard<G>>: Shared,
-    ensures { MatchResult result (λ board. IsLeft net.now limit board) (λ fault. IsLoss fault) }
+    ensures { MatchResult result (λ board. IsBoardLeft net.now limit board) (λ fault. IsLoss fault) }
 {
     let board = TurnBoard::open(alloc, net).map_err(|_| SolveFault::NoMemory)?;
     let shared = Locked::new(board);

@@ -1,7 +1,7 @@
 use Rattle.std.proofs.Common.{◌≡◌, [], ◌∷◌, rules, arith, None}
 use Rattle.std.specs.Fmt.{decimal}
 use Rattle.csv.specs.Writing.{default_writer, row_text}
-use Rattle.bench_report.specs.BlockShells.{block_line}
+use Rattle.bench_report.specs.BlockShells.{block_shell_line}
 use Rattle.bench_report.proofs.Plain.{decimal_plain, nothing_plain}
 use Rattle.bench_report.proofs.Lines.{two_fields}
 use Rattle.bench_report.proofs.block_shells.put_unheld.Goals as goal
@@ -9,6 +9,6 @@ use Rattle.bench_report.proofs.block_shells.put_unheld.Goals as goal
 pub returns-clause-text : goal.returns-clause-text
 returns-clause-text c =
     let a : c.as_bytes.result.now ≡ decimal c.args.b = search (rules, c.as_bytes.ensures.value, c.in_ok-block.ensures.ok) in
-    let line : row_text default_writer (c.as_bytes.result.now ∷ [] ∷ []) ≡ block_line c.args.b None =
+    let line : row_text default_writer (c.as_bytes.result.now ∷ [] ∷ []) ≡ block_shell_line c.args.b None =
     rw a (two_fields (decimal c.args.b) [] (decimal_plain c.args.b (omega (arith, c.ranges.b.fits))) nothing_plain) in
     rw line at c.put_fields.ensures.text

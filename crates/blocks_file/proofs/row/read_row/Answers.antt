@@ -1,10 +1,10 @@
 use Rattle.std.proofs.Common.{◌≡◌, ℕ, ◌+◌, ◌<◌, ◌∷◌, List, length, map, sym, ap, ◌∙◌, arith}
 use Rattle.std.proofs.lemmas.Result.{err_from_is_err_and}
-use Rattle.fixed_worth.specs.Text.{Run}
+use Rattle.fixed_worth.specs.Text.{WordRun}
 use Rattle.blocks_file.proofs.Rows.{field_at, row_more, row_bad}
 use Rattle.blocks_file.proofs.row.read_row.Goals as goal
 
-abbrev texts : List Run → List (List ℕ)
+abbrev texts : List WordRun → List (List ℕ)
 texts rs = map (λ r. r.text) rs
 
 pub returns-in_err-take_field : goal.returns-in_err-take_field

@@ -1,6 +1,6 @@
 use Rattle.std.proofs.Common.{◌<◌, Some, refl, sym, subst, length}
 use Rattle.closure_net.specs.Network.{NetView}
-use Rattle.boards.specs.Boards.{blocks_of}
+use Rattle.boards.specs.Boards.{blocks_of_board}
 use Rattle.boards.proofs.Alone.{still_idle_below}
 use Rattle.boards.proofs.Ends.{ended}
 use Rattle.boards.proofs.Records.{record_stays, record_served, record_ended}
@@ -15,7 +15,7 @@ loop-board-preserved g c =
     let s = c.in-Stepped in
     let old = c.loop-board.board in
     let new = c.turn.new.self in
-    let inside : c.args.block < blocks_of old.board = subst (λ (n : NetView). c.args.block < length n.worths) (sym i.0.board.net_is) c.requires.inside in (
+    let inside : c.args.block < blocks_of_board old.board = subst (λ (n : NetView). c.args.block < length n.worths) (sym i.0.board.net_is) c.requires.inside in (
       record_served c.args.board.now old new (Some c.args.block) c.args.block c.args.steps s.block s.more s.ensures.made.is_board i.0 s.ensures.turn s.ensures.writes,
       still_idle_below old.board new.board c.args.block c.args.steps c.args.block s.block s.more inside (c.loop-board-test.ensures.0 refl) i.1 s.ensures.turn,
       s.ensures.made,

@@ -1,5 +1,5 @@
 use Rattle.std.proofs.Common.{◌≡◌, ◌∙◌, ◌+◌, ℕ, ap, sym, subst, Some, None, if◌then◌else◌}
-use Rattle.boards.specs.Boards.{shown_state, blocks_of}
+use Rattle.boards.specs.Boards.{shown_state, blocks_of_board}
 use Rattle.boards.specs.Ends.{IsAlone}
 use Rattle.boards.proofs.Alone.{all_idle_alone, served_counts, still_alone, unserved_quiet}
 use Rattle.boards.proofs.Ends.{ended}
@@ -32,7 +32,7 @@ loop-made-preserved g c =
       | else-more w ↦ ap (λ t. if t then Some s.block else None) w.if-more.false ∙ sym w.own-is
     ]) in (
       record_served c.args.board.now old new c.loop-made.own c.loop-made.from c.args.steps s.block s.more s.ensures.made.is_board i.0 s.ensures.turn s.ensures.writes,
-      subst (IsAlone (blocks_of new.board) (shown_state new.board)) own (still_alone old.board new.board c.loop-made.own c.loop-made.from c.args.steps s.block s.more i.1 s.ensures.turn),
+      subst (IsAlone (blocks_of_board new.board) (shown_state new.board)) own (still_alone old.board new.board c.loop-made.own c.loop-made.from c.args.steps s.block s.more i.1 s.ensures.turn),
       served_counts old.board new.board s.block s.more s.ensures.turn.1 ∙ ap (λ (k : ℕ). k + 1) i.2,
       s.ensures.made,
     )

@@ -1,10 +1,10 @@
 use Rattle.std.proofs.Common.{◌≡◌}
 use Rattle.closure_net.specs.Reached.{HasSourceResidual}
-use Rattle.closure_net.specs.Searches.{Passed}
+use Rattle.closure_net.specs.Searches.{PassedPlaces}
 use Rattle.closure_net.proofs.source_side.begin.Given as goal
 
 abbrev pub invariant-loop-b : goal.invariant-loop-b
 invariant-loop-b g l = record {
   blocks : l.search.blocks ≡ l.fn.search.blocks;
-  found : Passed (HasSourceResidual l.net.worths l.flow.source) (λ b. b) l.fn.search.found l.search.found l.b;
+  found : PassedPlaces (HasSourceResidual l.net.worths l.flow.source) (λ b. b) l.fn.search.found l.search.found l.b;
 }

@@ -1,7 +1,7 @@
 use Rattle.std.proofs.Common.{ℕ, ◌<◌, length, arith, ◌∙◌, subst, All, List}
 use Rattle.prec_file.specs.Rests.{above_of, below_of, IsKnown}
 use Rattle.closure_net.specs.Network.{holds_of}
-use Rattle.closure_net.specs.Searches.{Passed, Always, above_at, sender_at, SendsAt}
+use Rattle.closure_net.specs.Searches.{PassedPlaces, Always, above_at, sender_at, SendsAt}
 use Rattle.closure_net.proofs.Reach.{searched_more, reached, ascends, passing_known}
 use Rattle.closure_net.proofs.source_side.pit_of.Goals as goal
 
@@ -11,8 +11,8 @@ loop-head-preserved g c =
     let old = c.loop-head.search.found in
     let mid = c.spread_down.new.search.found in
     let new = c.spread_up.new.search.found in
-    let P : List (ℕ × ℕ) → Type 0 = λ ps. Passed Always (above_at ps b) old mid (length (above_of ps b)) in
-    let Q : List (ℕ × ℕ) → Type 0 = λ ps. Passed (SendsAt ps c.args.flow.now.rest b) (sender_at ps b) mid new (length (below_of ps b)) in
+    let P : List (ℕ × ℕ) → Type 0 = λ ps. PassedPlaces Always (above_at ps b) old mid (length (above_of ps b)) in
+    let Q : List (ℕ × ℕ) → Type 0 = λ ps. PassedPlaces (SendsAt ps c.args.flow.now.rest b) (sender_at ps b) mid new (length (below_of ps b)) in
     record {
       blocks = c.spread_up.ensures.blocks ∙ c.spread_down.ensures.blocks ∙ c.loop-head.invariant.blocks;
       searched = searched_more c.args.net.now c.args.flow.now b old mid new c.loop-head.head c.loop-head.invariant.searched

@@ -5,7 +5,7 @@ use Rattle.std.proofs.lemmas.Int.{to_z-of_z}
 use Rattle.std.proofs.lemmas.Result.{err_from_is_err_and}
 use Rattle.engines.specs.declared.judgement.Judgement.{Judgement}
 use Rattle.engines.specs.Checking.{LineFails}
-use Rattle.engines.specs.Judgements.{IsAccepted, IsJudged}
+use Rattle.engines.specs.Judgements.{CertificateAccepted, IsJudged}
 use Rattle.engines.specs.OutputLines.{judgement_line}
 use Rattle.engines.specs.Verdicts.{verdict_of}
 use Rattle.design_engines.specs.Comparisons.ComparedView.{unproved}
@@ -18,7 +18,7 @@ returns-in-Accepted-clause-answer g c = λ texts design text both.
     let a = c.in-Accepted in
     let f : FitsSigned w128 c.in-Accepted.worth = search rules in
     let P : Judgement → Type 0 = λ j. IsJudged texts text j in
-    let Q : ℤ → Type 0 = λ w. IsAccepted texts text a.group a.count w in
+    let Q : ℤ → Type 0 = λ w. CertificateAccepted texts text a.group a.count w in
     c.tell_gap.ensures.answer texts design text a.group both.0 (subst Q (sym (to_z-of_z w128 c.in-Accepted.worth f)) (subst P a.is both.1))
 
 pub returns-in_err-write_judgement-in-Refused-clause-answer : goal.returns-in_err-write_judgement-in-Refused-clause-answer

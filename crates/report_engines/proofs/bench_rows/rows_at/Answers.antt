@@ -3,7 +3,7 @@ use Rattle.fixed_worth.specs.declared.limits.TheConstants.{MOST_BLOCKS, MOST_FAC
 use Rattle.shells.specs.Prices.{PricesView, worths_at}
 use Rattle.bench_report.specs.declared.report_fault.ReportFault.{ReportFault}
 use Rattle.bench_report.specs.Benches.{reported_blocks}
-use Rattle.bench_report.specs.FaultStands.{SameLengths, SomeSumOverflows, ReportFaultStands}
+use Rattle.bench_report.specs.FaultStands.{SameLengths, SomeBenchSumOverflows, ReportFaultStands}
 use Rattle.report_engines.proofs.SmallSums.{same_lengths, none_overflows}
 use Rattle.report_engines.proofs.bench_rows.rows_at.Goals as goal
 
@@ -22,8 +22,8 @@ unreachable-requires-in-Err-TooLarge g c =
     let series = c.args.series.now in
     let worths : c.as_slice.result.now ≡ worths_at series.prices c.args.factor = c.as_slice.ensures.value ∙ c.in_ok-worths.ensures ∙ ap (λ (v : PricesView). worths_at v c.args.factor) c.prices.ensures in
     let F : ReportFault → Type 0 = λ e. ReportFaultStands m series c.as_slice.result.now (reported_blocks m series c.place_beside.result c.as_slice.result.now) e in
-    let S : List ℤ → Type 0 = λ vs. SomeSumOverflows (reported_blocks m series c.place_beside.result vs) in
-    let T : ℕ → Type 0 = λ i. SomeSumOverflows (reported_blocks m series i (worths_at series.prices c.args.factor)) in
+    let S : List ℤ → Type 0 = λ vs. SomeBenchSumOverflows (reported_blocks m series c.place_beside.result vs) in
+    let T : ℕ → Type 0 = λ i. SomeBenchSumOverflows (reported_blocks m series i (worths_at series.prices c.args.factor)) in
     let few : m.blocks ≤ MOST_BLOCKS = omega (arith, c.len-blocks.ensures.value, c.len-blocks.ensures.bound) in
     let low : c.args.factor ≤ MOST_FACTOR = omega (arith, c.get-thousandths.ensures.value, c.get-thousandths.ensures.bound) in
     none_overflows c.args.charges m series.prices c.requires series c.args.factor few low (subst T c.place_beside.ensures (subst S worths (subst F c.in-Err-TooLarge.field-0-is c.in-Err-TooLarge.ensures).1))

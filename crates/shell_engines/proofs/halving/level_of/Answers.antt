@@ -5,7 +5,7 @@ use Rattle.shell_engines.specs.declared.best_pits.BestPit.{BestPit}
 use Rattle.shell_engines.specs.declared.mine_parts.Part.{Part}
 use Rattle.shell_engines.specs.declared.halving.Level.{Level}
 use Rattle.shell_engines.specs.PitsAtFactors.{IsProved}
-use Rattle.shell_engines.specs.Parting.{IsLeft, IsLevel}
+use Rattle.shell_engines.specs.Parting.{IsLeft, IsSearchLevel}
 use Rattle.shell_engines.proofs.Proving.{all_before, all_last}
 use Rattle.shell_engines.proofs.halving.level_of.Goals as goal
 
@@ -16,11 +16,11 @@ loop-answer-preserved g c =
     let factors = c.args.mine.now.factors.items in
     let P : BestPit → Type 0 = IsProved pairs prices in
     let Q : Part → Type 0 = IsLeft pairs prices factors in
-    let A : Result Level AllocError → Type 0 = λ answer. IfOk answer (IsLevel pairs prices factors) in
+    let A : Result Level AllocError → Type 0 = λ answer. IfOk answer (IsSearchLevel pairs prices factors) in
     let i = c.loop-answer.invariant in
     let all = subst (All A) c.in-Some.ensures.items i.0 in
     let last : A c.in-Some.answer = all_last A c.pop.new.self.items c.in-Some.answer all in
-    let level : IsLevel pairs prices factors c.in_ok-level.level = subst A c.in_ok-level.was last in (
+    let level : IsSearchLevel pairs prices factors c.in_ok-level.level = subst A c.in_ok-level.was last in (
       all_before A c.pop.new.self.items c.in-Some.answer all,
       record {
         found = subst (All P) (sym c.in_ok-append.ensures.items) (All-append P c.loop-answer.all.found.items c.in_ok-level.level.found.items i.1.found level.found);

@@ -1,6 +1,6 @@
 use Rattle.std.proofs.Common.{◌+◌, take, sym, subst, arith}
 use Rattle.closure_net.specs.Network.{holds_of}
-use Rattle.shell_engines.specs.Parting.{ArePut}
+use Rattle.shell_engines.specs.Parting.{AreJoined}
 use Rattle.shell_engines.proofs.Merging.{put_first}
 use Rattle.shell_engines.proofs.lifted_pits.merged.Goals as goal
 
@@ -10,4 +10,4 @@ loop-b-preserved c =
     let second = c.args.second.now in
     let i = c.loop-b.b-index in
     let put = c.in_ok-next.ensures (holds_of (take i first)) c.loop-b.invariant in
-    subst (ArePut (holds_of (take (i + 1) first)) second c.in_ok-next.next) (sym c.in_ok-push.ensures.items) (put_first first second i c.in_ok-next.next _ (omega arith) put)
+    subst (AreJoined (holds_of (take (i + 1) first)) second c.in_ok-next.next) (sym c.in_ok-push.ensures.items) (put_first first second i c.in_ok-next.next _ (omega arith) put)

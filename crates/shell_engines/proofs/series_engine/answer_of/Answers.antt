@@ -1,5 +1,5 @@
 use Rattle.std.proofs.Common.{◌∙◌, ap, refl}
-use Rattle.shell_engines.specs.ShellTable.{table_text}
+use Rattle.shell_engines.specs.ShellTable.{shell_table_text}
 use Rattle.shell_engines.specs.Shells.{AnswersShells, ShellsFail}
 use Rattle.shell_engines.proofs.BlockTables.{has_table}
 use Rattle.shell_engines.proofs.Lifted.{is_table, denoted, no_series_answer}
@@ -8,7 +8,7 @@ use Rattle.shell_engines.proofs.series_engine.answer_of.Goals as goal
 pub returns-clause-answer : goal.returns-clause-answer
 returns-clause-answer g c = λ s b p read.
     let mine = c.args.mine in (
-      is_table s b p mine.prices mine.rests mine.factors.items read c.best_pits_at_factors_are_nested.ensures c.in-Ok.shells.rows.items c.in_ok-table_of.field-0.items c.in-Ok.ensures.rows_are (c.in_ok-table_of.ensures ∙ ap table_text c.as_slice.ensures.value),
+      is_table s b p mine.prices mine.rests mine.factors.items read c.best_pits_at_factors_are_nested.ensures c.in-Ok.shells.rows.items c.in_ok-table_of.field-0.items c.in-Ok.ensures.rows_are (c.in_ok-table_of.ensures ∙ ap shell_table_text c.as_slice.ensures.value),
       has_table s b p mine.prices mine.rests mine.factors.items read c.in-Ok.shells.series c.in-Ok.shells.rows.items c.in-Ok.ensures c.in_ok-table_if_asked.ensures.series c.args.is_asked c.in_ok-table_if_asked.field-0.items c.in_ok-table_if_asked.ensures.table,
     )
 

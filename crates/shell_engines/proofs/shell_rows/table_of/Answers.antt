@@ -1,11 +1,11 @@
 use Rattle.std.proofs.Common.{◌≡◌, ℕ, ◌+◌, ◌<◌, List, [], ◌++◌, take, get_or, length, sym, ap, ◌∙◌, arith}
 use Rattle.std.proofs.lemmas.List.{take_more, flat_map_more}
-use Rattle.shell_engines.specs.ShellTable.{row_line, table_text}
+use Rattle.shell_engines.specs.ShellTable.{shell_row_line, shell_table_text}
 use Rattle.shell_engines.specs.declared.shell_rows.ShellRow.{ShellRow}
 use Rattle.shell_engines.proofs.shell_rows.table_of.Goals as goal
 
-next : (rows : List ShellRow) (i : ℕ) (d : ShellRow) (old new : List ℕ) → i < length rows → old ≡ table_text (take i rows) → new ≡ old ++ row_line (get_or rows i d) → new ≡ table_text (take (i + 1) rows)
-next rows i d old new l is more = more ∙ ap (λ (t : List ℕ). t ++ row_line (get_or rows i d)) is ∙ flat_map_more row_line [] (take i rows) (get_or rows i d) ∙ sym (ap table_text (take_more rows i d l))
+next : (rows : List ShellRow) (i : ℕ) (d : ShellRow) (old new : List ℕ) → i < length rows → old ≡ shell_table_text (take i rows) → new ≡ old ++ shell_row_line (get_or rows i d) → new ≡ shell_table_text (take (i + 1) rows)
+next rows i d old new l is more = more ∙ ap (λ (t : List ℕ). t ++ shell_row_line (get_or rows i d)) is ∙ flat_map_more shell_row_line [] (take i rows) (get_or rows i d) ∙ sym (ap shell_table_text (take_more rows i d l))
 
 pub loop-i-preserved : goal.loop-i-preserved
 loop-i-preserved c =

@@ -1,7 +1,7 @@
 use Rattle.std.proofs.Common.{◌≤◌, length}
 use Rattle.prec_file.specs.declared.limits.TheConstants.{MOST_PAIRS}
-use Rattle.sub_mines.specs.Among.{AreRows}
+use Rattle.sub_mines.specs.Among.{AreRowsAmong}
 use Rattle.sub_mines.proofs.among.rows_of.Given as goal
 
 abbrev pub invariant-loop-row : goal.invariant-loop-row
-invariant-loop-row l = AreRows l.rests.pairs l.kept l.row l.pairs.items × (length l.pairs.items ≤ MOST_PAIRS)
+invariant-loop-row l = AreRowsAmong l.rests.pairs l.kept l.row l.pairs.items × (length l.pairs.items ≤ MOST_PAIRS)

@@ -1,5 +1,5 @@
 use Rattle.std.proofs.Common.{rules, ◌≡◌, ◌∙◌, true, ap, sym, arith}
-use Rattle.word_runner.specs.Views.{is_idle}
+use Rattle.machine_law.specs.Operations.{is_idle}
 use Rattle.word_runner.specs.Halves.{IsHalf}
 use Rattle.word_runner.specs.Seats.{Own, WordsView}
 use Rattle.word_runner.proofs.FreeSeats.{free_is}

@@ -1,7 +1,7 @@
 use Rattle.std.proofs.Common.{◌≡◌, ◌≤◌, ◌∙◌, min, true, ap, sym, subst, arith}
 use Rattle.std.proofs.Math.Nat.{min-le_right}
 use Rattle.boards.specs.Boards.{shown_state}
-use Rattle.boards.specs.Turns.{IsTurn, IsEnd}
+use Rattle.boards.specs.Turns.{IsTurn, IsTurnEnd}
 use Rattle.boards.specs.Records.{RecordView}
 use Rattle.boards.specs.Audits.{AuditView, audit_of, IsAuditTurn, IsToldAs}
 use Rattle.machine_law.specs.declared.events.TheConstants.{MOST_EVENTS}
@@ -40,7 +40,7 @@ returns-clause-turn g c =
           (subst (λ k. IsTurn old.board c.args.own c.args.from k new.board Unserved) most w.in-Idle.ensures.turn) w.in-Idle.ensures.writes)
       | in-Ended w ↦ subst P (sym w.result-is)
           (ended old new c.args.own c.args.from c.args.steps is w.in-Ended.end w.told_as.result
-          (subst (λ k. IsEnd old.board c.args.own c.args.from k new.board w.in-Ended.end) most w.in-Ended.ensures.turn) w.in-Ended.ensures.writes
+          (subst (λ k. IsTurnEnd old.board c.args.own c.args.from k new.board w.in-Ended.end) most w.in-Ended.ensures.turn) w.in-Ended.ensures.writes
           (subst (λ k. IsToldAs k c.args.steps w.in-Ended.end w.told_as.result) w.count.ensures w.told_as.ensures))
     ])
 

@@ -2,7 +2,7 @@ use Rattle.std.proofs.Common.{◌≡◌, ◌∙◌, get_or, sym, subst}
 use Rattle.std.specs.List.{Contains}
 use Rattle.std.proofs.lemmas.List.{get_or_default}
 use Rattle.std.proofs.lemmas.Result.{err_from_is_err_and}
-use Rattle.shells.specs.Series.{IsAbove}
+use Rattle.shells.specs.Series.{IsAboveAll}
 use Rattle.shell_engines.proofs.Growing.{above_before, settled_more}
 use Rattle.shell_engines.proofs.settling.Shells.settle_at.Goals as goal
 
@@ -10,13 +10,13 @@ pub add-requires-clause-above : goal.add-requires-clause-above
 add-requires-clause-above g c =
     let fs = c.args.wanted.now.factors.now in
     let at : c.index-factors-place.result ≡ get_or fs c.args.place 0 = c.index-factors-place.is ∙ get_or_default fs c.args.place c.index-factors-place.result 0 c.requires.inside in
-    subst (IsAbove c.args.self.now.series.factors) (sym at) (above_before fs c.args.self.now.series.factors c.args.place c.requires.form.ascending c.requires.inside c.requires.done.same_factors)
+    subst (IsAboveAll c.args.self.now.series.factors) (sym at) (above_before fs c.args.self.now.series.factors c.args.place c.requires.form.ascending c.requires.inside c.requires.done.same_factors)
 
 pub add-requires-2-clause-above : goal.add-requires-2-clause-above
 add-requires-2-clause-above g c =
     let fs = c.args.wanted.now.factors.now in
     let at : c.index-factors-place.result ≡ get_or fs c.args.place 0 = c.index-factors-place.is ∙ get_or_default fs c.args.place c.index-factors-place.result 0 c.requires.inside in
-    subst (IsAbove c.args.self.now.series.factors) (sym at) (above_before fs c.args.self.now.series.factors c.args.place c.requires.form.ascending c.requires.inside c.requires.done.same_factors)
+    subst (IsAboveAll c.args.self.now.series.factors) (sym at) (above_before fs c.args.self.now.series.factors c.args.place c.requires.form.ascending c.requires.inside c.requires.done.same_factors)
 
 pub returns-in-Some-clause-settled : goal.returns-in-Some-clause-settled
 returns-in-Some-clause-settled g c =

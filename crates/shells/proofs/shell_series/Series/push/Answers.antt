@@ -1,7 +1,7 @@
 use Rattle.std.proofs.Common.{ℕ, List, refl, sym, subst, ◌∙◌, true≢false}
 use Rattle.closure_net.specs.Network.{holds_of}
 use Rattle.closure_net.specs.Mine.{IsBest}
-use Rattle.shells.specs.Series.{mine_at, IsAbove}
+use Rattle.shells.specs.Series.{mine_at, IsAboveAll}
 use Rattle.shells.proofs.OverNets.{net_of_over}
 use Rattle.shells.proofs.shell_series.Series.push.Goals as goal
 
@@ -17,7 +17,7 @@ returns-then-is_full-clause-refused g c =
     (refl, (c.is_higher.ensures.0 c.if-not-is_higher.false, c.is_model_of.ensures.0 c.if-not-is_model_of.false, c.is_full.ensures.full.0 c.if-is_full.true))
 
 pub put-requires-clause-above : goal.put-requires-clause-above
-put-requires-clause-above g c = subst (IsAbove c.args.self.now.factors) (sym c.get.ensures.value) (c.is_higher.ensures.0 c.if-not-is_higher.false)
+put-requires-clause-above g c = subst (IsAboveAll c.args.self.now.factors) (sym c.get.ensures.value) (c.is_higher.ensures.0 c.if-not-is_higher.false)
 
 pub put-requires-clause-best : goal.put-requires-clause-best
 put-requires-clause-best g c =

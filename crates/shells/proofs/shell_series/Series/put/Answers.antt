@@ -2,8 +2,8 @@ use Rattle.std.proofs.Common.{◌≡◌, ◌<◌, length, drop, sym, subst, rule
 use Rattle.std.specs.Prelude.{vec_capacity}
 use Rattle.std.proofs.Math.Seq.{take-append_seam}
 use Rattle.closure_net.specs.Network.{holds_of}
-use Rattle.shells.specs.Series.{SeriesView, mine_at, IsAbove, IsPushed}
-use Rattle.shells.specs.HeldSeries.{IsHeld}
+use Rattle.shells.specs.Series.{SeriesView, mine_at, IsAboveAll, IsPushed}
+use Rattle.shells.specs.HeldSeries.{IsHeldSeries}
 use Rattle.closure_net.specs.Mine.{IsBest}
 use Rattle.shells.proofs.Pushes.{push_keeps}
 use Rattle.shells.proofs.shell_series.Series.put.Goals as goal
@@ -14,7 +14,7 @@ invariant_of-self c =
     let size : c.self.inside.shells.len ≡ length new = search (rules, c.give_shells.ensures.size, c.as_mut_slice.ensures.value, c.as_mut_slice.ensures.len) in
     let old : SeriesView = record { pairs = c.self.inside.rests.pairs; prices = c.self.inside.prices; factors = c.self.inside.factors.items; shells = c.self.inside.shells.items } in
     let next : SeriesView = record { pairs = c.self.inside.rests.pairs; prices = c.self.inside.prices; factors = c.push_reserved.new.self.items; shells = new } in
-    let above : IsAbove old.factors c.args.k = subst (λ (v : SeriesView). IsAbove v.factors c.args.k) (sym c.self.view_is) c.requires.above in
+    let above : IsAboveAll old.factors c.args.k = subst (λ (v : SeriesView). IsAboveAll v.factors c.args.k) (sym c.self.view_is) c.requires.above in
     let best : IsBest (mine_at old.pairs old.prices c.args.k) (holds_of c.args.pit.now) = subst (λ (v : SeriesView). IsBest (mine_at v.pairs v.prices c.args.k) (holds_of c.args.pit.now)) (sym c.self.view_is) c.requires.best in
     let room : length old.factors < 64 = subst (λ (v : SeriesView). length v.factors < 64) (sym c.self.view_is) c.requires.room in
     let pushed : IsPushed old next c.args.k (holds_of c.args.pit.now) = record {
@@ -24,7 +24,7 @@ invariant_of-self c =
       size = search (rules, c.give_shells.ensures.size, c.as_mut_slice.ensures.value);
       shells = search (rules, c.give_shells.ensures.each, c.as_mut_slice.ensures.value);
     } in
-    let held : IsHeld next (vec_capacity c.push_reserved.new.self) c.self.inside.rests.blocks = record {
+    let held : IsHeldSeries next (vec_capacity c.push_reserved.new.self) c.self.inside.rests.blocks = record {
       series = push_keeps old next c.args.k (holds_of c.args.pit.now) c.self.invariant.series above room best pushed;
       reserved = omega (arith, c.self.invariant.reserved, c.push_reserved.ensures.capacity);
       sized = c.self.invariant.sized;
