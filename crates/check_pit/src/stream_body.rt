@@ -14,32 +14,32 @@ use fixed_worth::CountedRead;
 use prec_file::Predecessors;
 
 // Whether the model has the pair of a line, where the line is of one.
-fn is_of_model(rests: &Predecessors, line: &BodyLine) -> bool
-    requires { spec.is_end line.now.kind ≡ false → line.now.block < rests.now.blocks }
-    ensures { result ≡ spec.is_of_model (has_pair rests.now.pairs) line.now.kind line.now }
+fn is_of_model(predecessors: &Predecessors, line: &BodyLine) -> bool
+    requires { spec.is_end line.now.kind ≡ false → line.now.block < predecessors.now.blocks }
+    ensures { result ≡ spec.is_of_model (has_pair predecessors.now.pairs) line.now.kind line.now }
 {
     match line.kind {
         LineKind::Pit | LineKind::Source | LineKind::Sink | LineKind::End => true,
-        LineKind::Rest => rests.find(line.block, line.other).is_some(),
+        LineKind::Rest => predecessors.find(line.block, line.other).is_some(),
     }
 }
 
 // The line of this number that a text is, behind another one.
 fn line_behind(
-    rests: &Predecessors,
+    predecessors: &Predecessors,
     counts: bool,
     previous: Option<BodyLine>,
     number: u64,
     text: &[u8],
 ) -> Result<BodyLine, CertFault>
     requires { length text.now ≤ LINE_BYTES }
-    ensures { result ≡ spec.next_line counts rests.now.blocks (has_pair rests.now.pairs) previous number (record { text = text.now; ended = true }) }
+    ensures { result ≡ spec.next_line counts predecessors.now.blocks (has_pair predecessors.now.pairs) previous number (record { text = text.now; ended = true }) }
 {
-    let line = in_line(number, line_of(counts, rests.len(), text))?;
+    let line = in_line(number, line_of(counts, predecessors.len(), text))?;
     if !may_follow(previous, &line) {
         return Err(CertFault::OutOfOrder(number));
     }
-    if !is_of_model(rests, &line) {
+    if !is_of_model(predecessors, &line) {
         return Err(CertFault::UnknownPair(number));
     }
     Ok(line)
@@ -52,20 +52,20 @@ fn line_behind(
 /// the line, which isn't passed then.
 pub fn next_line<R: CountedRead>(
     lines: &mut StreamLines<R>,
-    rests: &Predecessors,
+    predecessors: &Predecessors,
     counts: bool,
     previous: Option<BodyLine>,
 ) -> Result<BodyLine, StreamFault>
     requires { R.failed lines.old.from < 2 ^ 64 - 1 }
     ensures line { MatchResult result
-        (λ line. TakesLine R.remaining (spec.next_line counts rests.now.blocks (has_pair rests.now.pairs) previous) lines.old lines.new line)
-        (λ e. LacksLine R.remaining (spec.next_line counts rests.now.blocks (has_pair rests.now.pairs) previous) lines.old lines.new e) }
+        (λ line. TakesLine R.remaining (spec.next_line counts predecessors.now.blocks (has_pair predecessors.now.pairs) previous) lines.old lines.new line)
+        (λ e. LacksLine R.remaining (spec.next_line counts predecessors.now.blocks (has_pair predecessors.now.pairs) previous) lines.old lines.new e) }
     ensures device { IsErrOf result StreamFault.Device → R.failed lines.new.from ≡ R.failed lines.old.from + 1 }
     ensures kept { ¬ IsErrOf result StreamFault.Device → R.failed lines.new.from ≡ R.failed lines.old.from }
 {
     let count = lines.next_length()?;
     let number = lines.number() + 1;
-    let line = match line_behind(rests, counts, previous, number, lines.front(count)) {
+    let line = match line_behind(predecessors, counts, previous, number, lines.front(count)) {
         Ok(line) => line,
         Err(fault) => return Err(StreamFault::Cert(fault)),
     };

@@ -140,23 +140,23 @@ fn judge_priced<C: CountedRead>(
     alloc: Global,
     group: Group,
     nanos: Vec<i128>,
-    rests: Predecessors,
+    predecessors: Predecessors,
     marks: Vec<bool>,
     stream: &mut CertStream<C>,
 ) -> Result<Beside, ValueFault>
     requires count { C.failed stream.old.lines.from < 2 ^ 64 - 1 }
     requires open { IsUndecided stream.old }
-    requires header { IsReadFor rests.blocks group stream.old.header stream.old.fault }
-    requires marks { length marks.items ≡ rests.blocks }
-    ensures judged { (texts : MineTexts) (c design : List ℕ) → AreRead texts nanos.items rests
-        → IsHeader texts c rests.blocks group → StandsBehind C.remaining c stream.old.lines
-        → ReadsDesign rests.blocks design marks.items
+    requires header { IsReadFor predecessors.blocks group stream.old.header stream.old.fault }
+    requires marks { length marks.items ≡ predecessors.blocks }
+    ensures judged { (texts : MineTexts) (c design : List ℕ) → AreRead texts nanos.items predecessors
+        → IsHeader texts c predecessors.blocks group → StandsBehind C.remaining c stream.old.lines
+        → ReadsDesign predecessors.blocks design marks.items
         → MatchResult result (λ b. IsBeside texts design c (design_view b.valued) b.judgement) (BesideFails texts design c) }
     ensures device { IsErrOf result (value.Engine engine.Device) → C.failed stream.new.lines.from ≡ C.failed stream.old.lines.from + 1 }
     ensures kept { ¬ IsErrOf result (value.Engine engine.Device) → C.failed stream.new.lines.from ≡ C.failed stream.old.lines.from }
 {
-    let valued = value_of(alloc, nanos.as_slice(), &rests, marks.as_slice())?;
+    let valued = value_of(alloc, nanos.as_slice(), &predecessors, marks.as_slice())?;
     drop(marks);
-    let judgement = judge_in(alloc, group, nanos, rests, stream)?;
+    let judgement = judge_in(alloc, group, nanos, predecessors, stream)?;
     Ok(Beside { valued, judgement })
 }

@@ -56,6 +56,12 @@ pub fn value_engine<R: Threads + Sync, D: CountedRead, E: CountedRead, W: Counte
     let mine = mine_to_check(alloc, inputs)?;
     let marks = marks_from(alloc, design, mine.predecessors.len())?;
     let nanos = mine.worths.nanos_at(rt, alloc, factor)?;
-    let rests = mine.predecessors;
-    value_mine(alloc, nanos.as_slice(), &rests, marks.as_slice(), out)
+    let predecessors = mine.predecessors;
+    value_mine(
+        alloc,
+        nanos.as_slice(),
+        &predecessors,
+        marks.as_slice(),
+        out,
+    )
 }

@@ -29,18 +29,18 @@ use std::alloc::Global;
 pub(crate) fn value_mine<W: CountedWrite>(
     alloc: Global,
     nanos: &[i128],
-    rests: &Predecessors,
+    predecessors: &Predecessors,
     marks: &[bool],
     out: &mut W,
 ) -> Result<Verdict, ValueFault>
-    requires marks { length marks.now ≡ rests.now.blocks }
+    requires marks { length marks.now ≡ predecessors.now.blocks }
     requires room { W.failed out.old < 2 ^ 64 - 1 }
-    ensures answer { (texts : MineTexts) (design : List ℕ) → AreRead texts nanos.now rests.now
-        → ReadsDesign rests.now.blocks design marks.now → Values texts design (W.contents out.old) (W.contents out.new) result }
+    ensures answer { (texts : MineTexts) (design : List ℕ) → AreRead texts nanos.now predecessors.now
+        → ReadsDesign predecessors.now.blocks design marks.now → Values texts design (W.contents out.old) (W.contents out.new) result }
     ensures device { IsErrOf result (value.Engine engine.Device) ↔ (W.failed out.new ≡ W.failed out.old + 1) }
     ensures kept { ¬ IsErrOf result (value.Engine engine.Device) → W.failed out.new ≡ W.failed out.old }
 {
-    let valued = value_of(alloc, nanos, rests, marks)?;
+    let valued = value_of(alloc, nanos, predecessors, marks)?;
     write_design(alloc, &valued, out)?;
     Ok(verdict_where(valued.open.count))
 }
@@ -52,16 +52,16 @@ pub(crate) fn value_mine<W: CountedWrite>(
 pub(crate) fn value_of(
     alloc: Global,
     nanos: &[i128],
-    rests: &Predecessors,
+    predecessors: &Predecessors,
     marks: &[bool],
 ) -> Result<Valued, ValueFault>
-    requires marks { length marks.now ≡ rests.now.blocks }
-    ensures is { (texts : MineTexts) (design : List ℕ) → AreRead texts nanos.now rests.now → ReadsDesign rests.now.blocks design marks.now
+    requires marks { length marks.now ≡ predecessors.now.blocks }
+    ensures is { (texts : MineTexts) (design : List ℕ) → AreRead texts nanos.now predecessors.now → ReadsDesign predecessors.now.blocks design marks.now
         → MatchResult result (λ v. IsValued texts design (design_view v)) (NoValue texts design) }
     ensures no_device { ¬ IsErrOf result (value.Engine engine.Device) }
 {
     // proof: what is known of all pairs, that they are of known blocks
-    let blocks = rests.len();
+    let blocks = predecessors.len();
     // the texts of a mine give as many worths as blocks
     if nanos.len() != blocks as usize {
         return Err(ValueFault::Engine(EngineFault::Model(NetFault::WrongLength)));
@@ -71,6 +71,6 @@ pub(crate) fn value_of(
         Some(worth) => worth,
         None => return Err(ValueFault::Design(DesignProblem::TooLarge)),
     };
-    let open = open_pairs_of(alloc, marks, rests)?;
+    let open = open_pairs_of(alloc, marks, predecessors)?;
     Ok(Valued { count, worth, open })
 }

@@ -56,18 +56,18 @@ fn pass_block(
     leading: &mut OpenPairs,
     marks: &[bool],
     b: u32,
-    rests: &Predecessors,
+    predecessors: &Predecessors,
 ) -> Result<(), AllocError>
-    requires known { b < rests.now.blocks }
-    requires all { length marks.now ≡ rests.now.blocks }
-    requires before { AreOpen (marked_in marks.now) (take (first_of rests.now.pairs b) rests.now.pairs) leading.old.count leading.old.first.items }
-    ensures { OnOk result (AreOpen (marked_in marks.now) (take (first_of rests.now.pairs (b + 1)) rests.now.pairs) leading.new.count leading.new.first.items) }
+    requires known { b < predecessors.now.blocks }
+    requires all { length marks.now ≡ predecessors.now.blocks }
+    requires before { AreOpen (marked_in marks.now) (take (first_of predecessors.now.pairs b) predecessors.now.pairs) leading.old.count leading.old.first.items }
+    ensures { OnOk result (AreOpen (marked_in marks.now) (take (first_of predecessors.now.pairs (b + 1)) predecessors.now.pairs) leading.new.count leading.new.first.items) }
 {
     // proof: what is known of all pairs, that they are in order and of known blocks
-    let _blocks = rests.len();
-    let predecessors = rests.above(b);
-    for i in 0..predecessors.len() {
-        let p = predecessors[i];
+    let _blocks = predecessors.len();
+    let row = predecessors.above(b);
+    for i in 0..row.len() {
+        let p = row[i];
         let leads = leads_out_of(marks, b, p);
         pass_pair(leading, (b, p), leads)?;
     }
@@ -81,19 +81,19 @@ fn pass_block(
 pub fn open_pairs_of(
     alloc: Global,
     marks: &[bool],
-    rests: &Predecessors,
+    predecessors: &Predecessors,
 ) -> Result<OpenPairs, AllocError>
-    requires { length marks.now ≡ rests.now.blocks }
-    ensures { IfOk result (λ leading. AreOpen (marked_in marks.now) rests.now.pairs leading.count leading.first.items) }
+    requires { length marks.now ≡ predecessors.now.blocks }
+    ensures { IfOk result (λ leading. AreOpen (marked_in marks.now) predecessors.now.pairs leading.count leading.first.items) }
 {
     let mut leading = OpenPairs {
         count: 0,
         first: Vec::new(alloc),
     };
     // proof: what is known of all pairs, that they are of known blocks
-    let _blocks = rests.len();
-    for b in 0..rests.len() {
-        pass_block(&mut leading, marks, b, rests)?;
+    let _blocks = predecessors.len();
+    for b in 0..predecessors.len() {
+        pass_block(&mut leading, marks, b, predecessors)?;
     }
     Ok(leading)
 }

@@ -170,13 +170,13 @@ pub fn judge_in<C: CountedRead>(
     alloc: Global,
     group: Group,
     nanos: Vec<i128>,
-    rests: Predecessors,
+    predecessors: Predecessors,
     stream: &mut CertStream<C>,
 ) -> Result<Judgement, EngineFault>
     requires count { C.failed stream.old.lines.from < 2 ^ 64 - 1 }
     requires open { IsUndecided stream.old }
-    requires header { IsReadFor rests.blocks group stream.old.header stream.old.fault }
-    ensures judged { (texts : MineTexts) (c : List ℕ) → AreRead texts nanos.items rests → IsHeader texts c rests.blocks group
+    requires header { IsReadFor predecessors.blocks group stream.old.header stream.old.fault }
+    ensures judged { (texts : MineTexts) (c : List ℕ) → AreRead texts nanos.items predecessors → IsHeader texts c predecessors.blocks group
         → StandsBehind C.remaining c stream.old.lines → Judges texts c result }
     ensures device { IsErrOf result EngineFault.Device → C.failed stream.new.lines.from ≡ C.failed stream.old.lines.from + 1 }
     ensures kept { ¬ IsErrOf result EngineFault.Device → C.failed stream.new.lines.from ≡ C.failed stream.old.lines.from }
@@ -186,9 +186,9 @@ pub fn judge_in<C: CountedRead>(
     laws::greatest_set_is_best_pit::<WorthSize>();
     laws::greatest_set_is_best_pit::<Scaled>();
     match group {
-        Group::Worth => judge_by::<Worth, C>(alloc, nanos, rests, stream),
-        Group::Pair => judge_by::<WorthSize, C>(alloc, nanos, rests, stream),
-        Group::Scaled => judge_by::<Scaled, C>(alloc, nanos, rests, stream),
+        Group::Worth => judge_by::<Worth, C>(alloc, nanos, predecessors, stream),
+        Group::Pair => judge_by::<WorthSize, C>(alloc, nanos, predecessors, stream),
+        Group::Scaled => judge_by::<Scaled, C>(alloc, nanos, predecessors, stream),
     }
 }
 
@@ -196,18 +196,18 @@ pub fn judge_in<C: CountedRead>(
 fn judge_by<G: OrderedGroup, C: CountedRead>(
     alloc: Global,
     nanos: Vec<i128>,
-    rests: Predecessors,
+    predecessors: Predecessors,
     stream: &mut CertStream<C>,
 ) -> Result<Judgement, EngineFault>
     requires count { C.failed stream.old.lines.from < 2 ^ 64 - 1 }
     requires open { IsUndecided stream.old }
-    requires header { IsReadFor rests.blocks G.name stream.old.header stream.old.fault }
-    ensures judged { (texts : MineTexts) (c : List ℕ) → AreRead texts nanos.items rests → IsGroupNamed G.name G.block_parts G.counts
-        → IsHeader texts c rests.blocks G.name → StandsBehind C.remaining c stream.old.lines → Judges texts c result }
+    requires header { IsReadFor predecessors.blocks G.name stream.old.header stream.old.fault }
+    ensures judged { (texts : MineTexts) (c : List ℕ) → AreRead texts nanos.items predecessors → IsGroupNamed G.name G.block_parts G.counts
+        → IsHeader texts c predecessors.blocks G.name → StandsBehind C.remaining c stream.old.lines → Judges texts c result }
     ensures device { IsErrOf result EngineFault.Device → C.failed stream.new.lines.from ≡ C.failed stream.old.lines.from + 1 }
     ensures kept { ¬ IsErrOf result EngineFault.Device → C.failed stream.new.lines.from ≡ C.failed stream.old.lines.from }
 {
-    let graph = Graph::<G>::of_worths(alloc, rests, &nanos)?;
+    let graph = Graph::<G>::of_worths(alloc, predecessors, &nanos)?;
     drop(nanos);
     let net = graph.as_ref();
     // proof: what is known of every net, that its pairs are of its blocks and in order

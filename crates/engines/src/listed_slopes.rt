@@ -53,8 +53,8 @@ pub fn slopes_from_settings_engine<S: CountedRead, B: CountedRead, W: CountedWri
     let offsets = offsets_in(&settings)?;
     let model = blocks_from(alloc, blocks, &[])?;
     let pattern = pattern_listed(alloc, offsets)?;
-    let rests = slopes_of(alloc, &model, &pattern, up, selection)?;
-    write_slopes(&rests, out)?;
+    let predecessors = slopes_of(alloc, &model, &pattern, up, selection)?;
+    write_slopes(&predecessors, out)?;
     Ok(Verdict::Done)
 }
 

@@ -64,7 +64,7 @@ pub fn slopes_of(
     // proof: a block has no more predecessors than a pattern has offsets
     laws::slopes_are_narrow(pattern);
     match predecessors_of(alloc, model, pattern, up, selection) {
-        Ok(rests) => Ok(rests),
+        Ok(predecessors) => Ok(predecessors),
         Err(fault) => Err(EngineFault::from(fault)),
     }
 }
@@ -73,16 +73,19 @@ pub fn slopes_of(
 ///
 /// # Errors
 /// `Device` where a write fails: the writer has then received a prefix of the text.
-pub fn write_slopes<W: CountedWrite>(rests: &Predecessors, out: &mut W) -> Result<(), EngineFault>
-    requires narrow { AreNarrow rests.now }
+pub fn write_slopes<W: CountedWrite>(
+    predecessors: &Predecessors,
+    out: &mut W,
+) -> Result<(), EngineFault>
+    requires narrow { AreNarrow predecessors.now }
     requires room { W.failed out.old < 2 ^ 64 - 1 }
-    ensures sent { OnOk result (Appends (W.contents out.old) (W.contents out.new) (prec_text rests.now)) }
+    ensures sent { OnOk result (Appends (W.contents out.old) (W.contents out.new) (prec_text predecessors.now)) }
     ensures kept { OnOk result (W.failed out.new ≡ W.failed out.old) }
     ensures fault { IfErr result (λ e. e ≡ EngineFault.Device) }
-    ensures prefix { IfErr result (λ _. ReceivedPrefix (W.contents out.old) (W.contents out.new) (prec_text rests.now)) }
+    ensures prefix { IfErr result (λ _. ReceivedPrefix (W.contents out.old) (W.contents out.new) (prec_text predecessors.now)) }
     ensures counted { IfErr result (λ _. W.failed out.new ≡ W.failed out.old + 1) }
 {
-    match write_predecessors(rests, out) {
+    match write_predecessors(predecessors, out) {
         Ok(()) => Ok(()),
         Err(PrecWriteFault::Device) => Err(EngineFault::Device),
         // a block rests on no more blocks than a pattern has offsets, which are few

@@ -44,7 +44,7 @@ pub fn slopes_engine<B: CountedRead, W: CountedWrite>(
 {
     let model = blocks_from(alloc, blocks, &[])?;
     let pattern = pattern_for(alloc, pattern)?;
-    let rests = slopes_of(alloc, &model, &pattern, up, selection)?;
-    write_slopes(&rests, out)?;
+    let predecessors = slopes_of(alloc, &model, &pattern, up, selection)?;
+    write_slopes(&predecessors, out)?;
     Ok(Verdict::Done)
 }

@@ -14,11 +14,11 @@ use fixed_worth::{CountedWrite, Page, WriteFault, WrittenNumber};
 const WIDEST: usize = 7_000;
 
 // The first block that rests on too many.
-fn first_wide(rests: &Predecessors) -> Option<u32>
-    ensures { MatchOption result (AreNarrow rests.now) (λ b. IsFirstNot (IsNarrowAt rests.now) rests.now.blocks b) }
+fn first_wide(predecessors: &Predecessors) -> Option<u32>
+    ensures { MatchOption result (AreNarrow predecessors.now) (λ b. IsFirstNot (IsNarrowAt predecessors.now) predecessors.now.blocks b) }
 {
-    for b in 0..rests.len() {
-        if rests.above(b).len() > WIDEST {
+    for b in 0..predecessors.len() {
+        if predecessors.above(b).len() > WIDEST {
             return Some(b);
         }
     }
@@ -103,33 +103,33 @@ fn put_line<W: CountedWrite>(
     page: &mut Page,
     out: &mut W,
     digits: &mut WrittenNumber,
-    rests: &Predecessors,
+    predecessors: &Predecessors,
     block: u32,
 ) -> Result<(), WriteFault>
-    requires known { block < rests.now.blocks }
+    requires known { block < predecessors.now.blocks }
     requires room { W.failed out.old < 2 ^ 64 - 1 }
-    ensures held { OnOk result (SentOrHeld (W.contents out.old) (W.contents out.new) page.new (page.old ++ line_of rests.now.pairs block)) }
+    ensures held { OnOk result (SentOrHeld (W.contents out.old) (W.contents out.new) page.new (page.old ++ line_of predecessors.now.pairs block)) }
     ensures kept { OnOk result (W.failed out.new ≡ W.failed out.old) }
-    ensures prefix { OnErr result (ReceivedPrefix (W.contents out.old) (W.contents out.new) (page.old ++ line_of rests.now.pairs block)) }
+    ensures prefix { OnErr result (ReceivedPrefix (W.contents out.old) (W.contents out.new) (page.old ++ line_of predecessors.now.pairs block)) }
     ensures counted { OnErr result (W.failed out.new ≡ W.failed out.old + 1) }
 {
-    let above = rests.above(block);
+    let above = predecessors.above(block);
     put_head(page, out, digits, block, above.len() as u64)?;
     put_rest(page, out, digits, above)
 }
 
 // Writes the lines of all blocks.
-fn write_lines<W: CountedWrite>(rests: &Predecessors, out: &mut W) -> Result<(), WriteFault>
+fn write_lines<W: CountedWrite>(predecessors: &Predecessors, out: &mut W) -> Result<(), WriteFault>
     requires { W.failed out.old < 2 ^ 64 - 1 }
-    ensures sent { OnOk result (Appends (W.contents out.old) (W.contents out.new) (prec_text rests.now)) }
+    ensures sent { OnOk result (Appends (W.contents out.old) (W.contents out.new) (prec_text predecessors.now)) }
     ensures kept { OnOk result (W.failed out.new ≡ W.failed out.old) }
-    ensures prefix { OnErr result (ReceivedPrefix (W.contents out.old) (W.contents out.new) (prec_text rests.now)) }
+    ensures prefix { OnErr result (ReceivedPrefix (W.contents out.old) (W.contents out.new) (prec_text predecessors.now)) }
     ensures counted { OnErr result (W.failed out.new ≡ W.failed out.old + 1) }
 {
     let mut page = Page::new();
     let mut digits = WrittenNumber::of(0);
-    for block in 0..rests.len() {
-        put_line(&mut page, out, &mut digits, rests, block)?;
+    for block in 0..predecessors.len() {
+        put_line(&mut page, out, &mut digits, predecessors, block)?;
     }
     page.finish(out)
 }
@@ -143,19 +143,19 @@ fn write_lines<W: CountedWrite>(rests: &Predecessors, out: &mut W) -> Result<(),
 ///
 /// `out` must have counted fewer than 2^64 - 1 failures, so that one more can be counted.
 pub fn write_predecessors<W: CountedWrite>(
-    rests: &Predecessors,
+    predecessors: &Predecessors,
     out: &mut W,
 ) -> Result<(), PrecWriteFault>
     requires { W.failed out.old < 2 ^ 64 - 1 }
-    ensures sent { OnOk result (Appends (W.contents out.old) (W.contents out.new) (prec_text rests.now)) }
+    ensures sent { OnOk result (Appends (W.contents out.old) (W.contents out.new) (prec_text predecessors.now)) }
     ensures kept { OnOk result (W.failed out.new ≡ W.failed out.old) }
-    ensures narrow { OnOk result (AreNarrow rests.now) }
-    ensures fault { IfErr result (λ e. WriteFaultStands rests.now (W.contents out.old) (W.contents out.new) (W.failed out.old) (W.failed out.new) e) }
+    ensures narrow { OnOk result (AreNarrow predecessors.now) }
+    ensures fault { IfErr result (λ e. WriteFaultStands predecessors.now (W.contents out.old) (W.contents out.new) (W.failed out.old) (W.failed out.new) e) }
 {
-    if let Some(block) = first_wide(rests) {
+    if let Some(block) = first_wide(predecessors) {
         return Err(PrecWriteFault::TooWide(block));
     }
-    write_lines(rests, out).map_err(|_| PrecWriteFault::Device)
+    write_lines(predecessors, out).map_err(|_| PrecWriteFault::Device)
 }
 
 /// Writes pairs as [`write_predecessors`] does.

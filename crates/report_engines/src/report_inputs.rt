@@ -169,16 +169,16 @@ pub fn report_mine_from<D: CountedRead>(
 ) -> Result<ReportMine, EngineFault>
     requires { InputsCanCount inputs.old D.failed }
     ensures read { ForSeries inputs.old D.remaining (λ s b p. MatchResult result
-        (λ mine. IsReportRead s b p mine.series.prices mine.series.rests mine.series.factors.items mine.model mine.charges mine.factor) (ReportMineFails s b p)) }
+        (λ mine. IsReportRead s b p mine.series.prices mine.series.predecessors mine.series.factors.items mine.model mine.charges mine.factor) (ReportMineFails s b p)) }
     ensures device { IsErrOf result EngineFault.Device → input_failures inputs.new D.failed ≡ input_failures inputs.old D.failed + 1 }
     ensures kept { ¬ IsErrOf result EngineFault.Device → NoInputFailed inputs.old inputs.new D.failed }
 {
     let said = said_from(alloc, &mut inputs.settings)?;
     let read = priced_model_from(alloc, &mut inputs.blocks, said.columns)?;
-    let rests = predecessors_from(alloc, &mut inputs.prec, read.prices.len())?;
+    let predecessors = predecessors_from(alloc, &mut inputs.prec, read.prices.len())?;
     let series = SeriesMine {
         prices: read.prices,
-        rests,
+        predecessors,
         factors: said.factors,
     };
     Ok(ReportMine {

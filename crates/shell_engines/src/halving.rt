@@ -92,9 +92,9 @@ fn solved_by<T: SeriesProgress>(
     turns: u64,
     gate: &T,
 ) -> Result<Level, AllocError>
-    requires priced { ArePriced mine.now.rests.pairs mine.now.prices mine.now.factors.items }
-    requires left { All (IsLeft mine.now.rests.pairs mine.now.prices mine.now.factors.items) parts.now }
-    ensures { IfOk result (IsSearchLevel mine.now.rests.pairs mine.now.prices mine.now.factors.items) }
+    requires priced { ArePriced mine.now.predecessors.pairs mine.now.prices mine.now.factors.items }
+    requires left { All (IsLeft mine.now.predecessors.pairs mine.now.prices mine.now.factors.items) parts.now }
+    ensures { IfOk result (IsSearchLevel mine.now.predecessors.pairs mine.now.prices mine.now.factors.items) }
 {
     let factors = mine.factors.as_slice();
     let mut level = Level::new(alloc);
@@ -122,9 +122,9 @@ fn level_of<R: Threads + Sync, T: SeriesProgress + Sync>(
     effort: Effort,
     gate: &T,
 ) -> Result<Level, AllocError>
-    requires priced { ArePriced mine.now.rests.pairs mine.now.prices mine.now.factors.items }
-    requires left { All (IsLeft mine.now.rests.pairs mine.now.prices mine.now.factors.items) parts.now }
-    ensures { IfOk result (IsSearchLevel mine.now.rests.pairs mine.now.prices mine.now.factors.items) }
+    requires priced { ArePriced mine.now.predecessors.pairs mine.now.prices mine.now.factors.items }
+    requires left { All (IsLeft mine.now.predecessors.pairs mine.now.prices mine.now.factors.items) parts.now }
+    ensures { IfOk result (IsSearchLevel mine.now.predecessors.pairs mine.now.prices mine.now.factors.items) }
 {
     let taken = AtomicU64::new(0);
     let threads = effort.workers as usize;
@@ -134,8 +134,8 @@ fn level_of<R: Threads + Sync, T: SeriesProgress + Sync>(
         alloc,
         threads.min(parts.len()),
         &|_thread: usize| -> Result<Level, AllocError>
-            requires { ArePriced mine.now.rests.pairs mine.now.prices mine.now.factors.items × All (IsLeft mine.now.rests.pairs mine.now.prices mine.now.factors.items) parts.now }
-            ensures { IfOk result (IsSearchLevel mine.entry.now.rests.pairs mine.entry.now.prices mine.entry.now.factors.items) }
+            requires { ArePriced mine.now.predecessors.pairs mine.now.prices mine.now.factors.items × All (IsLeft mine.now.predecessors.pairs mine.now.prices mine.now.factors.items) parts.now }
+            ensures { IfOk result (IsSearchLevel mine.entry.now.predecessors.pairs mine.entry.now.prices mine.entry.now.factors.items) }
         { solved_by(alloc, mine, parts, &taken, turns, gate) },
     )?;
     let mut all = Level::new(alloc);
@@ -159,12 +159,12 @@ pub fn found_beside<R: Threads + Sync, T: SeriesProgress + Sync>(
     effort: Effort,
     gate: &T,
 ) -> Result<Vec<BestPit>, AllocError>
-    ensures { IfOk result (λ v. All (IsProved mine.now.rests.pairs mine.now.prices) v.items) }
+    ensures { IfOk result (λ v. All (IsProved mine.now.predecessors.pairs mine.now.prices) v.items) }
 {
     let mut found: Vec<BestPit> = Vec::new(alloc);
     let mut parts: Vec<Part> = Vec::new(alloc);
     // proof: what is known of every list of predecessors, that its pairs are of its blocks and in order
-    let _resting = mine.rests.len();
+    let _resting = mine.predecessors.len();
     let blocks = mine.prices.len();
     let count = mine.factors.len();
     let all = whole(alloc, blocks, count)?;

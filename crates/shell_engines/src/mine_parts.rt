@@ -89,16 +89,16 @@ fn worths_among(
 fn net_among(
     alloc: Global,
     prices: &Prices,
-    rests: &Predecessors,
+    predecessors: &Predecessors,
     kept: &[u32],
     factor: Factor,
 ) -> Result<Option<Net<Scaled>>, AllocError>
     requires ascending { IsAscending kept.now }
-    requires below { All (λ b. b < rests.now.blocks) kept.now }
-    requires size { length kept.now ≤ rests.now.blocks }
-    ensures { IfOk result (λ o. IfSome o (IsNetAmong scaled_block rests.now.pairs prices.now kept.now factor)) }
+    requires below { All (λ b. b < predecessors.now.blocks) kept.now }
+    requires size { length kept.now ≤ predecessors.now.blocks }
+    ensures { IfOk result (λ o. IfSome o (IsNetAmong scaled_block predecessors.now.pairs prices.now kept.now factor)) }
 {
-    let small = rests_among(alloc, rests, kept)?;
+    let small = rests_among(alloc, predecessors, kept)?;
     let Some(worths) = worths_among(alloc, prices, kept, factor)? else {
         return Ok(None);
     };
@@ -209,16 +209,16 @@ pub fn solved_part(
     place: usize,
     turns: u64,
 ) -> Result<Halved, AllocError>
-    requires priced { ArePriced mine.now.rests.pairs mine.now.prices mine.now.factors.items }
-    requires part { IsPart mine.now.rests.pairs mine.now.prices mine.now.factors.items part.now }
+    requires priced { ArePriced mine.now.predecessors.pairs mine.now.prices mine.now.factors.items }
+    requires part { IsPart mine.now.predecessors.pairs mine.now.prices mine.now.factors.items part.now }
     requires first { part.now.from ≤ place }
     requires last { place < part.now.to }
-    ensures { IfOk result (AreHalved mine.now.rests.pairs mine.now.prices mine.now.factors.items) }
+    ensures { IfOk result (AreHalved mine.now.predecessors.pairs mine.now.prices mine.now.factors.items) }
 {
     let factor = mine.factors[place];
     let next = place + 1;
     let kept = part.kept.as_slice();
-    let Some(net) = net_among(alloc, &mine.prices, &mine.rests, kept, factor)? else {
+    let Some(net) = net_among(alloc, &mine.prices, &mine.predecessors, kept, factor)? else {
         return part.unsolved(alloc, place, next);
     };
     let Some(small) = quick_best(alloc, &net, factor, turns)? else {

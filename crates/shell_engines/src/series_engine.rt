@@ -84,7 +84,7 @@ fn answer_of<R: Threads + Wait + Sync, T: Gate + Progress + SeriesProgress>(
     gate: &T,
     is_asked: bool,
 ) -> Result<Answer, EngineFault>
-    ensures answer { (s b p : List ℕ) → IsSeriesRead s b p mine.prices mine.rests mine.factors.items → MatchResult result
+    ensures answer { (s b p : List ℕ) → IsSeriesRead s b p mine.prices mine.predecessors mine.factors.items → MatchResult result
         (λ a. AnswersShells s b p effort is_asked a.verdict a.table.items a.text.items)
         (λ e. ShellsFail s b p e) }
     ensures no_device { ¬ IsErrOf result EngineFault.Device }

@@ -35,11 +35,11 @@ pub struct SeriesMine {
     pub prices: Prices,
     /// The predecessors of each block. The index that a series has beside them is made once the pits are found, which takes
     /// less memory.
-    pub rests: Predecessors,
+    pub predecessors: Predecessors,
     /// The factors, rising.
     pub factors: Vec<Factor>,
     ghost form: { AreFactors factors.items },
-    ghost sizes: { rests.blocks ≡ blocks_of prices },
+    ghost sizes: { predecessors.blocks ≡ blocks_of prices },
 }
 
 // The factors of so many thousandths each.
@@ -84,7 +84,7 @@ pub fn series_mine_from<D: CountedRead>(
     inputs: &mut SeriesInputs<D>,
 ) -> Result<SeriesMine, EngineFault>
     requires { InputsCanCount inputs.old D.failed }
-    ensures read { ForSeries inputs.old D.remaining (λ s b p. MatchResult result (λ mine. IsSeriesRead s b p mine.prices mine.rests mine.factors.items) (SeriesMineFails s b p)) }
+    ensures read { ForSeries inputs.old D.remaining (λ s b p. MatchResult result (λ mine. IsSeriesRead s b p mine.prices mine.predecessors mine.factors.items) (SeriesMineFails s b p)) }
     ensures device { IsErrOf result EngineFault.Device → input_failures inputs.new D.failed ≡ input_failures inputs.old D.failed + 1 }
     ensures kept { ¬ IsErrOf result EngineFault.Device → NoInputFailed inputs.old inputs.new D.failed }
 {
@@ -92,10 +92,10 @@ pub fn series_mine_from<D: CountedRead>(
     let columns = price_columns(&settings, &[Key::Factors])?;
     let factors = factors_of(alloc, &settings)?;
     let prices = prices_from(alloc, &mut inputs.blocks, columns)?;
-    let rests = predecessors_from(alloc, &mut inputs.prec, prices.len())?;
+    let predecessors = predecessors_from(alloc, &mut inputs.prec, prices.len())?;
     Ok(SeriesMine {
         prices,
-        rests,
+        predecessors,
         factors,
     })
 }

@@ -121,7 +121,7 @@ fn found_first<R: Threads + Sync, T: SeriesProgress + Sync>(
     effort: Effort,
     gate: &T,
 ) -> Result<Vec<BestPit>, AllocError>
-    ensures { IfOk result (λ v. All (IsProved mine.now.rests.pairs mine.now.prices) v.items) }
+    ensures { IfOk result (λ v. All (IsProved mine.now.predecessors.pairs mine.now.prices) v.items) }
 {
     if !effort.method.begins_with_pseudoflow(mine.prices.len()) {
         return Ok(Vec::new(alloc));
@@ -149,16 +149,16 @@ pub fn settle<R: Threads + Wait + Sync, T: Gate + Progress + SeriesProgress>(
     gate: &T,
 ) -> Result<Shells, NoSeries>
     ensures { MatchResult result
-        (λ shells. IsSettled mine.rests.pairs mine.prices mine.factors.items shells.series shells.rows.items)
-        (λ e. NoSeriesStands scaled_block mine.rests mine.prices mine.factors.items effort e) }
+        (λ shells. IsSettled mine.predecessors.pairs mine.prices mine.factors.items shells.series shells.rows.items)
+        (λ e. NoSeriesStands scaled_block mine.predecessors mine.prices mine.factors.items effort e) }
 {
     let found = found_first(rt, alloc, &mine, effort, gate)?;
     let SeriesMine {
         prices,
-        rests,
+        predecessors,
         factors,
     } = mine;
-    let rests = rests.into_rests(alloc)?;
+    let rests = predecessors.into_rests(alloc)?;
     let series = match Series::open(alloc, rests, prices) {
         Ok(series) => series,
         Err(SeriesFault::NoMemory) => return Err(NoSeries::Memory),

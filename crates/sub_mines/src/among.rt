@@ -24,22 +24,22 @@ fn places_of(alloc: Global, n: u32, kept: &[u32]) -> Result<Vec<u32>, AllocError
 // Adds the pairs of block `row` of the list to the others.
 fn add_row(
     pairs: &mut Vec<(u32, u32)>,
-    rests: &Predecessors,
+    predecessors: &Predecessors,
     kept: &[u32],
     places: &[u32],
     row: u32,
 ) -> Result<(), AllocError>
-    requires below { All (λ b. b < rests.now.blocks) kept.now }
-    requires places { ArePlacesAmong rests.now.blocks kept.now (length kept.now) places.now }
+    requires below { All (λ b. b < predecessors.now.blocks) kept.now }
+    requires places { ArePlacesAmong predecessors.now.blocks kept.now (length kept.now) places.now }
     requires inside { row < length kept.now }
     requires few { length pairs.old.items ≤ MOST_PAIRS }
-    requires so_far { AreRowsAmong rests.now.pairs kept.now row pairs.old.items }
-    ensures rows { OnOk result (AreRowsAmong rests.now.pairs kept.now (row + 1) pairs.new.items) }
+    requires so_far { AreRowsAmong predecessors.now.pairs kept.now row pairs.old.items }
+    ensures rows { OnOk result (AreRowsAmong predecessors.now.pairs kept.now (row + 1) pairs.new.items) }
     ensures few { OnOk result (length pairs.new.items ≤ MOST_PAIRS) }
 {
     // proof: what is known of the pairs
-    let _ = rests.len();
-    for other in rests.above(kept[row as usize]) {
+    let _ = predecessors.len();
+    for other in predecessors.above(kept[row as usize]) {
         let place = places[*other as usize];
         if place > 0 {
             if pairs.len() >= MOST_PAIRS {
@@ -54,19 +54,19 @@ fn add_row(
 // The pairs of all rows.
 fn rows_of(
     alloc: Global,
-    rests: &Predecessors,
+    predecessors: &Predecessors,
     kept: &[u32],
     places: &[u32],
 ) -> Result<Vec<(u32, u32)>, AllocError>
-    requires below { All (λ b. b < rests.now.blocks) kept.now }
-    requires places { ArePlacesAmong rests.now.blocks kept.now (length kept.now) places.now }
-    requires size { length kept.now ≤ rests.now.blocks }
-    ensures { IfOk result (λ v. AreRowsAmong rests.now.pairs kept.now (length kept.now) v.items × (length v.items ≤ MOST_PAIRS)) }
+    requires below { All (λ b. b < predecessors.now.blocks) kept.now }
+    requires places { ArePlacesAmong predecessors.now.blocks kept.now (length kept.now) places.now }
+    requires size { length kept.now ≤ predecessors.now.blocks }
+    ensures { IfOk result (λ v. AreRowsAmong predecessors.now.pairs kept.now (length kept.now) v.items × (length v.items ≤ MOST_PAIRS)) }
 {
-    let _ = rests.len();
+    let _ = predecessors.len();
     let mut pairs = Vec::new(alloc);
     for row in 0..kept.len() as u32 {
-        add_row(&mut pairs, rests, kept, places, row)?;
+        add_row(&mut pairs, predecessors, kept, places, row)?;
     }
     Ok(pairs)
 }
@@ -76,13 +76,17 @@ fn rows_of(
 ///
 /// # Errors
 /// Where memory is refused.
-pub fn rests_among(alloc: Global, rests: &Predecessors, kept: &[u32]) -> Result<Rests, AllocError>
+pub fn rests_among(
+    alloc: Global,
+    predecessors: &Predecessors,
+    kept: &[u32],
+) -> Result<Rests, AllocError>
     requires ascending { IsAscending kept.now }
-    requires below { All (λ b. b < rests.now.blocks) kept.now }
-    requires size { length kept.now ≤ rests.now.blocks }
-    ensures { IfOk result (λ r. (r.blocks ≡ length kept.now) × IsPartPairs kept.now rests.now.pairs r.pairs) }
+    requires below { All (λ b. b < predecessors.now.blocks) kept.now }
+    requires size { length kept.now ≤ predecessors.now.blocks }
+    ensures { IfOk result (λ r. (r.blocks ≡ length kept.now) × IsPartPairs kept.now predecessors.now.pairs r.pairs) }
 {
-    let places = places_of(alloc, rests.len(), kept)?;
-    let pairs = rows_of(alloc, rests, kept, &places)?;
+    let places = places_of(alloc, predecessors.len(), kept)?;
+    let pairs = rows_of(alloc, predecessors, kept, &places)?;
     ListedPairs::of(kept.len() as u32, pairs).into_rests(alloc)
 }

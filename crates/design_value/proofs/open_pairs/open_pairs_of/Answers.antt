@@ -8,11 +8,11 @@ use Rattle.design_value.proofs.open_pairs.open_pairs_of.Goals as goal
 pub loop-b-init : goal.loop-b-init
 loop-b-init c =
     let none : c.new.result.items ≡ [] = search rules in
-    rw (none_passed c.args.rests.now.pairs) (record { all = refl; first = none })
+    rw (none_passed c.args.predecessors.now.pairs) (record { all = refl; first = none })
 
 pub returns : goal.returns
 returns c =
-    let v = c.args.rests.now in
+    let v = c.args.predecessors.now in
     let end : c.loop-b.b ≡ v.blocks = omega arith in
     let all = ap (λ (k : ℕ). take (first_of v.pairs k) v.pairs) end ∙ all_passed v c.len-blocks.ensures.all in
     subst (λ (ps : List (ℕ × ℕ)). AreOpen (marked_in c.args.marks.now) ps c.loop-b.leading.count c.loop-b.leading.first.items) all c.loop-b.invariant

@@ -5,4 +5,4 @@ use Rattle.design_value.specs.Sums.{marked_in}
 use Rattle.design_value.proofs.open_pairs.open_pairs_of.Given as goal
 
 abbrev pub invariant-loop-b : goal.invariant-loop-b
-invariant-loop-b l = AreOpen (marked_in l.marks) (take (first_of l.rests.pairs l.b) l.rests.pairs) l.leading.count l.leading.first.items
+invariant-loop-b l = AreOpen (marked_in l.marks) (take (first_of l.predecessors.pairs l.b) l.predecessors.pairs) l.leading.count l.leading.first.items

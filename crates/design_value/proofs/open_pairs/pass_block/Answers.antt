@@ -7,11 +7,11 @@ use Rattle.design_value.proofs.open_pairs.pass_block.Goals as goal
 
 pub loop-i-preserved : goal.loop-i-preserved
 loop-i-preserved c =
-    let v = c.args.rests.now in
-    let xs = c.above-predecessors.result.now in
-    let inside : c.loop-i.i < length (above_of v.pairs c.args.b) = omega (arith, ap length c.above-predecessors.ensures) in
+    let v = c.args.predecessors.now in
+    let xs = c.above-row.result.now in
+    let inside : c.loop-i.i < length (above_of v.pairs c.args.b) = omega (arith, ap length c.above-row.ensures) in
     let n = next_pair v c.len-blocks.ensures.all c.args.b c.loop-i.i inside in
-    let same : get_or xs c.loop-i.i 0 ≡ get_or (above_of v.pairs c.args.b) c.loop-i.i 0 = ap (λ (ys : List ℕ). get_or ys c.loop-i.i 0) c.above-predecessors.ensures in
+    let same : get_or xs c.loop-i.i 0 ≡ get_or (above_of v.pairs c.args.b) c.loop-i.i 0 = ap (λ (ys : List ℕ). get_or ys c.loop-i.i 0) c.above-row.ensures in
     let before = take (first_of v.pairs c.args.b + c.loop-i.i) v.pairs in
     let all : take (first_of v.pairs c.args.b + (c.loop-i.i + 1)) v.pairs ≡ before ++ (c.args.b, get_or xs c.loop-i.i 0) ∷ [] = n.1 ∙ ap (λ (p : ℕ). before ++ (c.args.b, p) ∷ []) (sym same) in
     subst (λ (ps : List (ℕ × ℕ)). AreOpen (marked_in c.args.marks.now) ps c.pass_pair.new.leading.count c.pass_pair.new.leading.first.items) (sym all)
@@ -19,23 +19,23 @@ loop-i-preserved c =
 
 pub leads_out_of-leads-requires-clause-predecessor : goal.leads_out_of-leads-requires-clause-predecessor
 leads_out_of-leads-requires-clause-predecessor c =
-    let v = c.args.rests.now in
-    let inside : c.loop-i.i < length (above_of v.pairs c.args.b) = omega (arith, ap length c.above-predecessors.ensures) in
+    let v = c.args.predecessors.now in
+    let inside : c.loop-i.i < length (above_of v.pairs c.args.b) = omega (arith, ap length c.above-row.ensures) in
     let n = next_pair v c.len-blocks.ensures.all c.args.b c.loop-i.i inside in
-    let same = ap (λ (ys : List ℕ). get_or ys c.loop-i.i 0) c.above-predecessors.ensures in
+    let same = ap (λ (ys : List ℕ). get_or ys c.loop-i.i 0) c.above-row.ensures in
     omega (arith, n.2, same, c.requires.all)
 
 pub pass_pair-requires : goal.pass_pair-requires
 pass_pair-requires c =
-    let v = c.args.rests.now in
+    let v = c.args.predecessors.now in
     let r = c.len-blocks.ensures.all in
-    let inside : c.loop-i.i < length (above_of v.pairs c.args.b) = omega (arith, ap length c.above-predecessors.ensures) in
+    let inside : c.loop-i.i < length (above_of v.pairs c.args.b) = omega (arith, ap length c.above-row.ensures) in
     let n = next_pair v r c.args.b c.loop-i.i inside in
     let few = few_lead (marked_in c.args.marks.now) v.pairs (first_of v.pairs c.args.b + c.loop-i.i) c.loop-i.leading.count c.loop-i.leading.first.items (omega (arith, n.0)) c.loop-i.invariant in
     omega (arith, few, n.0, r.few)
 
 pub returns : goal.returns
 returns c =
-    let ps = c.args.rests.now.pairs in
-    let end : first_of ps c.args.b + c.loop-i.i ≡ first_of ps (c.args.b + 1) = omega (arith, block_passed ps c.args.b, ap length c.above-predecessors.ensures) in
+    let ps = c.args.predecessors.now.pairs in
+    let end : first_of ps c.args.b + c.loop-i.i ≡ first_of ps (c.args.b + 1) = omega (arith, block_passed ps c.args.b, ap length c.above-row.ensures) in
     subst (λ (k : ℕ). AreOpen (marked_in c.args.marks.now) (take k ps) c.loop-i.leading.count c.loop-i.leading.first.items) end c.loop-i.invariant

@@ -5,4 +5,4 @@ use Rattle.design_value.specs.Sums.{marked_in}
 use Rattle.design_value.proofs.open_pairs.pass_block.Given as goal
 
 abbrev pub invariant-loop-i : goal.invariant-loop-i
-invariant-loop-i l = AreOpen (marked_in l.marks) (take (first_of l.rests.pairs l.b + l.i) l.rests.pairs) l.leading.count l.leading.first.items
+invariant-loop-i l = AreOpen (marked_in l.marks) (take (first_of l.predecessors.pairs l.b + l.i) l.predecessors.pairs) l.leading.count l.leading.first.items

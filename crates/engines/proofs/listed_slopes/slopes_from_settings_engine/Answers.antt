@@ -19,20 +19,20 @@ returns-in_err-pattern-clause-answer g c =
     rw (p.1, p.2) (pattern_answer (g.S.Read.remaining c.args.settings.now) (g.B.Read.remaining c.args.blocks.now) c.args.up c.args.selection c.in_ok-settings.settings c.in_ok-settings.ensures.read c.in_ok-offsets.offsets.now c.in_ok-offsets.ensures.offsets
     c.in_ok-model.model c.in_ok-model.ensures.read (g.W.Write.contents c.args.out.now) c.in_err-pattern.field-0.0 c.in_err-pattern.ensures.made)
 
-pub returns-in_err-rests-clause-answer : goal.returns-in_err-rests-clause-answer
-returns-in_err-rests-clause-answer g c =
-    let p = err_from_is_err_and c.from_residual-in_err-rests.result c.from_residual-in_err-rests.ensures.1 in
+pub returns-in_err-predecessors-clause-answer : goal.returns-in_err-predecessors-clause-answer
+returns-in_err-predecessors-clause-answer g c =
+    let p = err_from_is_err_and c.from_residual-in_err-predecessors.result c.from_residual-in_err-predecessors.ensures.1 in
     rw (p.1, p.2) (pairs_answer (g.S.Read.remaining c.args.settings.now) (g.B.Read.remaining c.args.blocks.now) c.args.up c.args.selection c.in_ok-settings.settings c.in_ok-settings.ensures.read c.in_ok-offsets.offsets.now c.in_ok-offsets.ensures.offsets
-    c.in_ok-model.model c.in_ok-model.ensures.read c.in_ok-pattern.pattern c.in_ok-pattern.ensures.made (g.W.Write.contents c.args.out.now) c.in_err-rests.field-0.0 c.in_err-rests.ensures.made)
+    c.in_ok-model.model c.in_ok-model.ensures.read c.in_ok-pattern.pattern c.in_ok-pattern.ensures.made (g.W.Write.contents c.args.out.now) c.in_err-predecessors.field-0.0 c.in_err-predecessors.ensures.made)
 
 pub returns-in_err-write_slopes-clause-answer : goal.returns-in_err-write_slopes-clause-answer
 returns-in_err-write_slopes-clause-answer g c =
     let p = err_from_is_err_and c.from_residual-in_err-write_slopes.result c.from_residual-in_err-write_slopes.ensures.1 in
     rw (p.1, p.2) (cut_short (g.S.Read.remaining c.args.settings.now) (g.B.Read.remaining c.args.blocks.now) c.args.up c.args.selection c.in_ok-settings.settings c.in_ok-settings.ensures.read c.in_ok-offsets.offsets.now c.in_ok-offsets.ensures.offsets
-    c.in_ok-model.model c.in_ok-model.ensures.read c.in_ok-pattern.pattern c.in_ok-pattern.ensures.made (g.W.Write.contents c.args.out.now) (g.W.Write.contents c.write_slopes.new.out) c.in_ok-rests.rests c.in_err-write_slopes.field-0.0 c.in_err-write_slopes.ensures.fault
-    c.in_ok-rests.ensures.made c.in_err-write_slopes.ensures.prefix)
+    c.in_ok-model.model c.in_ok-model.ensures.read c.in_ok-pattern.pattern c.in_ok-pattern.ensures.made (g.W.Write.contents c.args.out.now) (g.W.Write.contents c.write_slopes.new.out) c.in_ok-predecessors.predecessors c.in_err-write_slopes.field-0.0 c.in_err-write_slopes.ensures.fault
+    c.in_ok-predecessors.ensures.made c.in_err-write_slopes.ensures.prefix)
 
 pub returns-clause-answer : goal.returns-clause-answer
 returns-clause-answer g c =
     written_answer (g.S.Read.remaining c.args.settings.now) (g.B.Read.remaining c.args.blocks.now) c.args.up c.args.selection c.in_ok-settings.settings c.in_ok-settings.ensures.read c.in_ok-offsets.offsets.now c.in_ok-offsets.ensures.offsets
-    c.in_ok-model.model c.in_ok-model.ensures.read c.in_ok-pattern.pattern c.in_ok-pattern.ensures.made (g.W.Write.contents c.args.out.now) (g.W.Write.contents c.write_slopes.new.out) c.in_ok-rests.rests c.in_ok-rests.ensures.made c.in_ok-write_slopes.ensures.sent
+    c.in_ok-model.model c.in_ok-model.ensures.read c.in_ok-pattern.pattern c.in_ok-pattern.ensures.made (g.W.Write.contents c.args.out.now) (g.W.Write.contents c.write_slopes.new.out) c.in_ok-predecessors.predecessors c.in_ok-predecessors.ensures.made c.in_ok-write_slopes.ensures.sent

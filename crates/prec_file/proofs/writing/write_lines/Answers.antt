@@ -10,16 +10,16 @@ use Rattle.fixed_worth.proofs.Sides.{on_err}
 pub loop-block-preserved : goal.loop-block-preserved
 loop-block-preserved g c = (
   subst (SentOrHeld (g.W.Write.contents c.args.out.now) (g.W.Write.contents c.put_line.new.out) c.put_line.new.page)
-      (lines_more c.args.rests.now.pairs c.loop-block.block)
+      (lines_more c.args.predecessors.now.pairs c.loop-block.block)
       (held_more _ _ _ _ _ _ _ c.loop-block.invariant.0 c.in_ok-put_line.ensures.held),
   c.in_ok-put_line.ensures.kept ∙ c.loop-block.invariant.1,
 )
 
 pub returns-in_err-put_line-clause-prefix : goal.returns-in_err-put_line-clause-prefix
 returns-in_err-put_line-clause-prefix g c =
-    let ps = c.args.rests.now.pairs in
+    let ps = c.args.predecessors.now.pairs in
     let b = c.loop-block.block in
-    let all = lines_front ps (b + 1) c.args.rests.now.blocks (omega arith) in
+    let all = lines_front ps (b + 1) c.args.predecessors.now.blocks (omega arith) in
     on_err c.from_residual.result
     (prefix_of_part _ _ (lines_below ps (b + 1)) all.0 _ all.1
     (subst (ReceivedPrefix (g.W.Write.contents c.args.out.now) (g.W.Write.contents c.put_line.new.out))
@@ -28,9 +28,9 @@ returns-in_err-put_line-clause-prefix g c =
 
 pub returns-clause-prefix : goal.returns-clause-prefix
 returns-clause-prefix g c =
-    let ps = c.args.rests.now.pairs in
+    let ps = c.args.predecessors.now.pairs in
     let b = c.loop-block.block in
-    let all = lines_front ps b c.args.rests.now.blocks (omega arith) in
+    let all = lines_front ps b c.args.predecessors.now.blocks (omega arith) in
     on_err_weaker c.finish.result
     (λ part. prefix_of_part _ _ (lines_below ps b) all.0 _ all.1
     (held_prefix _ _ _ c.loop-block.page _ c.loop-block.invariant.0 part))

@@ -14,7 +14,7 @@ use Rattle.shell_engines.proofs.halving.found_beside.Goals as goal
 pub loop-init : goal.loop-init
 loop-init g c =
     let m = c.args.mine.now in
-    let pairs = m.rests.pairs in
+    let pairs = m.predecessors.pairs in
     let prices = m.prices in
     let factors = m.factors.items in
     let P : BestPit → Type 0 = IsProved pairs prices in
@@ -31,7 +31,7 @@ loop-init g c =
 
 pub loop-preserved : goal.loop-preserved
 loop-preserved g c =
-    let P : BestPit → Type 0 = IsProved c.args.mine.now.rests.pairs c.args.mine.now.prices in
+    let P : BestPit → Type 0 = IsProved c.args.mine.now.predecessors.pairs c.args.mine.now.prices in
     let level = c.in_ok-level.ensures in (
       subst (All P) (sym c.in_ok-append.ensures.items) (All-append P c.loop.found.items c.in_ok-level.level.found.items c.loop.invariant.0 level.found),
       level.left,

@@ -11,7 +11,7 @@ use Rattle.shell_engines.proofs.halving.level_of.Goals as goal
 
 pub loop-answer-preserved : goal.loop-answer-preserved
 loop-answer-preserved g c =
-    let pairs = c.args.mine.now.rests.pairs in
+    let pairs = c.args.mine.now.predecessors.pairs in
     let prices = c.args.mine.now.prices in
     let factors = c.args.mine.now.factors.items in
     let P : BestPit → Type 0 = IsProved pairs prices in

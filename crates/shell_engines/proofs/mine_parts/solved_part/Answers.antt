@@ -19,7 +19,7 @@ net_among-requires-clause-size c =
 
 pub returns : goal.returns
 returns c =
-    let pairs = c.args.mine.now.rests.pairs in
+    let pairs = c.args.mine.now.predecessors.pairs in
     let prices = c.args.mine.now.prices in
     let factors = c.args.mine.now.factors.items in
     let kept = c.args.part.now.kept.items in

@@ -21,7 +21,7 @@ returns-in_err-answer-clause-answer g c =
     let outputs = c.args.outputs.now in
     let mine = c.in_ok-mine.mine in
     rw (p.1, p.2) (unanswered (g.D.Read.remaining inputs.settings) (g.D.Read.remaining inputs.blocks) (g.D.Read.remaining inputs.prec)
-    (λ s b p. AnswersShells s b p c.args.effort (is_asked outputs.by_block)) ShellsFail (λ s b p. IsSeriesRead s b p mine.prices mine.rests mine.factors.items) c.in_ok-mine.ensures.read
+    (λ s b p. AnswersShells s b p c.args.effort (is_asked outputs.by_block)) ShellsFail (λ s b p. IsSeriesRead s b p mine.prices mine.predecessors mine.factors.items) c.in_ok-mine.ensures.read
     (contents_in outputs.by_block g.V.Write.contents) (g.W.Write.contents outputs.out) c.in_err-answer.field-0.0 c.in_err-answer.ensures.answer)
 
 pub returns-clause-answer : goal.returns-clause-answer
@@ -31,8 +31,8 @@ returns-clause-answer g c =
     let new = c.send.new.outputs in
     let mine = c.in_ok-mine.mine in
     let a = c.in_ok-answer.answer in
-    let P : Bool → Type 0 = λ k. (s b p : List ℕ) → IsSeriesRead s b p mine.prices mine.rests mine.factors.items → AnswersShells s b p c.args.effort k a.verdict a.table.items a.text.items in
+    let P : Bool → Type 0 = λ k. (s b p : List ℕ) → IsSeriesRead s b p mine.prices mine.predecessors mine.factors.items → AnswersShells s b p c.args.effort k a.verdict a.table.items a.text.items in
     sent (g.D.Read.remaining inputs.settings) (g.D.Read.remaining inputs.blocks) (g.D.Read.remaining inputs.prec)
-    (λ s b p. AnswersShells s b p c.args.effort (is_asked old.by_block)) ShellsFail (λ s b p. IsSeriesRead s b p mine.prices mine.rests mine.factors.items) c.in_ok-mine.ensures.read
+    (λ s b p. AnswersShells s b p c.args.effort (is_asked old.by_block)) ShellsFail (λ s b p. IsSeriesRead s b p mine.prices mine.predecessors mine.factors.items) c.in_ok-mine.ensures.read
     (contents_in old.by_block g.V.Write.contents) (contents_in new.by_block g.V.Write.contents) (g.W.Write.contents old.out) (g.W.Write.contents new.out) a.verdict a.table.items a.text.items
     (subst P c.has_table-is_asked.ensures c.in_ok-answer.ensures.answer) (λ s b p. tt) c.send.result c.send.ensures.sent c.send.ensures.cut

@@ -24,16 +24,16 @@ returns-in_err-prices-clause-read g c =
     rw (p.1, p.2) (mine_fails o q r said c.in_err-prices.field-0.0 c.in_ok-settings.ensures.read columns.1
     (prices_answer o q r said c.in_err-prices.field-0.0 c.in_ok-settings.ensures.read (prices_known said columns.1) (prices_unsaid q c.in_ok-columns.columns said c.in_err-prices.field-0.0 columns.0 c.in_err-prices.ensures.read)))
 
-pub returns-in_err-rests-clause-read : goal.returns-in_err-rests-clause-read
-returns-in_err-rests-clause-read g c =
-    let p = err_from_is_err_and c.from_residual-in_err-rests.result c.from_residual-in_err-rests.ensures.1 in
+pub returns-in_err-predecessors-clause-read : goal.returns-in_err-predecessors-clause-read
+returns-in_err-predecessors-clause-read g c =
+    let p = err_from_is_err_and c.from_residual-in_err-predecessors.result c.from_residual-in_err-predecessors.ensures.1 in
     let columns = c.in_ok-columns.ensures.columns in
     let o = g.D.Read.remaining c.args.inputs.now.settings in
     let q = g.D.Read.remaining c.args.inputs.now.blocks in
     let r = g.D.Read.remaining c.args.inputs.now.prec in
     let said = c.in_ok-settings.settings in
-    rw (p.1, p.2) (mine_fails o q r said c.in_err-rests.field-0.0 c.in_ok-settings.ensures.read columns.1
-    (prec_answer o q r said c.in_ok-prices.prices c.len.result c.in_err-rests.field-0.0 c.len.ensures.is c.len.ensures.table.revenues (prices_known said columns.1) c.in_ok-settings.ensures.read (prices_said q c.in_ok-columns.columns said c.in_ok-prices.prices columns.0 c.in_ok-prices.ensures.read) c.in_err-rests.ensures.read))
+    rw (p.1, p.2) (mine_fails o q r said c.in_err-predecessors.field-0.0 c.in_ok-settings.ensures.read columns.1
+    (prec_answer o q r said c.in_ok-prices.prices c.len.result c.in_err-predecessors.field-0.0 c.len.ensures.is c.len.ensures.table.revenues (prices_known said columns.1) c.in_ok-settings.ensures.read (prices_said q c.in_ok-columns.columns said c.in_ok-prices.prices columns.0 c.in_ok-prices.ensures.read) c.in_err-predecessors.ensures.read))
 
 pub returns-clause-read : goal.returns-clause-read
 returns-clause-read g c =
@@ -42,5 +42,5 @@ returns-clause-read g c =
     let q = g.D.Read.remaining c.args.inputs.now.blocks in
     let r = g.D.Read.remaining c.args.inputs.now.prec in
     let said = c.in_ok-settings.settings in
-    mine_read o q r said c.in_ok-prices.prices c.in_ok-rests.rests c.in_ok-factors.factors.items c.in_ok-settings.ensures.read columns.1 c.in_ok-factors.ensures.factors.0
-    (mine_answer o q r said c.in_ok-prices.prices c.in_ok-rests.rests c.len.result c.len.ensures.is c.len.ensures.table.revenues (prices_known said columns.1) c.in_ok-settings.ensures.read (prices_said q c.in_ok-columns.columns said c.in_ok-prices.prices columns.0 c.in_ok-prices.ensures.read) c.in_ok-rests.ensures.read)
+    mine_read o q r said c.in_ok-prices.prices c.in_ok-predecessors.predecessors c.in_ok-factors.factors.items c.in_ok-settings.ensures.read columns.1 c.in_ok-factors.ensures.factors.0
+    (mine_answer o q r said c.in_ok-prices.prices c.in_ok-predecessors.predecessors c.len.result c.len.ensures.is c.len.ensures.table.revenues (prices_known said columns.1) c.in_ok-settings.ensures.read (prices_said q c.in_ok-columns.columns said c.in_ok-prices.prices columns.0 c.in_ok-prices.ensures.read) c.in_ok-predecessors.ensures.read)
