@@ -18,7 +18,7 @@ use Rattle.mine_inputs.specs.Mines.{MineTexts, price_wanted}
 use Rattle.engines.specs.Solving.{IsNetBy, Solves}
 use Rattle.engines.proofs.Answered.{keeps_self}
 use Rattle.engines.proofs.Solutions.{certificate_is, unmade}
-use Rattle.audit_engines.specs.Tracing.{IsCertificateOfRun, TracesNet, TraceAtFault, Traces}
+use Rattle.audit_engines.specs.TracedRuns.{IsCertificateOfRun, TracesNet, TraceAtFault, Traces}
 
 -- ---- nothing was written
 

@@ -18,11 +18,11 @@ use Rattle.engines.specs.declared.judgement.Verdict.{Verdict}
 use Rattle.engines.specs.declared.judgement.Verdict.TheVariants.{No}
 use Rattle.mine_inputs.specs.declared.engine_fault.EngineFault.{EngineFault}
 use Rattle.mine_inputs.specs.declared.engine_fault.EngineFault.TheVariants as engine
-use Rattle.engines.specs.Certifying.{IsRefusedFlow}
+use Rattle.engines.specs.Certification.{IsRefusedFlow}
 use Rattle.engines.specs.NetAnswers.{SendsCertificate, certificate_text, unsettled_line, too_large_line}
 use Rattle.engines.proofs.Answered.{keeps_self}
 use Rattle.engines.proofs.RefusedRuns.{refused_for_size}
-use Rattle.audit_engines.specs.Tracing.{CheckOverflowsAfter, IsNoOfRun, TellsRun, TracesNet, history_full_line}
+use Rattle.audit_engines.specs.TracedRuns.{CheckOverflowsAfter, IsNoOfRun, TellsRun, TracesNet, history_full_line}
 use Rattle.audit_engines.specs.Sending.{SendsBoth}
 
 -- ---- histories

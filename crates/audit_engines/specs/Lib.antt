@@ -1,3 +1,3 @@
-pub mod Tracing
+pub mod TracedRuns
 pub mod Sending
 pub mod RoomWord

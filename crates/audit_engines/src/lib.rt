@@ -9,10 +9,10 @@
 mod room_word;
 mod traced_asked;
 mod traced_outputs;
-mod traced_solving;
-pub mod tracing;
+pub mod traced_run;
+mod tracing_engine;
 
 pub use room_word::room_named;
 pub use traced_asked::TracedAsked;
 pub use traced_outputs::TracedOutputs;
-pub use traced_solving::solve_traced_engine;
+pub use tracing_engine::solve_traced_engine;

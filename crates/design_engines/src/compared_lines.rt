@@ -16,8 +16,8 @@ ghost use Rattle.design_engines.specs.Comparisons.{best_line};
 ghost use Rattle.design_engines.specs.Designs.{IsValued, design_text};
 ghost use Rattle.design_engines.specs.Told.{design_view};
 
+use crate::beside_judge::Beside;
 use crate::design_lines::text_of;
-use crate::judging_beside::Beside;
 use crate::value_fault::{DesignProblem, ValueFault};
 use crate::valued::{Valued, verdict_where};
 use engines::judgement_line::write_judgement;

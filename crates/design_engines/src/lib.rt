@@ -6,18 +6,18 @@
 //! where the design is a pit. Beside a certificate that a check accepts, it is also what its pit is worth more than the design.
 #![tactic(auto)]
 
+mod beside_judge;
 mod compared_lines;
-mod comparing;
+mod comparing_engine;
 mod design_input;
 mod design_lines;
-mod judging_beside;
+mod mine_value;
 mod problem_line;
 mod value_fault;
 mod valued;
-mod valuing;
-mod valuing_mine;
+mod valuing_engine;
 
-pub use comparing::compare_engine;
+pub use comparing_engine::compare_engine;
 pub use problem_line::write_problem;
 pub use value_fault::{DesignProblem, ValueFault};
-pub use valuing::value_engine;
+pub use valuing_engine::value_engine;

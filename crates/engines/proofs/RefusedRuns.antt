@@ -8,7 +8,7 @@ use Rattle.check_pit.specs.Checks.{IsOfNet, PitFaultStands}
 use Rattle.check_pit.specs.declared.pit_fault.PitFault.{PitFault}
 use Rattle.check_pit.specs.declared.pit_fault.PitFault.TheVariants.{TooLarge}
 use Rattle.check_pit.proofs.Tightness.{refused_for_size_only}
-use Rattle.engines.specs.Certifying.{IsRefusedFlow}
+use Rattle.engines.specs.Certification.{IsRefusedFlow}
 use Rattle.engines.specs.Solving.{CheckOverflows}
 
 -- The check refused the flow, with the blocks that the source reaches in it, for a sum that doesn't fit.

@@ -14,6 +14,6 @@ pub mod Nested
 pub mod NetAnswers
 pub mod Solving
 pub mod OptionWords
-pub mod Certifying
+pub mod Certification
 pub mod Methods
 pub mod Reduced

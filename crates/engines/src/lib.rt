@@ -8,7 +8,7 @@
 #![tactic(auto)]
 
 pub mod certificate_judge;
-pub mod certify;
+pub mod certification;
 mod checking_engine;
 mod effort;
 mod fault_line;

@@ -7,7 +7,7 @@ ghost use Rattle.check_pit.specs.Checks.{IsSound};
 ghost use Rattle.certificate_file.specs.ReadBack.{IsPrice};
 ghost use Rattle.engines.specs.NetAnswers.{SendsCertificate, SendsNo};
 
-use crate::certify::Solution;
+use crate::certification::Solution;
 use crate::judgement::Verdict;
 use crate::outcome::Outcome;
 use crate::solvers::Unsolved;

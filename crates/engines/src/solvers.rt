@@ -2,10 +2,10 @@
 //! solver may follow. Gives the pit with its flow, or why there is none.
 
 ghost use Rattle.std.specs.Prelude.{IfSome, MatchResult, IfOk};
-ghost use Rattle.engines.specs.Certifying.{IsSolution};
+ghost use Rattle.engines.specs.Certification.{IsSolution};
 ghost use Rattle.engines.specs.Solving.{UnsolvedStands, MachineStands};
 
-use crate::certify::{Solution, Uncertified, certified};
+use crate::certification::{Solution, Uncertified, certified};
 use crate::effort::Effort;
 use crate::method::Method;
 use closure_net::Net;

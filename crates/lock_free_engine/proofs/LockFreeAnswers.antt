@@ -16,7 +16,7 @@ use Rattle.engines.specs.declared.solvers.Unsolved.TheVariants.{Unsettled, TooLa
 use Rattle.engines.specs.Solving.{unsolved_by}
 use Rattle.engines.specs.NetAnswers.{SendsCertificate, SendsLine, SendsNo, certificate_text, unsettled_line, too_large_line}
 use Rattle.engines.specs.Readings.{counts_by}
-use Rattle.engines.specs.Certifying.{IsRefusedFlow}
+use Rattle.engines.specs.Certification.{IsRefusedFlow}
 use Rattle.engines.proofs.RefusedRuns.{refused_for_size}
 use Rattle.lock_free_engine.specs.Tightness.{RunsAreTight}
 use Rattle.lock_free_engine.specs.LockFreeRuns.{LockFreeCheckOverflows, LockFreeStands}

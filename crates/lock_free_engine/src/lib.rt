@@ -10,11 +10,11 @@ pub mod laws;
 mod lock_free_asked;
 mod lock_free_effort;
 pub mod lock_free_run;
-mod lock_free_solving;
 mod method_name;
+mod solving_engine;
 
 pub use lock_free_asked::LockFreeAsked;
 pub use lock_free_effort::LockFreeEffort;
 pub use lock_free_run::by_lock_free_run;
-pub use lock_free_solving::solve_lock_free_engine;
 pub use method_name::names_lock_free;
+pub use solving_engine::solve_lock_free_engine;

@@ -3,13 +3,13 @@
 
 ghost use Rattle.std.specs.Prelude.{MatchResult};
 ghost use Rattle.ordered_group.specs.Block.{scaled_worth};
-ghost use Rattle.engines.specs.Certifying.{IsSolution};
+ghost use Rattle.engines.specs.Certification.{IsSolution};
 ghost use Rattle.lock_free_engine.specs.LockFreeRuns.{LockFreeStands};
 
 use crate::laws;
 use crate::lock_free_effort::LockFreeEffort;
 use closure_net::Net;
-use engines::certify::{Solution, Uncertified, certified};
+use engines::certification::{Solution, Uncertified, certified};
 use engines::solvers::Unsolved;
 use ordered_group::Scaled;
 use std::alloc::Global;

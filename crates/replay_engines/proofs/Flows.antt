@@ -8,7 +8,7 @@ use Rattle.closure_net.specs.Mine.{IsNetOf}
 use Rattle.machine_law.specs.Quiet.{IsSolved}
 use Rattle.check_pit.specs.Checks.{PitFaultStands}
 use Rattle.check_pit.specs.declared.pit_fault.PitFault.{PitFault}
-use Rattle.engines.specs.Certifying.{IsSolution, IsRefusedFlow}
+use Rattle.engines.specs.Certification.{IsSolution, IsRefusedFlow}
 use Rattle.engines.specs.declared.judgement.Judgement.TheVariants.{Accepted}
 use Rattle.mine_inputs.specs.Mines.{MineTexts, mine_of}
 use Rattle.engines.specs.Readings.{IsGroupNamed}

@@ -8,13 +8,13 @@
 //! quiet, written as a trace and replayed, leads to the flow of that run.
 #![tactic(auto)]
 
-mod flow_judging;
+mod flow_judge;
 pub mod laws;
 mod outcome;
 mod replay_asked;
 mod replayed_mine;
-mod replaying;
+mod replaying_engine;
 mod trace_inputs;
 
 pub use replay_asked::ReplayAsked;
-pub use replaying::replay_engine;
+pub use replaying_engine::replay_engine;

@@ -9,7 +9,7 @@ ghost use Rattle.replay_engines.specs.Outcomes.{IsOutcome};
 ghost use Rattle.replay_engines.specs.Replays.{ComesOf, NothingComes, Replays};
 ghost use Rattle.replay_engines.specs.TraceTexts.{ReadsTrace};
 
-use crate::flow_judging::judge_flow;
+use crate::flow_judge::judge_flow;
 use crate::outcome::{Outcome, write_outcome};
 use async_step::{Event, ReplayFault, replay};
 use closure_net::{Net, laws};

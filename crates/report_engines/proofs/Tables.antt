@@ -24,7 +24,7 @@ use Rattle.mine_inputs.specs.PricedTexts.{columns_said, charge_list, place_besid
 use Rattle.mine_inputs.specs.EngineFaults.{of_model}
 use Rattle.shell_engines.specs.declared.shell_rows.ShellRow.{ShellRow}
 use Rattle.shell_engines.specs.declared.no_series.NoSeries.{NoSeries}
-use Rattle.shell_engines.specs.Settling.{IsSettled, NoSeriesStands}
+use Rattle.shell_engines.specs.SettledSeries.{IsSettled, NoSeriesStands}
 use Rattle.shell_engines.specs.declared.series_outputs.Answer.{Answer}
 use Rattle.shell_engines.specs.PitsAtFactors.{TellsWhy, IsFaultOf}
 use Rattle.shell_engines.specs.Shells.{DenoteSeries, ShellsFail}

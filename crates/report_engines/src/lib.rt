@@ -8,6 +8,6 @@
 
 mod bench_rows;
 mod report_inputs;
-mod reporting;
+mod reporting_engine;
 
-pub use reporting::report_engine;
+pub use reporting_engine::report_engine;

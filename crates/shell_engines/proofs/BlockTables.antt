@@ -10,7 +10,7 @@ use Rattle.bench_report.specs.BlockShells.{block_table_text}
 use Rattle.shell_engines.specs.declared.shell_rows.ShellRow.{ShellRow}
 use Rattle.shell_engines.specs.BlockTables.{mine_at_factor, IsBlockTable, IsTableIfAsked}
 use Rattle.shell_engines.specs.SeriesTexts.{factors_said, IsSeriesRead}
-use Rattle.shell_engines.specs.Settling.{IsSettled}
+use Rattle.shell_engines.specs.SettledSeries.{IsSettled}
 use Rattle.shell_engines.specs.PitsAtFactors.{HasTableIfAsked}
 use Rattle.shell_engines.proofs.FirstShell.{first_is}
 use Rattle.shell_engines.proofs.Lifted.{mine_is}

@@ -8,7 +8,7 @@ use Rattle.shells.specs.Prices.{PricesView}
 use Rattle.shells.specs.Series.{SeriesView, mine_at, IsAboveAll}
 use Rattle.shell_engines.specs.declared.shell_rows.ShellRow.{ShellRow}
 use Rattle.shell_engines.specs.ShellTable.{IsRowOf}
-use Rattle.shell_engines.specs.Settling.{IsSettled}
+use Rattle.shell_engines.specs.SettledSeries.{IsSettled}
 use Rattle.shell_engines.specs.PitsAtFactors.{IsAdded}
 
 -- a factor of an ascending list is above those before it

@@ -29,7 +29,7 @@ use Rattle.mine_inputs.proofs.Priced.{worths_priced}
 use Rattle.shell_engines.specs.declared.shell_rows.ShellRow.{ShellRow}
 use Rattle.shell_engines.specs.ShellTable.{AreRowsOf, shell_table_text, IsLineOf}
 use Rattle.shell_engines.specs.SeriesTexts.{factors_said, IsSeriesRead}
-use Rattle.shell_engines.specs.Settling.{IsNetAt, NotSolvedStands, NoSeriesStands}
+use Rattle.shell_engines.specs.SettledSeries.{IsNetAt, NotSolvedStands, NoSeriesStands}
 use Rattle.shell_engines.specs.PitsAtFactors.{IsWant, TellsWhy, IsFaultOf}
 use Rattle.shell_engines.specs.declared.no_series.NoSeries.{NoSeries}
 use Rattle.shell_engines.specs.declared.no_series.NoSeries.TheVariants as none

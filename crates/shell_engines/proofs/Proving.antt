@@ -9,7 +9,7 @@ use Rattle.shells.specs.Series.{mine_at}
 use Rattle.shells.proofs.OverNets.{net_of_over}
 use Rattle.shell_engines.specs.declared.best_pits.BestPit.{BestPit}
 use Rattle.shell_engines.specs.ShellTable.{IsRowOf}
-use Rattle.shell_engines.specs.Settling.{IsNetAt}
+use Rattle.shell_engines.specs.SettledSeries.{IsNetAt}
 use Rattle.shell_engines.specs.PitsAtFactors.{IsBestOf, IsProved}
 
 pub proved_by : (block : ℤ → ℕ → Amount) (pairs : List (ℕ × ℕ)) (prices : PricesView) (k : ℕ) (net : NetView) (best : BestPit) → IsNetAt block pairs prices k net → IsBestOf block net k best → IsProved pairs prices best

@@ -4,6 +4,6 @@ pub mod Devices
 pub mod PitsAtFactors
 pub mod Parting
 pub mod SeriesTexts
-pub mod Settling
+pub mod SettledSeries
 pub mod ShellTable
 pub mod Shells

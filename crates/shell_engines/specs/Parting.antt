@@ -13,7 +13,7 @@ use Rattle.sub_mines.specs.Renumbered.{number_in}
 use Rattle.sub_mines.specs.Kept.{IsKept, IsPartPairs}
 use Rattle.shell_engines.specs.declared.mine_parts.Part.{Part}
 use Rattle.shell_engines.specs.declared.mine_parts.Halved.{Halved}
-use Rattle.shell_engines.specs.declared.halving.Level.{Level}
+use Rattle.shell_engines.specs.declared.mine_halves.Level.{Level}
 use Rattle.shell_engines.specs.PitsAtFactors.{IsProved}
 
 -- pairs and prices of the same blocks, at most `MOST_BLOCKS`, no revenue negative, and factors that rise

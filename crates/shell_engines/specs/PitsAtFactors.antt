@@ -18,7 +18,7 @@ use Rattle.shell_engines.specs.ShellTable.{IsRowOf, IsLineOf}
 use Rattle.shell_engines.specs.declared.no_series.NoSeries.{NoSeries}
 use Rattle.shell_engines.specs.declared.no_series.NoSeries.TheVariants as none
 use Rattle.mine_inputs.specs.EngineFaults.{of_model}
-use Rattle.shell_engines.specs.Settling.{NoSeriesStands}
+use Rattle.shell_engines.specs.SettledSeries.{NoSeriesStands}
 
 -- why there is no net at a factor, whatever else there is
 abbrev pub NoNetStands : (ℤ → ℕ → Amount) → RestsView → PricesView → ℕ → NoSeries → Type 0

@@ -14,7 +14,7 @@ use Rattle.engines.specs.FaultStands.{ModelFails}
 use Rattle.engines.specs.declared.solvers.Unsolved.{Unsolved}
 use Rattle.engines.specs.Solving.{IsNetBy}
 use Rattle.shell_engines.specs.declared.shell_rows.ShellRow.{ShellRow}
-use Rattle.shell_engines.specs.Settling.{NotSolvedStands}
+use Rattle.shell_engines.specs.SettledSeries.{NotSolvedStands}
 use Rattle.shell_engines.specs.Answering.{FailsBy, Ends}
 use Rattle.shell_engines.specs.ShellTable.{AreRowsOf, shell_table_text, IsLineOf}
 use Rattle.shell_engines.specs.SeriesTexts.{KeysKnown, factors_said, SeriesMineFails}

@@ -3,14 +3,14 @@
 ghost use Rattle.std.specs.Prelude.{◌≡◌, ◌<◌, Contains, IfSome, MatchResult};
 ghost use Rattle.ordered_group.specs.Block.{scaled_block};
 ghost use Rattle.closure_net.specs.Network.{NetView};
-ghost use Rattle.engines.specs.Certifying.{IsSolution};
-ghost use Rattle.shell_engines.specs.Settling.{IsNetAt};
+ghost use Rattle.engines.specs.Certification.{IsSolution};
+ghost use Rattle.shell_engines.specs.SettledSeries.{IsNetAt};
 ghost use Rattle.shell_engines.specs.PitsAtFactors.{NoNetStands, IsBestOf};
 
 use crate::no_series::NoSeries;
 use crate::shell_rows::ShellRow;
 use closure_net::{Net, Pit, laws};
-use engines::certify::Solution;
+use engines::certification::Solution;
 use ordered_group::{Scaled, SizeGroup};
 use prec_file::Rests;
 use shells::{Factor, Prices};

@@ -10,16 +10,16 @@
 
 mod best_pits;
 pub mod block_tables;
-mod halving;
 pub mod laws;
 mod lifted_pits;
+mod mine_halves;
 mod mine_parts;
 pub mod no_series;
 pub mod series_engine;
 pub mod series_inputs;
 pub mod series_outputs;
 mod series_progress;
-pub mod settling;
+pub mod settled_series;
 mod shell_rows;
 mod solver_at;
 

@@ -13,7 +13,7 @@ use crate::no_series::NoSeries;
 use crate::series_inputs::{SeriesInputs, SeriesMine, series_mine_from};
 use crate::series_outputs::{Answer, SeriesOutputs, send};
 use crate::series_progress::SeriesProgress;
-use crate::settling::settle;
+use crate::settled_series::settle;
 use crate::shell_rows::table_of;
 use engines::solvers::Unsolved;
 use engines::{Effort, EngineFault, Verdict};

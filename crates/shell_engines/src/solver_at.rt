@@ -3,12 +3,12 @@
 
 ghost use Rattle.std.specs.Prelude.{MatchResult};
 ghost use Rattle.ordered_group.specs.Block.{scaled_worth};
-ghost use Rattle.engines.specs.Certifying.{IsSolution};
-ghost use Rattle.shell_engines.specs.Settling.{NotSolvedStands};
+ghost use Rattle.engines.specs.Certification.{IsSolution};
+ghost use Rattle.shell_engines.specs.SettledSeries.{NotSolvedStands};
 
 use closure_net::Net;
 use engines::Effort;
-use engines::certify::Solution;
+use engines::certification::Solution;
 use engines::solvers::{Unsolved, solution_of};
 use lock_free_engine::{LockFreeEffort, by_lock_free_run};
 use ordered_group::Scaled;

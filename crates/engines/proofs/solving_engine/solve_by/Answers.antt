@@ -1,7 +1,7 @@
 use Rattle.std.proofs.Common.{subst}
 use Rattle.std.proofs.lemmas.Result.{err_from_is_err_and}
 use Rattle.certificate_file.specs.declared.header.Price.{Price}
-use Rattle.engines.specs.Certifying.{IsSolution}
+use Rattle.engines.specs.Certification.{IsSolution}
 use Rattle.engines.specs.Solving.{SolvesNet}
 use Rattle.mine_inputs.proofs.MinesRead.{read_as}
 use Rattle.engines.proofs.NetAnswers.{answered}

@@ -1,6 +1,6 @@
 use Rattle.std.proofs.Common.{arith, inr, subst, sym}
-use Rattle.engines.specs.declared.certify.Uncertified.{Uncertified}
-use Rattle.engines.specs.Certifying.{UncertifiedStands}
+use Rattle.engines.specs.declared.certification.Uncertified.{Uncertified}
+use Rattle.engines.specs.Certification.{UncertifiedStands}
 use Rattle.engines.specs.declared.solvers.Unsolved.{Unsolved}
 use Rattle.lock_free_engine.specs.LockFreeRuns.{LockFreeStands}
 use Rattle.word_runner.specs.Openings.{AreNeitherOneNorTwo}
