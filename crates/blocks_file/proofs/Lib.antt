@@ -4,5 +4,4 @@ pub mod Rows
 pub mod Shapes
 pub mod Marks
 pub mod LineAfterLine
-pub mod Lent
 pub mod Denoted

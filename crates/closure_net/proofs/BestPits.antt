@@ -4,8 +4,8 @@ use Rattle.std.proofs.lemmas.Int.{ints}
 use Rattle.std.proofs.lemmas.Bool.{and_parts, and_from, or_cases, or_left, or_right, cases_lt}
 use Rattle.ordered_group.specs.Sets.{worth_in}
 use Rattle.ordered_group.proofs.Totals.{union, intersection, within_first, within_second}
-use Rattle.ordered_group.proofs.BlockSets.{count_in-within, worth_of_two, lead_rises}
-use Rattle.closure_net.specs.Mine.{Mine, IsPit, worth_of, count_of, AreSame, IsBest, RisesTo, LiesWithin}
+use Rattle.ordered_group.proofs.BlockSets.{count_in-within, worth_of_two, lead_rises, worth_in-same, count_in-same}
+use Rattle.closure_net.specs.Mine.{Mine, IsPit, worth_of, count_of, AreSame, IsBest, RisesTo, LiesWithin, RestsWithin}
 
 pub union_is_pit : (mine : Mine) (e c : ℕ → Bool) → IsPit mine e → IsPit mine c → IsPit mine (union e c)
 union_is_pit mine e c h k b p r t = elim (or_cases (e b) (c b) t) [ inl x ↦ or_left (e p) (c p) (h b p r x) | inr x ↦ or_right (e p) (c p) (k b p r x) ]
@@ -74,3 +74,14 @@ best_is_within mine later e c r h k b l t =
     agree (c b) true (λ differ.
     let fewer = h.fewest (intersection e c) i (λ s. differ ((and_parts (e b) (c b) (s b l ∙ t)).1)) as_much in
     omega (arith, few, fewer))
+
+-- a set with the blocks of the best pit is the best pit
+pub best_of_same : (mine : Mine) (e c : ℕ → Bool) → RestsWithin mine → IsBest mine e → AreSame mine c e → IsBest mine c
+best_of_same mine e c o h s =
+    let worth : worth_of mine c ≡ worth_of mine e = worth_in-same mine.worth c e mine.blocks s in
+    let count : count_of mine c ≡ count_of mine e = count_in-same c e mine.blocks s in
+    record {
+      is_pit = λ b p r t. let i = o.own b p r in s p i.1 ∙ h.is_pit b p r (sym (s b i.0) ∙ t);
+      most = λ d pit. rw worth (h.most d pit);
+      fewest = λ d pit differ same. rw count (h.fewest d pit (λ k. differ (λ b l. k b l ∙ sym (s b l))) (same ∙ worth));
+    }

@@ -4,6 +4,7 @@ use Rattle.std.proofs.lemmas.List.{get_or_default, length-replicate}
 use Rattle.std.proofs.lemmas.List.Elements.{All-push, All-nil}
 use Rattle.std.proofs.lemmas.Bool.{cases_eq}
 use Rattle.fixed_worth.specs.declared.limits.TheConstants.{MOST_BLOCKS}
+use Rattle.prec_file.proofs.Marks.{none_marked}
 use Rattle.closure_net.specs.Network.{holds_of}
 use Rattle.closure_net.specs.Searches.{trues, IsSearch}
 use Rattle.closure_net.proofs.Holding.{push_holds_last, push_holds_rest}
@@ -27,11 +28,6 @@ trues_none : (n : ℕ) → trues (replicate n false) ≡ 0
 trues_none zero = refl
 trues_none (suc n) = trues_none n
 
-none_at : (n b : ℕ) → get_or (replicate n false) b false ≡ false
-none_at zero b = refl
-none_at (suc n) zero = refl
-none_at (suc n) (suc b) = none_at n b
-
 -- a search begins with no mark set
 pub search_none : (n space : ℕ) (marks : List Bool) (found : List ℕ) → n ≤ MOST_BLOCKS → n ≤ space → marks ≡ replicate n false → found ≡ [] → IsSearch marks found space
 search_none n space marks found h r e f =
@@ -41,7 +37,7 @@ search_none n space marks found h r e f =
       few = omega (arith, length-replicate n false);
       room = omega (arith, length-replicate n false);
       count = sym (trues_none n);
-      same = λ b. none_at n b;
+      same = λ b. none_marked n b;
       known = All-nil (λ b. b < length (replicate n false));
     }))
 

@@ -11,6 +11,10 @@ pub record Mine : Type 0 where
   pub rests : ℕ → ℕ → Bool
   pub worth : ℕ → ℤ
 
+-- who rests on whom concerns blocks of the mine alone
+pub record RestsWithin (mine : Mine) : Type 0 where
+  pub own : (b p : ℕ) → IsTrue (mine.rests b p) → (b < mine.blocks) × (p < mine.blocks)
+
 -- the set holds every block that a block of it rests on
 abbrev pub IsPit : Mine → (ℕ → Bool) → Type 0
 IsPit mine pit = (b p : ℕ) → IsTrue (mine.rests b p) → IsTrue (pit b) → IsTrue (pit p)

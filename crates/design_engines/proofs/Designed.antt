@@ -1,10 +1,10 @@
 -- What the marks of a design come to is what the design of the text comes to.
-use Rattle.std.proofs.Common.{◌≡◌, ℕ, zero, suc, ◌<◌, ◌≤◌, ℤ, Bool, List, [], ◌∷◌, length, take, refl, ap, ◌∙◌, subst, arith, All, FitsSigned}
+use Rattle.std.proofs.Common.{◌≡◌, ℕ, ◌<◌, ◌≤◌, ℤ, Bool, List, [], ◌∷◌, length, take, refl, ap, ◌∙◌, subst, arith, All, FitsSigned}
 use Rattle.std.specs.Int.{w128}
 use Rattle.std.proofs.lemmas.List.Elements.{All-head, All-tail}
 use Rattle.prec_file.specs.Rests.{RestsView, IsRests, IsKnown}
 use Rattle.ordered_group.specs.Sets.{worth_in, count_in}
-use Rattle.ordered_group.proofs.BlockSets.{count_in-same}
+use Rattle.ordered_group.proofs.BlockSets.{count_in-same, worth_in-agrees}
 use Rattle.design_file.specs.Records.{design_of}
 use Rattle.design_value.specs.OpenPairs.{leads_out, open_pairs, most_told, AreOpen}
 use Rattle.design_value.specs.Sums.{marked_in, worth_listed, SumLeaves}
@@ -16,12 +16,6 @@ use Rattle.design_engines.specs.Values.{WorthLeaves}
 use Rattle.design_engines.proofs.Closed.{closed_where}
 
 -- ---- two sets of blocks that agree below n
-
-worth_alike : (v w : ℕ → ℤ) (e c : ℕ → Bool) (n : ℕ) → ((b : ℕ) → b < n → v b ≡ w b) → ((b : ℕ) → b < n → e b ≡ c b) → worth_in v e n ≡ worth_in w c n
-worth_alike v w e c zero f g = refl
-worth_alike v w e c (suc n) f g =
-    let last : n < suc n = omega arith in
-    rw (worth_alike v w e c n (λ b l. f b (omega (arith, l))) (λ b l. g b (omega (arith, l))), f n last, g n last) refl
 
 leads_alike : (n : ℕ) (e c : ℕ → Bool) (pair : ℕ × ℕ) → ((b : ℕ) → b < n → e b ≡ c b) → IsKnown n pair → leads_out e pair ≡ leads_out c pair
 leads_alike n e c pair f known = rw (f pair.0 known.0, f pair.1 known.1) refl
@@ -35,7 +29,7 @@ open_alike n e c (pair ∷ pairs) f known =
 
 module _ (texts : MineTexts) (design : List ℕ) (nanos : List ℤ) (rests : RestsView) (marks : List Bool) (a : AreRead texts nanos rests) (d : ReadsDesign rests.blocks design marks) where
   sums_alike : (k : ℕ) → k ≤ rests.blocks → worth_in (worth_listed nanos) (marked_in marks) k ≡ worth_in (worth_by texts) (design_of design) k
-  sums_alike k l = worth_alike (worth_listed nanos) (worth_by texts) (marked_in marks) (design_of design) k (λ b h. a.worths.each b (omega (arith, h, l))) (λ b h. d.1.at b (omega (arith, h, l)))
+  sums_alike k l = worth_in-agrees (worth_listed nanos) (worth_by texts) (marked_in marks) (design_of design) k (λ b h. a.worths.each b (omega (arith, h, l))) (λ b h. d.1.at b (omega (arith, h, l)))
 
   pub valued : IsRests rests → (count : ℕ) (worth : ℤ) (leading : ℕ) (needs : List (ℕ × ℕ)) → count ≡ count_in (marked_in marks) (length marks) → worth ≡ worth_in (worth_listed nanos) (marked_in marks) (length nanos) → AreOpen (marked_in marks) rests.pairs leading needs
       → IsValued texts design (record { count = count; worth = worth; leading = leading; needs = needs })

@@ -1,8 +1,7 @@
 -- A block is marked where a line named it.
-use Rattle.std.proofs.Common.{◌≡◌, ℕ, ◌<◌, ◌≢◌, Bool, true, false, cond, not, eqb, List, [], ◌∷◌, ◌++◌, length, get_or, set, take, drop, Option, Some, None, refl, sym, ap, ◌∙◌, subst, arith, append-nil, get_or-set_same, get_or-set_other}
+use Rattle.std.proofs.Common.{◌≡◌, ℕ, ◌<◌, ◌≢◌, Bool, true, false, cond, not, eqb, List, [], ◌∷◌, ◌++◌, length, get_or, set, Option, Some, None, refl, sym, ap, ◌∙◌, subst, arith, append-nil, get_or-set_same, get_or-set_other}
 use Rattle.std.specs.Prelude.{◌||◌, nat_le}
 use Rattle.std.proofs.lemmas.Bool.Decides.{nat_tests}
-use Rattle.std.proofs.lemmas.List.{drop_all, take_all}
 use Rattle.std.proofs.lemmas.List.Folds.{list_any-append}
 use Rattle.fixed_worth.specs.Record.{reads, number_of}
 use Rattle.design_file.specs.declared.design_fault.DesignFault.{DesignFault}
@@ -62,9 +61,3 @@ mark_by false n g line marks bs o e w h k j = mark_word n g line marks bs o e w 
 pub mark : (n : ℕ) (g : ℕ → Bool) (line : ℕ) (marks : List Bool) (bs : List ℕ) (fs : List (List ℕ)) → length marks ≡ n → record_fault n g line fs ≡ None → ((k : ℕ) → k < n → get_or marks k false ≡ has bs k)
     → (k : ℕ) → k < n → get_or (marks_after fs marks) k false ≡ has (bs ++ blocks_in fs) k
 mark n g line marks bs fs e w h k j = mark_by (is_passed fs) n g line marks bs (block_word fs) e w h k j
-
--- A vector whose whole slice was lent has that slice.
-pub written_back : (new old : List Bool) (len : ℕ) → length new ≡ length old → len ≡ length old → take len (new ++ drop (length new) old) ≡ new
-written_back new old len e f =
-    let none : drop (length new) old ≡ [] = drop_all (length new) old (omega arith) in
-    ap (λ (xs : List Bool). take len (new ++ xs)) none ∙ ap (take len) (append-nil new) ∙ take_all len new (omega arith)

@@ -39,7 +39,7 @@ use Rattle.engines.specs.FaultStands.{ModelFails, HeaderFails, BodyTextFails, Pr
 use Rattle.engines.proofs.Alone.{ok_same, nets_same}
 use Rattle.engines.proofs.Fitting.{no_model_fails}
 
-never : {F : Type 0} (o : Option F) (f : F) → o ≡ None → o ≡ Some f → ⊥
+pub never : {F : Type 0} (o : Option F) (f : F) → o ≡ None → o ≡ Some f → ⊥
 never o f e g = let h : None ≡ Some f = sym e ∙ g in cc
 
 not_both : {A F : Type 0} (r : Result A F) (a : A) (f : F) → r ≡ Ok a → r ≡ Err f → ⊥

@@ -20,3 +20,4 @@ pub mod PrintedDigits
 pub mod Results
 pub mod Bits
 pub mod Sides
+pub mod Lent

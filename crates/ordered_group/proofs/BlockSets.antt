@@ -15,6 +15,11 @@ pub worth_in-same : (v : ℕ → ℤ) (e c : ℕ → Bool) (n : ℕ) → ((b : �
 worth_in-same v e c zero h = refl
 worth_in-same v e c (suc n) h = rw (worth_in-same v e c n (λ b l. h b (omega (arith, l))), h n (omega arith)) refl
 
+-- equal sets of blocks that are worth the same are worth the same together
+pub worth_in-agrees : (v w : ℕ → ℤ) (e c : ℕ → Bool) (n : ℕ) → ((b : ℕ) → b < n → v b ≡ w b) → ((b : ℕ) → b < n → e b ≡ c b) → worth_in v e n ≡ worth_in w c n
+worth_in-agrees v w e c zero f h = refl
+worth_in-agrees v w e c (suc n) f h = rw (worth_in-agrees v w e c n (λ b l. f b (omega (arith, l))) (λ b l. h b (omega (arith, l))), f n (omega arith), h n (omega arith)) refl
+
 pub count_in-same : (e c : ℕ → Bool) (n : ℕ) → ((b : ℕ) → b < n → e b ≡ c b) → count_in e n ≡ count_in c n
 count_in-same e c zero h = refl
 count_in-same e c (suc n) h = rw (count_in-same e c n (λ b l. h b (omega (arith, l))), h n (omega arith)) refl

@@ -1,8 +1,7 @@
 -- A block is marked where it had a record.
-use Rattle.std.proofs.Common.{◌≡◌, ℕ, ◌<◌, ◌≢◌, Bool, true, false, cond, eqb, List, [], ◌∷◌, ◌++◌, length, get_or, set, take, drop, refl, sym, ap, ◌∙◌, subst, arith, append-nil, get_or-set_same, get_or-set_other}
+use Rattle.std.proofs.Common.{◌≡◌, ℕ, zero, suc, ◌<◌, ◌≢◌, Bool, true, false, cond, eqb, List, [], ◌∷◌, ◌++◌, length, get_or, set, replicate, refl, sym, ap, ◌∙◌, subst, arith, append-nil, get_or-set_same, get_or-set_other}
 use Rattle.std.specs.Prelude.{◌||◌}
 use Rattle.std.proofs.lemmas.Bool.Decides.{nat_tests}
-use Rattle.std.proofs.lemmas.List.{drop_all, take_all}
 use Rattle.std.proofs.lemmas.List.Folds.{list_any-append}
 use Rattle.fixed_worth.specs.Record.{is_skipped}
 use Rattle.prec_file.specs.Records.{block_of, has}
@@ -29,8 +28,8 @@ mark false n seen bs b e i h k j =
 pub marks : (fs : List (List ℕ)) (seen : List Bool) (b : ℕ) → is_skipped fs ≡ false → b ≡ block_of fs → set seen b true ≡ marks_after fs seen
 marks fs seen b s e = rw (s, e) refl
 
--- A vector whose whole slice was lent has that slice.
-pub written_back : (new old : List Bool) (len : ℕ) → length new ≡ length old → len ≡ length old → take len (new ++ drop (length new) old) ≡ new
-written_back new old len e f =
-    let none : drop (length new) old ≡ [] = drop_all (length new) old (omega arith) in
-    ap (λ (xs : List Bool). take len (new ++ xs)) none ∙ ap (take len) (append-nil new) ∙ take_all len new (omega arith)
+-- Of marks that are all clear none is set.
+pub none_marked : (n b : ℕ) → get_or (replicate n false) b false ≡ false
+none_marked zero b = refl
+none_marked (suc n) zero = refl
+none_marked (suc n) (suc b) = none_marked n b

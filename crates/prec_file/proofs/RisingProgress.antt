@@ -1,5 +1,5 @@
 -- Reading line after line, where the blocks of the records rise.
-use Rattle.std.proofs.Common.{◌≡◌, ℕ, zero, suc, ◌+◌, ◌≤◌, Bool, true, false, List, [], ◌∷◌, ◌++◌, length, get_or, replicate, Some, None, sym, refl, ap, ◌∙◌, arith, length-append, length-set, cond, set}
+use Rattle.std.proofs.Common.{◌≡◌, ℕ, ◌+◌, ◌≤◌, Bool, true, false, List, [], ◌∷◌, ◌++◌, length, get_or, replicate, Some, None, sym, refl, ap, ◌∙◌, arith, length-append, length-set, cond, set}
 use Rattle.std.proofs.lemmas.List.{length-replicate}
 use Rattle.fixed_worth.specs.Text.{Left, fields_of, lines_of}
 use Rattle.fixed_worth.specs.declared.limits.TheConstants.{LINE_BYTES}
@@ -11,6 +11,7 @@ use Rattle.prec_file.specs.Records.{block_of, pairs_in, record_fault, fault_of, 
 use Rattle.prec_file.specs.Indexes.{AreNew, IsLineRead, TellsFault, marks_after}
 use Rattle.prec_file.proofs.Shapes.{unless_told}
 use Rattle.prec_file.proofs.Progress.{ReadSoFar, step_on, step_wrong}
+use Rattle.prec_file.proofs.Marks.{none_marked}
 
 -- What has been read, and what is left: the rows have the pairs that were listed.
 pub record RisingSoFar (n : ℕ) (text : List ℕ) (rows : RowsView) (count : ℕ) (left : Left) : Type 0 where
@@ -25,11 +26,6 @@ pub record RisingSoFar (n : ℕ) (text : List ℕ) (rows : RowsView) (count : �
   pub few : count ≤ MOST_PAIRS
   pub kept : length rows.pairs ≤ count
 
-none_seen : (n b : ℕ) → get_or (replicate n false) b false ≡ false
-none_seen zero b = refl
-none_seen (suc n) zero = refl
-none_seen (suc n) (suc b) = none_seen n b
-
 -- nothing is read yet
 pub rising_begun : (n : ℕ) (text : List ℕ) (left : Left) → left.lines ≡ lines_of text → left.number ≡ 0 → RisingSoFar n text (record { blocks = n; next = 0; pairs = [] }) 0 left
 rising_begun n text left e f = record {
@@ -40,10 +36,10 @@ rising_begun n text left e f = record {
     fault = rw (e, f) refl;
     all = rw (e, f) refl;
     pairs_so = refl;
-    seen_so = λ b l. none_seen n b;
+    seen_so = λ b l. none_marked n b;
   };
   all = length-replicate n false;
-  behind = λ b l. none_seen n b;
+  behind = λ b l. none_marked n b;
   blocks = refl;
   held = record {
     rising = record { rises = λ i j l m. absurd (omega arith) };

@@ -65,13 +65,13 @@ text_is ps (suc n) =
     ∙ ap (λ l. with_line_feeds (rows ps n) ++ l) (line_is ps n)
     ∙ sym (with_line_feeds-append (rows ps n) (row ps n ∷ []))
 
-small : (n : ℕ) (ps : List (ℕ × ℕ)) (b : ℕ) → IsWritable n ps → All (λ p. p < 2 ^ 64) (above_of ps b)
-small n ps b w = All-weaker (λ p. p < n) (λ p. p < 2 ^ 64) (λ p l. omega (arith, w.blocks)) (above_of ps b) (above_known n ps b w)
+pub small_blocks : (n : ℕ) (ps : List (ℕ × ℕ)) (b : ℕ) → IsWritable n ps → All (λ p. p < 2 ^ 64) (above_of ps b)
+small_blocks n ps b w = All-weaker (λ p. p < n) (λ p. p < 2 ^ 64) (λ p l. omega (arith, w.blocks)) (above_of ps b) (above_known n ps b w)
 
 words_pass : (test : List ℕ → Bool) → ((k : ℕ) → k < 2 ^ 64 → test (decimal k) ≡ true) → (n : ℕ) (ps : List (ℕ × ℕ)) (b : ℕ) → IsWritable n ps → b < n → list_all test (words_at ps b) ≡ true
 words_pass test each n ps b w l =
     and_from (test (decimal (length (above_of ps b)))) (list_all test (map decimal (above_of ps b))) (each (length (above_of ps b)) (omega (arith, w.narrow b l)))
-    (decimals_pass test each (above_of ps b) (small n ps b w))
+    (decimals_pass test each (above_of ps b) (small_blocks n ps b w))
 
 row_is_one_line : (n : ℕ) (ps : List (ℕ × ℕ)) (b : ℕ) → IsWritable n ps → b < n → is_one_line (row ps b) ≡ true
 row_is_one_line n ps b w l =

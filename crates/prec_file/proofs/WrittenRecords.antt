@@ -7,7 +7,7 @@ use Rattle.std.proofs.lemmas.Bool.{cases_eq}
 use Rattle.std.proofs.lemmas.Bool.Decides.{nat_tests}
 use Rattle.std.proofs.lemmas.List.{length-map, get_or-map, get_or_default}
 use Rattle.std.proofs.lemmas.List.Concat.{flat_map-append}
-use Rattle.std.proofs.lemmas.List.Elements.{All-weaker, Contains-append_left, Contains-append_right, Contains-append_cases}
+use Rattle.std.proofs.lemmas.List.Elements.{Contains-append_left, Contains-append_right, Contains-append_cases}
 use Rattle.std.proofs.lemmas.List.Folds.{list_any-append}
 use Rattle.fixed_worth.specs.Text.{lines_of, fields_of}
 use Rattle.fixed_worth.specs.Record.{Line, numbered_lines, reads, number_of, is_skipped}
@@ -25,7 +25,7 @@ use Rattle.prec_file.proofs.History.{no_fault}
 use Rattle.prec_file.proofs.Slots.{ending_next, ending_none, ending_most}
 use Rattle.prec_file.proofs.OneListing.{one_listing}
 use Rattle.prec_file.proofs.Finding.{above_length, found_pair, above_has}
-use Rattle.prec_file.proofs.WrittenLines.{IsWritable, above_known, words_at, row, rows, text_lines, row_fields, row_short}
+use Rattle.prec_file.proofs.WrittenLines.{IsWritable, above_known, words_at, row, rows, text_lines, row_fields, row_short, small_blocks}
 
 -- ---- one record
 
@@ -35,9 +35,6 @@ no_larger n (x ∷ xs) h =
     let l : x < n = h 0 0 (omega arith) in
     let e : nat_le n x ≡ false = grind (arith, nat_tests) in
     rw (e, no_larger n xs (λ k d i. h (suc k) d (omega arith))) refl
-
-small_blocks : (n : ℕ) (ps : List (ℕ × ℕ)) (b : ℕ) → IsWritable n ps → All (λ p. p < 2 ^ 64) (above_of ps b)
-small_blocks n ps b w = All-weaker (λ p. p < n) (λ p. p < 2 ^ 64) (λ p l. omega (arith, w.blocks)) (above_of ps b) (above_known n ps b w)
 
 record_sound : (n : ℕ) (ps : List (ℕ × ℕ)) (b line : ℕ) → IsWritable n ps → b < n → (is_skipped (decimal b ∷ words_at ps b) ≡ false) × (shape_fault n line (decimal b ∷ words_at ps b) ≡ None)
 record_sound n ps b line w l =

@@ -3,7 +3,6 @@ use Rattle.std.proofs.Common.{◌≡◌, ◌⊎◌, ℕ, List, [], ◌∷◌, sy
 use Rattle.blocks_file.specs.Records as blocks
 use Rattle.blocks_file.specs.Denotes.{BlocksView}
 use Rattle.prec_file.specs.Rests.{RestsView}
-use Rattle.settings_file.specs.declared.keys.Key.{Key}
 use Rattle.settings_file.specs.declared.keys.Key.TheVariants.{Tonnes, Factors}
 use Rattle.settings_file.specs.declared.settings_fault.SettingsFault.TheVariants as settings_fault
 use Rattle.settings_file.specs.Settings.{SettingsView, settings_of, names_mill, first_missing}
@@ -24,6 +23,7 @@ use Rattle.report_engines.specs.ReportTexts.{report_keys, report_columns, Report
 use Rattle.report_engines.specs.ReportParts.{columns_by, report_list, IsSaid, SaidFails, PricedModelFails, IsPricedModel, IsReportRead}
 use Rattle.report_engines.specs.declared.report_inputs.ReportColumns.{ReportColumns}
 use Rattle.report_engines.proofs.Columns.{unfaulted, front_of}
+use Rattle.engines.proofs.Unread.{never}
 
 -- ---- settings
 
@@ -55,9 +55,6 @@ settings_fail (Some s) e h = settings_fail_at s e h
 pub key_is_missing : (o : Option (List ℕ)) (said : SettingsView) (e : EngineFault) → IfSome o (λ s. ReadsSettingsText s said) → IsMissing (report_keys said) said e → IfSome o (λ s. SaidFails s e)
 key_is_missing None said e a m = tt
 key_is_missing (Some s) said e a m = subst (SaidFails s) (sym m.1) (key_missing report_keys s said m.0 a m.2)
-
-pub never : (o : Option Key) (key : Key) → o ≡ None → o ≡ Some key → ⊥
-never o key e f = let z : None ≡ Some key = sym e ∙ f in cc
 
 -- none of the keys of prices is missing, nor of the others
 pub prices_known : (said : SettingsView) → first_missing (report_keys said) said ≡ None → first_missing (price_keys said) said ≡ None

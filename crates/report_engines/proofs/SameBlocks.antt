@@ -1,16 +1,11 @@
 -- The bench table says nothing of numbers that are no blocks.
-use Rattle.std.proofs.Common.{◌≡◌, ℕ, zero, suc, ◌<◌, ℤ, Bool, List, map, refl, sym, ap, ◌∙◌, subst, arith}
+use Rattle.std.proofs.Common.{◌≡◌, ℕ, ◌<◌, ℤ, List, map, refl, sym, ap, ◌∙◌, subst, arith}
 use Rattle.std.specs.List.{Contains}
 use Rattle.std.proofs.lemmas.List.Elements.{All-weaker}
 use Rattle.ordered_group.specs.Sets.{worth_in, count_in}
-use Rattle.ordered_group.proofs.BlockSets.{count_in-same}
+use Rattle.ordered_group.proofs.BlockSets.{count_in-same, worth_in-agrees}
 use Rattle.bench_report.specs.declared.bench_row.BenchRow.{BenchRow}
 use Rattle.bench_report.specs.Benches.{ReportedBlocks, blocks_at, bench_and_shell, IsBenchRow, IsBenchTable}
-
--- equal sets of blocks that are worth the same are worth the same together
-pub worth_in-agrees : (v w : ℕ → ℤ) (e c : ℕ → Bool) (n : ℕ) → ((b : ℕ) → b < n → v b ≡ w b) → ((b : ℕ) → b < n → e b ≡ c b) → worth_in v e n ≡ worth_in w c n
-worth_in-agrees v w e c zero f h = refl
-worth_in-agrees v w e c (suc n) f h = rw (worth_in-agrees v w e c n (λ b l. f b (omega (arith, l))) (λ b l. h b (omega (arith, l))), f n (omega arith), h n (omega arith)) refl
 
 -- the second has the blocks of the first, and says the same of each
 pub record AreAlike (m other : ReportedBlocks) : Type 0 where

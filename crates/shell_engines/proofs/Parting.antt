@@ -3,12 +3,12 @@ use Rattle.std.proofs.Common.{◌≡◌, ℕ, ◌+◌, ◌<◌, ◌≤◌, All, 
 use Rattle.std.proofs.lemmas.List.{get_or-map, length-map}
 use Rattle.prec_file.specs.Rests.{has_pair, numbers_passing}
 use Rattle.closure_net.specs.Network.{holds_of, IsAscending}
-use Rattle.closure_net.specs.Mine.{IsBest}
+use Rattle.closure_net.specs.Mine.{IsBest, RestsWithin}
 use Rattle.shells.specs.Prices.{PricesView, blocks_of}
 use Rattle.shells.specs.Series.{mine_at}
 use Rattle.shells.proofs.Rising.{mines_rise}
 use Rattle.shells.proofs.Pushes.{mine_is_own}
-use Rattle.sub_mines.specs.Parts.{RestsWithin, union_of, difference_of, every_block}
+use Rattle.sub_mines.specs.Parts.{union_of, difference_of, every_block}
 use Rattle.sub_mines.specs.Renumbered.{IsListed, IsRenumbered, IsImage, number_in}
 use Rattle.sub_mines.specs.Kept.{IsKept}
 use Rattle.sub_mines.proofs.Bounds.{between_by_bounds, best_is_floor, best_is_ceiling, none_is_floor, all_is_ceiling}
@@ -97,7 +97,7 @@ module _ (pairs : List (ℕ × ℕ)) (prices : PricesView) (factors : List ℕ) 
   is_listed = listed (difference_of part.high (holds_of low)) (blocks_of prices) kept part.are_kept
 
   own : (j : ℕ) → RestsWithin (mine_at pairs prices j)
-  own j = record { own = (mine_is_own pairs prices j h.rests).own }
+  own j = mine_is_own pairs prices j h.rests
 
   renumbered : IsRenumbered (mine_at pairs prices k) (mine_among found.less prices kept k) (number_in kept)
   renumbered = record {

@@ -1,7 +1,6 @@
 -- From the parts of the reading of a mine with its factors to what was read, where the readers tell their bytes.
 use Rattle.std.proofs.Common.{◌≡◌, ◌⊎◌, ℕ, List, [], ◌∷◌, sym, ap, ◌∙◌, subst, Option, Some, None, inl, inr, IfSome, unwrap_or}
 use Rattle.prec_file.specs.Rests.{RestsView}
-use Rattle.settings_file.specs.declared.keys.Key.{Key}
 use Rattle.settings_file.specs.declared.keys.Key.TheVariants.{Factors}
 use Rattle.settings_file.specs.declared.settings_fault.SettingsFault.{SettingsFault}
 use Rattle.settings_file.specs.declared.settings_fault.SettingsFault.TheVariants as settings_fault
@@ -18,15 +17,13 @@ use Rattle.mine_inputs.specs.ReadMines.{ArePricesRead}
 use Rattle.shell_engines.specs.SeriesTexts.{series_keys, KeysKnown, IsSeriesRead, SeriesMineFails}
 use Rattle.mine_inputs.proofs.PriceKeys.{prices_and_others}
 use Rattle.mine_inputs.proofs.PricedAnswers.{key_missing, keys_said}
+use Rattle.engines.proofs.Unread.{never}
 
 -- ---- keys
 
 -- this key is missing
 missing_at : (s b p : List ℕ) (said : SettingsView) (e : EngineFault) → ReadsSettingsText s said → IsMissing (series_keys said) said e → SeriesMineFails s b p e
 missing_at s b p said e a m = subst (λ (f : EngineFault). SeriesMineFails s b p f) (sym m.1) (key_missing series_keys s said m.0 a m.2)
-
-never : (o : Option Key) (key : Key) → o ≡ None → o ≡ Some key → ⊥
-never o key e f = let z : None ≡ Some key = sym e ∙ f in cc
 
 -- memory is refused: the factors are there
 factors_refused_at : (s b p : List ℕ) (said : SettingsView) (e : EngineFault) → first_missing (series_keys said) said ≡ None → (e ≡ engine.Memory) ⊎ IsMissing (Factors ∷ []) said e → SeriesMineFails s b p e

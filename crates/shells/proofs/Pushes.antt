@@ -8,8 +8,8 @@ use Rattle.std.proofs.lemmas.List.Elements.{Contains-append_left, Contains-appen
 use Rattle.std.proofs.lemmas.List.Folds.{Any-from_list_any}
 use Rattle.std.proofs.lemmas.Option.{same_Some}
 use Rattle.prec_file.specs.Rests.{IsRests}
-use Rattle.ordered_group.proofs.BlockSets.{worth_in-same, count_in-same}
-use Rattle.closure_net.specs.Mine.{Mine, worth_of, count_of, AreSame, IsBest}
+use Rattle.closure_net.specs.Mine.{IsBest, RestsWithin}
+use Rattle.closure_net.proofs.BestPits.{best_of_same}
 use Rattle.shells.specs.Prices.{PricesView}
 use Rattle.prec_file.specs.Rests.{has_pair}
 use Rattle.shells.specs.Series.{mine_at, SeriesView, shell_at, is_upto, upto, IsSeries, IsAboveAll, with_shell, IsPushed}
@@ -17,20 +17,6 @@ use Rattle.shells.proofs.Rising.{best_is_nested}
 use Rattle.shells.proofs.Factors.{one_last, rising_more}
 
 -- ---- the best pit is one set of blocks
-
--- who rests on whom concerns blocks of the mine alone
-pub record IsOwn (mine : Mine) : Type 0 where
-  pub own : (b p : ℕ) → IsTrue (mine.rests b p) → (b < mine.blocks) × (p < mine.blocks)
-
-pub best_of_same : (mine : Mine) (e c : ℕ → Bool) → IsOwn mine → IsBest mine e → AreSame mine c e → IsBest mine c
-best_of_same mine e c o h s =
-    let worth : worth_of mine c ≡ worth_of mine e = worth_in-same mine.worth c e mine.blocks s in
-    let count : count_of mine c ≡ count_of mine e = count_in-same c e mine.blocks s in
-    record {
-      is_pit = λ b p r t. let i = o.own b p r in s p i.1 ∙ h.is_pit b p r (sym (s b i.0) ∙ t);
-      most = λ d pit. rw worth (h.most d pit);
-      fewest = λ d pit differ same. rw count (h.fewest d pit (λ k. differ (λ b l. k b l ∙ sym (s b l))) (same ∙ worth));
-    }
 
 -- ---- one push
 
@@ -47,7 +33,7 @@ at_old None true j k l = lt-leb k j l
 at_old None false j k l = refl
 
 module _ (s t : SeriesView) (k : ℕ) (e : ℕ → Bool) (h : IsSeries s) (above : IsAboveAll s.factors k) (best : IsBest (mine_at s.pairs s.prices k) e)
-    (own : IsOwn (mine_at s.pairs s.prices k)) (pushed : IsPushed s t k e) where
+    (own : RestsWithin (mine_at s.pairs s.prices k)) (pushed : IsPushed s t k e) where
   -- a block with a shell is in the best pit at the higher factor
   pub has_shell : (b x : ℕ) → b < length s.prices.revenue → shell_at s.shells b ≡ Some x → (x ≤ k) × (e b ≡ true)
   has_shell b x l is =
@@ -64,13 +50,13 @@ module _ (s t : SeriesView) (k : ℕ) (e : ℕ → Bool) (h : IsSeries s) (above
   new_is_best = best_of_same (mine_at s.pairs s.prices k) e (upto t.shells k) own best
       (λ b l. ap (λ o. is_upto o k) (pushed.shells b (inside b l)) ∙ at_new (shell_at s.shells b) (e b) k (λ x is. has_shell b x l is))
 
-  pub old_is_best : (j : ℕ) → Contains s.factors j → IsOwn (mine_at s.pairs s.prices j) → IsBest (mine_at s.pairs s.prices j) (upto t.shells j)
+  pub old_is_best : (j : ℕ) → Contains s.factors j → RestsWithin (mine_at s.pairs s.prices j) → IsBest (mine_at s.pairs s.prices j) (upto t.shells j)
   old_is_best j c o = best_of_same (mine_at s.pairs s.prices j) (upto s.shells j) (upto t.shells j) o (h.best j c)
       (λ b l. ap (λ o. is_upto o j) (pushed.shells b (inside b l)) ∙ at_old (shell_at s.shells b) (e b) j k (above j c))
 
 -- ---- the parts of what a series is
 
-pub mine_is_own : (pairs : List (ℕ × ℕ)) (table : PricesView) (k : ℕ) → IsRests (record { blocks = length table.revenue; pairs = pairs }) → IsOwn (mine_at pairs table k)
+pub mine_is_own : (pairs : List (ℕ × ℕ)) (table : PricesView) (k : ℕ) → IsRests (record { blocks = length table.revenue; pairs = pairs }) → RestsWithin (mine_at pairs table k)
 mine_is_own pairs table k r = record {
   own = λ b p held.
       let some = Any-from_list_any (λ (q : ℕ × ℕ). (q.0 == b) && (q.1 == p)) pairs held in

@@ -3,10 +3,10 @@ use Rattle.std.proofs.Common.{◌≡◌, ℕ, zero, suc, ◌+◌, ◌<◌, ◌�
 use Rattle.std.proofs.lemmas.Int.{ints}
 use Rattle.std.proofs.lemmas.Bool.{and_parts, and_from, or_cases, or_left, or_right, cases_lt}
 use Rattle.ordered_group.specs.Sets.{worth_in, count_in}
-use Rattle.ordered_group.proofs.BlockSets.{worth_in-same, count_in-same, count_in-within}
-use Rattle.closure_net.specs.Mine.{Mine, IsPit, worth_of, count_of, AreSame, IsBest, LiesWithin}
-use Rattle.closure_net.proofs.BestPits.{best_from_fewest, agree}
-use Rattle.sub_mines.specs.Parts.{RestsWithin, union_of, intersection_of, difference_of, part, LiesBetween}
+use Rattle.ordered_group.proofs.BlockSets.{count_in-same, count_in-within}
+use Rattle.closure_net.specs.Mine.{Mine, IsPit, worth_of, count_of, AreSame, IsBest, LiesWithin, RestsWithin}
+use Rattle.closure_net.proofs.BestPits.{best_from_fewest, agree, best_of_same}
+use Rattle.sub_mines.specs.Parts.{union_of, intersection_of, difference_of, part, LiesBetween}
 
 -- ---- of best pits
 
@@ -19,16 +19,6 @@ fewest_of mine e c h p same =
           absurd (omega (arith, more, l))
       | inr l ↦ l
     ]
-
-pub best_of_same : (mine : Mine) (e c : ℕ → Bool) → RestsWithin mine → IsBest mine e → AreSame mine c e → IsBest mine c
-best_of_same mine e c o h s =
-    let worth : worth_of mine c ≡ worth_of mine e = worth_in-same mine.worth c e mine.blocks s in
-    let count : count_of mine c ≡ count_of mine e = count_in-same c e mine.blocks s in
-    record {
-      is_pit = λ b p r t. let i = o.own b p r in s p i.1 ∙ h.is_pit b p r (sym (s b i.0) ∙ t);
-      most = λ d pit. rw worth (h.most d pit);
-      fewest = λ d pit differ same. rw count (h.fewest d pit (λ k. differ (λ b l. k b l ∙ sym (s b l))) (same ∙ worth));
-    }
 
 -- ---- of tests
 

@@ -4,10 +4,10 @@ use Rattle.std.proofs.lemmas.Int.{ints}
 use Rattle.std.proofs.lemmas.Bool.{and_parts, and_from, cases_lt, cases_Bool}
 use Rattle.ordered_group.specs.Sets.{worth_in, count_in}
 use Rattle.ordered_group.proofs.BlockSets.{worth_in-same, count_in-same, count_in-within}
-use Rattle.closure_net.specs.Mine.{Mine, IsPit, worth_of, count_of, IsBest}
+use Rattle.closure_net.specs.Mine.{Mine, IsPit, worth_of, count_of, IsBest, RestsWithin}
 use Rattle.closure_net.proofs.BestPits.{best_from_fewest}
 use Rattle.ordered_group.proofs.Totals.{within_first}
-use Rattle.sub_mines.specs.Parts.{RestsWithin, union_of, intersection_of, difference_of, part}
+use Rattle.sub_mines.specs.Parts.{union_of, intersection_of, difference_of, part}
 use Rattle.sub_mines.specs.Renumbered.{IsListed, IsRenumbered, IsImage}
 use Rattle.sub_mines.proofs.Parts.{fewest_of, not_beside, count_cuts}
 

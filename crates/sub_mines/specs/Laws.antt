@@ -1,8 +1,8 @@
 -- The laws of best pits that are found in parts of a mine.
 use Rattle.std.specs.Prelude.{◌≡◌, ◌↔◌, ℕ, ◌+◌, ◌+ℤ◌, Bool, List, All, ◌<◌, length, map}
 use Rattle.closure_net.specs.Network.{holds_of, IsAscending}
-use Rattle.closure_net.specs.Mine.{Mine, IsPit, worth_of, count_of, IsBest, LiesWithin, RisesTo}
-use Rattle.sub_mines.specs.Parts.{RestsWithin, union_of, difference_of, no_block, every_block, part, LiesBetween}
+use Rattle.closure_net.specs.Mine.{Mine, IsPit, worth_of, count_of, IsBest, LiesWithin, RisesTo, RestsWithin}
+use Rattle.sub_mines.specs.Parts.{union_of, difference_of, no_block, every_block, part, LiesBetween}
 use Rattle.sub_mines.specs.Bounds.{IsFloor, IsCeiling}
 use Rattle.prec_file.specs.Rests.{numbers_passing}
 use Rattle.sub_mines.specs.Kept.{IsKept}

@@ -1,7 +1,6 @@
 -- Some of a mine's blocks with numbers of their own.
 use Rattle.std.specs.Prelude.{◌≡◌, ℕ, ◌<◌, Bool, List, IsTrue, slice_index_or}
-use Rattle.closure_net.specs.Mine.{Mine}
-use Rattle.sub_mines.specs.Parts.{RestsWithin}
+use Rattle.closure_net.specs.Mine.{Mine, RestsWithin}
 
 -- The numbers at 0, at 1 and so on to at (m - 1) are those below n that are in the set, ascending.
 pub record IsListed (set : ℕ → Bool) (n m : ℕ) (at : ℕ → ℕ) : Type 0 where

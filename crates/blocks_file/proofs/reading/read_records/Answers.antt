@@ -6,7 +6,7 @@ use Rattle.blocks_file.specs.RowReading.{HoldsValues, ArePut}
 use Rattle.fixed_worth.proofs.NextLine.{Next}
 use Rattle.blocks_file.proofs.LineAfterLine.{begins, passes, keeps, read_all}
 use Rattle.fixed_worth.proofs.Results.{ok_before}
-use Rattle.blocks_file.proofs.Lent.{written_back}
+use Rattle.fixed_worth.proofs.Lent.{written_back}
 use Rattle.blocks_file.proofs.reading.read_records.Goals as goal
 
 pub loop-line-init : goal.loop-line-init

@@ -1,7 +1,7 @@
 use Rattle.std.proofs.Common.{List, Bool, length, ap, sym, subst, ◌∙◌}
 use Rattle.std.proofs.lemmas.Result.{err_from_is_err_and}
 use Rattle.design_file.proofs.Progress.{ReadSoFar, step_on, step_wrong, unless}
-use Rattle.design_file.proofs.Marks.{written_back}
+use Rattle.fixed_worth.proofs.Lent.{written_back}
 use Rattle.design_file.proofs.reading.read_design.Goals as goal
 
 pub loop-line-preserved : goal.loop-line-preserved

@@ -3,7 +3,7 @@ use Rattle.std.proofs.lemmas.Result.{err_from_is_err_and}
 use Rattle.prec_file.proofs.Shapes.{unless_told}
 use Rattle.prec_file.proofs.Progress.{ReadSoFar, step_on, step_wrong}
 use Rattle.prec_file.proofs.KnownPairs.{more_known}
-use Rattle.prec_file.proofs.Marks.{written_back}
+use Rattle.fixed_worth.proofs.Lent.{written_back}
 use Rattle.fixed_worth.specs.Text.{fields_of}
 use Rattle.prec_file.proofs.reading.read_pairs.Goals as goal
 

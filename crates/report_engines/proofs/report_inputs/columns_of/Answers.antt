@@ -2,8 +2,9 @@ use Rattle.std.proofs.Common.{◌≡◌, ◌∷◌, [], Some, None, refl, rules}
 use Rattle.std.proofs.lemmas.Result.{err_from_is_err_and}
 use Rattle.settings_file.specs.declared.keys.Key.TheVariants.{Tonnes}
 use Rattle.settings_file.specs.Settings.{first_missing}
-use Rattle.report_engines.proofs.Readings.{never, others_known}
+use Rattle.report_engines.proofs.Readings.{others_known}
 use Rattle.report_engines.proofs.report_inputs.columns_of.Goals as goal
+use Rattle.engines.proofs.Unread.{never}
 
 pub returns-in_err-prices-clause-columns : goal.returns-in_err-prices-clause-columns
 returns-in_err-prices-clause-columns c =
