@@ -1,7 +1,7 @@
 -- Lists of values, and of the amounts that they stand for.
-use Rattle.std.proofs.Common.{◌≡◌, ℕ, ◌<◌, List, ◌∷◌, ◌++◌, length, get_or, map, sym, ap, subst, ◌∙◌}
+use Rattle.std.proofs.Common.{◌≡◌, ℕ, ◌<◌, List, length, get_or, map, sym, ap, subst, ◌∙◌}
 use Rattle.std.proofs.lemmas.List.{get_or-map}
-use Rattle.ordered_group.specs.Amount.{Amount, zero_amount, AtMost}
+use Rattle.ordered_group.specs.Amount.{Amount, zero_amount}
 use Rattle.ordered_group.specs.Sums.{amount_at}
 
 -- the amount at i is that of the value that was read there
@@ -14,10 +14,3 @@ here_from_map f P xs i x h e p = subst P (at_map f xs i x h e) p
 
 pub map_from_here : {X : Type 0} (f : X → Amount) (P : Amount → Type 0) (xs : List X) (i : ℕ) (x : X) → i < length xs → x ≡ get_or xs i x → P (f x) → P (amount_at (map f xs) i)
 map_from_here f P xs i x h e p = subst P (sym (at_map f xs i x h e)) p
-
--- Where z stands for zero: the value that was read is at least z exactly where its amount isn't negative.
-pub at_least_here : {X : Type 0} (f : X → Amount) (xs : List X) (i : ℕ) (x z : X) → i < length xs → x ≡ get_or xs i x → f z ≡ zero_amount → AtMost zero_amount (amount_at (map f xs) i) → AtMost (f z) (f x)
-at_least_here f xs i x z h e k p = rw k (here_from_map f (λ a. AtMost zero_amount a) xs i x h e p)
-
-pub at_least_there : {X : Type 0} (f : X → Amount) (xs : List X) (i : ℕ) (x z : X) → i < length xs → x ≡ get_or xs i x → f z ≡ zero_amount → AtMost (f z) (f x) → AtMost zero_amount (amount_at (map f xs) i)
-at_least_there f xs i x z h e k p = map_from_here f (λ a. AtMost zero_amount a) xs i x h e (rw k at p)

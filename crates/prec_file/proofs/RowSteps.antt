@@ -7,7 +7,7 @@ use Rattle.std.proofs.lemmas.List.Elements.{All-append, All-weaker, All-nil, All
 use Rattle.prec_file.specs.declared.limits.TheConstants.{MOST_PAIRS}
 use Rattle.fixed_worth.specs.declared.limits.TheConstants.{MOST_BLOCKS}
 use Rattle.prec_file.specs.Rests.{numbers_passing, count_ending_below, from_at, Before, IsRising, AreApart, IsKnown, IsOfBlock, IsRests, ArePairsOf}
-use Rattle.prec_file.specs.Indexes.{IsStarts, AreRows, AreAbove, pairs_by}
+use Rattle.prec_file.specs.Indexes.{IsStarts, AreRows, pairs_by}
 use Rattle.prec_file.proofs.Passing.{passing_between}
 use Rattle.prec_file.proofs.Slots.{ending_all}
 use Rattle.prec_file.proofs.Rows.{pairs_are}
@@ -35,12 +35,6 @@ no_rows n h = record {
 -- what rows tell
 pub rows_told : (n next : ℕ) (ps : List (ℕ × ℕ)) (firsts predecessors : List ℕ) → AreRows n next ps firsts predecessors → pairs_by firsts predecessors ≡ ps
 rows_told n next ps firsts predecessors h = pairs_are ps h.rests.rising next firsts predecessors h.firsts h.predecessors h.listed
-
--- rows of all blocks
-pub rows_whole : (n next : ℕ) (ps : List (ℕ × ℕ)) (firsts predecessors : List ℕ) → next ≡ n → AreRows n next ps firsts predecessors → AreAbove n ps firsts predecessors
-rows_whole n next ps firsts predecessors e h =
-    let P : ℕ → Type 0 = λ k. IsStarts (from_at ps) (length ps) k firsts in
-    record { rests = h.rests; predecessors = h.predecessors; firsts = subst P e h.firsts }
 
 -- as many predecessors as pairs
 pub rows_length : (n next : ℕ) (ps : List (ℕ × ℕ)) (firsts predecessors : List ℕ) → AreRows n next ps firsts predecessors → length predecessors ≡ length ps

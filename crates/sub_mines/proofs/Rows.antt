@@ -1,8 +1,8 @@
 -- The steps in which the pairs among some blocks are gathered.
-use Rattle.std.proofs.Common.{◌≡◌, ◌≢◌, ℕ, zero, suc, ◌+◌, ◌-◌, ◌<◌, ◌≤◌, All, List, [], ◌∷◌, ◌++◌, length, get_or, set, replicate, inl, inr, refl, sym, subst, ap, ◌∙◌, arith, length-set, get_or-set_same, get_or-set_other}
+use Rattle.std.proofs.Common.{◌≡◌, ◌≢◌, ℕ, zero, suc, ◌+◌, ◌-◌, ◌<◌, ◌≤◌, All, List, [], ◌∷◌, ◌++◌, length, get_or, set, inl, inr, sym, subst, ap, ◌∙◌, arith, length-set, get_or-set_same, get_or-set_other}
 use Rattle.std.specs.List.{Contains}
 use Rattle.std.proofs.lemmas.Bool.{cases_eq, cases_lt}
-use Rattle.std.proofs.lemmas.List.{get_or_default, length-replicate}
+use Rattle.std.proofs.lemmas.List.{get_or_default}
 use Rattle.std.proofs.lemmas.List.Elements.{Contains-append_left, Contains-push, Contains-push_cases, All-contains_itself, All-weaker}
 use Rattle.prec_file.specs.Rests.{above_of, from_at, to_at, first_of, numbers, IsRising, IsRests, RestsView, ArePairsOf, AreApart, IsKnown}
 use Rattle.prec_file.proofs.Finding.{above_at, above_has}
@@ -19,18 +19,6 @@ place_below kept h (suc i) l =
     let more = place_below kept h i (omega (arith, l)) in
     let up = h i (suc i) (omega arith) l in
     omega (arith, more, up)
-
-none_yet : (n b : ℕ) → get_or (replicate n zero) b zero ≡ zero
-none_yet zero b = refl
-none_yet (suc n) zero = refl
-none_yet (suc n) (suc b) = none_yet n b
-
-pub places_begun : (n : ℕ) (kept : List ℕ) → ArePlacesAmong n kept 0 (replicate n 0)
-places_begun n kept = record {
-  size = length-replicate n 0;
-  at = λ j l. absurd (omega (arith, l));
-  only = λ b l some. absurd (some (none_yet n b));
-}
 
 pub place_more : (n : ℕ) (kept : List ℕ) (i v : ℕ) (places : List ℕ) → IsAscending kept → i < length kept → get_or kept i 0 < n → v ≡ i + 1 → ArePlacesAmong n kept i places → ArePlacesAmong n kept (i + 1) (set places (get_or kept i 0) v)
 place_more n kept i v places rising l low e h =
