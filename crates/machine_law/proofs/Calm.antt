@@ -15,7 +15,7 @@ use Rattle.machine_law.specs.declared.operations.Operation.TheVariants.{Idle, Sc
 use Rattle.machine_law.specs.States.{State}
 use Rattle.machine_law.specs.Residual.{room, end_label, label_beyond}
 use Rattle.machine_law.specs.Balances.{supply}
-use Rattle.machine_law.specs.Labels.{arcs, steep, label_by, label_seen, has_port, is_under, IsOpenBy, IsAbove, IsNearLabel, IsLevelIfAny, IsWalk, IsLevelled}
+use Rattle.machine_law.specs.Labels.{arcs, steep, label_by, label_seen, ports_have, is_under, IsOpenBy, IsAbove, IsNearLabel, IsLevelIfAny, IsWalk, IsLevelled}
 
 -- What a step from s to t leaves to x, whose label stays: labels only rise, and x's backward arcs gain at most what its supply does.
 pub record IsCalm (net : NetView) (s t : State) (x : ℕ) : Type 0 where
@@ -82,11 +82,11 @@ module _ (net : NetView) (s t : State) (x : ℕ) (m : IsCalm net s t x) where
   walk_calm have rest best h = record {
     level = level_calm best h.level;
     low_most =
-        let f : ℕ → Bool = λ k. not (has_port rest (backward_port (from_at net.pairs) k)) && is_under best (t.label (from_at net.pairs k)) in
-        let g : ℕ → Bool = λ k. not (has_port rest (backward_port (from_at net.pairs) k)) && is_under best (s.label (from_at net.pairs k)) in
+        let f : ℕ → Bool = λ k. not (ports_have rest (backward_port (from_at net.pairs) k)) && is_under best (t.label (from_at net.pairs k)) in
+        let g : ℕ → Bool = λ k. not (ports_have rest (backward_port (from_at net.pairs) k)) && is_under best (s.label (from_at net.pairs k)) in
         let a = m.arcs_most f g (λ k e.
-        let p = and_parts (not (has_port rest (backward_port (from_at net.pairs) k))) (is_under best (t.label (from_at net.pairs k))) e in
-        and_from (not (has_port rest (backward_port (from_at net.pairs) k))) (is_under best (s.label (from_at net.pairs k))) p.0 (is_under-less best (s.label (from_at net.pairs k)) (t.label (from_at net.pairs k)) (m.labels (from_at net.pairs k)) p.1)) in
+        let p = and_parts (not (ports_have rest (backward_port (from_at net.pairs) k))) (is_under best (t.label (from_at net.pairs k))) e in
+        and_from (not (ports_have rest (backward_port (from_at net.pairs) k))) (is_under best (s.label (from_at net.pairs k))) p.0 (is_under-less best (s.label (from_at net.pairs k)) (t.label (from_at net.pairs k)) (m.labels (from_at net.pairs k)) p.1)) in
         chain (arcs net f t.flow x) (arcs net g s.flow x) (supply net s x) (supply net t x) m.gain have a h.low_most m.supply_more;
     high_most =
         let f : ℕ → Bool = λ k. nat_lt (label_seen best k (t.label (from_at net.pairs k)) + 1) (t.label x) in

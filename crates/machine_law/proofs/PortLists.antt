@@ -20,7 +20,7 @@ use Rattle.closure_net.specs.declared.port.PortKind.TheVariants.{Sink, Forward, 
 use Rattle.machine_law.specs.States.{State}
 use Rattle.machine_law.specs.Residual.{IsEnd, IsPortOf}
 use Rattle.machine_law.specs.Amounts.{HasAmounts}
-use Rattle.machine_law.specs.Labels.{same_port, has_port, IsOpenBy}
+use Rattle.machine_law.specs.Labels.{same_port, ports_have, IsOpenBy}
 use Rattle.machine_law.proofs.Numbers.{same, shifted, Below-more, Below-absurd, is_below-from}
 
 -- the port with these parts
@@ -55,16 +55,16 @@ pub port-at : (net : NetView) (b place : ℕ) (p : Port) → slice_get (ports ne
 port-at net b place p e = subst (IsPortOf net b) (get_or_from_slice_get (ports net b) place p p e) (all_ports net b place p (slice_get_within (ports net b) place p e))
 
 -- ---- each open port
-in_left : (xs ys : List Port) (p : Port) → has_port xs p ≡ true → has_port (xs ++ ys) p ≡ true
-in_left xs ys p h = list_any-append (λ q. same_port q p) xs ys ∙ or_left (has_port xs p) (has_port ys p) h
+in_left : (xs ys : List Port) (p : Port) → ports_have xs p ≡ true → ports_have (xs ++ ys) p ≡ true
+in_left xs ys p h = list_any-append (λ q. same_port q p) xs ys ∙ or_left (ports_have xs p) (ports_have ys p) h
 
-in_right : (xs ys : List Port) (p : Port) → has_port ys p ≡ true → has_port (xs ++ ys) p ≡ true
-in_right xs ys p h = list_any-append (λ q. same_port q p) xs ys ∙ or_right (has_port xs p) (has_port ys p) h
+in_right : (xs ys : List Port) (p : Port) → ports_have ys p ≡ true → ports_have (xs ++ ys) p ≡ true
+in_right xs ys p h = list_any-append (λ q. same_port q p) xs ys ∙ or_right (ports_have xs p) (ports_have ys p) h
 
-has_if : (t : Bool) (x p : Port) → t ≡ true → same_port x p ≡ true → has_port (cond t (x ∷ []) []) p ≡ true
+has_if : (t : Bool) (x p : Port) → t ≡ true → same_port x p ≡ true → ports_have (cond t (x ∷ []) []) p ≡ true
 has_if t x p e h = rw e (or_left (same_port x p) false h)
 
-has_pair : (end : ℕ → ℕ) (f : ℕ → Port) (b m k : ℕ) (p : Port) → k < m → end k ≡ b → same_port (f k) p ≡ true → has_port (map f (numbers end b m)) p ≡ true
+has_pair : (end : ℕ → ℕ) (f : ℕ → Port) (b m k : ℕ) (p : Port) → k < m → end k ≡ b → same_port (f k) p ≡ true → ports_have (map f (numbers end b m)) p ≡ true
 has_pair end f b m k p l e h =
     let ks = numbers end b m in
     let t = eq-eqb (end k) b e in
@@ -73,7 +73,7 @@ has_pair end f b m k p l e h =
     let at = get_or-map f ks j 0 p inside ∙ ap f (passing_here (λ i. end i == b) k m l t) in
     list_any_at (λ q. same_port q p) (map f ks) j p (omega (arith, length-map ks f, inside)) (ap (λ q. same_port q p) at ∙ h)
 
-pub has_backward : (net : NetView) (b k : ℕ) → k < length net.pairs → to_at net.pairs k ≡ b → has_port (ports net b) (backward_port (from_at net.pairs) k) ≡ true
+pub has_backward : (net : NetView) (b k : ℕ) → k < length net.pairs → to_at net.pairs k ≡ b → ports_have (ports net b) (backward_port (from_at net.pairs) k) ≡ true
 unfolding port_list
 has_backward net b k l e =
     let w = amount_at net.worths b in
@@ -96,7 +96,7 @@ negative_above w h = elim (larger_is (minus zero_amount w) zero_amount) [
   | inr e ↦ let s = same e.0 in record { worths = omega (arith, ints, h, s); counts = λ i. omega (arith, ints, h, s, i) }
 ]
 
-has_by : (net : NetView) (s : State) (b : ℕ) (kind : PortKind) (other slot : ℕ) → HasAmounts net s → IsEnd net b kind other slot → IsOpenBy net s b kind → has_port (ports net b) (port_with kind other slot) ≡ true
+has_by : (net : NetView) (s : State) (b : ℕ) (kind : PortKind) (other slot : ℕ) → HasAmounts net s → IsEnd net b kind other slot → IsOpenBy net s b kind → ports_have (ports net b) (port_with kind other slot) ≡ true
 unfolding port_list
 has_by net s b Sink other slot k q o =
     let w = amount_at net.worths b in
@@ -128,10 +128,10 @@ has_by net s b Source other slot k q o =
     (in_right (forward_ports from to m b) (backward_ports from to m b ++ z) p
     (in_right (backward_ports from to m b) z p (has_if (is_below zero_amount w) (source_port b) p (is_below-from zero_amount w (positive_above w (Below-more o (k.source_most b)))) refl)))
 
-pub has_open : (net : NetView) (s : State) (b : ℕ) (p : Port) → HasAmounts net s → IsPortOf net b p → IsOpenBy net s b p.kind → has_port (ports net b) p ≡ true
+pub has_open : (net : NetView) (s : State) (b : ℕ) (p : Port) → HasAmounts net s → IsPortOf net b p → IsOpenBy net s b p.kind → ports_have (ports net b) p ≡ true
 has_open net s b p k q o = has_by net s b p.kind p.other p.slot k q o
 
 -- a list that has a port isn't empty
-pub has_some : (xs : List Port) (p : Port) → has_port xs p ≡ true → 0 < length xs
+pub has_some : (xs : List Port) (p : Port) → ports_have xs p ≡ true → 0 < length xs
 has_some [] p h = absurd (true≢false (sym h))
 has_some (x ∷ xs) p h = omega arith

@@ -17,7 +17,7 @@ use Rattle.machine_law.specs.Reads.{is_positive, better}
 use Rattle.machine_law.specs.Transit.{amount_owed}
 use Rattle.machine_law.specs.Amounts.{HasAmounts}
 use Rattle.machine_law.specs.Balances.{supply}
-use Rattle.machine_law.specs.Labels.{arcs, steep, high, label_by, same_by, same_port, has_port, is_under, IsOpenBy, IsAbove, IsNearLabel, IsBestLabel, IsLevelIfAny, IsWalk, HasLabels}
+use Rattle.machine_law.specs.Labels.{arcs, steep, high, label_by, same_by, same_port, ports_have, is_under, IsOpenBy, IsAbove, IsNearLabel, IsBestLabel, IsLevelIfAny, IsWalk, HasLabels}
 use Rattle.machine_law.proofs.Numbers.{same, shifted, positive-no, Below-absurd}
 use Rattle.machine_law.proofs.Arcs.{arcs-most, arcs-most_or, arcs-none}
 use Rattle.machine_law.proofs.PortLists.{has_backward, has_open}
@@ -110,10 +110,10 @@ module _ (net : NetView) (s : State) (b : ℕ) (k : HasAmounts net s) (h : HasLa
   walk_begun e = record {
     level = tt;
     low_most =
-        let f : ℕ → Bool = λ j. not (has_port (ports net b) (backward_port (from_at net.pairs) j)) && true in
+        let f : ℕ → Bool = λ j. not (ports_have (ports net b) (backward_port (from_at net.pairs) j)) && true in
         let z = same (arcs-none net f s.flow b (λ j l at q.
-        let p = and_parts (not (has_port (ports net b) (backward_port (from_at net.pairs) j))) true q in
-        true≢false (sym (has_backward net b j l at) ∙ not-true (has_port (ports net b) (backward_port (from_at net.pairs) j)) p.0))) in
+        let p = and_parts (not (ports_have (ports net b) (backward_port (from_at net.pairs) j))) true q in
+        true≢false (sym (has_backward net b j l at) ∙ not-true (ports_have (ports net b) (backward_port (from_at net.pairs) j)) p.0))) in
         let o = same e in
         shifted (coming_nonneg net s b k) (record { w = omega (arith, ints, z, o); c = omega (arith, ints, z, o) });
     high_most = h.steep_most b;
@@ -128,20 +128,20 @@ module _ (net : NetView) (s : State) (b : ℕ) (k : HasAmounts net s) (h : HasLa
         level = w.level;
         low_most =
             let back : ℕ → Port = backward_port (from_at net.pairs) in
-            let f : ℕ → Bool = λ j. not (has_port ps (back j)) && is_under best (s.label (from_at net.pairs j)) in
-            let g : ℕ → Bool = λ j. not (has_port (p ∷ ps) (back j)) && is_under best (s.label (from_at net.pairs j)) in
+            let f : ℕ → Bool = λ j. not (ports_have ps (back j)) && is_under best (s.label (from_at net.pairs j)) in
+            let g : ℕ → Bool = λ j. not (ports_have (p ∷ ps) (back j)) && is_under best (s.label (from_at net.pairs j)) in
             AtMost-trans (arcs net f s.flow b) (arcs net g s.flow b) (minus (supply net s b) have)
             (arcs-most_or net f g s.flow b (λ j _ _ e.
-            let q = and_parts (not (has_port ps (back j))) (is_under best (s.label (from_at net.pairs j))) e in
+            let q = and_parts (not (ports_have ps (back j))) (is_under best (s.label (from_at net.pairs j))) e in
             elim (cases_Bool (same_port p (back j))) [
               | inl t ↦ inr (shut_arc net s b p.kind p.slot j z t)
-              | inr n ↦ inl (and_from (not (has_port (p ∷ ps) (back j))) (is_under best (s.label (from_at net.pairs j))) (not_from_false (has_port (p ∷ ps) (back j)) (or_from (same_port p (back j)) (has_port ps (back j)) n (not-true (has_port ps (back j)) q.0))) q.1)
+              | inr n ↦ inl (and_from (not (ports_have (p ∷ ps) (back j))) (is_under best (s.label (from_at net.pairs j))) (not_from_false (ports_have (p ∷ ps) (back j)) (or_from (same_port p (back j)) (ports_have ps (back j)) n (not-true (ports_have ps (back j)) q.0))) q.1)
             ]) k.flow)
             w.low_most;
         high_most = w.high_most;
         passed = λ q iq oq n. elim (cases_Bool (same_port p q)) [
           | inl t ↦ absurd (shut_port net s b p.kind q.kind p.slot q.slot c z t oq)
-          | inr m ↦ w.passed q iq oq (or_from (same_port p q) (has_port ps q) m n)
+          | inr m ↦ w.passed q iq oq (or_from (same_port p q) (ports_have ps q) m n)
         ];
       }
 
@@ -154,17 +154,17 @@ module _ (net : NetView) (s : State) (b : ℕ) (k : HasAmounts net s) (h : HasLa
       record {
         level = level_better best new w.level (record { recorded = omega arith; near = near_new p.kind p.other p.slot ip r });
         low_most =
-            let f : ℕ → Bool = λ j. not (has_port ps (back j)) && is_under (Some (better best new)) (s.label (from_at net.pairs j)) in
-            let g : ℕ → Bool = λ j. not (has_port (p ∷ ps) (back j)) && is_under best (s.label (from_at net.pairs j)) in
+            let f : ℕ → Bool = λ j. not (ports_have ps (back j)) && is_under (Some (better best new)) (s.label (from_at net.pairs j)) in
+            let g : ℕ → Bool = λ j. not (ports_have (p ∷ ps) (back j)) && is_under best (s.label (from_at net.pairs j)) in
             AtMost-trans (arcs net f s.flow b) (arcs net g s.flow b) (minus (supply net s b) have)
             (arcs-most net f g s.flow s.flow b (λ j l at z.
-            let q = and_parts (not (has_port ps (back j))) (is_under (Some (better best new)) (s.label (from_at net.pairs j))) z in
+            let q = and_parts (not (ports_have ps (back j))) (is_under (Some (better best new)) (s.label (from_at net.pairs j))) z in
             elim (cases_Bool (same_port p (back j))) [
               | inl y ↦
                   let u = same_end_of net s b p (back j) ip (l, at, refl) y in
                   let v = ltb-true (s.label (from_at net.pairs j)) (better best new).label q.1 in
                   absurd (omega (arith, u, v, most))
-              | inr n ↦ and_from (not (has_port (p ∷ ps) (back j))) (is_under best (s.label (from_at net.pairs j))) (not_from_false (has_port (p ∷ ps) (back j)) (or_from (same_port p (back j)) (has_port ps (back j)) n (not-true (has_port ps (back j)) q.0))) (under_better best new (s.label (from_at net.pairs j)) q.1)
+              | inr n ↦ and_from (not (ports_have (p ∷ ps) (back j))) (is_under best (s.label (from_at net.pairs j))) (not_from_false (ports_have (p ∷ ps) (back j)) (or_from (same_port p (back j)) (ports_have ps (back j)) n (not-true (ports_have ps (back j)) q.0))) (under_better best new (s.label (from_at net.pairs j)) q.1)
             ]) (λ j. AtMost-refl (s.flow j)) k.flow)
             w.low_most;
         high_most = high_better best new w.high_most
@@ -173,6 +173,6 @@ module _ (net : NetView) (s : State) (b : ℕ) (k : HasAmounts net s) (h : HasLa
             (h.steep_most b));
         passed = λ q iq oq n. elim (cases_Bool (same_port p q)) [
           | inl y ↦ let u = same_end_of net s b p q ip iq y in omega (arith, u, most)
-          | inr m ↦ above_better best new (end_label net s q) (w.passed q iq oq (or_from (same_port p q) (has_port ps q) m n))
+          | inr m ↦ above_better best new (end_label net s q) (w.passed q iq oq (or_from (same_port p q) (ports_have ps q) m n))
         ];
       }

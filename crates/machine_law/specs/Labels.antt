@@ -53,8 +53,8 @@ abbrev pub same_port : Port → Port → Bool
 same_port p q = same_by p.kind q.kind p.slot q.slot
 
 -- whether p is one of these ports
-abbrev pub has_port : List Port → Port → Bool
-has_port ps p = list_any (λ q. same_port q p) ps
+abbrev pub ports_have : List Port → Port → Bool
+ports_have ps p = list_any (λ q. same_port q p) ps
 
 -- whether a label is below that of the best port
 abbrev pub is_under : Option (Best Amount) → ℕ → Bool
@@ -63,7 +63,7 @@ is_under (Some best) label = nat_lt label best.label
 
 -- the capacity of the backward arcs that are passed and end below the best port, or of all that are passed while there is none
 abbrev pub low : NetView → State → ℕ → List Port → Option (Best Amount) → Amount
-low net s b rest best = arcs net (λ k. not (has_port rest (backward_port (from_at net.pairs) k)) && is_under best (s.label (from_at net.pairs k))) s.flow b
+low net s b rest best = arcs net (λ k. not (ports_have rest (backward_port (from_at net.pairs) k)) && is_under best (s.label (from_at net.pairs k))) s.flow b
 
 -- by the kind of port: it isn't backward, and has capacity
 abbrev pub IsOpenBy : NetView → State → ℕ → PortKind → Type 0
@@ -100,7 +100,7 @@ pub record IsWalk (net : NetView) (s : State) (b : ℕ) (have : Amount) (rest : 
   pub level : IsLevelIfAny net s b best
   pub low_most : AtMost (low net s b rest best) (minus (supply net s b) have)
   pub high_most : AtMost (high net s b best) (supply net s b)
-  pub passed : (p : Port) → IsPortOf net b p → IsOpenBy net s b p.kind → has_port rest p ≡ false → IsAbove best (end_label net s p)
+  pub passed : (p : Port) → IsPortOf net b p → IsOpenBy net s b p.kind → ports_have rest p ≡ false → IsAbove best (end_label net s p)
 
 -- what holds of an operation of b: a push is due where the block stands above the best port, and a raise where it doesn't
 abbrev pub IsLevelled : NetView → State → ℕ → Operation Amount → Type 0
