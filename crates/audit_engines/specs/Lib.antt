@@ -1,3 +1,2 @@
 pub mod Tracing
-pub mod Sending
 pub mod RoomWord
