@@ -1,7 +1,7 @@
 -- A block's look at its ports, in the place of its operation.
-use Rattle.std.proofs.Common.{◌≡◌, ℕ, ◌+◌, ◌<◌, Bool, true, false, if◌then◌else◌, Some, None, List, length, get_or, set, map, sym, refl, ap, ◌∙◌}
-use Rattle.std.specs.Prelude.{nat_lt}
-use Rattle.std.proofs.lemmas.List.{map-set, get_or-map}
+use Rattle.std.proofs.Common.{◌≡◌, ℕ, ◌+◌, ◌<◌, Bool, true, false, if◌then◌else◌, Some, None, List, length, get_or, set, map, sym, refl, ap, ap₂, subst, arith, get_or-set_same, ◌∙◌}
+use Rattle.std.specs.Prelude.{nat_lt, slice_index}
+use Rattle.std.proofs.lemmas.List.{map-set, get_or-map, get_or_read, length-map}
 use Rattle.ordered_group.specs.Amount.{Amount}
 use Rattle.closure_net.specs.declared.port.Port.{Port}
 use Rattle.machine_law.specs.declared.operations.Best.{Best}
@@ -9,7 +9,7 @@ use Rattle.machine_law.specs.declared.operations.Operation.{Operation}
 use Rattle.machine_law.specs.declared.operations.Operation.TheVariants.{Idle, Scan, PushDue, TakeDue, GiveDue, RaiseDue}
 use Rattle.machine_law.specs.Operations.{operation_as, is_idle}
 use Rattle.machine_law.specs.Reads.{after_last_port, after_port, IsScan}
-use Rattle.async_step.specs.Views.{operation_at}
+use Rattle.async_step.specs.Views.{StateView, operation_at}
 use Rattle.async_step.specs.Scans.{after_label_by}
 
 -- the same under the amounts
@@ -48,10 +48,41 @@ chosen_works n label port beyond (TakeDue amount port₁) h = refl
 chosen_works n label port beyond (GiveDue amount port₁) h = refl
 chosen_works n label port beyond (RaiseDue have best) h = refl
 
--- an element, and the list with the element changed, as amounts
-pub place_is : {N : Type 0} (f : N → Amount) (os : List (Operation N)) (b : ℕ) (x : Operation N) → x ≡ get_or os b x → b < length os → operation_as f x ≡ operation_at (map (operation_as f) os) b
-place_is f os b x e k = ap (operation_as f) e ∙ sym (get_or-map (operation_as f) os b x Idle k)
+-- ---- in its place
 
-pub place_changed : {N : Type 0} (f : N → Amount) (os : List (Operation N)) (b : ℕ) (x y : Operation N) (step : Operation Amount → Operation Amount) → x ≡ get_or os b x → b < length os → operation_as f y ≡ step (operation_as f x)
-    → map (operation_as f) (set os b y) ≡ set (map (operation_as f) os) b (step (operation_at (map (operation_as f) os) b))
-place_changed f os b x y step e k h = map-set (operation_as f) os b y ∙ ap (set (map (operation_as f) os) b) (h ∙ ap step (place_is f os b x e k))
+-- the operation of block b becomes o, in a list whose amounts are those of v
+pub record IsStepped {N : Type 0} (f : N → Amount) (v : StateView) (os : List (Operation N)) (b : ℕ) (y : Operation N) (o : Operation Amount) : Type 0 where
+  pub within : b < length v.operation
+  pub inside : b < length os
+  pub here : operation_as f y ≡ o
+  pub list : map (operation_as f) (set os b y) ≡ set v.operation b o
+
+pub idle_now : {N : Type 0} (f : N → Amount) (v : StateView) (os : List (Operation N)) (b : ℕ) (y z : Operation N) (o : Operation Amount) → IsStepped f v os b y o → z ≡ get_or (set os b y) b z → is_idle (operation_as f z) ≡ is_idle o
+idle_now f v os b y z o s e = ap (λ x. is_idle (operation_as f x)) (e ∙ get_or-set_same os b y z s.inside) ∙ ap is_idle s.here
+
+module _ {N : Type 0} (f : N → Amount) (v w : StateView) (os : List (Operation N)) (b : ℕ) (x : Operation N) (is : map (operation_as f) os ≡ v.operation) (same : v ≡ w) (block : b < length w.operation) (at : x ≡ get_or os b x) where
+  within : b < length v.operation
+  within = subst (λ (u : StateView). b < length u.operation) (sym same) block
+
+  inside : b < length os
+  inside = let k = within in let n = ap length is in omega (arith, k, n, length-map os (operation_as f))
+
+  was : operation_as f x ≡ operation_at v.operation b
+  was = ap (operation_as f) at ∙ sym (get_or-map (operation_as f) os b x Idle inside) ∙ ap (λ (us : List (Operation Amount)). operation_at us b) is
+
+  pub scan_in_place : (n : ℕ) → IsScan n (operation_at w.operation b) → IsScan n x
+  scan_in_place n h = scan_under f n x (subst (IsScan n) (sym was) (subst (λ (u : StateView). IsScan n (operation_at u.operation b)) (sym same) h))
+
+  -- a step that reads the block's label
+  pub step_in_place : (step : ℕ → Operation Amount → Operation Amount) (own : ℕ) (y : Operation N) → length v.label ≡ length v.operation → own ≡ get_or v.label b own → operation_as f y ≡ step own (operation_as f x)
+      → IsStepped f v os b y (step (slice_index v.label b) (operation_at v.operation b))
+  step_in_place step own y sized label saw =
+      let k = within in
+      let now : operation_as f y ≡ step (slice_index v.label b) (operation_at v.operation b) = saw ∙ ap₂ step (get_or_read v.label b own (omega (arith, k, sized)) label 0) was in
+      record { within = within; inside = inside; here = now; list = map-set (operation_as f) os b y ∙ ap₂ (λ (us : List (Operation Amount)) (o : Operation Amount). set us b o) is now }
+
+pub becomes : (v w : StateView) (os : List (Operation Amount)) (b : ℕ) (step : ℕ → Operation Amount → Operation Amount) → v ≡ w → os ≡ set v.operation b (step (slice_index v.label b) (operation_at v.operation b))
+    → record v { operation = os; steps = v.steps + 1 } ≡ record w { operation = set w.operation b (step (slice_index w.label b) (operation_at w.operation b)); steps = w.steps + 1 }
+becomes v w os b step same e =
+    ap (λ (us : List (Operation Amount)). record v { operation = us; steps = v.steps + 1 }) e
+    ∙ ap (λ (u : StateView). record u { operation = set u.operation b (step (slice_index u.label b) (operation_at u.operation b)); steps = u.steps + 1 }) same

@@ -1,3 +1,2 @@
 pub mod TracedRuns
-pub mod Sending
 pub mod RoomWord

@@ -7,6 +7,8 @@ use Rattle.closure_net.specs.Network.{NetView, FlowView, holds_of}
 use Rattle.closure_net.specs.Reached.{IsReached}
 use Rattle.machine_law.specs.declared.events.Event.{Event}
 use Rattle.workers.specs.Auditing.{IsSomeHistory, IsAudit, IsCutOffAfter, OverflowsAfter, FillsItsRoom}
+use Rattle.workers.specs.declared.auditing.AuditEnd.{AuditEnd}
+use Rattle.workers.specs.declared.auditing.AuditEnd.TheVariants.{NoFlow, HistoryFull}
 use Rattle.trace_file.specs.Written.{trace_text}
 use Rattle.check_pit.specs.Checks.{IsOfNet, PitFaultStands}
 use Rattle.check_pit.specs.declared.pit_fault.PitFault.TheVariants as pit_fault
@@ -17,8 +19,8 @@ use Rattle.mine_inputs.specs.declared.engine_fault.EngineFault.{EngineFault}
 use Rattle.mine_inputs.specs.declared.engine_fault.EngineFault.TheVariants as engine
 use Rattle.mine_inputs.specs.Mines.{MineTexts, price_wanted}
 use Rattle.engines.specs.Readings.{counts_by}
-use Rattle.engines.specs.NetAnswers.{unsettled_line, too_large_line}
-use Rattle.engines.specs.Solving.{IsCertificateOf, IsTextOf, IsCertificate, IsNetBy, SolveFails}
+use Rattle.engines.specs.NetAnswers.{unsettled_line, too_large_line, no_line}
+use Rattle.engines.specs.Solving.{IsCertificateOf, IsTextOf, IsCertificate, IsNetBy, SolveFails, unsolved_by}
 
 -- ---- what a run with this history answers for a net
 
@@ -44,6 +46,11 @@ pub record CheckOverflowsAfter (net : NetView) (limit room : ℕ) (history : Lis
 -- the line where the history has no room
 abbrev pub history_full_line : List ℕ
 history_full_line = codes "HISTORYFULL" ++ 10 ∷ []
+
+-- the line that says why a run gives no flow, or the fault that does
+abbrev pub end_line : AuditEnd → Result (List ℕ) EngineFault
+end_line HistoryFull = Ok history_full_line
+end_line (NoFlow why) = no_line (unsolved_by why)
 
 -- The line of an answer without a certificate, and what its history shows: that it has as many events as the limit, or as many as there is
 -- room for below the limit, and some block has excess or an operation after it; or that the next step of some block, or the check of the flow,

@@ -1,21 +1,18 @@
 //! Solves a net by a run that writes down its steps: writes the trace of the run, and then a certificate, or why
 //! there is none.
 
-ghost use Rattle.std.specs.Prelude.{◌≡◌, ◌+◌, ◌-◌, ◌^◌, ◌<◌, ◌≤◌, ◌↔◌, ℕ, List, length, IsErrOf};
+ghost use Rattle.std.specs.Prelude.{◌≡◌, ◌+◌, ◌-◌, ◌^◌, ◌<◌, ◌↔◌, ℕ, List, MatchResult, IsErrOf, Ok, Err};
 ghost use Rattle.machine_law.specs.declared.events.Event.{Event};
-ghost use Rattle.machine_law.specs.declared.events.TheConstants.{MOST_EVENTS};
 ghost use Rattle.certificate_file.specs.ReadBack.{IsPrice};
 ghost use Rattle.workers.specs.Auditing.{IsAudit};
-ghost use Rattle.trace_file.specs.Written.{trace_text};
-ghost use Rattle.audit_engines.specs.TracedRuns.{TellsRun, TracesNet};
-ghost use Rattle.audit_engines.specs.Sending.{SendsBoth};
+ghost use Rattle.audit_engines.specs.TracedRuns.{TellsRun, TracesNet, end_line};
 
 use crate::traced_outputs::TracedOutputs;
-use async_step::Event;
 use check_pit::Price;
 use closure_net::{Flow, Net};
 use engines::certification::{Uncertified, certified};
-use engines::net_answer::{write_answer, write_no};
+use engines::net_answer::{line_of_no, write_answer, write_no};
+use engines::solvers::Unsolved;
 use engines::{Effort, EngineFault, Outcome, Verdict};
 use fixed_worth::CountedWrite;
 use ordered_group::OrderedGroup;
@@ -23,7 +20,7 @@ use std::alloc::Global;
 use std::sync::Wait;
 use std::thread::Threads;
 use trace_file::write_trace;
-use workers::{AuditEnd, AuditFault, Audited, Gate, Locked, Shared, SolveFault, solve_audited};
+use workers::{AuditEnd, AuditFault, Audited, Gate, Locked, Shared, solve_audited};
 
 /// What a run over a net with a trace is asked for.
 #[derive(Clone, Copy)]
@@ -79,35 +76,20 @@ where
         }
         Err(ended) => ended,
     };
-    let events = history.as_slice();
-    let why = match fault {
-        AuditEnd::HistoryFull => return tell_no(events, b"HISTORYFULL\n", outputs),
-        AuditEnd::NoFlow(why) => why,
-    };
-    match why {
-        SolveFault::Unsettled => tell_no(events, b"UNSETTLED\n", outputs),
-        SolveFault::TooLarge => tell_no(events, b"REFUSED TooLarge\n", outputs),
-        SolveFault::NoMemory => Err(EngineFault::Memory),
-        SolveFault::NoThread => Err(EngineFault::Thread),
-        SolveFault::StrangerNet | SolveFault::BadWorkers => Err(EngineFault::Stranger),
-    }
+    let line = line_of_end(fault)?;
+    write_trace(history.as_slice(), &mut outputs.trace)?;
+    write_no(line, &mut outputs.out)
 }
 
-// Writes the trace of a run, and then the line of an answer without a certificate.
-fn tell_no<V: CountedWrite, W: CountedWrite>(
-    events: &[Event],
-    line: &[u8],
-    outputs: &mut TracedOutputs<V, W>,
-) -> Result<Verdict, EngineFault>
-    requires few { length events.now ≤ MOST_EVENTS }
-    requires trace_room { V.failed outputs.old.trace < 2 ^ 64 - 1 }
-    requires out_room { W.failed outputs.old.out < 2 ^ 64 - 1 }
-    ensures answer { SendsBoth (trace_text events.now) line.now (V.contents outputs.old.trace) (V.contents outputs.new.trace) (W.contents outputs.old.out) (W.contents outputs.new.out) result }
-    ensures device { IsErrOf result EngineFault.Device → V.failed outputs.new.trace + W.failed outputs.new.out ≡ V.failed outputs.old.trace + W.failed outputs.old.out + 1 }
-    ensures kept { ¬ IsErrOf result EngineFault.Device → (V.failed outputs.new.trace ≡ V.failed outputs.old.trace) × (W.failed outputs.new.out ≡ W.failed outputs.old.out) }
+// The line that says why a run gave no flow.
+fn line_of_end(end: AuditEnd) -> Result<&'static [u8], EngineFault>
+    ensures line { MatchResult result (λ line. end_line end ≡ Ok line.now) (λ fault. end_line end ≡ Err fault) }
+    ensures no_device { ¬ IsErrOf result EngineFault.Device }
 {
-    write_trace(events, &mut outputs.trace)?;
-    write_no(line, &mut outputs.out)
+    match end {
+        AuditEnd::HistoryFull => Ok(b"HISTORYFULL\n"),
+        AuditEnd::NoFlow(why) => line_of_no(Unsolved::from(why)),
+    }
 }
 
 // Writes the certificate of the flow that a run leaves, or that a sum of its check doesn't fit.

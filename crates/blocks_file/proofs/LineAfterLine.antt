@@ -21,6 +21,7 @@ use Rattle.fixed_worth.proofs.NextLine.{line, Next, next_is}
 use Rattle.blocks_file.proofs.Counts.{moved, still_long, push_skipped, push_record, longer}
 use Rattle.blocks_file.proofs.Marks.{marked, marked-replicate, marked-set, all_marked}
 use Rattle.blocks_file.proofs.Slots.{blocks_apart}
+use Rattle.blocks_file.proofs.Rows.{value_small}
 use Rattle.fixed_worth.proofs.Bits.{or_true}
 
 -- What has been read, and what is left.
@@ -198,7 +199,7 @@ read_all n chosen all seen places values left g e count bound few =
     let had : (b : ℕ) → b < n → get_or seen b false ≡ true = λ b i. all_marked seen b full (omega (arith, g.all_seen)) in (
       sym g.fault ∙ ap (λ (ls : List Line). first_fault n chosen g.before ls) none,
       record {
-        model = record { bound = bound; few = few; all_places = g.all_places; all_values = g.all_values };
+        model = record { bound = bound; few = few; all_places = g.all_places; all_values = g.all_values; small = λ b i h l. rw (g.value b i h (had b h) l) (value_small (columns_of (record_among g.before b)) (get_or chosen i 0)) };
         each = λ b i. ap (λ (xs : List Line). has_record xs b) (sym same) ∙ sym (g.marks b i) ∙ had b i;
         place = λ b i. g.place b i (had b i) ∙ ap (λ (xs : List Line). place_of_record (record_among xs b)) same;
         value = λ b i h l. g.value b i h (had b h) l ∙ ap (λ (xs : List Line). value_in (columns_of (record_among xs b)) (get_or chosen i 0)) same;

@@ -1,12 +1,17 @@
 -- The values of a record's chosen columns.
-use Rattle.std.proofs.Common.{◌≡◌, ℕ, ℤ, pos, suc, ◌+◌, ◌<◌, Bool, true, false, eqb, inl, inr, List, [], ◌∷◌, length, get_or, drop, Option, Some, None, refl, sym, ap, ◌∙◌, subst, arith, true≢false}
-use Rattle.std.specs.Prelude.{◌||◌, nat_lt, is_some, unwrap_or}
+use Rattle.std.proofs.Common.{◌≡◌, ℕ, ℤ, pos, suc, ◌+◌, ◌^◌, ◌<◌, ◌≤◌, unsigned_abs, Bool, true, false, not, cond, eqb, inl, inr, List, [], ◌∷◌, length, get_or, drop, Option, Some, None, Ok, Err, refl, sym, ap, ◌∙◌, subst, arith, true≢false}
+use Rattle.std.specs.Prelude.{◌||◌, nat_lt, nat_le, is_some, unwrap_or}
+use Rattle.std.specs.Result.{result_ok}
 use Rattle.std.specs.List.{list_any}
 use Rattle.std.proofs.lemmas.Bool.{cases_eq}
 use Rattle.std.proofs.lemmas.Bool.Decides.{nat_tests}
 use Rattle.std.proofs.lemmas.List.{drop_more}
 use Rattle.std.proofs.lemmas.List.Folds.{list_all_at}
-use Rattle.blocks_file.specs.Records.{value_read, is_bad, are_there}
+use Rattle.std.proofs.lemmas.Int.{ints}
+use Rattle.fixed_worth.specs.declared.numerals.NumberFault.TheVariants.{NotANumber, TooLong, TooLarge}
+use Rattle.fixed_worth.specs.Numeral.{is_minus, with_sign}
+use Rattle.fixed_worth.specs.Decimal.{is_decimal, is_too_long, millionths_of, most}
+use Rattle.blocks_file.specs.Records.{value_read, value_in, is_bad, are_there}
 use Rattle.blocks_file.specs.RowReading.{IsRow, AreTaken, HoldsValues}
 
 -- The next field is column k.
@@ -70,3 +75,17 @@ row_values chosen columns row r h = record {
   size = r.size;
   each = λ i l. ap (λ (o : Option ℤ). unwrap_or o (pos 0)) (sym (r.each i l (there_at (length columns) chosen i h l (nat_lt (get_or chosen i 0) (length columns)) refl)));
 }
+
+-- no value is above 10 ^ 18 millionths either way
+sign_small : (minus : Bool) (n limit : ℕ) (t : Bool) → nat_le n limit ≡ t → unsigned_abs (unwrap_or (result_ok (with_sign minus (cond t (Ok n) (Err TooLarge)))) (pos 0)) ≤ limit
+sign_small true n limit true e = let l : n ≤ limit = grind (arith, nat_tests) in omega (arith, ints, l)
+sign_small false n limit true e = grind (arith, nat_tests)
+sign_small minus n limit false e = omega arith
+
+read_small : (a b minus : Bool) (n limit : ℕ) → unsigned_abs (unwrap_or (result_ok (cond a (Err NotANumber) (cond b (Err TooLong) (with_sign minus (most limit n))))) (pos 0)) ≤ limit
+read_small true b minus n limit = omega arith
+read_small false true minus n limit = omega arith
+read_small false false minus n limit = sign_small minus n limit (nat_le n limit) refl
+
+pub value_small : (columns : List (List ℕ)) (c : ℕ) → unsigned_abs (value_in columns c) ≤ 10 ^ 18
+value_small columns c = let field = get_or columns c [] in read_small (not (is_decimal field)) (is_too_long field) (is_minus field) (millionths_of field) (10 ^ 18)

@@ -1,9 +1,10 @@
 -- The values of blocks that stand one block after another.
-use Rattle.std.proofs.Common.{◌≡◌, ℕ, ℤ, pos, ◌+◌, ◌*◌, ◌<◌, ◌≤◌, List, [], length, map, get_or, ap, ◌∙◌, arith}
+use Rattle.std.proofs.Common.{◌≡◌, ℕ, ℤ, pos, ◌+◌, ◌*◌, ◌<◌, ◌≤◌, List, [], length, map, get_or, ap, ◌∙◌, subst, arith}
 use Rattle.std.specs.List.{range_with_len}
 use Rattle.std.proofs.Math.Nat.{mul-le-mul_right, add-mul, one-mul}
 use Rattle.std.proofs.lemmas.List.FromFn.{get_or-map-range_with_len, length-map-range_with_len}
-use Rattle.blocks_file.specs.Denotes.{columns_from}
+use Rattle.blocks_file.specs.declared.place.Place.{Place}
+use Rattle.blocks_file.specs.Denotes.{BlocksView, IsModel, IsSmall, columns_from}
 
 -- A block's values end where the next block's begin.
 pub next_block : (b w : ℕ) → (b + 1) * w ≡ b * w + w
@@ -29,3 +30,6 @@ column_length w n i values h = ap length (column_is w n i values h) ∙ length-m
 -- What a column has for a block is the value in its place.
 pub column_at : (w n i b : ℕ) (values : List ℤ) → i < w → b < n → get_or (get_or (columns_from w n values) i []) b (pos 0) ≡ get_or values (b * w + i) (pos 0)
 column_at w n i b values h l = ap (λ (xs : List ℤ). get_or xs b (pos 0)) (column_is w n i values h) ∙ get_or-map-range_with_len (λ b. get_or values (b * w + i) (pos 0)) 0 n b b (pos 0) l (omega arith)
+
+pub columns_small : (n w : ℕ) (places : List Place) (values : List ℤ) (m : BlocksView) → record { blocks = n; places = places; columns = columns_from w n values } ≡ m → IsModel n w places values → (i : ℕ) → i < w → IsSmall m i
+columns_small n w places values m is model i h = subst (λ (x : BlocksView). IsSmall x i) is (λ b l. rw (column_at w n i b values h l) (model.small b i l h))

@@ -1,5 +1,5 @@
 -- What a text of blocks denotes.
-use Rattle.std.specs.Prelude.{◌≡◌, ℕ, ℤ, pos, ◌+◌, ◌*◌, ◌<◌, ◌≤◌, true, List, [], length, map, slice_index_or}
+use Rattle.std.specs.Prelude.{◌≡◌, ℕ, ℤ, pos, ◌+◌, ◌*◌, ◌^◌, ◌<◌, ◌≤◌, unsigned_abs, true, List, [], length, map, slice_index_or}
 use Rattle.std.specs.List.{range_with_len}
 use Rattle.fixed_worth.specs.declared.limits.TheConstants.{MOST_BLOCKS}
 use Rattle.blocks_file.specs.declared.limits.TheConstants.{MOST_COLUMNS}
@@ -20,12 +20,17 @@ origin = record { x = pos 0; y = pos 0; z = pos 0 }
 abbrev pub columns_from : ℕ → ℕ → List ℤ → List (List ℤ)
 columns_from width n values = map (λ i. map (λ b. slice_index_or values (b * width + i) (pos 0)) (range_with_len 0 n)) (range_with_len 0 width)
 
--- At most 2^24 blocks, each with a place and a value of each of at most eight columns.
+-- no value of the column that was chosen as the i-th is above 10^18 millionths either way
+abbrev pub IsSmall : BlocksView → ℕ → Type 0
+IsSmall m i = (b : ℕ) → b < m.blocks → unsigned_abs (slice_index_or (slice_index_or m.columns i []) b (pos 0)) ≤ 10 ^ 18
+
+-- At most 2^24 blocks, each with a place and a value of each of at most eight columns. No value is above 10^18 millionths either way.
 pub record IsModel (n width : ℕ) (places : List Place) (values : List ℤ) : Type 0 where
   pub bound : n ≤ MOST_BLOCKS
   pub few : width ≤ MOST_COLUMNS
   pub all_places : length places ≡ n
   pub all_values : length values ≡ n * width
+  pub small : (b i : ℕ) → b < n → i < width → unsigned_abs (slice_index_or values (b * width + i) (pos 0)) ≤ 10 ^ 18
 
 -- There are as many blocks as records, each has one, and the record gives its place and its chosen values.
 pub record Denotes (chosen text : List ℕ) (m : BlocksView) : Type 0 where

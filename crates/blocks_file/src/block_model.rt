@@ -1,7 +1,7 @@
 //! A model as a `.blocks` text gives it: how many blocks there are, where each is, and its values of the chosen
 //! columns.
 
-ghost use Rattle.std.specs.Prelude.{◌≡◌, ◌+◌, ◌*◌, ◌<◌, ◌≤◌, [], pos, length, slice_index_or};
+ghost use Rattle.std.specs.Prelude.{◌≡◌, ◌+◌, ◌*◌, ◌<◌, ◌≤◌, ℕ, [], pos, length, slice_index_or};
 ghost use Rattle.blocks_file.specs.Denotes as spec;
 
 use crate::Place;
@@ -57,10 +57,11 @@ impl BlockModel {
         self.places[block as usize]
     }
 
-    /// How many columns were chosen.
+    /// How many columns were chosen. None of their values is above 10^18 millionths either way.
     pub fn columns(&self) -> u32
         ensures value { result ≡ length self.now.columns }
         ensures bound { result ≤ MOST_COLUMNS }
+        ensures small { (i : ℕ) → i < result → spec.IsSmall self.now i }
     {
         self.width
     }

@@ -1,5 +1,5 @@
 -- What is written for a net: the certificate of a pit, or a line that says why there is none.
-use Rattle.std.specs.Prelude.{◌≡◌, ℕ, Bool, List, [], ◌∷◌, ◌++◌, codes, length, Option, Result, Ok, Err}
+use Rattle.std.specs.Prelude.{◌≡◌, ℕ, Bool, List, [], ◌∷◌, ◌++◌, codes, length, Option, Result, Ok, Err, MatchResult}
 use Rattle.std.specs.Io.KnownBytes.{Appends, Keeps}
 use Rattle.fixed_worth.specs.Device.{ReceivedPrefix}
 use Rattle.ordered_group.specs.declared.groups.Group.{Group}
@@ -36,18 +36,21 @@ too_large_line = judgement_line (Refused pit_fault.TooLarge)
 
 -- such a line was written, or a prefix of it, where the device fails
 abbrev pub SendsLine : List ℕ → Option (List ℕ) → Option (List ℕ) → Result Verdict EngineFault → Type 0
-SendsLine line old new (Ok verdict) = (verdict ≡ No) × Appends old new line
-SendsLine line old new (Err fault) = (fault ≡ engine.Device) × ReceivedPrefix old new line
+SendsLine line old new result = MatchResult result (λ verdict. (verdict ≡ No) × Appends old new line) (λ fault. (fault ≡ engine.Device) × ReceivedPrefix old new line)
 
 -- this fault is answered, and nothing was written
 abbrev pub Withholds : EngineFault → Option (List ℕ) → Option (List ℕ) → Result Verdict EngineFault → Type 0
 Withholds fault old new result = (result ≡ Err fault) × Keeps old new
 
+-- the line that says why there is no pit, or the fault that does
+abbrev pub no_line : Unsolved → Result (List ℕ) EngineFault
+no_line Unsettled = Ok unsettled_line
+no_line GaveUp = Ok unsettled_line
+no_line TooLarge = Ok too_large_line
+no_line NoMemory = Err engine.Memory
+no_line NoThread = Err engine.Thread
+no_line Stranger = Err engine.Stranger
+
 -- what is answered where there is no pit, by why there is none
 abbrev pub SendsNo : Unsolved → Option (List ℕ) → Option (List ℕ) → Result Verdict EngineFault → Type 0
-SendsNo Unsettled old new result = SendsLine unsettled_line old new result
-SendsNo GaveUp old new result = SendsLine unsettled_line old new result
-SendsNo TooLarge old new result = SendsLine too_large_line old new result
-SendsNo NoMemory old new result = Withholds engine.Memory old new result
-SendsNo NoThread old new result = Withholds engine.Thread old new result
-SendsNo Stranger old new result = Withholds engine.Stranger old new result
+SendsNo why old new result = MatchResult (no_line why) (λ line. SendsLine line old new result) (λ fault. Withholds fault old new result)

@@ -1,11 +1,9 @@
 //! What `solve` writes for a net: the certificate of its pit, or a line that says why there is none.
 
-ghost use Rattle.std.specs.Prelude.{◌≡◌, ◌+◌, ◌-◌, ◌^◌, ◌<◌, ◌↔◌, IfOk, MatchResult, IsErrOf};
-ghost use Rattle.std.specs.Io.KnownBytes.{Appends};
-ghost use Rattle.fixed_worth.specs.Device.{ReceivedPrefix};
+ghost use Rattle.std.specs.Prelude.{◌≡◌, ◌+◌, ◌-◌, ◌^◌, ◌<◌, ◌↔◌, IfOk, MatchResult, IsErrOf, Ok, Err};
 ghost use Rattle.check_pit.specs.Checks.{IsSound};
 ghost use Rattle.certificate_file.specs.ReadBack.{IsPrice};
-ghost use Rattle.engines.specs.NetAnswers.{SendsCertificate, SendsNo};
+ghost use Rattle.engines.specs.NetAnswers.{SendsCertificate, SendsLine, SendsNo, no_line};
 
 use crate::certification::Solution;
 use crate::judgement::Verdict;
@@ -45,11 +43,7 @@ pub fn write_answer<G: OrderedGroup, T: Outcome, W: CountedWrite>(
     let _worths = net.worths();
     let solution = match found {
         Ok(solution) => solution,
-        Err(Unsolved::Unsettled | Unsolved::GaveUp) => return write_no(b"UNSETTLED\n", out),
-        Err(Unsolved::TooLarge) => return write_no(b"REFUSED TooLarge\n", out),
-        Err(Unsolved::NoMemory) => return Err(EngineFault::Memory),
-        Err(Unsolved::NoThread) => return Err(EngineFault::Thread),
-        Err(Unsolved::Stranger) => return Err(EngineFault::Stranger),
+        Err(why) => return write_no(line_of_no(why)?, out),
     };
     let certificate = Certificate {
         blocks: net.len(),
@@ -62,15 +56,30 @@ pub fn write_answer<G: OrderedGroup, T: Outcome, W: CountedWrite>(
     Ok(Verdict::Done)
 }
 
+/// The line that says why there is no pit.
+///
+/// # Errors
+/// `Memory`, `Thread` and `Stranger` where that is why: then there is no line.
+pub fn line_of_no(why: Unsolved) -> Result<&'static [u8], EngineFault>
+    ensures line { MatchResult result (λ line. no_line why ≡ Ok line.now) (λ fault. no_line why ≡ Err fault) }
+    ensures no_device { ¬ IsErrOf result EngineFault.Device }
+{
+    match why {
+        Unsolved::Unsettled | Unsolved::GaveUp => Ok(b"UNSETTLED\n"),
+        Unsolved::TooLarge => Ok(b"REFUSED TooLarge\n"),
+        Unsolved::NoMemory => Err(EngineFault::Memory),
+        Unsolved::NoThread => Err(EngineFault::Thread),
+        Unsolved::Stranger => Err(EngineFault::Stranger),
+    }
+}
+
 /// Writes the line of an answer without a certificate.
 ///
 /// # Errors
 /// `Device` where a write fails; the writer then has a prefix of the line.
 pub fn write_no<W: CountedWrite>(line: &[u8], out: &mut W) -> Result<Verdict, EngineFault>
     requires { W.failed out.old < 2 ^ 64 - 1 }
-    ensures answer { MatchResult result
-        (λ verdict. (verdict ≡ Verdict.No) × Appends (W.contents out.old) (W.contents out.new) line.now)
-        (λ fault. (fault ≡ EngineFault.Device) × ReceivedPrefix (W.contents out.old) (W.contents out.new) line.now) }
+    ensures answer { SendsLine line.now (W.contents out.old) (W.contents out.new) result }
     ensures device { IsErrOf result EngineFault.Device ↔ (W.failed out.new ≡ W.failed out.old + 1) }
     ensures kept { ¬ IsErrOf result EngineFault.Device → W.failed out.new ≡ W.failed out.old }
 {

@@ -38,21 +38,35 @@ All-pairs P end f b m h i d l =
     let p = passing_at (λ k. end k == b) m i inside in
     subst P (sym (get_or-map f ks i 0 d inside)) (h (get_or ks i 0) p.below (eqb-true (end (get_or ks i 0)) b p.passes))
 
-all_ports : (net : NetView) (b : ℕ) → All (IsPortOf net b) (ports net b)
-unfolding port_list
-all_ports net b =
-    let P = IsPortOf net b in
-    let w = amount_at net.worths b in
-    let m = length net.pairs in
-    let from = from_at net.pairs in
-    let to = to_at net.pairs in
-    let z = cond (is_below zero_amount w) (source_port b ∷ []) [] in
-    All-append P (cond (is_below w zero_amount) (sink_port b ∷ []) []) (forward_ports from to m b ++ (backward_ports from to m b ++ z)) (All-if P (is_below w zero_amount) (sink_port b) (refl, refl))
-    (All-append P (forward_ports from to m b) (backward_ports from to m b ++ z) (All-pairs P from (forward_port to) b m (λ k l e. (l, e, refl)))
-    (All-append P (backward_ports from to m b) z (All-pairs P to (backward_port from) b m (λ k l e. (l, e, refl))) (All-if P (is_below zero_amount w) (source_port b) (refl, refl))))
+-- the four parts of a block's list
+module _ (net : NetView) (b : ℕ) where
+  abbrev to_sink : List Port
+  to_sink = cond (is_below (amount_at net.worths b) zero_amount) (sink_port b ∷ []) []
 
-pub port-at : (net : NetView) (b place : ℕ) (p : Port) → slice_get (ports net b) place ≡ Some p → IsPortOf net b p
-port-at net b place p e = subst (IsPortOf net b) (get_or_from_slice_get (ports net b) place p p e) (all_ports net b place p (slice_get_within (ports net b) place p e))
+  abbrev forward : List Port
+  forward = forward_ports (from_at net.pairs) (to_at net.pairs) (length net.pairs) b
+
+  abbrev backward : List Port
+  backward = backward_ports (from_at net.pairs) (to_at net.pairs) (length net.pairs) b
+
+  abbrev to_source : List Port
+  to_source = cond (is_below zero_amount (amount_at net.worths b)) (source_port b ∷ []) []
+
+  abbrev behind_sink : List Port
+  behind_sink = forward ++ (backward ++ to_source)
+
+  all_ports : All (IsPortOf net b) (ports net b)
+  unfolding port_list
+  all_ports =
+      let P = IsPortOf net b in
+      let w = amount_at net.worths b in
+      let m = length net.pairs in
+      All-append P to_sink behind_sink (All-if P (is_below w zero_amount) (sink_port b) (refl, refl))
+      (All-append P forward (backward ++ to_source) (All-pairs P (from_at net.pairs) (forward_port (to_at net.pairs)) b m (λ k l e. (l, e, refl)))
+      (All-append P backward to_source (All-pairs P (to_at net.pairs) (backward_port (from_at net.pairs)) b m (λ k l e. (l, e, refl))) (All-if P (is_below zero_amount w) (source_port b) (refl, refl))))
+
+  pub port-at : (place : ℕ) (p : Port) → slice_get (ports net b) place ≡ Some p → IsPortOf net b p
+  port-at place p e = subst (IsPortOf net b) (get_or_from_slice_get (ports net b) place p p e) (all_ports place p (slice_get_within (ports net b) place p e))
 
 -- ---- each open port
 in_left : (xs ys : List Port) (p : Port) → ports_have xs p ≡ true → ports_have (xs ++ ys) p ≡ true
@@ -76,15 +90,10 @@ has_pair end f b m k p l e h =
 pub has_backward : (net : NetView) (b k : ℕ) → k < length net.pairs → to_at net.pairs k ≡ b → ports_have (ports net b) (backward_port (from_at net.pairs) k) ≡ true
 unfolding port_list
 has_backward net b k l e =
-    let w = amount_at net.worths b in
-    let m = length net.pairs in
-    let from = from_at net.pairs in
-    let to = to_at net.pairs in
-    let z = cond (is_below zero_amount w) (source_port b ∷ []) [] in
-    let p = backward_port from k in
-    in_right (cond (is_below w zero_amount) (sink_port b ∷ []) []) (forward_ports from to m b ++ (backward_ports from to m b ++ z)) p
-    (in_right (forward_ports from to m b) (backward_ports from to m b ++ z) p
-    (in_left (backward_ports from to m b) z p (has_pair to (backward_port from) b m k p l e (eq-eqb k k refl))))
+    let p = backward_port (from_at net.pairs) k in
+    in_right (to_sink net b) (behind_sink net b) p
+    (in_right (forward net b) (backward net b ++ to_source net b) p
+    (in_left (backward net b) (to_source net b) p (has_pair (to_at net.pairs) (backward_port (from_at net.pairs)) b (length net.pairs) k p l e (eq-eqb k k refl))))
 
 -- a worth whose parts are above zero
 positive_above : (w : Amount) → Below zero_amount (positive w) → Below zero_amount w
@@ -100,33 +109,20 @@ has_by : (net : NetView) (s : State) (b : ℕ) (kind : PortKind) (other slot : �
 unfolding port_list
 has_by net s b Sink other slot k q o =
     let w = amount_at net.worths b in
-    let m = length net.pairs in
-    let from = from_at net.pairs in
-    let to = to_at net.pairs in
-    let z = cond (is_below zero_amount w) (source_port b ∷ []) [] in
+    let p = port_with Sink other slot in
     let full = Below-more o (shifted (k.sink b) (record { w = omega (arith, ints); c = omega (arith, ints) })) in
-    in_left (cond (is_below w zero_amount) (sink_port b ∷ []) []) (forward_ports from to m b ++ (backward_ports from to m b ++ z)) (port_with Sink other slot)
-    (has_if (is_below w zero_amount) (sink_port b) (port_with Sink other slot) (is_below-from w zero_amount (negative_above w full)) refl)
+    in_left (to_sink net b) (behind_sink net b) p (has_if (is_below w zero_amount) (sink_port b) p (is_below-from w zero_amount (negative_above w full)) refl)
 has_by net s b Forward other slot k q o =
-    let w = amount_at net.worths b in
-    let m = length net.pairs in
-    let from = from_at net.pairs in
-    let to = to_at net.pairs in
-    let z = cond (is_below zero_amount w) (source_port b ∷ []) [] in
-    in_right (cond (is_below w zero_amount) (sink_port b ∷ []) []) (forward_ports from to m b ++ (backward_ports from to m b ++ z)) (port_with Forward other slot)
-    (in_left (forward_ports from to m b) (backward_ports from to m b ++ z) (port_with Forward other slot)
-    (has_pair from (forward_port to) b m slot (port_with Forward other slot) q.0 q.1 (eq-eqb slot slot refl)))
+    let p = port_with Forward other slot in
+    in_right (to_sink net b) (behind_sink net b) p
+    (in_left (forward net b) (backward net b ++ to_source net b) p (has_pair (from_at net.pairs) (forward_port (to_at net.pairs)) b (length net.pairs) slot p q.0 q.1 (eq-eqb slot slot refl)))
 has_by net s b Backward other slot k q o = absurd o
 has_by net s b Source other slot k q o =
     let w = amount_at net.worths b in
-    let m = length net.pairs in
-    let from = from_at net.pairs in
-    let to = to_at net.pairs in
-    let z = cond (is_below zero_amount w) (source_port b ∷ []) [] in
     let p = port_with Source other slot in
-    in_right (cond (is_below w zero_amount) (sink_port b ∷ []) []) (forward_ports from to m b ++ (backward_ports from to m b ++ z)) p
-    (in_right (forward_ports from to m b) (backward_ports from to m b ++ z) p
-    (in_right (backward_ports from to m b) z p (has_if (is_below zero_amount w) (source_port b) p (is_below-from zero_amount w (positive_above w (Below-more o (k.source_most b)))) refl)))
+    in_right (to_sink net b) (behind_sink net b) p
+    (in_right (forward net b) (backward net b ++ to_source net b) p
+    (in_right (backward net b) (to_source net b) p (has_if (is_below zero_amount w) (source_port b) p (is_below-from zero_amount w (positive_above w (Below-more o (k.source_most b)))) refl)))
 
 pub has_open : (net : NetView) (s : State) (b : ℕ) (p : Port) → HasAmounts net s → IsPortOf net b p → IsOpenBy net s b p.kind → ports_have (ports net b) p ≡ true
 has_open net s b p k q o = has_by net s b p.kind p.other p.slot k q o

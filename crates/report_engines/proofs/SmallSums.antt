@@ -4,7 +4,7 @@ use Rattle.std.specs.Int.{w128, int_max}
 use Rattle.std.proofs.lemmas.Int.{ints, clamps, fits_signed_from_abs, unsigned_abs-mul}
 use Rattle.std.proofs.lemmas.Nat.{mul-le}
 use Rattle.std.proofs.lemmas.List.FromFn.{get_or-map-range_with_len, length-map-range_with_len}
-use Rattle.blocks_file.specs.Denotes.{BlocksView}
+use Rattle.blocks_file.specs.Denotes.{BlocksView, IsSmall}
 use Rattle.fixed_worth.specs.declared.limits.TheConstants.{MOST_BLOCKS, MOST_FACTOR}
 use Rattle.ordered_group.specs.Sets.{worth_in}
 use Rattle.shells.specs.Prices.{PricesView, blocks_of, number_at, worth_after, worth_at, worths_at}
@@ -14,7 +14,7 @@ use Rattle.mine_inputs.specs.declared.priced_inputs.ChargeColumns.TheVariants.{P
 use Rattle.mine_inputs.specs.PricedTexts.{place_beside, values_of, first_charges}
 use Rattle.bench_report.specs.Benches.{reported_blocks, blocks_at}
 use Rattle.bench_report.specs.FaultStands.{SameLengths, AllSumsFit, SomeBenchSumOverflows}
-use Rattle.report_engines.specs.ReportParts.{IsSmall, IsPricedModel}
+use Rattle.report_engines.specs.ReportParts.{IsPricedModel}
 
 -- the most that an amount of a block can be, either way
 abbrev most : ℕ

@@ -1,6 +1,6 @@
 -- What only the functions of this crate say to one another.
-use Rattle.std.specs.Prelude.{◌≡◌, ℕ, pos, ◌^◌, ◌<◌, ◌≤◌, unsigned_abs, List, [], ◌∷◌, ◌++◌, length, slice_index_or, unwrap_or}
-use Rattle.blocks_file.specs.Denotes.{BlocksView}
+use Rattle.std.specs.Prelude.{◌≡◌, ℕ, ◌<◌, ◌≤◌, List, [], ◌∷◌, ◌++◌, length, unwrap_or}
+use Rattle.blocks_file.specs.Denotes.{BlocksView, IsSmall}
 use Rattle.prec_file.specs.Rests.{RestsView}
 use Rattle.settings_file.specs.Settings.{SettingsView, settings_of}
 use Rattle.shells.specs.Prices.{PricesView, PricesFaultStands}
@@ -21,10 +21,6 @@ pub record IsReportRead (settings blocks precedence : List ℕ) (prices : Prices
   pub blocks_are : ReadsBlocks (report_columns (settings_of settings)) blocks model
   pub charges_are : charges ≡ (columns_said (settings_of settings)).charges
   pub factor_is : factor ≡ report_factor settings
-
--- no value of the column of a model that was chosen as the i-th is above 10^18 millionths either way
-abbrev pub IsSmall : BlocksView → ℕ → Type 0
-IsSmall m i = (b : ℕ) → b < m.blocks → unsigned_abs (slice_index_or (slice_index_or m.columns i []) b (pos 0)) ≤ 10 ^ 18
 
 -- The prices are the first columns of a model, one more has tonnes, and no value of these is large.
 pub record IsPricedModel (charges : ChargeColumns) (m : BlocksView) (prices : PricesView) : Type 0 where

@@ -1,21 +1,21 @@
 //! Reads settings, blocks and predecessors: gives a mine with prices and tonnes, the factors of its shells and that
 //! of the report, or the first fault of an input.
 
-ghost use Rattle.std.specs.Prelude.{◌≡◌, ◌≤◌, ◌+◌, ◌-◌, ◌^◌, ◌<◌, ◌↔◌, ℕ, [], None, length, unwrap_or, IfOk, IfSome, MatchResult, IsErrOf};
+ghost use Rattle.std.specs.Prelude.{◌≡◌, ◌≤◌, ◌+◌, ◌-◌, ◌^◌, ◌<◌, ◌↔◌, [], None, length, unwrap_or, IfOk, IfSome, MatchResult, IsErrOf};
 ghost use Rattle.settings_file.specs.Settings.{first_missing};
 ghost use Rattle.settings_file.specs.Values.{AreFactors};
 ghost use Rattle.mine_inputs.specs.Inputs.{IsMissing};
 ghost use Rattle.mine_inputs.specs.BlockTexts.{ReadsBlocks};
 ghost use Rattle.shell_engines.specs.Devices.{ForSeries, InputsCanCount, input_failures, NoInputFailed};
 ghost use Rattle.report_engines.specs.ReportTexts.{report_keys, factor_by, ReportMineFails};
-ghost use Rattle.report_engines.specs.ReportParts.{columns_by, report_list, IsSaid, SaidFails, PricedModelFails, IsReportRead, IsSmall, IsPricedModel};
+ghost use Rattle.report_engines.specs.ReportParts.{columns_by, report_list, IsSaid, SaidFails, PricedModelFails, IsReportRead, IsPricedModel};
 
 use blocks_file::BlockModel;
 use engines::EngineFault;
 use fixed_worth::CountedRead;
 use mine_inputs::{
-    ChargeColumns, PriceColumns, place_beside, predecessors_from, price_columns,
-    priced_blocks_from, prices_of, settings_from,
+    ChargeColumns, PriceColumns, predecessors_from, price_columns, priced_blocks_from, prices_of,
+    settings_from,
 };
 use settings_file::{Key, Settings};
 use shell_engines::series_inputs::{SeriesInputs, SeriesMine, factors_of};
@@ -101,27 +101,6 @@ fn said_from<S: CountedRead>(alloc: Global, settings: &mut S) -> Result<Said, En
     })
 }
 
-// Reads a column of a model, for proofs alone: each of its values is a `Micros`, and so none is large.
-fn read_column(model: &BlockModel, i: u32)
-    requires { i < length model.now.columns }
-    ensures { IsSmall model.now i }
-{
-    for b in 0..model.len() {
-        let _millionths = model.column(i, b).get();
-    }
-}
-
-// Reads the columns of a model up to the one at a place.
-fn read_columns(model: &BlockModel, last: u32)
-    requires { last < length model.now.columns }
-    ensures { (i : ℕ) → i ≤ last → IsSmall model.now i }
-{
-    read_column(model, 0);
-    for i in 0..last {
-        read_column(model, i + 1);
-    }
-}
-
 // Blocks with the columns of their prices and their tonnes, and these prices.
 #[derive(Drop)]
 struct PricedModel {
@@ -148,7 +127,7 @@ fn priced_model_from<B: CountedRead>(
     let model = priced_blocks_from(alloc, blocks, columns.prices, Some(columns.tonnes))?;
     let charges = columns.prices.charges;
     // proof: none of the values of these columns is above 10^18 millionths either way
-    read_columns(&model, place_beside(charges));
+    let _columns = model.columns();
     let prices = prices_of(alloc, &model, charges)?;
     Ok(PricedModel {
         model,

@@ -12,16 +12,16 @@ use Rattle.shell_engines.specs.SettledSeries.{IsSettled}
 use Rattle.shell_engines.specs.PitsAtFactors.{IsAdded}
 
 -- a factor of an ascending list is above those before it
-pub above_before : (factors done : List ℕ) (i : ℕ) → IsAscending factors → i < length factors → done ≡ take i factors → IsAboveAll done (get_or factors i 0)
-above_before factors done i rising l is j c =
+pub above_before : (factors done : List ℕ) (i k : ℕ) → IsAscending factors → i < length factors → k ≡ get_or factors i k → done ≡ take i factors → IsAboveAll done k
+above_before factors done i k rising l e is j c =
     let held : Contains (take i factors) j = subst (λ (xs : List ℕ). Contains xs j) is c in
     let low : held.0 < i = omega (arith, held.1, length-take-le i factors (omega (arith, l))) in
     let at : get_or factors held.0 0 ≡ j = sym (get_or-take i factors held.0 0 low) ∙ get_or_default (take i factors) held.0 0 j held.1 ∙ held.2 in
-    omega (arith, at, rising held.0 i low l)
+    omega (arith, at, e, get_or_default factors i k 0 l, rising held.0 i low l)
 
-module _ (pairs : List (ℕ × ℕ)) (prices : PricesView) (factors : List ℕ) (i : ℕ) (s t : SeriesView) (rows rows' : List ShellRow) (k : ℕ) (l : i < length factors) (is : k ≡ get_or factors i 0) (h : IsSettled pairs prices (take i factors) s rows) (a : IsAdded s t rows rows' k) where
+module _ (pairs : List (ℕ × ℕ)) (prices : PricesView) (factors : List ℕ) (i : ℕ) (s t : SeriesView) (rows rows' : List ShellRow) (k : ℕ) (l : i < length factors) (is : k ≡ get_or factors i k) (h : IsSettled pairs prices (take i factors) s rows) (a : IsAdded s t rows rows' k) where
   more : take (i + 1) factors ≡ take i factors ++ k ∷ []
-  more = take_more factors i 0 l ∙ ap (λ x. take i factors ++ x ∷ []) (sym is)
+  more = take_more factors i 0 l ∙ ap (λ x. take i factors ++ x ∷ []) (sym (is ∙ get_or_default factors i k 0 l))
 
   row_is : IsRowOf (mine_at pairs prices a.row.factor) a.row
   row_is =

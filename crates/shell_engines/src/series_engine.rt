@@ -15,6 +15,7 @@ use crate::series_outputs::{Answer, SeriesOutputs, send};
 use crate::series_progress::SeriesProgress;
 use crate::settled_series::settle;
 use crate::shell_rows::table_of;
+use engines::net_answer::line_of_no;
 use engines::solvers::Unsolved;
 use engines::{Effort, EngineFault, Verdict};
 use fixed_worth::{CountedRead, CountedWrite};
@@ -111,40 +112,24 @@ pub fn no_series(alloc: Global, none: NoSeries) -> Result<Answer, EngineFault>
     ensures { MatchResult result (λ a. (a.verdict ≡ Verdict.No) × (a.table.items ≡ []) × TellsWhy none a.text.items) (IsFaultOf none) }
 {
     match none {
-        NoSeries::Unsolved(factor, why) => answer_at(alloc, factor, why),
+        NoSeries::Unsolved(factor, why) => Ok(Answer {
+            verdict: Verdict::No,
+            table: Vec::new(alloc),
+            text: line_at(alloc, factor, why)?,
+        }),
         NoSeries::Model(_, fault) => Err(EngineFault::from(fault)),
         NoSeries::Memory => Err(EngineFault::Memory),
     }
 }
 
-// The answer where no pit is proved at a factor.
-fn answer_at(alloc: Global, factor: u32, why: Unsolved) -> Result<Answer, EngineFault>
-    ensures { MatchResult result (λ a. (a.verdict ≡ Verdict.No) × (a.table.items ≡ []) × IsLineOf factor why a.text.items) (IsWant why) }
+// The line that says why no pit is proved at a factor.
+fn line_at(alloc: Global, factor: u32, why: Unsolved) -> Result<Vec<u8>, EngineFault>
+    ensures { MatchResult result (λ line. IsLineOf factor why line.items) (IsWant why) }
 {
     match why {
-        Unsolved::Unsettled => unsettled_at(alloc, factor),
-        Unsolved::GaveUp => unsettled_at(alloc, factor),
-        Unsolved::TooLarge => Ok(Answer {
-            verdict: Verdict::No,
-            table: Vec::new(alloc),
-            text: Vec::from_slice(alloc, b"REFUSED TooLarge\n")?,
-        }),
-        Unsolved::NoMemory => Err(EngineFault::Memory),
-        Unsolved::NoThread => Err(EngineFault::Thread),
-        Unsolved::Stranger => Err(EngineFault::Stranger),
+        Unsolved::Unsettled | Unsolved::GaveUp => {
+            Ok(format!(in alloc; "UNSETTLED {factor}\n")?.into_bytes())
+        }
+        _ => Ok(Vec::from_slice(alloc, line_of_no(why)?)?),
     }
-}
-
-// The answer where the run at a factor was cut off.
-fn unsettled_at(alloc: Global, factor: u32) -> Result<Answer, EngineFault>
-    ensures { MatchResult result
-        (λ a. (a.verdict ≡ Verdict.No) × (a.table.items ≡ []) × IsLineOf factor Unsolved.Unsettled a.text.items)
-        (λ e. e ≡ EngineFault.Memory) }
-{
-    let line = format!(in alloc; "UNSETTLED {factor}\n")?;
-    Ok(Answer {
-        verdict: Verdict::No,
-        table: Vec::new(alloc),
-        text: line.into_bytes(),
-    })
 }

@@ -1,4 +1,5 @@
-use Rattle.std.proofs.Common.{◌≡◌, ℕ, List, ◌++◌, [], ap, sym, subst, ◌∙◌}
+use Rattle.std.proofs.Common.{◌≡◌, ℕ, List, ◌++◌, [], ap, sym, subst, ◌∙◌, arith}
+use Rattle.std.proofs.lemmas.Grind.{common_steps}
 use Rattle.std.proofs.lemmas.Result.{on_ok_weaker, on_err_weaker}
 use Rattle.fixed_worth.specs.Device.{ReceivedPrefix, SentOrHeld}
 use Rattle.fixed_worth.proofs.Pieces.{prefix_of_first, prefix_in_second}
@@ -38,37 +39,25 @@ returns-in_err-put_body-clause-prefix g c =
     let is = first_is c.new-page.result c.as_bytes.result.now c.written_header.result v.blocks v.price c.group.result name c.new-page.ensures c.as_bytes.ensures c.written_header.ensures c.group.ensures in
     on_err c.from_residual-in_err-put_body.result (prefix_in_second a b d [] c.put.new.self head rest (subst (SentOrHeld a b c.put.new.self) is c.in_ok-put.ensures.held) c.in_err-put_body.ensures.prefix)
 
-pub returns-clause-sent : goal.returns-clause-sent
-returns-clause-sent g c =
+pub returns : goal.returns
+returns g c =
     let a = g.W.Write.contents c.args.out.now in
     let b = g.W.Write.contents c.put.new.out in
     let d = g.W.Write.contents c.put_body.new.out in
     let e = g.W.Write.contents c.finish.new.out in
-    let v = c.args.certificate.now in
-    let name = g.G.OrderedGroup.name in
-    let head = lines_text (header_words (header_with v.blocks v.price name)) in
-    let rest = body_text (value_lines c.args.rests.now.pairs v.pit v.flow) ++ end_text in
-    let is = first_is c.new-page.result c.as_bytes.result.now c.written_header.result v.blocks v.price c.group.result name c.new-page.ensures c.as_bytes.ensures c.written_header.ensures c.group.ensures in
-    on_ok_weaker c.finish.result (both_sent a b d e c.put.new.self c.put_body.new.page head rest (subst (SentOrHeld a b c.put.new.self) is c.in_ok-put.ensures.held) c.in_ok-put_body.ensures.held) c.finish.ensures.sent
-
-pub returns-clause-prefix : goal.returns-clause-prefix
-returns-clause-prefix g c =
-    let a = g.W.Write.contents c.args.out.now in
-    let b = g.W.Write.contents c.put.new.out in
-    let d = g.W.Write.contents c.put_body.new.out in
-    let e = g.W.Write.contents c.finish.new.out in
-    let v = c.args.certificate.now in
-    let name = g.G.OrderedGroup.name in
-    let head = lines_text (header_words (header_with v.blocks v.price name)) in
-    let rest = body_text (value_lines c.args.rests.now.pairs v.pit v.flow) ++ end_text in
-    let is = first_is c.new-page.result c.as_bytes.result.now c.written_header.result v.blocks v.price c.group.result name c.new-page.ensures c.as_bytes.ensures c.written_header.ensures c.group.ensures in
-    on_err_weaker c.finish.result (last_failed a b d e c.put.new.self c.put_body.new.page head rest (subst (SentOrHeld a b c.put.new.self) is c.in_ok-put.ensures.held) c.in_ok-put_body.ensures.held) c.finish.ensures.prefix
-
-pub returns-clause-read_back : goal.returns-clause-read_back
-returns-clause-read_back g c =
     let v = c.args.certificate.now in
     let r = c.args.rests.now in
     let counts = g.G.OrderedGroup.counts in
     let name = g.G.OrderedGroup.name in
-    on_ok c.finish.result (λ same price known. subst (λ (n : ℕ). IsReadBack counts name r.blocks r.pairs (text_of (header_with n v.price name) r.pairs v.pit v.flow) v.price v.pit v.flow) (sym same)
-    (read_back counts name r.blocks r.pairs v.price v.pit v.flow c.len-blocks.ensures.all price c.blocks-pit.ensures.ascending known c.requires.covers c.in_ok-put_body.ensures.writable))
+    let head = lines_text (header_words (header_with v.blocks v.price name)) in
+    let rest = body_text (value_lines r.pairs v.pit v.flow) ++ end_text in
+    let is = first_is c.new-page.result c.as_bytes.result.now c.written_header.result v.blocks v.price c.group.result name c.new-page.ensures c.as_bytes.ensures c.written_header.ensures c.group.ensures in
+    let one = subst (SentOrHeld a b c.put.new.self) is c.in_ok-put.ensures.held in
+    record {
+      sent = on_ok_weaker c.finish.result (both_sent a b d e c.put.new.self c.put_body.new.page head rest one c.in_ok-put_body.ensures.held) c.finish.ensures.sent;
+      read_back = on_ok c.finish.result (λ same price known. subst (λ (n : ℕ). IsReadBack counts name r.blocks r.pairs (text_of (header_with n v.price name) r.pairs v.pit v.flow) v.price v.pit v.flow) (sym same)
+          (read_back counts name r.blocks r.pairs v.price v.pit v.flow c.len-blocks.ensures.all price c.blocks-pit.ensures.ascending known c.requires.covers c.in_ok-put_body.ensures.writable));
+      kept = grind (arith, common_steps);
+      prefix = on_err_weaker c.finish.result (last_failed a b d e c.put.new.self c.put_body.new.page head rest one c.in_ok-put_body.ensures.held) c.finish.ensures.prefix;
+      counted = grind (arith, common_steps);
+    }

@@ -1,4 +1,5 @@
-use Rattle.std.proofs.Common.{rules, length, [], ◌∷◌, ◌++◌, refl, sym, ◌∙◌}
+use Rattle.std.proofs.Common.{rules, arith, length, [], ◌∷◌, ◌++◌, refl, sym, ◌∙◌}
+use Rattle.std.proofs.lemmas.Grind.{common_steps}
 use Rattle.std.proofs.lemmas.Result.{err_from_is_err_and}
 use Rattle.certificate_file.specs.Certificate.{has_pair}
 use Rattle.check_pit.proofs.NextLines.{lacks_no_memory}
@@ -39,23 +40,21 @@ returns-in-Err-clause-checked g c =
     let q = c.loop-line.invariant.so_far in
     pit_open g.R.Read.remaining g.G.OrderedGroup.counts c.args.net.now c.args.lines.now c.loop-line.lines c.line_for.new.lines c.loop-line.previous q.0 q.1 c.in_ok-line.line c.loop-line.room c.in-Err.fault q.2 q.3 c.in_ok-line.ensures.line c.in-Err.ensures.closes
 
-pub returns-then-is_end-clause-checked : goal.returns-then-is_end-clause-checked
-returns-then-is_end-clause-checked g c =
+pub returns-then-is_end : goal.returns-then-is_end
+returns-then-is_end g c =
     let q = c.loop-line.invariant.so_far in
-    (end_answered g.R.Read.remaining g.G.OrderedGroup.counts c.args.net.now c.args.lines.now c.loop-line.lines c.line_for.new.lines c.check_end.new.lines c.loop-line.previous q.0 q.1 c.in_ok-line.line c.loop-line.room c.close_pit.new.room c.check_end.result c.worths-worths.ensures.net.rests q.2 q.3
-    c.in_default-close_pit.ensures.closes c.in_ok-line.ensures.line (sym c.is_end.ensures ∙ c.if-is_end.true) c.check_end.ensures.reads c.check_end.ensures.end).checked
-
-pub returns-then-is_end-clause-worth : goal.returns-then-is_end-clause-worth
-returns-then-is_end-clause-worth g c =
-    let q = c.loop-line.invariant.so_far in
-    (end_answered g.R.Read.remaining g.G.OrderedGroup.counts c.args.net.now c.args.lines.now c.loop-line.lines c.line_for.new.lines c.check_end.new.lines c.loop-line.previous q.0 q.1 c.in_ok-line.line c.loop-line.room c.close_pit.new.room c.check_end.result c.worths-worths.ensures.net.rests q.2 q.3
-    c.in_default-close_pit.ensures.closes c.in_ok-line.ensures.line (sym c.is_end.ensures ∙ c.if-is_end.true) c.check_end.ensures.reads c.check_end.ensures.end).worth
-
-pub returns-then-is_end-clause-greatest : goal.returns-then-is_end-clause-greatest
-returns-then-is_end-clause-greatest g c =
-    let q = c.loop-line.invariant.so_far in
-    (end_answered g.R.Read.remaining g.G.OrderedGroup.counts c.args.net.now c.args.lines.now c.loop-line.lines c.line_for.new.lines c.check_end.new.lines c.loop-line.previous q.0 q.1 c.in_ok-line.line c.loop-line.room c.close_pit.new.room c.check_end.result c.worths-worths.ensures.net.rests q.2 q.3
-    c.in_default-close_pit.ensures.closes c.in_ok-line.ensures.line (sym c.is_end.ensures ∙ c.if-is_end.true) c.check_end.ensures.reads c.check_end.ensures.end).greatest
+    let answered = end_answered g.R.Read.remaining g.G.OrderedGroup.counts c.args.net.now c.args.lines.now c.loop-line.lines c.line_for.new.lines c.check_end.new.lines c.loop-line.previous q.0 q.1 c.in_ok-line.line c.loop-line.room c.close_pit.new.room c.check_end.result c.worths-worths.ensures.net.rests q.2 q.3
+    c.in_default-close_pit.ensures.closes c.in_ok-line.ensures.line (sym c.is_end.ensures ∙ c.if-is_end.true) c.check_end.ensures.reads c.check_end.ensures.end in
+    record {
+      size = grind (arith, common_steps);
+      checked = answered.checked;
+      pit = grind (arith, common_steps);
+      worth = answered.worth;
+      greatest = answered.greatest;
+      device = grind (arith, common_steps);
+      kept = grind (arith, common_steps);
+      memory = grind (arith, common_steps);
+    }
 
 pub put-requires-clause-may : goal.put-requires-clause-may
 put-requires-clause-may g c κs within =

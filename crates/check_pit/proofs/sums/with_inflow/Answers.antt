@@ -1,4 +1,4 @@
-use Rattle.std.proofs.Common.{◌≡◌, length, arith, sym, get_or}
+use Rattle.std.proofs.Common.{◌≡◌, length, arith, sym}
 use Rattle.ordered_group.specs.Sums.{amount_at}
 use Rattle.prec_file.specs.Rests.{to_at}
 use Rattle.check_pit.proofs.Over.{number_below, all_in, all_fit, one_overflows, sum_more, fits_more}
@@ -14,8 +14,6 @@ pub returns-in_err-sum : goal.returns-in_err-sum
 returns-in_err-sum g c =
     let parts = g.G.OrderedGroup.parts_of in
     let ks = c.below-numbers.result.now in
-    let k = get_or ks c.loop-k.k-index 0 in
-    let below = number_below (parts c.args.start) (to_at c.args.rests.now.pairs) (amount_at c.args.carried.now) c.args.b (length c.args.rests.now.pairs) ks c.below-numbers.ensures c.loop-k.k-index (omega arith) in
     let q = sym c.at.ensures in
     rw c.from_residual.ensures (one_overflows (parts c.args.start) (to_at c.args.rests.now.pairs) (amount_at c.args.carried.now) c.args.b (length c.args.rests.now.pairs) ks c.below-numbers.ensures c.loop-k.k-index _ _ (omega arith) c.loop-k.invariant.so_far q c.in_err-sum.ensures)
 
@@ -23,9 +21,7 @@ pub loop-k-preserved : goal.loop-k-preserved
 loop-k-preserved g c =
     let parts = g.G.OrderedGroup.parts_of in
     let ks = c.below-numbers.result.now in
-    let k = get_or ks c.loop-k.k-index 0 in
     let f = amount_at c.args.carried.now in
-    let below = number_below (parts c.args.start) (to_at c.args.rests.now.pairs) f c.args.b (length c.args.rests.now.pairs) ks c.below-numbers.ensures c.loop-k.k-index (omega arith) in
     let q = sym c.at.ensures in
     record {
       so_far = sum_more (parts c.args.start) f ks c.loop-k.k-index _ _ _ c.loop-k.invariant.so_far q c.in_ok-sum.ensures.1;

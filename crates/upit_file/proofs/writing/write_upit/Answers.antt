@@ -1,5 +1,6 @@
-use Rattle.std.proofs.Common.{◌≡◌, ℕ, List, [], ◌∷◌, ◌++◌, length, ap, ap₂, subst, ◌∙◌}
+use Rattle.std.proofs.Common.{◌≡◌, ℕ, List, [], ◌∷◌, ◌++◌, length, ap, ap₂, subst, ◌∙◌, arith}
 use Rattle.std.specs.Prelude.{codes}
+use Rattle.std.proofs.lemmas.Grind.{common_steps}
 use Rattle.std.proofs.lemmas.Result.{on_ok_weaker, on_err_weaker, err_from_is_err_and}
 use Rattle.fixed_worth.specs.Laws.{with_line_feeds}
 use Rattle.fixed_worth.specs.Device.{SentOrHeld, ReceivedPrefix}
@@ -47,8 +48,8 @@ returns-in_err-put_line-clause-prefix g c =
     let p = err_from_is_err_and c.from_residual-in_err-put_line.result c.from_residual-in_err-put_line.ensures.1 in
     rw p.1 (prefix_three a d e c.put_records.new.page (header_lines u.name (length u.values)) (record_lines 0 u.values) (codes "EOF" ∷ []) two c.in_err-put_line.ensures.prefix)
 
-pub returns-clause-sent : goal.returns-clause-sent
-returns-clause-sent g c =
+pub returns : goal.returns
+returns g c =
     let u = c.args.upit.now in
     let a = g.W.Write.contents c.args.out.now in
     let b = g.W.Write.contents c.put_header.new.out in
@@ -60,19 +61,9 @@ returns-clause-sent g c =
     let more : SentOrHeld b d c.put_records.new.page (c.put_header.new.page ++ with_line_feeds (record_lines 0 u.values)) = subst (λ vs. SentOrHeld b d c.put_records.new.page (c.put_header.new.page ++ with_line_feeds (record_lines 0 vs))) c.values.ensures c.in_ok-put_records.ensures.held in
     let two = two_groups a b d c.put_header.new.page c.put_records.new.page (header_lines u.name (length u.values)) (record_lines 0 u.values) one more in
     let all = all_groups a d e c.put_records.new.page c.put_line.new.page (header_lines u.name (length u.values)) (record_lines 0 u.values) (codes "EOF" ∷ []) two c.in_ok-put_line.ensures.held in
-    on_ok_weaker c.finish.result (held_sent a e f c.put_line.new.page _ all) c.finish.ensures.sent
-
-pub returns-clause-prefix : goal.returns-clause-prefix
-returns-clause-prefix g c =
-    let u = c.args.upit.now in
-    let a = g.W.Write.contents c.args.out.now in
-    let b = g.W.Write.contents c.put_header.new.out in
-    let d = g.W.Write.contents c.put_records.new.out in
-    let e = g.W.Write.contents c.put_line.new.out in
-    let f = g.W.Write.contents c.finish.new.out in
-    let so = header_so c.new-page.result c.name.result.now u.name c.len.result (length u.values) c.new-page.ensures c.name.ensures.value c.len.ensures.value in
-    let one = subst (SentOrHeld a b c.put_header.new.page) so c.in_ok-put_header.ensures.held in
-    let more : SentOrHeld b d c.put_records.new.page (c.put_header.new.page ++ with_line_feeds (record_lines 0 u.values)) = subst (λ vs. SentOrHeld b d c.put_records.new.page (c.put_header.new.page ++ with_line_feeds (record_lines 0 vs))) c.values.ensures c.in_ok-put_records.ensures.held in
-    let two = two_groups a b d c.put_header.new.page c.put_records.new.page (header_lines u.name (length u.values)) (record_lines 0 u.values) one more in
-    let all = all_groups a d e c.put_records.new.page c.put_line.new.page (header_lines u.name (length u.values)) (record_lines 0 u.values) (codes "EOF" ∷ []) two c.in_ok-put_line.ensures.held in
-    on_err_weaker c.finish.result (held_prefix a e f c.put_line.new.page _ all) c.finish.ensures.prefix
+    record {
+      sent = on_ok_weaker c.finish.result (held_sent a e f c.put_line.new.page _ all) c.finish.ensures.sent;
+      kept = grind (arith, common_steps);
+      prefix = on_err_weaker c.finish.result (held_prefix a e f c.put_line.new.page _ all) c.finish.ensures.prefix;
+      counted = grind (arith, common_steps);
+    }
