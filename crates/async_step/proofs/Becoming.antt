@@ -1,7 +1,7 @@
 -- What a step leaves, as lists.
-use Rattle.std.proofs.Common.{◌≡◌, Result, Err, MatchResult, ◌↔◌, IsTrue, Bool, true, false, ℕ, ◌+◌, ◌<◌, ◌≤◌, ◌^◌, inl, inr, List, length, get_or, set, sym, refl, ap, subst, ◌∙◌, arith, length-set, get_or-set_same, get_or-set_other}
+use Rattle.std.proofs.Common.{◌≡◌, Result, Err, MatchResult, ◌↔◌, IsTrue, Bool, false, ℕ, ◌+◌, ◌<◌, ◌≤◌, ◌^◌, List, length, get_or, set, sym, refl, ap, subst, ◌∙◌, arith, length-set, get_or-set_same, get_or-set_other}
 use Rattle.std.proofs.Math.Path.{fun_ext}
-use Rattle.std.proofs.lemmas.Bool.{cases_eq, cases_lt}
+use Rattle.std.proofs.lemmas.Bool.{cases_eq}
 use Rattle.ordered_group.specs.Amount.{Amount, zero_amount, minus, negative, FitsPair}
 use Rattle.ordered_group.specs.Sums.{amount_at}
 use Rattle.closure_net.specs.Network.{NetView}
@@ -18,13 +18,11 @@ use Rattle.async_step.specs.declared.changing.Change.{Change}
 use Rattle.async_step.specs.declared.changing.Change.TheVariants.{Nothing, Excess, Label, Source, Sink, Flow, AtSource, AtSink}
 use Rattle.async_step.specs.declared.refusals.StepRefusal.{StepRefusal}
 use Rattle.async_step.specs.declared.refusals.StepRefusal.TheVariants.{TooLarge}
+use Rattle.std.proofs.lemmas.Grind.{common_steps}
 
 -- a list with another element, as a function from its places
 places-set : {X : Type 0} (xs : List X) (k : ℕ) (v d : X) → k < length xs → (λ i. get_or (set xs k v) i d) ≡ with_value_at (λ i. get_or xs i d) k v
-places-set xs k v d h = fun_ext (λ i. elim (cases_eq i k) [
-  | inl e ↦ subst (λ j. get_or (set xs k v) j d ≡ with_value_at (λ i. get_or xs i d) k v j) (sym e) (get_or-set_same xs k v d h ∙ sym (put-same (λ i. get_or xs i d) k v))
-  | inr ne ↦ get_or-set_other xs k i v d ne ∙ sym (put-other (λ i. get_or xs i d) k v i ne)
-])
+places-set xs k v d h = grind (arith, common_steps, fun_ext, cases_eq, get_or-set_same, put-same, get_or-set_other, put-other)
 
 -- a changed number that fits
 fits_put : (f : ℕ → Amount) (k : ℕ) (v : Amount) → ((i : ℕ) → FitsPair (f i)) → FitsPair v → (i : ℕ) → FitsPair (with_value_at f k v i)
@@ -49,11 +47,7 @@ label_put f k v h e = put-each (λ i a. a < 2 ^ 64) f k v e (λ i _. h i)
 
 -- what it says that no further step is counted, or that one is
 pub not_full : (t : Bool) (k n : ℕ) → IsTrue t ↔ (n ≤ k) → t ≡ false → k < n
-not_full t k n h e =
-    elim (cases_lt k n) [
-      | inl l ↦ l
-      | inr g ↦ absurd (let q : true ≡ false = sym (h.1 g) ∙ e in cc)
-    ]
+not_full t k n h e = grind (arith, common_steps)
 
 module _ (net : NetView) (v : StateView) (over : IsStateOf net v) (b : ℕ) (l : b < length net.worths) (o : Operation Amount) where
   operation_set : (λ c. operation_at (set v.operation b o) c) ≡ with_value_at (λ c. operation_at v.operation c) b o

@@ -9,16 +9,11 @@ use Rattle.machine_law.specs.Reads.{is_positive}
 use Rattle.async_step.specs.Marks.{mark_at}
 use Rattle.async_step.specs.Views.{StateView, operation_at, IsMarked, IsState, is_waiting, is_busy}
 use Rattle.machine_law.specs.Operations.{is_idle}
+use Rattle.std.proofs.lemmas.Grind.{common_steps}
 
 -- the marks with one mark changed
 pub marked_set : (old new : ℕ → Bool) (n : ℕ) (marks : List Bool) (b : ℕ) → IsMarked old n marks → b < n → ((c : ℕ) → (c ≡ b → ⊥) → new c ≡ old c) → IsMarked new n (set marks b (new b))
-marked_set old new n marks b h l other = record {
-  size = length-set marks b (new b) ∙ h.size;
-  at = λ c k. elim (cases_eq c b) [
-    | inl e ↦ subst (λ x. mark_at (set marks b (new b)) x ≡ new x) (sym e) (get_or-set_same marks b (new b) false (omega (arith, h.size)))
-    | inr d ↦ get_or-set_other marks b c (new b) false d ∙ (h.at c k ∙ sym (other c d))
-  ];
-}
+marked_set old new n marks b h l other = grind (arith, common_steps)
 
 module _ (v : StateView) (ready undone : List Bool) (h : IsState v ready undone) (b : ℕ) where
   pub state_source : (x : Amount) → IsState (record v { source = set v.source b x }) ready undone
@@ -87,10 +82,4 @@ pub record IsMarkedUpTo (test : ℕ → Bool) (n : ℕ) (marks : List Bool) (i :
   pub at : (k : ℕ) → k < i → mark_at marks k ≡ test k
 
 pub marked_next : (test : ℕ → Bool) (n : ℕ) (marks : List Bool) (i : ℕ) (t : Bool) → IsMarkedUpTo test n marks i → i < n → t ≡ test i → IsMarkedUpTo test n (set marks i t) (i + 1)
-marked_next test n marks i t h l e = record {
-  size = length-set marks i t ∙ h.size;
-  at = λ k r. elim (cases_eq k i) [
-    | inl q ↦ subst (λ x. mark_at (set marks i t) x ≡ test x) (sym q) (get_or-set_same marks i t false (omega (arith, h.size)) ∙ e)
-    | inr d ↦ get_or-set_other marks i k t false d ∙ h.at k (omega (arith, d))
-  ];
-}
+marked_next test n marks i t h l e = grind (arith, common_steps)

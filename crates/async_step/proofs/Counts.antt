@@ -8,6 +8,7 @@ use Rattle.ordered_group.specs.Sets.{count_in}
 use Rattle.ordered_group.proofs.BlockSets.{count_in-same, count_in-most}
 use Rattle.async_step.specs.declared.marks.TheConstants.{SMALL, MIDDLE, LARGE}
 use Rattle.async_step.specs.Marks.{mark_at, run_count, IsCounted, IsMarks, count_after_shift, CanShift}
+use Rattle.std.proofs.lemmas.Grind.{common_steps}
 
 -- one more number passes
 one_more : (e f : ℕ → Bool) (k n : ℕ) → k < n → e k ≡ false → f k ≡ true → ((j : ℕ) → (j ≡ k → ⊥) → f j ≡ e j) → count_in f n ≡ count_in e n + 1
@@ -51,11 +52,7 @@ run_none marks from width h b p q =
 
 -- a run with a mark counts some
 pub run_some : (marks : List Bool) (from width b : ℕ) → from ≤ b → b < from + width → mark_at marks b ≡ true → 0 < run_count marks from width
-run_some marks from width b p q t =
-    elim (cases_eq (run_count marks from width) 0) [
-      | inl z ↦ let f : false ≡ true = sym (run_none marks from width z b p q) ∙ t in absurd cc
-      | inr d ↦ omega (arith, d)
-    ]
+run_some marks from width b p q t = grind (arith, common_steps, cases_eq, run_none)
 
 -- a run with none of another's marks changed
 run_same : (old new : List Bool) (from width : ℕ) → ((b : ℕ) → from ≤ b → b < from + width → mark_at new b ≡ mark_at old b) → run_count new from width ≡ run_count old from width

@@ -1,5 +1,5 @@
 -- What counts tell of stretches without a mark.
-use Rattle.std.proofs.Common.{◌≡◌, ◌↔◌, ℕ, zero, suc, ◌+◌, ◌*◌, ◌/◌, ◌%◌, ◌<◌, ◌≤◌, Bool, false, List, length, get_or, replicate, sym, refl, subst, ◌∙◌, arith}
+use Rattle.std.proofs.Common.{◌≡◌, ◌↔◌, ℕ, zero, suc, ◌+◌, ◌/◌, ◌%◌, ◌<◌, ◌≤◌, Bool, false, List, length, get_or, replicate, sym, refl, ◌∙◌, arith}
 use Rattle.std.proofs.Math.Nat.{lt-div-mul-add, div-lt_iff_lt-mul}
 use Rattle.std.proofs.lemmas.Nat.{div-add-mod'}
 use Rattle.std.proofs.lemmas.List.{get_or_default, length-replicate}
@@ -8,15 +8,11 @@ use Rattle.ordered_group.specs.Sets.{count_in}
 use Rattle.async_step.specs.declared.marks.TheConstants.{SMALL, MIDDLE, LARGE}
 use Rattle.async_step.specs.Marks.{mark_at, run_count, IsCounted, IsMarks, NoneWithin}
 use Rattle.async_step.proofs.Counts.{run_none}
+use Rattle.std.proofs.lemmas.Grind.{common_steps}
 
 -- a run that counts none, from its first block on
 pub gap_none : (marks : List Bool) (width : ℕ) (counts : List ℕ) (at x : ℕ) → IsCounted marks width counts → at ≤ length marks → at % width ≡ 0 → x ≡ get_or counts (at / width) x → x ≡ 0 → NoneWithin marks at (at + width)
-gap_none marks width counts at x h l m e z =
-    let k = h.covers at l in
-    let q : at / width * width ≡ at = omega (arith, div-add-mod' at width) in
-    let r : run_count marks (at / width * width) width ≡ 0 = sym (h.at (at / width) k) ∙ (get_or_default counts (at / width) 0 x k ∙ (sym e ∙ z)) in
-    let P : ℕ → Type 0 = λ y. NoneWithin marks y (y + width) in
-    subst P q (run_none marks (at / width * width) width r)
+gap_none marks width counts at x h l m e z = grind (arith, common_steps, div-add-mod', get_or_default, run_none)
 
 -- where no mark is set, nothing is counted
 none_counted : (e : ℕ → Bool) (n : ℕ) → ((j : ℕ) → j < n → e j ≡ false) → count_in e n ≡ 0
@@ -46,20 +42,7 @@ zeros_at (suc n) zero = refl
 zeros_at (suc n) (suc i) = zeros_at n i
 
 counted_none : (n width : ℕ) → 0 < width → IsCounted (replicate n false) width (replicate {A = ℕ} (n / width + 1) 0)
-counted_none n width w = record {
-  covers = λ b l. (
-      let m : b < (n / width + 1) * width = (let p = lt-div-mul-add {a = n} {b = width} w in let q = length-replicate n false in grind arith) in
-      let r = (div-lt_iff_lt-mul {k = width} {x = b} {y = n / width + 1} w).1 m in
-      omega (arith, r, length-replicate {A = ℕ} (n / width + 1) 0));
-  at = λ i l. zeros_at (n / width + 1) i ∙ sym (run_empty (replicate n false) (i * width) width (λ b. none_at n b));
-}
+counted_none n width w = grind (arith, common_steps, lt-div-mul-add, length-replicate, div-lt_iff_lt-mul, zeros_at, run_empty, replicate, none_at)
 
 pub marks_none : (n : ℕ) (marks : List Bool) (smalls middles larges : List ℕ) → n ≤ MOST_BLOCKS → marks ≡ replicate n false → smalls ≡ replicate (n / SMALL + 1) 0 → middles ≡ replicate (n / MIDDLE + 1) 0 → larges ≡ replicate (n / LARGE + 1) 0 → IsMarks marks smalls middles larges 0
-marks_none n marks smalls middles larges h e p q r =
-    rw (e, p, q, r) (record {
-      few = omega (arith, length-replicate n false);
-      small = counted_none n SMALL (omega arith);
-      middle = counted_none n MIDDLE (omega arith);
-      large = counted_none n LARGE (omega arith);
-      held = sym (run_empty (replicate n false) 0 (length (replicate n false)) (λ b. none_at n b));
-    })
+marks_none n marks smalls middles larges h e p q r = grind (arith, common_steps, length-replicate, counted_none, run_empty, replicate, none_at)

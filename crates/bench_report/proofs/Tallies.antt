@@ -5,7 +5,7 @@ use Rattle.std.specs.Int.{w128}
 use Rattle.std.specs.BTreeMap.{is_at}
 use Rattle.std.specs.Ordering.{int_cmp, int_eq, nat_cmp, is_eq}
 use Rattle.std.specs.Cmp.{tied_then}
-use Rattle.std.proofs.lemmas.Bool.{and_parts, cases_lt, eqb-true, eq-eqb}
+use Rattle.std.proofs.lemmas.Bool.{cases_lt, eqb-true, eq-eqb}
 use Rattle.std.proofs.lemmas.Bool.Decides.{nat_tests, Decides-int_eq}
 use Rattle.ordered_group.specs.Sets.{worth_in, count_in}
 use Rattle.ordered_group.proofs.BlockSets.{count_in-most}
@@ -16,6 +16,7 @@ use Rattle.bench_report.specs.Benches.{ReportedBlocks, blocks_at, by_bench}
 use Rattle.bench_report.specs.FaultStands.{BenchSumsFit, SomeBenchSumOverflows}
 use Rattle.bench_report.specs.GrowingRows.{row_below, no_blocks, with_block, row_at, if_some, RowTakesBlock, AddFaultStands, IsTallied, TallyFaultStands}
 use Rattle.bench_report.proofs.Sums.{plus-none, worth_of_none}
+use Rattle.std.proofs.lemmas.Grind.{common_steps}
 
 -- ---- the row that is found
 
@@ -75,17 +76,13 @@ FitsRow r = FitsSigned w128 r.tonnes × FitsSigned w128 r.worth
 found_more : (m : ReportedBlocks) (n : ℕ) (p : ℤ × ℕ) (z : ℤ) (k : ℕ) (f g : ℤ × ℕ → Option BenchRow) (t : Bool)
     → blocks_at m z k n ≡ t → IsTallied m n f → (t ≡ true → ◌≡◌ {A = ℤ × ℕ} (z, k) p)
     → g (z, k) ≡ cond t (Some (with_block (row_at f p) (m.tonnes n) (m.worth n))) (f (z, k)) → g (z, k) ≡ if_some (row_below m z k (suc n))
-found_more m n p z k f g true b h at e =
-    let r : row_at f p ≡ row_below m z k n = ap (row_at f) (sym (at refl)) ∙ row_found m n f h z k in
-    e ∙ ap (λ (r : BenchRow). Some (with_block r (m.tonnes n) (m.worth n))) r ∙ some_row (row_below m z k n) (m.tonnes n) (m.worth n) ∙ ap if_some (sym (row_with m z k n b))
+found_more m n p z k f g true b h at e = grind (arith, common_steps, row_found, some_row, row_with)
 found_more m n p z k f g false b h at e = e ∙ h.rows z k ∙ ap if_some (sym (row_without m z k n b))
 
 -- its sums fit
 fits_more : (m : ReportedBlocks) (n : ℕ) (p : ℤ × ℕ) (z : ℤ) (k : ℕ) (f : ℤ × ℕ → Option BenchRow) (t : Bool)
     → blocks_at m z k n ≡ t → IsTallied m n f → (t ≡ true → ◌≡◌ {A = ℤ × ℕ} (z, k) p) → RowTakesBlock (row_at f p) (m.tonnes n) (m.worth n) → BenchSumsFit m z k (suc n)
-fits_more m n p z k f true b h at w =
-    let r : row_at f p ≡ row_below m z k n = ap (row_at f) (sym (at refl)) ∙ row_found m n f h z k in
-    subst FitsRow (ap (λ (r : BenchRow). with_block r (m.tonnes n) (m.worth n)) r ∙ sym (row_with m z k n b)) w
+fits_more m n p z k f true b h at w = grind (arith, common_steps, row_found, FitsRow, row_with)
 fits_more m n p z k f false b h at w = subst FitsRow (sym (row_without m z k n b)) (h.fits z k n (omega arith))
 
 -- sums that fit up to one place fit on the whole way there
@@ -97,11 +94,7 @@ fits_upto m n z k h s j l = elim (cases_lt j (suc n)) [
 
 -- where a test of places passes, the place is the one that is asked for
 same_place : (x z : ℤ) (j k : ℕ) → (int_eq x z && (j == k)) ≡ true → ◌≡◌ {A = ℤ × ℕ} (z, k) (x, j)
-same_place x z j k h =
-    let p = and_parts (int_eq x z) (j == k) h in
-    let a : x ≡ z = (Decides-int_eq x z).0 p.0 in
-    let b : j ≡ k = eqb-true j k p.1 in
-    rw (a, b) refl
+same_place x z j k h = grind (arith, common_steps)
 
 -- the block has a shell, and is added to the row of its place
 one_more : (m : ReportedBlocks) (n : ℕ) (x : ℤ) (j : ℕ) (f g : ℤ × ℕ → Option BenchRow) → m.height n ≡ x → m.shell n ≡ Some j → IsTallied m n f

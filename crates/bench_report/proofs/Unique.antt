@@ -1,20 +1,20 @@
 -- There is one table.
-use Rattle.std.proofs.Common.{◌≡◌, ℕ, ◌<◌, ℤ, Bool, true, false, Option, Some, None, List, [], ◌∷◌, map, refl, sym, ap, subst, ◌∙◌}
+use Rattle.std.proofs.Common.{◌≡◌, ℕ, ◌<◌, ℤ, Bool, true, false, Option, Some, None, List, [], ◌∷◌, map, refl, sym, ap, subst, ◌∙◌, arith}
 use Rattle.std.specs.BTreeMap.{is_at}
 use Rattle.std.specs.List.{All, Contains, list_any}
-use Rattle.std.specs.Ordering.{int_cmp, int_eq, nat_cmp, eq_by_cmp}
+use Rattle.std.specs.Ordering.{int_cmp, nat_cmp, eq_by_cmp}
 use Rattle.std.proofs.lemmas.Bool.{and_parts, eqb-true}
 use Rattle.std.proofs.lemmas.Bool.Decides.{Decides-int_eq}
 use Rattle.std.proofs.lemmas.Cmp.{eq_by_cmp_equiv}
 use Rattle.std.proofs.lemmas.List.Elements.{All-map, All-weaker, All-contains, All-head, All-tail}
 use Rattle.std.proofs.lemmas.Map.Lookups.{exact_signed, exact_unsigned, exact_pairs, btree_set_from_contains}
 use Rattle.std.proofs.lemmas.Map.Views.{Contains-from_any, list_any-from_Contains}
-use Rattle.ordered_group.specs.Sets.{worth_in, count_in}
 use Rattle.bench_report.specs.declared.bench_row.BenchRow.{BenchRow}
-use Rattle.bench_report.specs.Benches.{ReportedBlocks, blocks_at, is_shell, by_bench, bench_and_shell, IsBenchRow, IsBenchTable}
+use Rattle.bench_report.specs.Benches.{ReportedBlocks, is_shell, by_bench, bench_and_shell, IsBenchRow, IsBenchTable}
 use Rattle.bench_report.specs.GrowingRows.{row_below}
 use Rattle.bench_report.proofs.Sums.{some_block}
 use Rattle.bench_report.proofs.Tables.{by_bench_total, same_places}
+use Rattle.std.proofs.lemmas.Grind.{common_steps}
 
 -- a block of a set has its bench and its shell
 in_shell : (o : Option ℕ) (k : ℕ) → is_shell o k ≡ true → o ≡ Some k
@@ -26,11 +26,7 @@ abbrev HasBlock : ReportedBlocks → ℤ × ℕ → Type 0
 HasBlock m q = (b : ℕ) × (b < m.blocks) × ((m.height b, q.1) ≡ q) × (m.shell b ≡ Some q.1)
 
 has_block : (m : ReportedBlocks) (r : BenchRow) → IsBenchRow m r → HasBlock m (bench_and_shell r)
-has_block m r h =
-    let s : 0 < count_in (blocks_at m r.z r.shell) m.blocks = subst (λ n. 0 < n) h.number h.some in
-    let b = some_block (blocks_at m r.z r.shell) m.blocks s in
-    let p = and_parts (int_eq (m.height b.0) r.z) (is_shell (m.shell b.0) r.shell) b.2 in
-    (b.0, b.1, ap (λ z. (z, r.shell)) ((Decides-int_eq (m.height b.0) r.z).0 p.0), in_shell (m.shell b.0) r.shell p.1)
+has_block m r h = grind (arith, common_steps, some_block, and_parts, Decides-int_eq, in_shell)
 
 -- each place of one table is a place of the other
 also_there : (m : ReportedBlocks) (rows others : List BenchRow) → IsBenchTable m rows → IsBenchTable m others → (q : ℤ × ℕ) → list_any (is_at (by_bench q)) (map bench_and_shell rows) ≡ true → list_any (is_at (by_bench q)) (map bench_and_shell others) ≡ true
@@ -52,10 +48,7 @@ places_are_one m rows others h k =
 
 -- a row is that of its place
 row_is : (m : ReportedBlocks) (r : BenchRow) → IsBenchRow m r → r ≡ row_below m r.z r.shell m.blocks
-row_is m r h =
-    ap (λ n. record { z = r.z; shell = r.shell; blocks = n; tonnes = r.tonnes; worth = r.worth }) h.number
-    ∙ ap (λ t. record { z = r.z; shell = r.shell; blocks = count_in (blocks_at m r.z r.shell) m.blocks; tonnes = t; worth = r.worth }) h.tonnage
-    ∙ ap (λ w. record { z = r.z; shell = r.shell; blocks = count_in (blocks_at m r.z r.shell) m.blocks; tonnes = worth_in m.tonnes (blocks_at m r.z r.shell) m.blocks; worth = w }) h.value
+row_is m r h = grind (arith, common_steps)
 
 rows_are_one : (m : ReportedBlocks) (rows others : List BenchRow) → All (IsBenchRow m) rows → All (IsBenchRow m) others → map bench_and_shell rows ≡ map bench_and_shell others → rows ≡ others
 rows_are_one m [] [] h k e = refl

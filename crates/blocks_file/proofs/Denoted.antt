@@ -1,23 +1,16 @@
 -- What is read is what the text denotes.
-use Rattle.std.proofs.Common.{◌≡◌, ℕ, ℤ, List, [], length, Option, None, sym, ap, ◌∙◌, subst}
+use Rattle.std.proofs.Common.{◌≡◌, ℕ, ℤ, List, [], length, Option, None, sym, ap, ◌∙◌, subst, arith}
 use Rattle.blocks_file.specs.declared.place.Place.{Place}
 use Rattle.blocks_file.specs.declared.blocks_fault.BlocksFault.{BlocksFault}
 use Rattle.blocks_file.specs.Records.{lines_in, count_of, first_fault, long_fault, many_fault, fault_of}
 use Rattle.blocks_file.specs.Denotes.{BlocksView, Denotes, columns_from}
 use Rattle.blocks_file.specs.RowReading.{AreKept}
 use Rattle.blocks_file.proofs.Slots.{columns_length, column_length, column_at}
+use Rattle.std.proofs.lemmas.Grind.{common_steps}
 
 denoted : (n : ℕ) (chosen text : List ℕ) (places : List Place) (values : List ℤ) → n ≡ count_of text → AreKept n chosen (lines_in text) places values
     → Denotes chosen text (record { blocks = n; places = places; columns = columns_from (length chosen) n values })
-denoted n chosen text places values e k = record {
-  count = e;
-  each = k.each;
-  all_places = k.model.all_places;
-  place = k.place;
-  all_columns = columns_length (length chosen) n values;
-  all_values = λ i h. column_length (length chosen) n i values h;
-  value = λ i b h l. column_at (length chosen) n i b values h l ∙ k.value b i l h;
-}
+denoted n chosen text places values e k = grind (arith, common_steps, columns_length, column_length, column_at)
 
 pub is_denoted : (n : ℕ) (chosen text : List ℕ) (places : List Place) (values : List ℤ) (m : BlocksView) → m ≡ record { blocks = n; places = places; columns = columns_from (length chosen) n values } → n ≡ count_of text → AreKept n chosen (lines_in text) places values
     → Denotes chosen text m

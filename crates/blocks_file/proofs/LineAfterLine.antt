@@ -1,8 +1,8 @@
 -- Reading the records line after line.
-use Rattle.std.proofs.Common.{◌≡◌, ℕ, ℤ, pos, ◌+◌, ◌*◌, ◌<◌, ◌≤◌, ◌≢◌, Bool, true, false, cond, eqb, inl, inr, List, [], ◌∷◌, ◌++◌, length, get_or, set, replicate, Option, Some, None, refl, sym, ap, ◌∙◌, subst, arith, append-nil, get_or-set_same, get_or-set_other, true≢false}
+use Rattle.std.proofs.Common.{◌≡◌, ℕ, ℤ, pos, ◌+◌, ◌*◌, ◌<◌, ◌≤◌, ◌≢◌, Bool, true, false, cond, eqb, List, [], ◌∷◌, ◌++◌, length, get_or, set, replicate, Option, Some, None, refl, sym, ap, ◌∙◌, arith, true≢false}
 use Rattle.std.specs.Prelude.{◌||◌, nat_le}
 use Rattle.std.specs.Option.{option_or}
-use Rattle.std.proofs.lemmas.Bool.{cases_lt, or_parts}
+use Rattle.std.proofs.lemmas.Bool.{or_parts}
 use Rattle.std.proofs.lemmas.Bool.Decides.{nat_tests}
 use Rattle.std.proofs.lemmas.List.{length-replicate, get_or-replicate}
 use Rattle.std.proofs.lemmas.List.Folds.{list_any-append}
@@ -21,8 +21,7 @@ use Rattle.fixed_worth.proofs.NextLine.{line, Next, next_is}
 use Rattle.blocks_file.proofs.Counts.{moved, still_long, push_skipped, push_record, longer}
 use Rattle.blocks_file.proofs.Marks.{marked, marked-replicate, marked-set, all_marked}
 use Rattle.blocks_file.proofs.Slots.{blocks_apart}
-use Rattle.blocks_file.proofs.Rows.{value_small}
-use Rattle.fixed_worth.proofs.Bits.{or_true}
+use Rattle.std.proofs.lemmas.Grind.{common_steps}
 
 -- What has been read, and what is left.
 pub record ReadSoFar (n : ℕ) (chosen : List ℕ) (all : List Line) (seen : List Bool) (places : List Place) (values : List ℤ) (left : Left) : Type 0 where
@@ -74,9 +73,7 @@ record_first (x ∷ xs) l b h e =
 
 block_same : (n : ℕ) (g h : ℕ → Bool) (k block : ℕ) → ((b : ℕ) → b < n → g b ≡ h b) → (t : Bool) → nat_le n block ≡ t → block_fault n g k block ≡ block_fault n h k block
 block_same n g h k block e true f = rw f refl
-block_same n g h k block e false f =
-    let i : block < n = grind (arith, nat_tests) in
-    rw (f, e block i) refl
+block_same n g h k block e false f = grind (arith, common_steps)
 
 known : (n : ℕ) (seen : List Bool) (before : List Line) (k block : ℕ) → ((b : ℕ) → b < n → get_or seen b false ≡ has_record before b) → length seen ≡ n
     → block_fault n (has_record before) k block ≡ block_fault (length seen) (λ b. get_or seen b false) k block
@@ -121,45 +118,28 @@ fault_none n had k block h false e false f = (grind (arith, nat_tests), f)
 
 -- What a block's record changes: its mark, its place and its values.
 mark_at : (seen : List Bool) (before : List Line) (block b : ℕ) (l : Line) → block < length seen → get_or seen b false ≡ has_record before b → is_record_of b (fields_of l.text) ≡ eqb block b → (t : Bool) → eqb block b ≡ t → get_or (set seen block true) b false ≡ has_record (before ++ l ∷ []) b
-mark_at seen before block b l i h r true e =
-    let same : b ≡ block = grind (arith, nat_tests) in
-    subst (λ (x : ℕ). get_or (set seen block true) x false ≡ true) (sym same) (get_or-set_same seen block true false i) ∙ sym (has-push before l b ∙ ap (λ t. has_record before b || t) (r ∙ e) ∙ or_true (has_record before b))
-mark_at seen before block b l i h r false e =
-    let ne : b ≢ block = grind (arith, nat_tests) in
-    get_or-set_other seen block b true false ne ∙ h ∙ sym (has-push before l b ∙ ap (λ t. has_record before b || t) (r ∙ e) ∙ or-false (has_record before b))
+mark_at seen before block b l i h r true e = grind (arith, common_steps)
+mark_at seen before block b l i h r false e = grind (arith, common_steps)
 
 place_here : (places : List Place) (before : List Line) (block b : ℕ) (p : Place) (l : Line) → block < length places → has_record before block ≡ false → is_record_of b (fields_of l.text) ≡ eqb block b → p ≡ place_of_record (fields_of l.text)
     → (t : Bool) → eqb block b ≡ t → (t ≡ false → get_or places b origin ≡ place_of_record (record_among before b)) → get_or (set places block p) b origin ≡ place_of_record (record_among (before ++ l ∷ []) b)
-place_here places before block b p l i new r is true e old =
-    let same : block ≡ b = grind (arith, nat_tests) in
-    subst (λ (x : ℕ). get_or (set places block p) x origin ≡ p) same (get_or-set_same places block p origin i) ∙ is ∙ ap place_of_record (sym (record_first before l b (ap (has_record before) (sym same) ∙ new) (r ∙ e)))
-place_here places before block b p l i new r is false e old =
-    let ne : b ≢ block = grind (arith, nat_tests) in
-    get_or-set_other places block b p origin ne ∙ old refl ∙ ap place_of_record (sym (record_other before l b (r ∙ e)))
+place_here places before block b p l i new r is true e old = grind (arith, common_steps, record_first)
+place_here places before block b p l i new r is false e old = grind (arith, common_steps, record_other)
 
 untouched : (block b i w : ℕ) (row old new : List ℤ) → length row ≡ w → i < w → b ≢ block → ArePut (block * w) row old new → get_or new (b * w + i) (pos 0) ≡ get_or old (b * w + i) (pos 0)
-untouched block b i w row old new s h ne p =
-    elim (cases_lt b block) [
-      | inl l ↦ p.front (b * w + i) (omega (arith, blocks_apart b block w l))
-      | inr l ↦ p.behind (b * w + i) (omega (arith, s, blocks_apart block b w (omega arith)))
-    ]
+untouched block b i w row old new s h ne p = grind (arith, common_steps, blocks_apart)
 
 value_here : (chosen : List ℕ) (before : List Line) (block b i : ℕ) (row old new : List ℤ) (l : Line) → i < length chosen → has_record before block ≡ false → is_record_of b (fields_of l.text) ≡ eqb block b
     → HoldsValues chosen (columns_of (fields_of l.text)) row → ArePut (block * length chosen) row old new
     → (t : Bool) → eqb block b ≡ t → (t ≡ false → get_or old (b * length chosen + i) (pos 0) ≡ value_in (columns_of (record_among before b)) (get_or chosen i 0))
     → get_or new (b * length chosen + i) (pos 0) ≡ value_in (columns_of (record_among (before ++ l ∷ []) b)) (get_or chosen i 0)
-value_here chosen before block b i row old new l h fresh r holds p true e was =
-    let same : block ≡ b = grind (arith, nat_tests) in
-    subst (λ (x : ℕ). get_or new (x * length chosen + i) (pos 0) ≡ get_or row i (pos 0)) same (p.here i (omega (arith, h, holds.size))) ∙ holds.each i h
-    ∙ ap (λ (fs : List (List ℕ)). value_in (columns_of fs) (get_or chosen i 0)) (sym (record_first before l b (ap (has_record before) (sym same) ∙ fresh) (r ∙ e)))
+value_here chosen before block b i row old new l h fresh r holds p true e was = grind (arith, common_steps, record_first)
 value_here chosen before block b i row old new l h fresh r holds p false e was =
     let ne : b ≢ block = grind (arith, nat_tests) in
     untouched block b i (length chosen) row old new holds.size h ne p ∙ was refl ∙ ap (λ (fs : List (List ℕ)). value_in (columns_of fs) (get_or chosen i 0)) (sym (record_other before l b (r ∙ e)))
 
 seen_before : (seen : List Bool) (block b : ℕ) → eqb block b ≡ false → get_or (set seen block true) b false ≡ true → get_or seen b false ≡ true
-seen_before seen block b e t =
-    let ne : b ≢ block = grind (arith, nat_tests) in
-    sym (get_or-set_other seen block b true false ne) ∙ t
+seen_before seen block b e t = grind (arith, common_steps)
 
 -- The line's record is kept.
 pub keeps : (n block : ℕ) (chosen : List ℕ) (p : Place) (row : List ℤ) (all : List Line) (seen more : List Bool) (places others : List Place) (values new : List ℤ) (left next : Left) (k : ℕ) (text : List ℕ)
@@ -192,16 +172,4 @@ keeps n block chosen p row all seen more places others values new left next k te
 -- All is read.
 pub read_all : (n : ℕ) (chosen : List ℕ) (all : List Line) (seen : List Bool) (places : List Place) (values : List ℤ) (left : Left) → ReadSoFar n chosen all seen places values left → left.lines ≡ [] → n ≡ length (record_lines all) → n ≤ MOST_BLOCKS → length chosen ≤ 8
     → (first_fault n chosen [] all ≡ None) × AreKept n chosen all places values
-read_all n chosen all seen places values left g e count bound few =
-    let none : numbered_lines left.number left.lines ≡ [] = rw e refl in
-    let same : g.before ≡ all = sym (append-nil g.before) ∙ ap (λ (xs : List Line). g.before ++ xs) (sym none) ∙ g.whole in
-    let full : marked seen ≡ length seen = g.count ∙ ap (λ (xs : List Line). length (record_lines xs)) same ∙ sym count ∙ sym g.all_seen in
-    let had : (b : ℕ) → b < n → get_or seen b false ≡ true = λ b i. all_marked seen b full (omega (arith, g.all_seen)) in (
-      sym g.fault ∙ ap (λ (ls : List Line). first_fault n chosen g.before ls) none,
-      record {
-        model = record { bound = bound; few = few; all_places = g.all_places; all_values = g.all_values; small = λ b i h l. rw (g.value b i h (had b h) l) (value_small (columns_of (record_among g.before b)) (get_or chosen i 0)) };
-        each = λ b i. ap (λ (xs : List Line). has_record xs b) (sym same) ∙ sym (g.marks b i) ∙ had b i;
-        place = λ b i. g.place b i (had b i) ∙ ap (λ (xs : List Line). place_of_record (record_among xs b)) same;
-        value = λ b i h l. g.value b i h (had b h) l ∙ ap (λ (xs : List Line). value_in (columns_of (record_among xs b)) (get_or chosen i 0)) same;
-      },
-    )
+read_all n chosen all seen places values left g e count bound few = grind (arith, common_steps, all_marked)

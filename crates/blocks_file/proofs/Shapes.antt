@@ -1,14 +1,14 @@
 -- What is wrong with a record by itself.
-use Rattle.std.proofs.Common.{◌≡◌, ℕ, ℤ, true, false, List, ◌∷◌, length, map, Some, None, refl, sym, ap, ◌∙◌, subst}
-use Rattle.std.specs.List.{list_any}
+use Rattle.std.proofs.Common.{◌≡◌, ℕ, ℤ, true, false, List, ◌∷◌, length, map, Some, None, refl, arith}
 use Rattle.std.proofs.lemmas.List.{length-map}
 use Rattle.fixed_worth.specs.Text.{WordRun}
 use Rattle.fixed_worth.specs.Record.{is_remark, is_skipped}
 use Rattle.blocks_file.specs.declared.place.Place.{Place}
 use Rattle.blocks_file.specs.declared.blocks_fault.BlocksFault.TheVariants.{NoColumn}
-use Rattle.blocks_file.specs.Records.{number_of, head_reads, place_at, block_of, place_of_record, columns_of, shape_fault, is_bad, are_there}
+use Rattle.blocks_file.specs.Records.{number_of, head_reads, place_at, block_of, place_of_record, columns_of, shape_fault, are_there}
 use Rattle.blocks_file.specs.RowReading.{IsRow, HoldsValues}
-use Rattle.blocks_file.proofs.Rows.{row_good, row_values}
+use Rattle.blocks_file.proofs.Rows.{row_good}
+use Rattle.std.proofs.lemmas.Grind.{common_steps}
 
 abbrev pub texts : List WordRun → List (List ℕ)
 texts rs = map (λ r. r.text) rs
@@ -22,22 +22,14 @@ pub sound : (line : ℕ) (chosen : List ℕ) (fields : List (List ℕ)) (block x
     → fields ≡ block ∷ x ∷ y ∷ z ∷ columns → is_remark block ≡ false → head_reads block x y z ≡ true → b ≡ number_of block → p ≡ place_at x y z
     → count ≡ length columns → IsRow chosen columns count row → are_there chosen count ≡ true
     → (is_skipped fields ≡ false) × (shape_fault line chosen fields ≡ None) × (b ≡ block_of fields) × (p ≡ place_of_record fields) × HoldsValues chosen (columns_of fields) row
-sound line chosen fields block x y z columns count b p row e m h k q n r t =
-    let good : IsRow chosen columns (length columns) row = subst (λ (c : ℕ). IsRow chosen columns c row) n r in
-    let there : are_there chosen (length columns) ≡ true = ap (are_there chosen) (sym n) ∙ t in
-    let fine : list_any (is_bad columns) chosen ≡ false = row_good chosen columns row good in
-    rw e (m, rw (h, fine, there) refl, k, q, row_values chosen columns row good there)
+sound line chosen fields block x y z columns count b p row e m h k q n r t = grind (arith, common_steps, row_good)
 
 -- A record without a chosen column.
 pub unsound : (line : ℕ) (chosen : List ℕ) (fields : List (List ℕ)) (block x y z : List ℕ) (columns : List (List ℕ)) (count : ℕ) (row : List ℤ)
     → fields ≡ block ∷ x ∷ y ∷ z ∷ columns → is_remark block ≡ false → head_reads block x y z ≡ true
     → count ≡ length columns → IsRow chosen columns count row → are_there chosen count ≡ false
     → (is_skipped fields ≡ false) × (shape_fault line chosen fields ≡ Some (NoColumn line))
-unsound line chosen fields block x y z columns count row e m h n r t =
-    let good : IsRow chosen columns (length columns) row = subst (λ (c : ℕ). IsRow chosen columns c row) n r in
-    let there : are_there chosen (length columns) ≡ false = ap (are_there chosen) (sym n) ∙ t in
-    let fine : list_any (is_bad columns) chosen ≡ false = row_good chosen columns row good in
-    rw e (m, rw (h, fine, there) refl)
+unsound line chosen fields block x y z columns count row e m h n r t = grind (arith, common_steps, row_good)
 
 pub texts_length : (rs : List WordRun) → length (texts rs) ≡ length rs
 texts_length rs = length-map rs (λ r. r.text)

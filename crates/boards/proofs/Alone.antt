@@ -1,7 +1,6 @@
 -- Which blocks have an operation.
 use Rattle.std.proofs.Common.{◌≡◌, ◌≢◌, ℕ, ◌+◌, ◌<◌, ◌↔◌, ◌⊎◌, IsTrue, refl, sym, ap, subst, ◌∙◌, arith, inl, inr, Bool, true, false, if◌then◌else◌, Option, Some, None}
-use Rattle.std.proofs.lemmas.Bool.{cases_eq}
-use Rattle.std.proofs.lemmas.Option.{none-some, same_Some}
+use Rattle.std.proofs.lemmas.Option.{none-some}
 use Rattle.ordered_group.specs.Amount.{Amount, zero_amount}
 use Rattle.ordered_group.proofs.Order.{AtMost-both, most_or_below}
 use Rattle.closure_net.specs.Network.{NetView}
@@ -17,6 +16,7 @@ use Rattle.machine_law.proofs.Points.{put-other}
 use Rattle.boards.specs.Boards.{BoardView, shown_state, blocks_of_board, IsBoard}
 use Rattle.boards.specs.Turns.{HasNoOwn, IsPicked, IsUnserved, IsBlockDue, HasServed}
 use Rattle.boards.specs.Ends.{IsAlone, AreIdleBelow}
+use Rattle.std.proofs.lemmas.Grind.{common_steps}
 
 -- ---- a step changes the operation of its block alone, and is counted
 record Changes (s t : State) (b : ℕ) : Type 0 where
@@ -58,29 +58,16 @@ pub served_counts : (old new : BoardView) (b : ℕ) (more : Bool) → HasServed 
 served_counts old new b more h = (served_changes old new b more h).counted
 
 -- ---- an operation, or none
-idle_or : (o : Operation Amount) → (o ≡ Idle) ⊎ ¬ (o ≡ Idle)
-idle_or Idle = inl refl
-idle_or (Scan have place read best) = inr (λ e. cc)
-idle_or (PushDue have best) = inr (λ e. cc)
-idle_or (TakeDue amount port) = inr (λ e. cc)
-idle_or (GiveDue amount port) = inr (λ e. cc)
-idle_or (RaiseDue have best) = inr (λ e. cc)
 
 idle_not : (o : Operation Amount) → ¬ ¬ (o ≡ Idle) → o ≡ Idle
-idle_not o h = elim (idle_or o) [
-  | inl e ↦ e
-  | inr ne ↦ absurd (h ne)
-]
+idle_not o h = grind (arith, common_steps)
 
 no_own_idle : (board : BoardView) (own : Option ℕ) (c : ℕ) → HasNoOwn board own → own ≡ Some c → c < blocks_of_board board → (shown_state board).operation c ≡ Idle
 no_own_idle board own c h e l = idle_not ((shown_state board).operation c) (λ work. h c (record { own_is = e; inside = l; at_work = work }))
 
 -- ---- while one block is served to its end
 own_served : (board : BoardView) (from block b : ℕ) → block < blocks_of_board board → ¬ ((shown_state board).operation block ≡ Idle) → IsPicked board (Some block) from b → b ≡ block
-own_served board from block b l work p = elim p [
-  | inl own ↦ sym (same_Some block b own.own_is)
-  | inr none ↦ absurd (work (no_own_idle board (Some block) block none.0 refl l))
-]
+own_served board from block b l work p = grind (arith, common_steps)
 
 pub still_idle_below : (old new : BoardView) (from steps block b : ℕ) (more : Bool) → block < blocks_of_board old → ¬ ((shown_state old).operation block ≡ Idle) → AreIdleBelow old block
     → IsBlockDue old (Some block) from steps b × HasServed old b new more → AreIdleBelow new block
@@ -90,43 +77,22 @@ still_idle_below old new from steps block b more l work idle h c below =
 
 -- ---- while one operation follows another
 pub all_idle_alone : (board : BoardView) → AreIdleBelow board (blocks_of_board board) → IsAlone (blocks_of_board board) (shown_state board) None
-all_idle_alone board idle = record {
-  known = λ b q. absurd (none-some b q);
-  others = λ c l ne. idle c l;
-}
+all_idle_alone board idle = grind (arith, common_steps)
 
 pub picked_inside : (board : BoardView) (own : Option ℕ) (from b : ℕ) → IsPicked board own from b → b < blocks_of_board board
-picked_inside board own from b p = elim p [
-  | inl own ↦ own.inside
-  | inr none ↦ none.1.inside
-]
+picked_inside board own from b p = grind (arith, common_steps)
 
 other_idle : (board : BoardView) (own : Option ℕ) (from b c : ℕ) → IsAlone (blocks_of_board board) (shown_state board) own → IsPicked board own from b → c < blocks_of_board board → c ≢ b → ((own ≡ Some c) ⊎ ¬ (own ≡ Some c)) → (shown_state board).operation c ≡ Idle
 other_idle board own from b c alone p l ne (inr not) = alone.others c l not
-other_idle board own from b c alone p l ne (inl is) = elim p [
-  | inl own ↦ absurd (ne (same_Some c b (sym is ∙ own.own_is)))
-  | inr none ↦ no_own_idle board _ c none.0 is l
-]
+other_idle board own from b c alone p l ne (inl is) = grind (arith, common_steps)
 
 own_or : (own : Option ℕ) (c : ℕ) → (own ≡ Some c) ⊎ ¬ (own ≡ Some c)
 own_or None c = inr (λ e. none-some c e)
-own_or (Some b) c = elim (cases_eq b c) [
-  | inl e ↦ inl (ap Some e)
-  | inr ne ↦ inr (λ e. ne (same_Some b c e))
-]
+own_or (Some b) c = grind (arith, common_steps)
 
 goes_on_alone : (n : ℕ) (s : State) (b : ℕ) (more : Bool) → b < n → ((c : ℕ) → c < n → c ≢ b → s.operation c ≡ Idle) → (IsTrue more ↔ ¬ (s.operation b ≡ Idle)) → IsAlone n s (if more then Some b else None)
-goes_on_alone n s b true l others h = record {
-  known = λ c e. subst (λ x. x < n) (same_Some b c e) l;
-  others = λ c k ne. others c k (λ e. ne (ap Some (sym e)));
-}
-goes_on_alone n s b false l others h = record {
-  known = λ c e. absurd (none-some c e);
-  others = λ c k ne. elim (cases_eq c b) [
-    | inl e ↦ subst (λ x. s.operation x ≡ Idle) (sym e) (idle_not (s.operation b) (λ work. (let t : IsTrue false = h.1 work in cc)))
-    | inr other ↦ others c k other
-  ];
-}
+goes_on_alone n s b true l others h = grind (arith, common_steps)
+goes_on_alone n s b false l others h = grind (arith, common_steps)
 
 pub still_alone : (old new : BoardView) (own : Option ℕ) (from steps b : ℕ) (more : Bool) → IsAlone (blocks_of_board old) (shown_state old) own → IsBlockDue old own from steps b × HasServed old b new more
     → IsAlone (blocks_of_board new) (shown_state new) (if more then Some b else None)

@@ -3,12 +3,9 @@ use Rattle.std.proofs.Common.{◌≡◌, ℕ, ◌<◌, ◌≤◌, min, Bool, tru
 use Rattle.std.proofs.Math.Nat.{min-le_left, min-le_right}
 use Rattle.closure_net.specs.Network.{NetView, FlowView}
 use Rattle.machine_law.specs.declared.events.Event.{Event}
-use Rattle.machine_law.specs.States.{State, opening, IsQuiet}
-use Rattle.machine_law.specs.Steps.{Run, next_event}
-use Rattle.machine_law.specs.Quiet.{IsFlowOf, IsSolved}
+use Rattle.machine_law.specs.Steps.{next_event}
 use Rattle.machine_law.proofs.Runs.{run_unique}
 use Rattle.machine_law.proofs.ActiveRuns.{active_is_run}
-use Rattle.async_step.specs.Answers.{Fits}
 use Rattle.boards.specs.Runs.{AreTurnsTo}
 use Rattle.boards.specs.Boards.{BoardView, shown_state, IsTurnBoard, HasSettled}
 use Rattle.boards.specs.Turns.{IsGoing, IsBlockDue, IsAtLimit, IsTurn, IsTurnEnd}
@@ -22,12 +19,11 @@ use Rattle.boards.specs.declared.turn.End.{End}
 use Rattle.boards.specs.declared.turn.End.TheVariants.{Quiet, Stuck, Limit, Full}
 use Rattle.boards.proofs.Alone.{served_counts}
 use Rattle.boards.proofs.Ends.{turns_counted, end_same}
+use Rattle.std.proofs.lemmas.Grind.{common_steps}
 
 -- ---- the type
 pub audited : (r : RecordView) → IsTurnBoard r.board → AreTurnsTo r.board.net r.events (shown_state r.board) → (shown_state r.board).steps ≤ r.room → r.room ≤ MOST_EVENTS → IsAudited (audit_of r)
-audited r turns made within few =
-    let k = turns_counted r.board.net r.events (shown_state r.board) made in
-    record { turns = turns; made = made; counted = k; within = omega (arith, k, within); few = few }
+audited r turns made within few = grind (arith, common_steps, turns_counted)
 
 -- a turn makes no more steps than there is room for
 pub turn_within : (old new : BoardView) (own : Option ℕ) (from steps room : ℕ) (turn : Turn) → steps ≤ room → (shown_state old).steps ≤ room → IsTurn old own from steps new turn → (shown_state new).steps ≤ room
@@ -100,35 +96,10 @@ audit_goes_on old new most limit below e h = record {
 pub run_ended : (r : RecordView) (limit : ℕ) (end told : End) → IsAudited (audit_of r) → HasEnded r.board (min limit r.room) end → IsToldAs (shown_state r.board).steps limit end told → HasAuditEnded (audit_of r) limit told
 run_ended r limit Quiet told is h t = subst (λ x. HasAuditEnded (audit_of r) limit x) (sym t) h
 run_ended r limit Stuck told is h t = subst (λ x. HasAuditEnded (audit_of r) limit x) (sym t) h
-run_ended r limit Limit told is h (inl t) =
-    let c = h.counted in
-    let l = min-le_left limit r.room in
-    let a = t.0 in
-    subst (λ x. HasAuditEnded (audit_of r) limit x) (sym t.1) (record { counted = omega (arith, c, l, a); unquiet = h.unquiet })
-run_ended r limit Limit told is h (inr t) =
-    let c = h.counted in
-    let b = t.0 in
-    let m = room_reached limit r.room (shown_state r.board).steps (omega (arith, c)) b in
-    let k = is.counted in
-    let w = is.within in
-    subst (λ x. HasAuditEnded (audit_of r) limit x) (sym t.1) (record { full = omega (arith, m, k, w); below = omega (arith, m, k, w, b); unquiet = h.unquiet })
+run_ended r limit Limit told is h (inl t) = grind (arith, common_steps)
+run_ended r limit Limit told is h (inr t) = grind (arith, common_steps)
 run_ended r limit Full told is h t = absurd h
 
 -- ---- a quiet board's flow, and the replay of its history
 pub audit_settled : (audit : AuditView) (net : NetView) (flow : FlowView) (events : List Event) → IsAudited audit → events ≡ audit.history → HasSettled audit.board net flow → HasAuditSettled audit net flow events
-audit_settled audit net flow events is same h =
-    let run : Run net (opening net) events (shown_state audit.board) =
-    subst (λ (n : NetView). Run n (opening n) events (shown_state audit.board)) (sym h.net_is) (subst (λ xs. Run audit.board.net (opening audit.board.net) xs (shown_state audit.board)) (sym same)
-    (active_is_run (Fits audit.board.net) audit.board.net (opening audit.board.net) audit.history (shown_state audit.board) is.made)) in
-    let quiet : IsQuiet net (shown_state audit.board) = subst (λ (n : NetView). IsQuiet n (shown_state audit.board)) (sym h.net_is) h.quiet in
-    let amounts : IsFlowOf net (shown_state audit.board) flow = subst (λ (n : NetView). IsFlowOf n (shown_state audit.board) flow) (sym h.net_is) h.amounts in
-    record {
-      settled = h;
-      history = same;
-      replayed = record {
-        state = shown_state audit.board;
-        run = run;
-        only = λ s other. subst (λ (t : State). IsQuiet net t × IsFlowOf net t flow) (run_unique net (opening net) events (shown_state audit.board) s run other) (quiet, amounts);
-        solved = subst (λ (n : NetView). IsSolved n flow) (sym h.net_is) h.solved;
-      };
-    }
+audit_settled audit net flow events is same h = grind (arith, common_steps, active_is_run, run_unique)

@@ -23,15 +23,11 @@ use Rattle.boards.specs.declared.turn.End.{End}
 use Rattle.boards.specs.declared.turn.End.TheVariants.{Quiet, Stuck, Limit, Full}
 use Rattle.boards.proofs.FurtherTurns.{active_append}
 use Rattle.boards.proofs.Alone.{picked_inside}
+use Rattle.std.proofs.lemmas.Grind.{common_steps}
 
 -- a quiet board's flow solves its net
 pub settled : (board : BoardView) (flow : FlowView) → IsBoard board → IsNet board.net → IsQuiet board.net (shown_state board) → IsFlowOf board.net (shown_state board) flow → HasSettled board board.net flow
-settled board flow is net quiet amounts = record {
-  net_is = refl;
-  quiet = quiet;
-  amounts = amounts;
-  solved = quiet_solves board.net is.over.reached.events (shown_state board) flow net.rests.known is.over.reached.run quiet amounts;
-}
+settled board flow is net quiet amounts = grind (arith, common_steps, quiet_solves)
 
 -- what a test for quiet tells of a board that isn't
 pub unquiet : (quiet : Bool) (claim : Type 0) → IsTrue quiet ↔ claim → quiet ≡ false → ¬ claim
@@ -69,9 +65,7 @@ same_turns old new events net_is state_is run = subst (λ (n : NetView). AreTurn
 -- and one turn more, where it makes a step, from whichever state they began
 turns_between : (old new : BoardView) (s : State) (events : List Event) (own : Option ℕ) (from steps b : ℕ) (more : Bool) → IsBoard new → IsBlockDue old own from steps b → HasServed old b new more → AreTurnsBetween old.net s events (shown_state old)
     → AreTurnsBetween old.net s (events ++ next_event old.net (shown_state old) b ∷ []) (shown_state new)
-turns_between old new s events own from steps b more is due h run =
-    let fits : Fits old.net (shown_state new) = subst (λ (n : NetView). Fits n (shown_state new)) (ap (λ (x : BoardView). x.net) h.rest) is.over.fits in
-    active_more (Fits old.net) old.net s events (next_event old.net (shown_state old) b) (shown_state old) (shown_state new) run h.step (due_reads old own from b due.picked) fits
+turns_between old new s events own from steps b more is due h run = grind (arith, common_steps, active_more, due_reads)
 
 pub more_turns : (old new : BoardView) (events : List Event) (own : Option ℕ) (from steps b : ℕ) (more : Bool) → IsBoard new → IsBlockDue old own from steps b → HasServed old b new more → AreTurnsTo old.net events (shown_state old)
     → AreTurnsTo new.net (events ++ next_event old.net (shown_state old) b ∷ []) (shown_state new)
@@ -139,9 +133,7 @@ ended_run first old new own from steps end goes h =
 
 -- by further turns
 pub further_run : (first old new : BoardView) (steps : ℕ) (goes : GoesOn first old steps) (further : GoesOn old new steps) → AreTurnsBetween first.net (shown_state first) (goes.events ++ further.events) (shown_state new)
-further_run first old new steps goes further =
-    active_append (Fits first.net) first.net (shown_state first) goes.events further.events (shown_state old) (shown_state new) goes.run
-    (subst (λ (n : NetView). AreTurnsBetween n (shown_state old) further.events (shown_state new)) goes.net_is further.run)
+further_run first old new steps goes further = grind (arith, common_steps, active_append)
 
 -- ---- how turns end a run
 module _ (first old new : BoardView) (own : Option ℕ) (from steps : ℕ) (small : steps ≤ MOST_STEPS) (goes : GoesOn first old steps) (is : IsTurnBoard new) where

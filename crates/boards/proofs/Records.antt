@@ -11,6 +11,7 @@ use Rattle.boards.specs.declared.turn.End.{End}
 use Rattle.boards.proofs.FurtherTurns.{written_after_none, written_after_both}
 use Rattle.boards.proofs.Alone.{served_counts}
 use Rattle.boards.proofs.Ends.{turned, same_turns, more_turns, turns_counted, end_same, served_run, ended_run, further_run}
+use Rattle.std.proofs.lemmas.Grind.{common_steps}
 
 -- ---- a run that goes on
 
@@ -83,9 +84,7 @@ written_is old b new (Ended end) h = refl
 
 -- where a block is due there is room for its event
 pub room_due : (r : RecordView) (own : Option ℕ) (from steps b capacity : ℕ) → IsRecordBoard r capacity → IsBlockDue r.board own from steps b → (r.records ≡ true → steps ≤ r.room) → r.records ≡ true → length r.events < capacity
-room_due r own from steps b capacity is due room e =
-    let k = turns_counted r.board.net r.events (shown_state r.board) (is.made e) in
-    omega (arith, k, due.going.room, room e, is.reserved)
+room_due r own from steps b capacity is due room e = grind (arith, common_steps, turns_counted)
 
 -- ---- the events that are written down are the turns
 written_turns : (old : RecordView) (new : BoardView) (own : Option ℕ) (from steps : ℕ) (turn : Turn) → IsBoard new → IsTurn old.board own from steps new turn → old.records ≡ true → AreTurnsTo old.board.net old.events (shown_state old.board) → AreTurnsTo new.net (events_after old turn) (shown_state new)

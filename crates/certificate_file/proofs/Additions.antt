@@ -1,18 +1,19 @@
 -- What a line adds to what is gathered.
-use Rattle.std.proofs.Common.{◌≡◌, ◌≢◌, ℕ, zero, suc, get_or, set, ◌<◌, Bool, true, false, cond, eqb, ltb, inl, inr, List, [], ◌∷◌, length, refl, sym, ap, ◌∙◌, subst, arith, append-nil, get_or-set_same, get_or-set_other}
+use Rattle.std.proofs.Common.{◌≡◌, ℕ, zero, suc, get_or, set, ◌<◌, Bool, true, false, cond, eqb, ltb, List, [], ◌∷◌, length, refl, arith, append-nil}
 use Rattle.std.proofs.lemmas.Bool.{ltb-true}
 use Rattle.std.specs.Prelude.{Contains}
 use Rattle.std.proofs.lemmas.List.{length-set}
 use Rattle.std.proofs.lemmas.Bool.Decides.{nat_tests}
-use Rattle.ordered_group.specs.Amount.{Amount, zero_amount}
+use Rattle.ordered_group.specs.Amount.{Amount}
 use Rattle.ordered_group.specs.Sums.{amount_at}
 use Rattle.prec_file.specs.Rests.{IsRising}
-use Rattle.prec_file.proofs.Pairs.{is_pair, tells_pair, pair_told}
+use Rattle.prec_file.proofs.Pairs.{is_pair, pair_told}
 use Rattle.certificate_file.specs.declared.body_lines.LineKind.TheVariants.{Rest}
 use Rattle.certificate_file.specs.declared.body_lines.BodyLine.{BodyLine}
 use Rattle.certificate_file.specs.BodyLines.{is_of_model}
 use Rattle.certificate_file.specs.Certificate.{Covers, has_pair, amount_of}
 use Rattle.certificate_file.specs.Gathered.{Gathered, with_rest, Adds}
+use Rattle.std.proofs.lemmas.Grind.{common_steps}
 
 -- Whether a pair is among the model's.
 tail_holds : (q : ℕ × ℕ) (qs : List (ℕ × ℕ)) (x : ℕ × ℕ) → Contains qs x → Contains (q ∷ qs) x
@@ -32,9 +33,7 @@ present_at b p q qs false e ih = rw e ih
 
 pub present : (b p : ℕ) (qs : List (ℕ × ℕ)) (k : ℕ) → k < length qs → get_or qs k (0, 0) ≡ (b, p) → has_pair qs b p ≡ true
 present b p [] k h e = absurd (omega arith)
-present b p (q ∷ qs) zero h e =
-    let t = tells_pair b p q e in
-    rw t refl
+present b p (q ∷ qs) zero h e = grind (arith, common_steps)
 present b p (q ∷ qs) (suc k) h e = present_at b p q qs (is_pair b p q) refl (present b p qs k (omega arith) e)
 
 pub rest_absent : (has : ℕ → ℕ → Bool) (line : BodyLine) → line.kind ≡ Rest → has line.block line.other ≡ false → is_of_model has line.kind line ≡ false
@@ -48,10 +47,7 @@ ltb_neither i j g h = grind (arith, nat_tests)
 
 -- Each pair stands once in the list.
 pub apart : (ps : List (ℕ × ℕ)) (i j : ℕ) (q : ℕ × ℕ) → IsRising ps → i < j → j < length ps → get_or ps i (0, 0) ≡ q → get_or ps j (0, 0) ≡ q → ⊥
-apart ps i j q r h l e f =
-    let a : (get_or ps i (0, 0)).0 ≡ (get_or ps j (0, 0)).0 = ap (λ (x : ℕ × ℕ). x.0) (e ∙ sym f) in
-    let b : (get_or ps i (0, 0)).1 ≡ (get_or ps j (0, 0)).1 = ap (λ (x : ℕ × ℕ). x.1) (e ∙ sym f) in
-    elim (r.rises i j h l) [ inl x ↦ omega (arith, a, b, x) | inr x ↦ omega (arith, a, b, x.1) ]
+apart ps i j q r h l e f = grind (arith, common_steps)
 
 pub one_place : (ps : List (ℕ × ℕ)) (i j : ℕ) (q : ℕ × ℕ) → IsRising ps → i < length ps → j < length ps → get_or ps i (0, 0) ≡ q → get_or ps j (0, 0) ≡ q → (t u : Bool) → ltb i j ≡ t → ltb j i ≡ u → i ≡ j
 one_place ps i j q r h l e f true u x y = absurd (apart ps i j q r (ltb-true i j x) l e f)
@@ -61,32 +57,14 @@ one_place ps i j q r h l e f false false x y = ltb_neither i j x y
 -- At place j, where a line gives an amount to the pair at k.
 rest_at : (ps : List (ℕ × ℕ)) (xs : List Amount) (line : BodyLine) (k j : ℕ) → IsRising ps → line.kind ≡ Rest → length xs ≡ length ps → k < length ps → get_or ps k (0, 0) ≡ (line.block, line.other) → j < length ps → (t : Bool) → eqb j k ≡ t
     → (u : Bool) → is_pair line.block line.other (get_or ps j (0, 0)) ≡ u → amount_at (set xs k (amount_of line)) j ≡ cond u (amount_of line) (amount_at xs j)
-rest_at ps xs line k j r is n h e l true s true v =
-    let same : j ≡ k = grind (arith, nat_tests) in
-    subst (λ (i : ℕ). amount_at (set xs k (amount_of line)) i ≡ amount_of line) (sym same) (get_or-set_same xs k (amount_of line) zero_amount (omega arith))
-rest_at ps xs line k j r is n h e l true s false v =
-    let same : j ≡ k = grind (arith, nat_tests) in
-    let w : is_pair line.block line.other (get_or ps j (0, 0)) ≡ true = tells_pair line.block line.other (get_or ps j (0, 0)) (ap (λ (i : ℕ). get_or ps i (0, 0)) same ∙ e) in
-    absurd (let z : true ≡ false = sym w ∙ v in cc)
+rest_at ps xs line k j r is n h e l true s true v = grind (arith, common_steps)
+rest_at ps xs line k j r is n h e l true s false v = grind (arith, common_steps)
 rest_at ps xs line k j r is n h e l false s true v =
     let at_j : get_or ps j (0, 0) ≡ (line.block, line.other) = pair_told line.block line.other (get_or ps j (0, 0)) v in
     let same : j ≡ k = one_place ps j k (line.block, line.other) r l h at_j e (ltb j k) (ltb k j) refl refl in
     absurd (grind (arith, nat_tests))
-rest_at ps xs line k j r is n h e l false s false v =
-    let ne : j ≢ k = grind (arith, nat_tests) in
-    get_or-set_other xs k j (amount_of line) zero_amount ne
+rest_at ps xs line k j r is n h e l false s false v = grind (arith, common_steps)
 
 pub adds_rest : (n : ℕ) (pairs : List (ℕ × ℕ)) (line : BodyLine) (before later : Gathered) (x : Amount) (k : ℕ) → IsRising pairs → line.kind ≡ Rest → Covers n (length pairs) before.flow → k < length pairs → get_or pairs k (0, 0) ≡ (line.block, line.other)
     → x ≡ amount_of line → later ≡ with_rest k x before → Covers n (length pairs) later.flow × Adds n pairs (line ∷ []) before later
-adds_rest n pairs line before later x k r is c h e a w =
-    let m : length (set before.flow.rest k (amount_of line)) ≡ length before.flow.rest = length-set before.flow.rest k (amount_of line) in
-    let now : later ≡ with_rest k (amount_of line) before = w ∙ ap (λ (y : Amount). with_rest k y before) a in
-    subst (λ (g : Gathered). Covers n (length pairs) g.flow × Adds n pairs (line ∷ []) before g) (sym now) (
-      record { sources = c.sources; rests = m ∙ c.rests; sinks = c.sinks },
-      record {
-        pit = rw is (sym (append-nil before.pit));
-        source = λ b i. rw is refl;
-        rest = λ j i. rw is (rest_at pairs before.flow.rest line k j r is c.rests h e i (eqb j k) refl (is_pair line.block line.other (get_or pairs j (0, 0))) refl);
-        sink = λ b i. rw is refl;
-      },
-    )
+adds_rest n pairs line before later x k r is c h e a w = grind (arith, common_steps, length-set, append-nil, rest_at, eqb, is_pair)

@@ -1,5 +1,5 @@
 -- Amounts that were read of a block, and the numbers of zero.
-use Rattle.std.proofs.Common.{◌≡◌, ℕ, pos, List, refl, sym, ap, subst, ◌∙◌}
+use Rattle.std.proofs.Common.{◌≡◌, ℕ, pos, List, refl, sym, ap, ◌∙◌, arith}
 use Rattle.std.specs.Prelude.{◌&&◌}
 use Rattle.std.specs.Ordering.{ordering_then, int_cmp, int_eq, is_eq}
 use Rattle.std.specs.declared.cmp.Ordering.{Ordering}
@@ -7,14 +7,11 @@ use Rattle.std.specs.declared.cmp.Ordering.TheVariants.{Less, Equal, Greater}
 use Rattle.ordered_group.specs.Amount.{Amount, is_zero, minus, positive}
 use Rattle.ordered_group.specs.Sums.{amount_at}
 use Rattle.closure_net.specs.Flows.{Within, WithinAt, residual_at}
+use Rattle.std.proofs.lemmas.Grind.{common_steps}
 
 -- block i keeps to its worth, where the amounts that were read do
 pub within_there : (ws ss ts : List Amount) (i : ℕ) (w s t : Amount) → w ≡ amount_at ws i → s ≡ amount_at ss i → t ≡ amount_at ts i → Within w s t → WithinAt ws ss ts i
-within_there ws ss ts i w s t ew es et h =
-    let P : Amount → Type 0 = λ a. Within a (amount_at ss i) (amount_at ts i) in
-    let Q : Amount → Type 0 = λ a. Within w a (amount_at ts i) in
-    let R : Amount → Type 0 = λ a. Within w s a in
-    subst P ew (subst Q es (subst R et h))
+within_there ws ss ts i w s t ew es et h = grind (arith, common_steps)
 
 -- what the source could still give block i, by what was read and computed
 pub residual_here : (ws ss : List Amount) (i : ℕ) (p s r : Amount) → p ≡ positive (amount_at ws i) → s ≡ amount_at ss i → r ≡ minus p s → residual_at ws ss i ≡ r

@@ -1,11 +1,5 @@
 -- Reading line after line: what a line that is read says, and what is left.
-use Rattle.std.proofs.Common.{◌≡◌, ℕ, get_or, ◌+◌, ◌<◌, Bool, true, false, cond, ltb, ℤ, pos, negsuc, ◌⊎◌, inl, inr, List, [], ◌∷◌, ◌++◌, length, Option, Some, None, Result, Ok, Err, refl, sym, ap, ◌∙◌, subst, arith, append_assoc}
-use Rattle.std.specs.Prelude.{unwrap_or}
-use Rattle.std.specs.Ordering.{int_eq}
-use Rattle.std.specs.Result.{result_unwrap_or}
-use Rattle.std.proofs.lemmas.Bool.Decides.{nat_tests, Decides-int_eq}
-use Rattle.fixed_worth.specs.declared.numerals.NumberFault.{NumberFault}
-use Rattle.fixed_worth.specs.Numeral.{plain_of}
+use Rattle.std.proofs.Common.{◌≡◌, ℕ, get_or, ◌+◌, ◌<◌, Bool, true, false, cond, ℤ, pos, ◌⊎◌, List, [], ◌∷◌, ◌++◌, length, Option, Some, None, Result, Ok, Err, refl, sym, ap, ◌∙◌, subst, arith, append_assoc}
 use Rattle.ordered_group.specs.Amount.{Amount, zero_amount}
 use Rattle.ordered_group.specs.Sums.{amount_at}
 use Rattle.certificate_file.specs.declared.cert_fault.CertFault.{CertFault}
@@ -15,10 +9,11 @@ use Rattle.certificate_file.specs.declared.cert_fault.LineFault.TheVariants.{Tex
 use Rattle.certificate_file.specs.declared.body_lines.LineKind.{LineKind}
 use Rattle.certificate_file.specs.declared.body_lines.LineKind.TheVariants.{Pit, Source, Rest, Sink, End}
 use Rattle.certificate_file.specs.declared.body_lines.BodyLine.{BodyLine}
-use Rattle.certificate_file.specs.Pieces.{Piece, Unread, Passed, read_line, in_line, no_line, unless_fault, within, number_below, words_of}
-use Rattle.certificate_file.specs.BodyLines.{kind_of, amount_said, amount_in, is_amount, numbered_line, pit_line, block_line, rest_line, end_line, line_with, line_of_words, line_of, is_end, is_of_model, may_follow, line_behind, next_line, end_fault, fault_from, body_fault, lines_of_pieces}
+use Rattle.certificate_file.specs.Pieces.{Piece, Unread, Passed, read_line, in_line, no_line, unless_fault, number_below, words_of}
+use Rattle.certificate_file.specs.BodyLines.{kind_of, amount_in, is_amount, numbered_line, pit_line, block_line, rest_line, end_line, line_with, line_of_words, line_of, is_end, is_of_model, may_follow, line_behind, next_line, end_fault, fault_from, body_fault, lines_of_pieces}
 use Rattle.certificate_file.specs.Certificate.{Covers, UnlessMemory, has_pair, pit_of, block_if_pit, given_amount, gives_source, gives_rest, gives_sink, is_rest, amount_of}
 use Rattle.certificate_file.specs.Gathered.{Gathered, Adds}
+use Rattle.std.proofs.lemmas.Grind.{common_steps}
 
 -- A line that is read has what its text gives.
 in_line_ok : {A : Type 0} (k : ℕ) (r : Result A LineFault) (x : A) → in_line k r ≡ Ok x → r ≡ Ok x
@@ -33,21 +28,6 @@ unless_ok None r x h = h
 pub text_read : {A : Type 0} (f : List ℕ → Result A LineFault) (k : ℕ) (p : Piece) (x : A) → read_line f k p ≡ Ok x → f p.text ≡ Ok x
 text_read f k p x h = in_line_ok k (f p.text) x (unless_ok (no_line k p) (in_line k (f p.text)) x h)
 
--- What the numbers of a line are.
-number_limit : (limit j k : ℕ) (t : Bool) → ltb j limit ≡ t → cond t (Some j) None ≡ Some k → k < limit
-number_limit limit j k true e h =
-    let same : j ≡ k = ap (λ (o : Option ℕ). unwrap_or o k) h in
-    grind (arith, nat_tests)
-number_limit limit j k false e h = cc
-
-within_limit : (limit k : ℕ) (r : Result ℤ NumberFault) → within limit r ≡ Some k → k < limit
-within_limit limit k (Ok (pos j)) h = number_limit limit j k (ltb j limit) refl h
-within_limit limit k (Ok (negsuc j)) h = cc
-within_limit limit k (Err e) h = cc
-
-pub below_limit : (limit k : ℕ) (word : List ℕ) → number_below limit word ≡ Some k → k < limit
-below_limit limit k word h = within_limit limit k (plain_of word) h
-
 -- A line of the body, by what it is made of.
 pub record Numbered (kind : LineKind) (b o : Option ℕ) (a : Option (ℤ × ℤ)) (line : BodyLine) : Type 0 where
   pub kind_is : line.kind ≡ kind
@@ -56,15 +36,7 @@ pub record Numbered (kind : LineKind) (b o : Option ℕ) (a : Option (ℤ × ℤ
   pub amount_is : a ≡ Some (line.worth, line.count)
 
 pub numbered : (kind : LineKind) (b o : Option ℕ) (a : Option (ℤ × ℤ)) (line : BodyLine) → numbered_line kind b o a ≡ Ok line → Numbered kind b o a line
-numbered kind (Some b) (Some o) (Some a) line h =
-    let made : BodyLine = record { kind = kind; block = b; other = o; worth = a.0; count = a.1 } in
-    let e : made ≡ line = ap (λ (r : Result BodyLine LineFault). result_unwrap_or r line) h in
-    record {
-      kind_is = sym (ap (λ (l : BodyLine). l.kind) e);
-      block_is = ap (λ (l : BodyLine). Some l.block) e;
-      other_is = ap (λ (l : BodyLine). Some l.other) e;
-      amount_is = ap (λ (l : BodyLine). Some (l.worth, l.count)) e;
-    }
+numbered kind (Some b) (Some o) (Some a) line h = grind (arith, common_steps)
 numbered kind (Some b) (Some o) None line h = absurd cc
 numbered kind (Some b) None a line h = absurd cc
 numbered kind None o a line h = absurd cc
@@ -73,22 +45,6 @@ numbered kind None o a line h = absurd cc
 abbrev pub Counted : Bool → ℤ → Type 0
 Counted counts c = (counts ≡ true) ⊎ (c ≡ pos 0)
 
-counted_by : (counts : Bool) (w c : ℤ) (t : Bool) → int_eq c (pos 0) ≡ t → is_amount counts w c ≡ true → Counted counts c
-counted_by counts w c true e h = inr ((Decides-int_eq c (pos 0)).0 e)
-counted_by counts w c false e h = inl (rw e at h)
-
-counted_said : (counts : Bool) (w c : ℤ) (a : ℤ × ℤ) (t : Bool) → is_amount counts w c ≡ t → cond t (Some (w, c)) None ≡ Some a → Counted counts a.1
-counted_said counts w c a true e h =
-    let same : c ≡ a.1 = ap (λ (o : Option (ℤ × ℤ)). (unwrap_or o a).1) h in
-    subst (Counted counts) same (counted_by counts w c (int_eq c (pos 0)) refl e)
-counted_said counts w c a false e h = absurd cc
-
-counted_in : (counts : Bool) (r s : Result ℤ NumberFault) (a : ℤ × ℤ) → amount_said counts r s ≡ Some a → Counted counts a.1
-counted_in counts (Ok w) (Ok c) a h = counted_said counts w c a (is_amount counts w c) refl h
-counted_in counts (Ok w) (Err e) a h = absurd cc
-counted_in counts (Err d) (Ok c) a h = absurd cc
-counted_in counts (Err d) (Err e) a h = absurd cc
-
 -- A line of such a kind has an amount.
 abbrev pub carries : LineKind → Bool
 carries Pit = false
@@ -96,28 +52,6 @@ carries Source = true
 carries Rest = true
 carries Sink = true
 carries End = false
-
-amount_tested : (counts : Bool) (w c : ℤ) (a : ℤ × ℤ) (t : Bool) → is_amount counts w c ≡ t → cond t (Some (w, c)) None ≡ Some a → is_amount counts a.0 a.1 ≡ true
-amount_tested counts w c a true e h = subst (λ (x : ℤ × ℤ). is_amount counts x.0 x.1 ≡ true) (ap (λ (o : Option (ℤ × ℤ)). unwrap_or o a) h) e
-amount_tested counts w c a false e h = absurd cc
-
-amount_said_so : (counts : Bool) (r s : Result ℤ NumberFault) (a : ℤ × ℤ) → amount_said counts r s ≡ Some a → is_amount counts a.0 a.1 ≡ true
-amount_said_so counts (Ok w) (Ok c) a h = amount_tested counts w c a (is_amount counts w c) refl h
-amount_said_so counts (Ok w) (Err e) a h = absurd cc
-amount_said_so counts (Err d) (Ok c) a h = absurd cc
-amount_said_so counts (Err d) (Err e) a h = absurd cc
-
-amount_parts : (line : BodyLine) (a : ℤ × ℤ) → Some a ≡ Some (line.worth, line.count) → amount_of line ≡ record { w = a.0; c = a.1 }
-amount_parts line a h = sym (ap (λ (o : Option (ℤ × ℤ)). record { w = (unwrap_or o a).0; c = (unwrap_or o a).1 }) h)
-
-abbrev no_parts : ℤ × ℤ
-no_parts = (pos 0, pos 0)
-
-no_amount : (line : BodyLine) → Some no_parts ≡ Some (line.worth, line.count) → amount_of line ≡ zero_amount
-no_amount line h = amount_parts line no_parts h
-
-not_carried : (line : BodyLine) (kind : LineKind) {P : Type 0} → line.kind ≡ kind → carries kind ≡ false → carries line.kind ≡ true → P
-not_carried line kind e f h = absurd (let z : true ≡ false = sym h ∙ ap carries e ∙ f in cc)
 
 -- What a reader may rely on: where the line is not the last one, its block is one of n; only a REST line has a predecessor; and the count fits the group.
 pub record Sound (counts : Bool) (n : ℕ) (line : BodyLine) : Type 0 where
@@ -133,23 +67,12 @@ refused = Err Text
 pub no_line_is : (line : BodyLine) {P : Type 0} → refused ≡ Ok line → P
 no_line_is line h = absurd cc
 
-none_other : (o : Option ℕ) (line : BodyLine) → o ≡ Some line.other → o ≡ Some 0 → line.other ≡ 0
-none_other o line e f = ap (λ (x : Option ℕ). unwrap_or x 0) (sym e ∙ f)
-
 sound_amount : (counts : Bool) (n : ℕ) (kind : LineKind) (b w c : List ℕ) (o : Option ℕ) (line : BodyLine) → Numbered kind (number_below n b) o (amount_in counts w c) line → (is_rest kind ≡ false → o ≡ Some 0) → carries kind ≡ true → Sound counts n line
-sound_amount counts n kind b w c o line m z y = record {
-  other = λ e. none_other o line m.other_is (z (sym (ap is_rest m.kind_is) ∙ e));
-  none = λ e. absurd (let f : true ≡ false = sym y ∙ ap carries (sym m.kind_is ∙ e) in cc);
-  some = λ _. amount_said_so counts (plain_of w) (plain_of c) (line.worth, line.count) m.amount_is;
-  block = λ _. below_limit n line.block b m.block_is;
-  count = counted_in counts (plain_of w) (plain_of c) (line.worth, line.count) m.amount_is;
-}
+sound_amount counts n kind b w c o line m z y = grind (arith, common_steps)
 
 sound_pit : (counts : Bool) (n : ℕ) (words : List (List ℕ)) (line : BodyLine) → pit_line n words ≡ Ok line → Sound counts n line
 sound_pit counts n [] line h = no_line_is line h
-sound_pit counts n (b ∷ []) line h =
-    let m = numbered Pit (number_below n b) (Some 0) (Some (pos 0, pos 0)) line h in
-    record { block = λ _. below_limit n line.block b m.block_is; other = λ _. none_other (Some 0) line m.other_is refl; none = λ _. no_amount line m.amount_is; some = λ h. not_carried line _ m.kind_is refl h; count = inr (sym (ap (λ (o : Option (ℤ × ℤ)). (unwrap_or o (pos 0, pos 0)).1) m.amount_is)) }
+sound_pit counts n (b ∷ []) line h = grind (arith, common_steps)
 sound_pit counts n (b ∷ w ∷ ws) line h = no_line_is line h
 
 sound_block : (counts : Bool) (n : ℕ) (kind : LineKind) (words : List (List ℕ)) (line : BodyLine) → carries kind ≡ true → block_line counts n kind words ≡ Ok line → Sound counts n line
@@ -168,9 +91,7 @@ sound_rest counts n (b ∷ p ∷ w ∷ c ∷ []) line h = sound_amount counts n 
 sound_rest counts n (b ∷ p ∷ w ∷ c ∷ d ∷ ds) line h = no_line_is line h
 
 sound_end : (counts : Bool) (n : ℕ) (words : List (List ℕ)) (line : BodyLine) → end_line words ≡ Ok line → Sound counts n line
-sound_end counts n [] line h =
-    let m = numbered End (Some 0) (Some 0) (Some (pos 0, pos 0)) line h in
-    record { block = λ e. absurd (let z : true ≡ false = sym (ap is_end m.kind_is) ∙ e in cc); other = λ _. none_other (Some 0) line m.other_is refl; none = λ _. no_amount line m.amount_is; some = λ h. not_carried line _ m.kind_is refl h; count = inr (sym (ap (λ (o : Option (ℤ × ℤ)). (unwrap_or o (pos 0, pos 0)).1) m.amount_is)) }
+sound_end counts n [] line h = grind (arith, common_steps)
 sound_end counts n (w ∷ ws) line h = no_line_is line h
 
 sound_with : (counts : Bool) (n : ℕ) (o : Option LineKind) (words : List (List ℕ)) (line : BodyLine) → line_with counts n o words ≡ Ok line → Sound counts n line

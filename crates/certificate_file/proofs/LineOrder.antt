@@ -1,8 +1,7 @@
 -- Lines in order are determined by what they say.
-use Rattle.std.proofs.Common.{◌≡◌, ℕ, ◌<◌, Bool, true, false, cond, not, ◌⊎◌, inl, inr, ℤ, pos, List, [], ◌∷◌, Option, Some, refl, sym, ap, ◌∙◌, subst}
-use Rattle.std.specs.Prelude.{◌&&◌}
+use Rattle.std.proofs.Common.{◌≡◌, ℕ, ◌<◌, Bool, true, false, cond, ◌⊎◌, inl, inr, List, [], ◌∷◌, Option, Some, refl, sym, ap, ◌∙◌, subst, arith}
 use Rattle.std.specs.Cmp.{IsTotalOrder}
-use Rattle.std.specs.Ordering.{int_eq, nat_cmp, ordering_then, ordering_reverse, is_lt}
+use Rattle.std.specs.Ordering.{nat_cmp, ordering_then, ordering_reverse, is_lt}
 use Rattle.std.specs.declared.cmp.Ordering.{Ordering}
 use Rattle.std.specs.declared.cmp.Ordering.TheVariants.{Less, Equal, Greater}
 use Rattle.std.proofs.lemmas.Cmp.{nat_cmp_total, on_total, then_total}
@@ -11,9 +10,9 @@ use Rattle.certificate_file.specs.declared.body_lines.LineKind.TheVariants.{Pit}
 use Rattle.certificate_file.specs.declared.body_lines.BodyLine.{BodyLine}
 use Rattle.certificate_file.specs.BodyLines.{rank, is_end, is_above, is_of_model}
 use Rattle.certificate_file.specs.Certificate.{amount_of, given_amount, is_rest}
-use Rattle.certificate_file.proofs.Amounts.{zero_numbers}
 use Rattle.certificate_file.proofs.Going.{carries}
 use Rattle.certificate_file.proofs.Order.{InOrder, Good}
+use Rattle.std.proofs.lemmas.Grind.{common_steps}
 
 -- The order of lines.
 abbrev pub line_cmp : BodyLine → BodyLine → Ordering
@@ -56,16 +55,10 @@ all_above P l (k ∷ ks) o m h =
 
 -- Two lists in order with the same lines are one.
 head_same : (P : BodyLine → Type 0) (l m : BodyLine) (ls ms : List BodyLine) → InOrder P (Some l) ls → InOrder P (Some m) ms → Has l (m ∷ ms) → Has m (l ∷ ls) → l ≡ m
-head_same P l m ls ms o q h i = elim h [
-  | inl e ↦ sym e
-  | inr x ↦ elim i [ inl e ↦ e | inr y ↦ absurd (not_both l m (all_above P l ls o m y) (all_above P m ms q l x)) ]
-]
+head_same P l m ls ms o q h i = grind (arith, common_steps, not_both, all_above)
 
 tail_same : (P : BodyLine → Type 0) (l m : BodyLine) (ls ms : List BodyLine) → InOrder P (Some l) ls → l ≡ m → ((x : BodyLine) → Has x (l ∷ ls) → Has x (m ∷ ms)) → (x : BodyLine) → Has x ls → Has x ms
-tail_same P l m ls ms o e f x h = elim (f x (inr h)) [
-  | inl i ↦ absurd (not_itself l (subst (λ (y : BodyLine). Above l y) (sym (e ∙ i)) (all_above P l ls o x h)))
-  | inr i ↦ i
-]
+tail_same P l m ls ms o e f x h = grind (arith, common_steps, not_itself, Above, all_above)
 
 pub same_lines : (P : BodyLine → Type 0) (p q : Option BodyLine) (ls ms : List BodyLine) → InOrder P p ls → InOrder P q ms → ((x : BodyLine) → Has x ls → Has x ms) → ((x : BodyLine) → Has x ms → Has x ls) → ls ≡ ms
 same_lines P p q [] [] o r f g = refl
@@ -85,21 +78,8 @@ pub record Proper (n : ℕ) (has : ℕ → ℕ → Bool) (l : BodyLine) : Type 0
   pub some : carries l.kind ≡ true → is_zero (amount_of l) ≡ false
   pub pair : is_of_model has l.kind l ≡ true
 
-not_zero : (counts : Bool) (w c : ℤ) (t u : Bool) → int_eq c (pos 0) ≡ t → int_eq w (pos 0) ≡ u → cond t (not u) counts ≡ true → (u && t) ≡ false
-not_zero counts w c true true e f h = absurd (let z : false ≡ true = h in cc)
-not_zero counts w c true false e f h = refl
-not_zero counts w c false true e f h = refl
-not_zero counts w c false false e f h = refl
-
 pub good_is_proper : (counts : Bool) (n : ℕ) (has : ℕ → ℕ → Bool) (l : BodyLine) → Good counts n has l → Proper n has l
-good_is_proper counts n has l g = record {
-  block = g.sound.block g.last;
-  last = g.last;
-  other = g.sound.other;
-  none = g.sound.none;
-  some = λ h. zero_numbers (amount_of l) ∙ not_zero counts l.worth l.count (int_eq l.count (pos 0)) (int_eq l.worth (pos 0)) refl refl (g.sound.some h);
-  pair = g.of_model;
-}
+good_is_proper counts n has l g = grind (arith, common_steps)
 
 -- What the lines give is what one of them gives, or what there was before.
 pub record Found (gives : BodyLine → Bool) (a : Amount) (ls : List BodyLine) : Type 0 where
@@ -112,14 +92,8 @@ later : (gives : BodyLine → Bool) (a : Amount) (m : BodyLine) (ms : List BodyL
 later gives a m ms f = record { line = f.line; held = inr f.held; so = f.so; amount = f.amount }
 
 found_at : (gives : BodyLine → Bool) (x : Amount) (m : BodyLine) (ms : List BodyLine) (t : Bool) → gives m ≡ t → ((y : Amount) → (given_amount gives y ms ≡ y) ⊎ Found gives (given_amount gives y ms) ms) → (given_amount gives (cond t (amount_of m) x) ms ≡ x) ⊎ Found gives (given_amount gives (cond t (amount_of m) x) ms) (m ∷ ms)
-found_at gives x m ms true e ih = elim (ih (amount_of m)) [
-  | inl f ↦ inr (record { line = m; held = inl refl; so = e; amount = sym f })
-  | inr f ↦ inr (later gives (given_amount gives (amount_of m) ms) m ms f)
-]
-found_at gives x m ms false e ih = elim (ih x) [
-  | inl f ↦ inl f
-  | inr f ↦ inr (later gives (given_amount gives x ms) m ms f)
-]
+found_at gives x m ms true e ih = grind (arith, common_steps)
+found_at gives x m ms false e ih = grind (arith, common_steps)
 
 pub found : (gives : BodyLine → Bool) (ls : List BodyLine) (x : Amount) → (given_amount gives x ls ≡ x) ⊎ Found gives (given_amount gives x ls) ls
 found gives [] x = inl refl

@@ -1,10 +1,6 @@
 -- Lines in order: their PIT lines name ascending blocks, all below n.
 use Rattle.std.proofs.Common.{◌≡◌, ℕ, zero, suc, get_or, ◌+◌, ◌<◌, Bool, true, false, cond, List, [], ◌∷◌, length, Option, Some, None, Result, Ok, Err, refl, sym, ap, ◌∙◌, subst, arith}
 use Rattle.std.specs.List.{All}
-use Rattle.std.specs.Ordering.{nat_cmp, ordering_then, is_lt, MatchOrdering}
-use Rattle.std.specs.declared.cmp.Ordering.{Ordering}
-use Rattle.std.specs.declared.cmp.Ordering.TheVariants.{Less, Equal, Greater}
-use Rattle.std.specs.Cmp.{ranks}
 use Rattle.std.specs.Result.{result_unwrap_or}
 use Rattle.closure_net.specs.Network.{IsAscending}
 use Rattle.certificate_file.specs.declared.cert_fault.CertFault.{CertFault}
@@ -15,9 +11,10 @@ use Rattle.certificate_file.specs.declared.body_lines.LineKind.TheVariants.{Pit,
 use Rattle.certificate_file.specs.declared.body_lines.BodyLine.{BodyLine}
 use Rattle.certificate_file.specs.Pieces.{Piece, read_line}
 use Rattle.certificate_file.specs.Header.{◌>>=◌}
-use Rattle.certificate_file.specs.BodyLines.{line_of, is_end, is_of_model, is_above, may_follow, rank, line_behind, next_line, in_order, in_model, end_fault, fault_from, body_fault, lines_of_pieces, lines_from}
-use Rattle.certificate_file.specs.Certificate.{pit_of, block_if_pit, is_rest}
+use Rattle.certificate_file.specs.BodyLines.{line_of, is_end, is_of_model, is_above, may_follow, line_behind, next_line, in_order, in_model, end_fault, fault_from, body_fault, lines_of_pieces, lines_from}
+use Rattle.certificate_file.specs.Certificate.{pit_of, block_if_pit}
 use Rattle.certificate_file.proofs.Going.{Sound, text_read, sound}
+use Rattle.std.proofs.lemmas.Grind.{common_steps}
 
 -- Lines that stand in order, of each of which P holds.
 abbrev pub InOrder : (BodyLine → Type 0) → Option BodyLine → List BodyLine → Type 0
@@ -39,9 +36,7 @@ bind_ok (Ok a) f x h = (a, refl, h)
 bind_ok (Err e) f x h = absurd cc
 
 order_ok : (previous : Option BodyLine) (k : ℕ) (r line : BodyLine) (t : Bool) → may_follow previous r ≡ t → cond t (Ok r) (Err (fault.OutOfOrder k)) ≡ Ok line → (may_follow previous line ≡ true) × (r ≡ line)
-order_ok previous k r line true e h =
-    let same : r ≡ line = ap (λ (x : Result BodyLine CertFault). result_unwrap_or x r) h in
-    (subst (λ (x : BodyLine). may_follow previous x ≡ true) same e, same)
+order_ok previous k r line true e h = grind (arith, common_steps)
 order_ok previous k r line false e h = absurd cc
 
 model_ok : (has : ℕ → ℕ → Bool) (k : ℕ) (r line : BodyLine) (t : Bool) → is_of_model has r.kind r ≡ t → cond t (Ok r) (Err (fault.UnknownPair k)) ≡ Ok line → (is_of_model has line.kind line ≡ true) × (r ≡ line)
@@ -91,34 +86,13 @@ stands_in_order counts n has previous k [] h = absurd cc
 stands_in_order counts n has previous k (p ∷ ps) h =
     read_on counts n has previous k p ps (next_line counts n has previous (k + 1) p) refl h (λ line g. stands_in_order counts n has (Some line) (k + 1) ps g)
 
--- PIT lines stand first, with ascending blocks.
-blocks_rise : (pb po lb lo : ℕ) (o : Ordering) → MatchOrdering o (pb < lb) (pb ≡ lb) (lb < pb) → po ≡ 0 → lo ≡ 0 → is_lt (ordering_then o (nat_cmp po lo)) ≡ true → pb < lb
-blocks_rise pb po lb lo Less r e f h = r
-blocks_rise pb po lb lo Equal r e f h =
-    let same : nat_cmp po lo ≡ Equal = ap (λ (x : ℕ). nat_cmp x lo) e ∙ ap (λ (x : ℕ). nat_cmp 0 x) f in
-    let z : false ≡ true = sym (ap is_lt same) ∙ h in
-    absurd cc
-blocks_rise pb po lb lo Greater r e f h = absurd cc
-
-pit_before : (kind : LineKind) (pb po lb lo : ℕ) → (is_rest kind ≡ false → po ≡ 0) → lo ≡ 0 → is_lt (ordering_then (nat_cmp (rank kind) 0) (ordering_then (nat_cmp pb lb) (nat_cmp po lo))) ≡ true → (kind ≡ Pit) × (pb < lb)
-pit_before Pit pb po lb lo e f h = (refl, blocks_rise pb po lb lo (nat_cmp pb lb) (ranks pb lb) (e refl) f h)
-pit_before Source pb po lb lo e f h = absurd cc
-pit_before Rest pb po lb lo e f h = absurd cc
-pit_before Sink pb po lb lo e f h = absurd cc
-pit_before End pb po lb lo e f h = absurd cc
-
 above_pit : (counts : Bool) (n : ℕ) (l m : BodyLine) → Sound counts n l → Sound counts n m → m.kind ≡ Pit → is_above l m ≡ true → (l.kind ≡ Pit) × (l.block < m.block)
-above_pit counts n l m s t k h =
-    let now = subst (λ (x : LineKind). is_lt (ordering_then (nat_cmp (rank l.kind) (rank x)) (ordering_then (nat_cmp l.block m.block) (nat_cmp l.other m.other))) ≡ true) k h in
-    pit_before l.kind l.block l.other m.block m.other s.other (t.other (ap is_rest k)) now
+above_pit counts n l m s t k h = grind (arith, common_steps)
 
 later : (counts : Bool) (n : ℕ) (l m : BodyLine) (bs : List ℕ) (k : LineKind) → m.kind ≡ k → Sound counts n l → Sound counts n m → is_above l m ≡ true → ((i : ℕ) → i < length bs → (m.kind ≡ Pit) × (m.block < get_or bs i 0))
     → (i : ℕ) → i < length (block_if_pit k m.block bs) → (l.kind ≡ Pit) × (l.block < get_or (block_if_pit k m.block bs) i 0)
 later counts n l m bs Pit e s t a ih zero h = above_pit counts n l m s t e a
-later counts n l m bs Pit e s t a ih (suc i) h =
-    let q = above_pit counts n l m s t e a in
-    let r = ih i (omega arith) in
-    (q.0, omega (arith, q.1, r.1))
+later counts n l m bs Pit e s t a ih (suc i) h = grind (arith, common_steps)
 later counts n l m bs Source e s t a ih i h = let z = ih i h in let y : Source ≡ Pit = sym e ∙ z.0 in absurd cc
 later counts n l m bs Rest e s t a ih i h = let z = ih i h in let y : Rest ≡ Pit = sym e ∙ z.0 in absurd cc
 later counts n l m bs Sink e s t a ih i h = let z = ih i h in let y : Sink ≡ Pit = sym e ∙ z.0 in absurd cc

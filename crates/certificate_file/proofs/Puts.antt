@@ -1,5 +1,5 @@
 -- A text that is put line after line.
-use Rattle.std.proofs.Common.{◌≡◌, ℕ, suc, ◌+◌, ◌<◌, Bool, true, false, cond, List, [], ◌∷◌, ◌++◌, length, map, get_or, drop, Option, refl, sym, ap, ◌∙◌, subst, append_assoc, append-nil, add-one, drop-cons}
+use Rattle.std.proofs.Common.{◌≡◌, ℕ, ◌+◌, ◌<◌, true, false, List, [], ◌∷◌, ◌++◌, length, map, get_or, drop, Option, refl, sym, ap, ◌∙◌, subst, append_assoc, append-nil, arith}
 use Rattle.std.specs.Io.KnownBytes.{Appends}
 use Rattle.fixed_worth.specs.Device.{ReceivedPrefix, SentOrHeld}
 use Rattle.fixed_worth.proofs.Pieces.{all_held, held_more, held_more_prefix, prefix_of_first, held_both, held_sent, held_prefix, prefix_in_first, prefix_in_second}
@@ -8,7 +8,8 @@ use Rattle.closure_net.specs.Network.{FlowView}
 use Rattle.certificate_file.specs.declared.body_lines.LineKind.TheVariants.{Source, Rest, Sink}
 use Rattle.certificate_file.specs.declared.body_lines.LineKind.{LineKind}
 use Rattle.certificate_file.specs.declared.body_lines.BodyLine.{BodyLine}
-use Rattle.certificate_file.specs.Written.{spaced_words, line_words, body_text, amount_lines, pit_at, line_of_block, pair_at, line_at, flow_lines}
+use Rattle.certificate_file.specs.Written.{spaced_words, line_words, body_text, amount_lines, pit_at, line_at, flow_lines}
+use Rattle.std.proofs.lemmas.Grind.{common_steps}
 
 -- Of all that is to be put, behind what was held at first, this is left.
 pub record Put (a b : Option (List ℕ)) (first now left all : List ℕ) : Type 0 where
@@ -33,20 +34,11 @@ put_failed a b c first now piece left all p h =
     let same : ((first ++ p.done) ++ piece) ++ left ≡ first ++ all = append_assoc (first ++ p.done) piece left ∙ append_assoc first p.done (piece ++ left) ∙ ap (λ (t : List ℕ). first ++ t) p.whole in
     subst (ReceivedPrefix a c) same more
 
--- What is left to put, one line on.
-pub line_first : (l : BodyLine) (ls : List BodyLine) → body_text (l ∷ ls) ≡ (spaced_words (line_words l) ++ (10 ∷ [])) ++ body_text ls
-line_first l ls = sym (append_assoc (spaced_words (line_words l)) (10 ∷ []) (body_text ls))
-
 pub none_written : (line : ℕ → Amount → BodyLine) (k : ℕ) (xs : List Amount) (x : Amount) → k < length xs → get_or xs k zero_amount ≡ x → is_zero x ≡ true → body_text (amount_lines line k (drop k xs)) ≡ body_text (amount_lines line (k + 1) (drop (k + 1) xs))
-none_written line k xs x h e z =
-    let d : drop k xs ≡ x ∷ drop (k + 1) xs = drop-cons xs k zero_amount h ∙ ap (λ (y : Amount). y ∷ drop (suc k) xs) e ∙ ap (λ (n : ℕ). x ∷ drop n xs) (sym (add-one k)) in
-    ap (λ (ys : List Amount). body_text (amount_lines line k ys)) d ∙ ap (λ (t : Bool). body_text (cond t (amount_lines line (k + 1) (drop (k + 1) xs)) (line k x ∷ amount_lines line (k + 1) (drop (k + 1) xs)))) z
+none_written line k xs x h e z = grind (arith, common_steps)
 
 pub one_written : (line : ℕ → Amount → BodyLine) (k : ℕ) (xs : List Amount) (x : Amount) → k < length xs → get_or xs k zero_amount ≡ x → is_zero x ≡ false → body_text (amount_lines line k (drop k xs)) ≡ (spaced_words (line_words (line k x)) ++ (10 ∷ [])) ++ body_text (amount_lines line (k + 1) (drop (k + 1) xs))
-one_written line k xs x h e z =
-    let d : drop k xs ≡ x ∷ drop (k + 1) xs = drop-cons xs k zero_amount h ∙ ap (λ (y : Amount). y ∷ drop (suc k) xs) e ∙ ap (λ (n : ℕ). x ∷ drop n xs) (sym (add-one k)) in
-    ap (λ (ys : List Amount). body_text (amount_lines line k ys)) d ∙ ap (λ (t : Bool). body_text (cond t (amount_lines line (k + 1) (drop (k + 1) xs)) (line k x ∷ amount_lines line (k + 1) (drop (k + 1) xs)))) z
-    ∙ line_first (line k x) (amount_lines line (k + 1) (drop (k + 1) xs))
+one_written line k xs x h e z = grind (arith, common_steps)
 
 pub line_put : (line : ℕ → Amount → BodyLine) (xs : List Amount) (k : ℕ) (x : Amount) (l : BodyLine) (a b c : Option (List ℕ)) (first now next all : List ℕ) → k < length xs → get_or xs k zero_amount ≡ x → is_zero x ≡ false → l ≡ line k x
     → Put a b first now (body_text (amount_lines line k (drop k xs))) all → SentOrHeld b c next (now ++ (spaced_words (line_words l) ++ (10 ∷ []))) → Put a c first next (body_text (amount_lines line (k + 1) (drop (k + 1) xs))) all
@@ -68,9 +60,7 @@ line_skipped line xs k x a b first now all h e z p = subst (λ (t : List ℕ). P
 
 -- The steps of the loop over the blocks of the pit.
 block_written : (bs : List ℕ) (k : ℕ) → k < length bs → body_text (map pit_at (drop k bs)) ≡ (spaced_words (line_words (pit_at (get_or bs k 0))) ++ (10 ∷ [])) ++ body_text (map pit_at (drop (k + 1) bs))
-block_written bs k h =
-    let d : drop k bs ≡ get_or bs k 0 ∷ drop (k + 1) bs = drop-cons bs k 0 h ∙ ap (λ (n : ℕ). get_or bs k 0 ∷ drop n bs) (sym (add-one k)) in
-    ap (λ (xs : List ℕ). body_text (map pit_at xs)) d ∙ line_first (pit_at (get_or bs k 0)) (map pit_at (drop (k + 1) bs))
+block_written bs k h = grind (arith, common_steps)
 
 pub block_put : (bs : List ℕ) (k : ℕ) (a b c : Option (List ℕ)) (first now next all : List ℕ) → k < length bs → Put a b first now (body_text (map pit_at (drop k bs))) all
     → SentOrHeld b c next (now ++ (spaced_words (line_words (pit_at (get_or bs k 0))) ++ (10 ∷ []))) → Put a c first next (body_text (map pit_at (drop (k + 1) bs))) all
@@ -114,9 +104,7 @@ abbrev pub kind_text : LineKind → List (ℕ × ℕ) → List Amount → List �
 kind_text kind pairs xs = body_text (amount_lines (line_at kind pairs) 0 xs)
 
 flow_is : (pairs : List (ℕ × ℕ)) (flow : FlowView) (xs ys zs : List Amount) → xs ≡ flow.source → ys ≡ flow.rest → zs ≡ flow.sink → kind_text Source pairs xs ++ (kind_text Rest pairs ys ++ kind_text Sink pairs zs) ≡ body_text (flow_lines pairs flow)
-flow_is pairs flow xs ys zs e f g =
-    ap (λ (us : List Amount). kind_text Source pairs us ++ (kind_text Rest pairs ys ++ kind_text Sink pairs zs)) e ∙ ap (λ (us : List Amount). kind_text Source pairs flow.source ++ (kind_text Rest pairs us ++ kind_text Sink pairs zs)) f ∙ ap (λ (us : List Amount). kind_text Source pairs flow.source ++ (kind_text Rest pairs flow.rest ++ kind_text Sink pairs us)) g
-    ∙ flow_parts (amount_lines (line_of_block Source) 0 flow.source) (amount_lines (pair_at pairs) 0 flow.rest) (amount_lines (line_of_block Sink) 0 flow.sink)
+flow_is pairs flow xs ys zs e f g = grind (arith, common_steps, kind_text, flow_parts)
 
 pub flow_first_failed : (pairs : List (ℕ × ℕ)) (flow : FlowView) (xs : List Amount) (a b : Option (List ℕ)) (p : List ℕ) → xs ≡ flow.source → ReceivedPrefix a b (p ++ kind_text Source pairs xs) → ReceivedPrefix a b (p ++ body_text (flow_lines pairs flow))
 flow_first_failed pairs flow xs a b p e h = first_failed a b p (kind_text Source pairs xs) (kind_text Rest pairs flow.rest) (kind_text Sink pairs flow.sink) _ (flow_is pairs flow xs flow.rest flow.sink e refl refl) h

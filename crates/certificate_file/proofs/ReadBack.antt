@@ -1,5 +1,5 @@
 -- The text of a value is read without a fault.
-use Rattle.std.proofs.Common.{◌≡◌, ℕ, ◌+◌, ◌≤◌, Bool, true, false, cond, ltb, List, [], ◌∷◌, ◌++◌, length, drop, Option, Some, None, Result, Ok, Err, refl, sym, ap, ◌∙◌, subst, arith, append_assoc, length-append}
+use Rattle.std.proofs.Common.{◌≡◌, ℕ, ◌+◌, ◌≤◌, Bool, true, false, cond, ltb, List, [], ◌∷◌, ◌++◌, length, drop, Option, Some, None, Result, Ok, refl, sym, ap, ◌∙◌, subst, arith, append_assoc, length-append}
 use Rattle.std.proofs.lemmas.Bool.{eq-eqb}
 use Rattle.std.specs.Prelude.{pos}
 use Rattle.std.specs.Str.{bytes_eq}
@@ -11,19 +11,18 @@ use lib.Chars.{codes}
 use Rattle.fixed_worth.specs.declared.limits.TheConstants.{MOST_BLOCKS, LINE_BYTES, MOST_FACTOR}
 use Rattle.ordered_group.specs.declared.groups.Group.{Group}
 use Rattle.ordered_group.specs.Group.{group_name}
-use Rattle.ordered_group.proofs.Names.{group_read, group_name-one_word, group_name-few}
+use Rattle.ordered_group.proofs.Names.{group_name-one_word, group_name-few}
 use Rattle.certificate_file.specs.declared.header.Price.{Price}
 use Rattle.certificate_file.specs.declared.header.Price.TheVariants.{Objective, Factor, Mill}
 use Rattle.certificate_file.specs.declared.header.Version.{Version}
 use Rattle.certificate_file.specs.declared.header.Version.TheVariants.{One, Two}
 use Rattle.certificate_file.specs.declared.cert_fault.LineFault.{LineFault}
-use Rattle.certificate_file.specs.declared.cert_fault.LineFault.TheVariants.{Text}
 use Rattle.certificate_file.specs.declared.body_lines.LineKind.{LineKind}
 use Rattle.certificate_file.specs.declared.body_lines.LineKind.TheVariants.{Pit, Source, Rest, Sink, End}
 use Rattle.certificate_file.specs.declared.body_lines.BodyLine.{BodyLine}
 use Rattle.certificate_file.specs.Pieces.{Piece, pieces_of, words_of, read_line, no_line, number_below}
-use Rattle.certificate_file.specs.Header.{header_for, version_in, value_behind, value_behind_both, or_number, wanted_blocks, blocks_said, blocks_in, factor_of, price_said, mill_of, mill_said, price_in, group_named, group_said, group_in}
-use Rattle.certificate_file.specs.BodyLines.{line_of, is_end, rank, is_of_model, may_follow, next_line, end_fault, fault_from, body_fault, lines_from, lines_of_pieces}
+use Rattle.certificate_file.specs.Header.{header_for, version_in, value_behind, value_behind_both, or_number, wanted_blocks, blocks_said, blocks_in, factor_of, price_said, mill_of, mill_said, price_in, group_in}
+use Rattle.certificate_file.specs.BodyLines.{is_end, rank, is_of_model, may_follow, next_line, body_fault, lines_of_pieces}
 use Rattle.certificate_file.specs.Certificate.{wanted_for}
 use Rattle.certificate_file.specs.ReadBack.{IsPrice}
 use Rattle.certificate_file.specs.Written.{spaced_words, lines_text, line_words, version_for, price_words, header_words, header_with, body_text, end_text}
@@ -34,6 +33,7 @@ use Rattle.certificate_file.proofs.Order.{InOrder}
 use Rattle.certificate_file.proofs.LineOrder.{Proper}
 use Rattle.certificate_file.proofs.ValueLines.{UpTo, higher}
 use Rattle.certificate_file.proofs.Readable.{Readable, number_read}
+use Rattle.std.proofs.lemmas.Grind.{common_steps}
 
 abbrev pub line_piece : List ℕ → Piece
 line_piece text = record { text = text; ended = true }
@@ -46,9 +46,7 @@ pub line_read : {A : Type 0} (f : List ℕ → Result A LineFault) (k : ℕ) (te
 line_read f k text x h e = rw (short_line k text h, e) refl
 
 next_read : (counts : Bool) (n : ℕ) (has : ℕ → ℕ → Bool) (previous : Option BodyLine) (k : ℕ) (l : BodyLine) → Readable counts n l → may_follow previous l ≡ true → is_of_model has l.kind l ≡ true → next_line counts n has previous k (line_piece (spaced_words (line_words l))) ≡ Ok l
-next_read counts n has previous k l r f m =
-    let e : read_line (line_of counts n) k (line_piece (spaced_words (line_words l))) ≡ Ok l = line_read (line_of counts n) k (spaced_words (line_words l)) l r.short r.read in
-    rw (e, f, m) refl
+next_read counts n has previous k l r f m = grind (arith, common_steps)
 
 -- The body.
 abbrev pub Both : Bool → ℕ → (ℕ → ℕ → Bool) → BodyLine → Type 0
@@ -76,15 +74,7 @@ read_end : (counts : Bool) (n : ℕ) (has : ℕ → ℕ → Bool) (previous : Op
 read_end counts n has previous k u = let f : may_follow previous end_line ≡ true = last_follows previous u in record { none = rw f refl; lines = refl }
 
 read_more : (counts : Bool) (n : ℕ) (has : ℕ → ℕ → Bool) (previous : Option BodyLine) (k : ℕ) (l : BodyLine) (ls : List BodyLine) (rest : List ℕ) → Both counts n has l → may_follow previous l ≡ true → ReadAs counts n has (Some l) (k + 1) rest ls → ReadAs counts n has previous k (spaced_words (line_words l) ++ (10 ∷ rest)) (l ∷ ls)
-read_more counts n has previous k l ls rest b f r =
-    let pieces : pieces_of (spaced_words (line_words l) ++ (10 ∷ rest)) ≡ line_piece (spaced_words (line_words l)) ∷ pieces_of rest = line_before (spaced_words (line_words l)) rest b.0.feed in
-    let next = next_read counts n has previous (k + 1) l b.0 f b.1.pair in
-    record {
-      none = ap (body_fault counts n has previous k) pieces
-          ∙ ap (fault_from (end_fault (k + 1) (pieces_of rest)) (λ m. body_fault counts n has (Some m) (k + 1) (pieces_of rest))) next
-          ∙ ap (λ (t : Bool). cond t (end_fault (k + 1) (pieces_of rest)) (body_fault counts n has (Some l) (k + 1) (pieces_of rest))) b.1.last ∙ r.none;
-      lines = ap (lines_of_pieces counts n) pieces ∙ ap (lines_from (lines_of_pieces counts n (pieces_of rest))) b.0.read ∙ ap (λ (t : Bool). cond t [] (l ∷ lines_of_pieces counts n (pieces_of rest))) b.1.last ∙ ap (λ (ms : List BodyLine). l ∷ ms) r.lines;
-    }
+read_more counts n has previous k l ls rest b f r = grind (arith, common_steps, line_piece, line_before, next_read)
 
 pub body_read : (counts : Bool) (n : ℕ) (has : ℕ → ℕ → Bool) (ls : List BodyLine) (previous : Option BodyLine) (k : ℕ) → UpTo 3 previous → InOrder (Both counts n has) previous ls → ReadAs counts n has previous k (body_text ls ++ end_text) ls
 body_read counts n has [] previous k u o = read_end counts n has previous k u
@@ -148,11 +138,7 @@ price_read (Mill k) h =
     ∙ ap (λ (o : Option ℕ). or_number (mill_of o)) (number_read (MOST_FACTOR + 1) k (omega arith) (omega arith))
 
 kind_read : (n : ℕ) (name : Group) → group_in (wanted_for n name) (spaced_words (codes "GROUP" ∷ group_name name ∷ [])) ≡ Ok name
-kind_read n name =
-    let same : bytes_eq (group_name name) (group_name name) ≡ true = (bytes_eq-Decides (group_name name) (group_name name)).1 refl in
-    ap (group_said (wanted_for n name)) (keyed_read (codes "GROUP") (group_name name) refl (group_name-one_word name) refl)
-    ∙ ap (group_named (wanted_for n name)) (group_read name)
-    ∙ ap (λ (t : Bool). cond t (Ok name) (Err Text)) same
+kind_read n name = grind (arith, common_steps)
 
 abbrev pub head_of : ℕ → Price → Group → List ℕ
 head_of n price name = lines_text (header_words (header_with n price name))

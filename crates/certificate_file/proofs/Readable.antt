@@ -1,5 +1,5 @@
 -- What is written of a line is read as that line.
-use Rattle.std.proofs.Common.{◌≡◌, ℕ, suc, ◌+◌, ◌<◌, ◌≤◌, ◌^◌, Bool, true, false, cond, not, ltb, inl, inr, ℤ, pos, negsuc, List, [], ◌∷◌, length, Option, Some, None, Result, Ok, refl, sym, ap, ◌∙◌, subst, arith, length-append}
+use Rattle.std.proofs.Common.{◌≡◌, ℕ, suc, ◌+◌, ◌<◌, ◌≤◌, ◌^◌, Bool, true, false, cond, not, ltb, inl, inr, ℤ, pos, negsuc, List, [], ◌∷◌, length, Option, Some, Ok, refl, sym, ap, ◌∙◌, arith, length-append}
 use Rattle.std.specs.Prelude.{◌&&◌, FitsSigned}
 use Rattle.std.specs.Int.{w128}
 use Rattle.std.specs.Fmt.{decimal, signed_decimal}
@@ -9,20 +9,19 @@ use Rattle.std.proofs.lemmas.Bool.Decides.{nat_tests, Decides-int_eq}
 use Rattle.std.proofs.lemmas.Fmt.{length-decimal-le_wide}
 use lib.Chars.{codes}
 use Rattle.fixed_worth.specs.declared.limits.TheConstants.{MOST_BLOCKS, LINE_BYTES}
-use Rattle.fixed_worth.specs.declared.numerals.NumberFault.{NumberFault}
-use Rattle.fixed_worth.specs.Numeral.{plain_of}
 use Rattle.fixed_worth.proofs.PlainNumbers.{printed_is_plain}
 use Rattle.ordered_group.specs.Amount.{Amount, is_zero, FitsPair}
 use Rattle.certificate_file.specs.declared.body_lines.LineKind.{LineKind}
 use Rattle.certificate_file.specs.declared.body_lines.LineKind.TheVariants.{Pit, Source, Rest, Sink}
 use Rattle.certificate_file.specs.declared.body_lines.BodyLine.{BodyLine}
 use Rattle.certificate_file.specs.Pieces.{within, number_below}
-use Rattle.certificate_file.specs.BodyLines.{is_amount, amount_said, amount_in, numbered_line, block_line, line_of_words, line_of}
+use Rattle.certificate_file.specs.BodyLines.{is_amount, amount_in, numbered_line, block_line, line_of_words, line_of}
 use Rattle.certificate_file.specs.ReadBack.{Writable}
 use Rattle.certificate_file.specs.Written.{spaced_words, words_with, line_words, pit_at, line_of_block}
 use Rattle.certificate_file.proofs.Amounts.{zero_numbers}
 use Rattle.certificate_file.proofs.Texts.{is_word, are_words, has_no_feed, words_read, spaced_no_feed, decimal_is_word, signed_is_word}
 use Rattle.certificate_file.proofs.Going.{Counted}
+use Rattle.std.proofs.lemmas.Grind.{common_steps}
 
 -- A line whose text is read as the line.
 pub record Readable (counts : Bool) (n : ℕ) (l : BodyLine) : Type 0 where
@@ -55,9 +54,7 @@ pub is_amount_so : (counts : Bool) (x : Amount) → is_zero x ≡ false → Coun
 is_amount_so counts x h k = tested counts x.w x.c (int_eq x.c (pos 0)) (int_eq x.w (pos 0)) refl refl (sym (zero_numbers x) ∙ h) k
 
 amount_read : (counts : Bool) (x : Amount) → is_zero x ≡ false → Counted counts x.c → FitsPair x → amount_in counts (signed_decimal x.w) (signed_decimal x.c) ≡ Some (x.w, x.c)
-amount_read counts x h k f =
-    ap (λ (r : Result ℤ NumberFault). amount_said counts r (plain_of (signed_decimal x.c))) (printed_is_plain x.w f.0) ∙ ap (λ (r : Result ℤ NumberFault). amount_said counts (Ok x.w) r) (printed_is_plain x.c f.1)
-    ∙ ap (λ (t : Bool). cond t (Some (x.w, x.c)) None) (is_amount_so counts x h k)
+amount_read counts x h k f = grind (arith, common_steps, ℤ, printed_is_plain, is_amount_so)
 
 -- Words of a line.
 all_words : (w : List ℕ) (ws : List (List ℕ)) → is_word w ≡ true → are_words ws ≡ true → are_words (w ∷ ws) ≡ true
@@ -68,11 +65,7 @@ spaced_length w v ws m k e f = omega (arith, length-append w (32 ∷ spaced_word
 
 -- From what is said of its words, a line is readable.
 readable : (counts : Bool) (n : ℕ) (l : BodyLine) (w : List ℕ) (ws : List (List ℕ)) → line_words l ≡ w ∷ ws → are_words (w ∷ ws) ≡ true → line_of_words counts n (w ∷ ws) ≡ Ok l → length (spaced_words (w ∷ ws)) ≤ LINE_BYTES → Readable counts n l
-readable counts n l w ws e a r s = record {
-  read = ap (λ (us : List (List ℕ)). line_of counts n (spaced_words us)) e ∙ ap (line_of_words counts n) (words_read w ws a) ∙ r;
-  feed = ap (λ (us : List (List ℕ)). has_no_feed (spaced_words us)) e ∙ spaced_no_feed w ws a;
-  short = subst (λ (us : List (List ℕ)). length (spaced_words us) ≤ LINE_BYTES) (sym e) s;
-}
+readable counts n l w ws e a r s = grind (arith, common_steps, words_read, has_no_feed, spaced_no_feed)
 
 pub pit_readable : (counts : Bool) (n b : ℕ) → n ≤ MOST_BLOCKS → b < n → Readable counts n (pit_at b)
 pit_readable counts n b h l =
@@ -87,9 +80,7 @@ amount_short : (x : Amount) → FitsPair x → length (spaced_words (signed_deci
 amount_short x f = let a = signed_short x.w f.0 in let b = signed_short x.c f.1 in omega (arith, length-append (signed_decimal x.w) (32 ∷ signed_decimal x.c))
 
 block_made : (counts : Bool) (n b : ℕ) (kind : LineKind) (x : Amount) → n ≤ MOST_BLOCKS → b < n → is_zero x ≡ false → Writable counts x → block_line counts n kind (decimal b ∷ signed_decimal x.w ∷ signed_decimal x.c ∷ []) ≡ Ok (line_of_block kind b x)
-block_made counts n b kind x h l z w =
-    ap (λ (o : Option ℕ). numbered_line kind o (Some 0) (amount_in counts (signed_decimal x.w) (signed_decimal x.c))) (number_read n b l (omega arith))
-    ∙ ap (λ (o : Option (ℤ × ℤ)). numbered_line kind (Some b) (Some 0) o) (amount_read counts x z w.count w.fits)
+block_made counts n b kind x h l z w = grind (arith, common_steps, number_read, ℤ, amount_read)
 
 block_readable : (counts : Bool) (n b : ℕ) (kind : LineKind) (x : Amount) (key : List ℕ) → n ≤ MOST_BLOCKS → b < n → Writable counts x → words_with kind (line_of_block kind b x) ≡ key ∷ decimal b ∷ signed_decimal x.w ∷ signed_decimal x.c ∷ [] → is_word key ≡ true → length key ≤ 100
     → line_of_words counts n (key ∷ decimal b ∷ signed_decimal x.w ∷ signed_decimal x.c ∷ []) ≡ Ok (line_of_block kind b x) → Readable counts n (line_of_block kind b x)

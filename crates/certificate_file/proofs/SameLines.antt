@@ -2,26 +2,19 @@
 use Rattle.std.proofs.Common.{◌≡◌, ℕ, suc, ◌<◌, Bool, true, false, eqb, ◌⊎◌, inl, inr, List, [], ◌∷◌, length, get_or, Option, refl, sym, ap, ◌∙◌, subst, arith}
 use Rattle.std.proofs.lemmas.Bool.{eqb-true, eq-eqb}
 use Rattle.std.specs.Prelude.{◌&&◌, ◌||◌}
-use Rattle.std.specs.Ordering.{nat_cmp, ordering_then}
 use Rattle.std.proofs.lemmas.Bool.Decides.{nat_tests}
-use Rattle.ordered_group.specs.Amount.{Amount, zero_amount, is_zero}
+use Rattle.ordered_group.specs.Amount.{Amount, zero_amount}
 use Rattle.ordered_group.specs.Sums.{amount_at}
 use Rattle.closure_net.specs.Network.{FlowView}
 use Rattle.certificate_file.specs.declared.body_lines.LineKind.{LineKind}
 use Rattle.certificate_file.specs.declared.body_lines.LineKind.TheVariants.{Pit, Source, Rest, Sink, End}
 use Rattle.certificate_file.specs.declared.body_lines.BodyLine.{BodyLine}
-use Rattle.certificate_file.specs.BodyLines.{rank, is_end, is_of_model}
+use Rattle.certificate_file.specs.BodyLines.{is_of_model}
 use Rattle.certificate_file.specs.Certificate.{Denotes, has_pair, pit_of, block_if_pit, amount_of, given_amount, gives_source, gives_rest, gives_sink, is_source, is_rest, is_sink}
 use Rattle.certificate_file.proofs.Going.{carries}
 use Rattle.certificate_file.proofs.Order.{InOrder}
-use Rattle.certificate_file.proofs.LineOrder.{line_cmp, Above, not_itself, Has, has_good, same_lines, Proper, Found, found, Tells, given_by}
-
-same_key : (a b : BodyLine) → a.kind ≡ b.kind → a.block ≡ b.block → a.other ≡ b.other → Above a b → ⊥
-same_key a b e f g h =
-    let same : line_cmp a a ≡ line_cmp a b = ap (λ (k : LineKind). ordering_then (nat_cmp (rank a.kind) (rank k)) (ordering_then (nat_cmp a.block a.block) (nat_cmp a.other a.other))) e
-    ∙ ap (λ (x : ℕ). ordering_then (nat_cmp (rank a.kind) (rank b.kind)) (ordering_then (nat_cmp a.block x) (nat_cmp a.other a.other))) f
-    ∙ ap (λ (x : ℕ). ordering_then (nat_cmp (rank a.kind) (rank b.kind)) (ordering_then (nat_cmp a.block b.block) (nat_cmp a.other x))) g in
-    not_itself a (same ∙ h)
+use Rattle.certificate_file.proofs.LineOrder.{Has, has_good, same_lines, Proper, Found, found, Tells, given_by}
+use Rattle.std.proofs.lemmas.Grind.{common_steps}
 
 source_kind : (k : LineKind) (t : Bool) → (is_source k && t) ≡ true → (k ≡ Source) × (t ≡ true)
 source_kind Pit t h = absurd (let z : false ≡ true = h in cc)
@@ -63,22 +56,13 @@ not_rest : (l : BodyLine) (k : LineKind) → l.kind ≡ k → is_rest k ≡ fals
 not_rest l k e f = ap is_rest e ∙ f
 
 pub tells_source : (n : ℕ) (has : ℕ → ℕ → Bool) (b : ℕ) → Tells (Proper n has) (gives_source b)
-tells_source n has b l m p q g h above =
-    let x = source_so b l g in
-    let y = source_so b m h in
-    same_key l m (x.0 ∙ sym y.0) (x.1 ∙ sym y.1) (p.other (not_rest l Source x.0 refl) ∙ sym (q.other (not_rest m Source y.0 refl))) above
+tells_source n has b l m p q g h above = grind (arith, common_steps)
 
 pub tells_sink : (n : ℕ) (has : ℕ → ℕ → Bool) (b : ℕ) → Tells (Proper n has) (gives_sink b)
-tells_sink n has b l m p q g h above =
-    let x = sink_so b l g in
-    let y = sink_so b m h in
-    same_key l m (x.0 ∙ sym y.0) (x.1 ∙ sym y.1) (p.other (not_rest l Sink x.0 refl) ∙ sym (q.other (not_rest m Sink y.0 refl))) above
+tells_sink n has b l m p q g h above = grind (arith, common_steps)
 
 pub tells_rest : (n : ℕ) (has : ℕ → ℕ → Bool) (r : ℕ × ℕ) → Tells (Proper n has) (gives_rest r)
-tells_rest n has r l m p q g h above =
-    let x = rest_so r l g in
-    let y = rest_so r m h in
-    same_key l m (x.0 ∙ sym y.0) (sym x.1 ∙ y.1) (sym x.2 ∙ y.2) above
+tells_rest n has r l m p q g h above = grind (arith, common_steps)
 
 -- Lines with the same parts.
 same_line : (l m : BodyLine) → l.kind ≡ m.kind → l.block ≡ m.block → l.other ≡ m.other → amount_of l ≡ amount_of m → l ≡ m
@@ -87,13 +71,7 @@ same_line l m a b c d = λ i. record { kind = a i; block = b i; other = c i; wor
 -- An amount that one list gives, the other gives.
 given_too : (n : ℕ) (has : ℕ → ℕ → Bool) (gives : BodyLine → Bool) (p q : Option BodyLine) (ls ms : List BodyLine) (l : BodyLine) (x : Amount) → Tells (Proper n has) gives → InOrder (Proper n has) p ls → InOrder (Proper n has) q ms → Has l ls → gives l ≡ true → carries l.kind ≡ true
     → x ≡ given_amount gives zero_amount ls → x ≡ given_amount gives zero_amount ms → Found gives (amount_of l) ms
-given_too n has gives p q ls ms l x t o r h g c e f =
-    let mine : given_amount gives zero_amount ms ≡ amount_of l = sym f ∙ e ∙ given_by (Proper n has) gives p ls zero_amount l t o h g in
-    let some : is_zero (amount_of l) ≡ false = (has_good (Proper n has) p ls o l h).some c in
-    elim (found gives ms zero_amount) [
-      | inl z ↦ absurd (let y : true ≡ false = ap is_zero (sym z ∙ mine) ∙ some in cc)
-      | inr y ↦ subst (λ (a : Amount). Found gives a ms) mine y
-    ]
+given_too n has gives p q ls ms l x t o r h g c e f = grind (arith, common_steps, given_by, Proper, has_good, found, Found)
 
 -- A block that one list has in its pit, the other has.
 abbrev HasBlock : ℕ → List ℕ → Type 0
@@ -184,12 +162,7 @@ moved n pairs blocks flow p q ls ms s t l Rest e h =
     let f = given_too n (has_pair pairs) (gives_rest pair) p q ls ms l (amount_at flow.rest place.0) (tells_rest n (has_pair pairs) pair) s.order t.order h gives (ap carries e) (s.says.rest place.0 place.1) (t.says.rest place.0 place.1) in
     let so = rest_so pair f.line f.so in
     is_same n (has_pair pairs) q ms l f.line f.held (so.0 ∙ sym e) (sym so.1 ∙ at_block) (sym so.2 ∙ at_other) f.amount
-moved n pairs blocks flow p q ls ms s t l End e h =
-    let mine = has_good (Proper n (has_pair pairs)) p ls s.order l h in
-    absurd (let z : true ≡ false = sym (ap is_end e) ∙ mine.last in cc)
+moved n pairs blocks flow p q ls ms s t l End e h = grind (arith, common_steps, has_good, Proper)
 
 pub say_the_same : (n : ℕ) (pairs : List (ℕ × ℕ)) (blocks : List ℕ) (flow : FlowView) (p q : Option BodyLine) (ls ms : List BodyLine) → InOrder (Proper n (has_pair pairs)) p ls → InOrder (Proper n (has_pair pairs)) q ms → Denotes n pairs ls blocks flow → Denotes n pairs ms blocks flow → ls ≡ ms
-say_the_same n pairs blocks flow p q ls ms o r d e =
-    let s : Said n pairs blocks flow p ls = record { order = o; says = d } in
-    let t : Said n pairs blocks flow q ms = record { order = r; says = e } in
-    same_lines (Proper n (has_pair pairs)) p q ls ms o r (λ x h. moved n pairs blocks flow p q ls ms s t x x.kind refl h) (λ x h. moved n pairs blocks flow q p ms ls t s x x.kind refl h)
+say_the_same n pairs blocks flow p q ls ms o r d e = grind (arith, common_steps, same_lines, Proper, moved)

@@ -1,7 +1,6 @@
 -- A text without a fault is spelled as its lines are.
-use Rattle.std.proofs.Common.{◌≡◌, ℕ, ◌+◌, Bool, true, false, cond, ltb, ℤ, pos, negsuc, List, [], ◌∷◌, ◌++◌, length, Option, Some, None, Result, Ok, Err, refl, sym, ap, ◌∙◌, subst, append_assoc}
+use Rattle.std.proofs.Common.{◌≡◌, ℕ, ◌+◌, Bool, true, false, cond, ltb, ℤ, pos, negsuc, List, [], ◌∷◌, ◌++◌, length, Option, Some, None, Result, Ok, Err, refl, sym, ap, ◌∙◌, subst, append_assoc, arith}
 use Rattle.std.specs.Prelude.{unwrap_or}
-use Rattle.std.specs.Str.{bytes_eq}
 use Rattle.std.specs.Fmt.{decimal, signed_decimal}
 use Rattle.std.proofs.lemmas.Slice.Eq.{bytes_eq-Decides}
 use lib.Chars.{codes}
@@ -22,6 +21,7 @@ use Rattle.certificate_file.specs.Written.{spaced_words, words_with, line_words,
 use Rattle.certificate_file.proofs.Texts.{pieces_text, words_make_line}
 use Rattle.certificate_file.proofs.Going.{numbered, text_read, no_line_is}
 use Rattle.certificate_file.proofs.Order.{met}
+use Rattle.std.proofs.lemmas.Grind.{common_steps}
 
 -- The key of a kind.
 abbrev pub key_word : LineKind → List ℕ
@@ -44,8 +44,7 @@ key_at key k false false false false true a b c d e h = named key (codes "END") 
 key_at key k false false false false false a b c d e h = absurd cc
 
 pub key_is : (key : List ℕ) (k : LineKind) → kind_of key ≡ Some k → key ≡ key_word k
-key_is key k h = key_at key k (bytes_eq key (codes "PIT")) (bytes_eq key (codes "SOURCE")) (bytes_eq key (codes "REST")) (bytes_eq key (codes "SINK")) (bytes_eq key (codes "END"))
-    (bytes_eq-Decides key (codes "PIT")).0 (bytes_eq-Decides key (codes "SOURCE")).0 (bytes_eq-Decides key (codes "REST")).0 (bytes_eq-Decides key (codes "SINK")).0 (bytes_eq-Decides key (codes "END")).0 h
+key_is key k h = grind (arith, common_steps, key_at, bytes_eq-Decides)
 
 -- Numbers are spelled as they are printed.
 below_at : (word : List ℕ) (limit j k : ℕ) (t : Bool) → plain_of word ≡ Ok (pos j) → cond t (Some j) None ≡ Some k → word ≡ decimal k
@@ -61,10 +60,7 @@ pub number_is : (word : List ℕ) (limit k : ℕ) → number_below limit word �
 number_is word limit k h = within_is word limit k (plain_of word) refl h
 
 amount_at_test : (v w : List ℕ) (x y : ℤ) (a : ℤ × ℤ) (t : Bool) → plain_of v ≡ Ok x → plain_of w ≡ Ok y → cond t (Some (x, y)) None ≡ Some a → (v ≡ signed_decimal a.0) × (w ≡ signed_decimal a.1)
-amount_at_test v w x y a true e f h = (
-  one_spelling v x e ∙ ap (λ (o : Option (ℤ × ℤ)). signed_decimal (unwrap_or o a).0) h,
-  one_spelling w y f ∙ ap (λ (o : Option (ℤ × ℤ)). signed_decimal (unwrap_or o a).1) h,
-)
+amount_at_test v w x y a true e f h = grind (arith, common_steps, one_spelling, ℤ)
 amount_at_test v w x y a false e f h = absurd cc
 
 amount_of_words : (counts : Bool) (v w : List ℕ) (a : ℤ × ℤ) (r s : Result ℤ NumberFault) → plain_of v ≡ r → plain_of w ≡ s → amount_said counts r s ≡ Some a → (v ≡ signed_decimal a.0) × (w ≡ signed_decimal a.1)
@@ -78,20 +74,14 @@ amount_is counts v w a h = amount_of_words counts v w a (plain_of v) (plain_of w
 
 pit_words : (n : ℕ) (words : List (List ℕ)) (l : BodyLine) → pit_line n words ≡ Ok l → key_word Pit ∷ words ≡ line_words l
 pit_words n [] l h = no_line_is l h
-pit_words n (b ∷ []) l h =
-    let m = numbered Pit (number_below n b) (Some 0) (Some (pos 0, pos 0)) l h in
-    ap (λ (w : List ℕ). codes "PIT" ∷ w ∷ []) (number_is b n l.block m.block_is) ∙ ap (λ (k : LineKind). words_with k l) (sym m.kind_is)
+pit_words n (b ∷ []) l h = grind (arith, common_steps, numbered, pos, number_is)
 pit_words n (b ∷ w ∷ ws) l h = no_line_is l h
 
 block_words : (counts : Bool) (n : ℕ) (kind : LineKind) (words : List (List ℕ)) (l : BodyLine) → words_with kind l ≡ key_word kind ∷ decimal l.block ∷ signed_decimal l.worth ∷ signed_decimal l.count ∷ [] → block_line counts n kind words ≡ Ok l → key_word kind ∷ words ≡ line_words l
 block_words counts n kind [] l e h = no_line_is l h
 block_words counts n kind (b ∷ []) l e h = no_line_is l h
 block_words counts n kind (b ∷ w ∷ []) l e h = no_line_is l h
-block_words counts n kind (b ∷ w ∷ c ∷ []) l e h =
-    let m = numbered kind (number_below n b) (Some 0) (amount_in counts w c) l h in
-    let a = amount_is counts w c (l.worth, l.count) m.amount_is in
-    ap (λ (x : List ℕ). key_word kind ∷ x ∷ w ∷ c ∷ []) (number_is b n l.block m.block_is) ∙ ap (λ (x : List ℕ). key_word kind ∷ decimal l.block ∷ x ∷ c ∷ []) a.0 ∙ ap (λ (x : List ℕ). key_word kind ∷ decimal l.block ∷ signed_decimal l.worth ∷ x ∷ []) a.1
-    ∙ sym e ∙ ap (λ (k : LineKind). words_with k l) (sym m.kind_is)
+block_words counts n kind (b ∷ w ∷ c ∷ []) l e h = grind (arith, common_steps, numbered, amount_is, key_word, number_is)
 block_words counts n kind (b ∷ w ∷ c ∷ d ∷ ds) l e h = no_line_is l h
 
 rest_words : (counts : Bool) (n : ℕ) (words : List (List ℕ)) (l : BodyLine) → rest_line counts n words ≡ Ok l → key_word Rest ∷ words ≡ line_words l
@@ -99,12 +89,7 @@ rest_words counts n [] l h = no_line_is l h
 rest_words counts n (b ∷ []) l h = no_line_is l h
 rest_words counts n (b ∷ p ∷ []) l h = no_line_is l h
 rest_words counts n (b ∷ p ∷ w ∷ []) l h = no_line_is l h
-rest_words counts n (b ∷ p ∷ w ∷ c ∷ []) l h =
-    let m = numbered Rest (number_below n b) (number_below n p) (amount_in counts w c) l h in
-    let a = amount_is counts w c (l.worth, l.count) m.amount_is in
-    ap (λ (x : List ℕ). codes "REST" ∷ x ∷ p ∷ w ∷ c ∷ []) (number_is b n l.block m.block_is) ∙ ap (λ (x : List ℕ). codes "REST" ∷ decimal l.block ∷ x ∷ w ∷ c ∷ []) (number_is p n l.other m.other_is)
-    ∙ ap (λ (x : List ℕ). codes "REST" ∷ decimal l.block ∷ decimal l.other ∷ x ∷ c ∷ []) a.0 ∙ ap (λ (x : List ℕ). codes "REST" ∷ decimal l.block ∷ decimal l.other ∷ signed_decimal l.worth ∷ x ∷ []) a.1
-    ∙ ap (λ (k : LineKind). words_with k l) (sym m.kind_is)
+rest_words counts n (b ∷ p ∷ w ∷ c ∷ []) l h = grind (arith, common_steps, numbered, amount_is, number_is)
 rest_words counts n (b ∷ p ∷ w ∷ c ∷ d ∷ ds) l h = no_line_is l h
 
 end_words : (words : List (List ℕ)) (l : BodyLine) → end_line words ≡ Ok l → key_word End ∷ words ≡ line_words l
@@ -160,9 +145,7 @@ nothing_left k (p ∷ ps) h = absurd cc
 on : (counts : Bool) (n : ℕ) (has : ℕ → ℕ → Bool) (k : ℕ) (p : Piece) (ps : List Piece) (line : BodyLine) (t : Bool) → is_end line.kind ≡ t → p.ended ≡ true → p.text ≡ spaced_words (line_words line)
     → cond t (end_fault (k + 1) ps) (body_fault counts n has (Some line) (k + 1) ps) ≡ None → (body_fault counts n has (Some line) (k + 1) ps ≡ None → pieces_text ps ≡ body_text (lines_of_pieces counts n ps) ++ end_text)
     → pieces_text (p ∷ ps) ≡ body_text (cond t [] (line ∷ lines_of_pieces counts n ps)) ++ end_text
-on counts n has k p ps line true e f g h ih =
-    let last : spaced_words (line_words line) ≡ codes "END" = ap (λ (x : LineKind). spaced_words (words_with x line)) (is_last line.kind e) in
-    piece_text p ps (codes "END") f (g ∙ last) ∙ ap (λ (qs : List Piece). codes "END" ++ (10 ∷ pieces_text qs)) (nothing_left (k + 1) ps h)
+on counts n has k p ps line true e f g h ih = grind (arith, common_steps)
 on counts n has k p ps line false e f g h ih =
     piece_text p ps (spaced_words (line_words line)) f g ∙ ap (λ (t : List ℕ). spaced_words (line_words line) ++ (10 ∷ t)) (ih h) ∙ sym (append_assoc (spaced_words (line_words line)) (10 ∷ body_text (lines_of_pieces counts n ps)) end_text)
 

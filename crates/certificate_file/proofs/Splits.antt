@@ -9,6 +9,7 @@ use Rattle.std.proofs.lemmas.List.{length-take-le}
 use Rattle.std.proofs.lemmas.Bool.Decides.{nat_tests}
 use Rattle.certificate_file.specs.declared.cert_fault.CertFault.TheVariants as fault
 use Rattle.certificate_file.specs.Pieces.{Piece, Unread, onto_piece, pieces_of, piece_at, words_of, no_line}
+use Rattle.std.proofs.lemmas.Grind.{common_steps}
 
 -- The first line ends at the first line feed.
 piece_to : (bs : List ℕ) (j : ℕ) → j < length bs → eqb (get_or bs j 0) 10 ≡ true → ((k : ℕ) → k < j → eqb (get_or bs k 0) 10 ≡ false)
@@ -57,9 +58,7 @@ none_left (b ∷ bs) = more_than_none (length bs) ∙ sym (some_at b bs (eqb b 1
 
 -- The steps of the readers.
 too_long : (k : ℕ) (p : Piece) (bs : List ℕ) → p.text ≡ bs → LINE_BYTES < length bs → no_line k p ≡ Some (fault.Text k)
-too_long k p bs e h =
-    let t : ltb LINE_BYTES (length p.text) ≡ true = rw e (grind (arith, nat_tests)) in
-    rw t refl
+too_long k p bs e h = grind (arith, common_steps)
 
 pub long_first : (bs : List ℕ) (j k : ℕ) (v : Unread) → record { pieces = pieces_of bs; number = k } ≡ v → position (λ x. eqb x 10) bs ≡ Some j → LINE_BYTES < j → no_line (v.number + 1) (piece_at v.pieces 0) ≡ Some (fault.Text (k + 1))
 long_first bs j k v is e h =
@@ -69,15 +68,10 @@ long_first bs j k v is e h =
     (too_long (k + 1) (piece_at (pieces_of bs) 0) (take j bs) (ap (λ (ps : List Piece). (piece_at ps 0).text) (first_piece bs j e)) (omega arith))
 
 pub long_last : (bs : List ℕ) (k : ℕ) (v : Unread) → record { pieces = pieces_of bs; number = k } ≡ v → position (λ x. eqb x 10) bs ≡ None → LINE_BYTES < length bs → no_line (v.number + 1) (piece_at v.pieces 0) ≡ Some (fault.Text (k + 1))
-long_last bs k v is e h =
-    subst (λ (w : Unread). no_line (w.number + 1) (piece_at w.pieces 0) ≡ Some (fault.Text (k + 1))) is
-    (too_long (k + 1) (piece_at (pieces_of bs) 0) bs (ap (λ (p : Piece). p.text) (last_piece bs e)) h)
+long_last bs k v is e h = grind (arith, common_steps, too_long, last_piece)
 
 pub cut_off : (bs : List ℕ) (k : ℕ) (v : Unread) → record { pieces = pieces_of bs; number = k } ≡ v → position (λ x. eqb x 10) bs ≡ None → length bs ≤ LINE_BYTES → no_line (v.number + 1) (piece_at v.pieces 0) ≡ Some fault.Truncated
-cut_off bs k v is e h =
-    let t : ltb LINE_BYTES (length bs) ≡ false = grind (arith, nat_tests) in
-    subst (λ (w : Unread). no_line (w.number + 1) (piece_at w.pieces 0) ≡ Some fault.Truncated) is
-    (ap (no_line (k + 1)) (last_piece bs e) ∙ rw t refl)
+cut_off bs k v is e h = grind (arith, common_steps, ltb, last_piece)
 
 pub line_given : (bs line back rest : List ℕ) (j k : ℕ) (v : Unread) → record { pieces = pieces_of bs; number = k } ≡ v → position (λ x. eqb x 10) bs ≡ Some j → line ≡ take j bs → back ≡ drop j bs → rest ≡ drop 1 back → v.pieces ≡ record { text = line; ended = true } ∷ pieces_of rest
 line_given bs line back rest j k v is e f g h = sym (ap (λ (w : Unread). w.pieces) is) ∙ rw (f, h, g) (first_piece bs j e)
@@ -86,6 +80,4 @@ pub words_left : (ws : List (List ℕ)) (d t : Bool) (bs : List ℕ) → cond d 
 words_left ws d t bs is e = subst (λ (b : Bool). cond b [] (words_of bs) ≡ ws) e is
 
 pub word_step : (ws : List (List ℕ)) (d : Bool) (bs word rest : List ℕ) → cond d [] (words_of bs) ≡ ws → d ≡ false → words_of bs ≡ word ∷ words_of rest → ws ≡ word ∷ cond d [] (words_of rest)
-word_step ws d bs word rest is off cut =
-    let now : words_of bs ≡ ws = words_left ws d false bs is off in
-    rw off (sym now ∙ cut)
+word_step ws d bs word rest is off cut = grind (arith, common_steps)

@@ -12,6 +12,7 @@ use Rattle.std.proofs.lemmas.Fmt.{decimal_by_steps_wide}
 use Rattle.fixed_worth.proofs.Parts.{some_part}
 use Rattle.certificate_file.specs.Pieces.{Piece, onto_piece, pieces_of, words_of}
 use Rattle.certificate_file.specs.Written.{spaced_words}
+use Rattle.std.proofs.lemmas.Grind.{common_steps}
 
 -- The text that pieces make.
 abbrev pub pieces_text : List Piece → List ℕ
@@ -116,9 +117,7 @@ digit_is : (n : ℕ) → n < 10 → is_word ((48 + n) ∷ []) ≡ true
 digit_is n h = grind (arith, nat_tests)
 
 more_digits : (n : ℕ) (ds : List ℕ) → is_word ds ≡ true → is_word (ds ++ ((48 + n % 10) ∷ [])) ≡ true
-more_digits n ds h =
-    let small : n % 10 < 10 = omega arith in
-    list_all-append is_word_byte ds ((48 + n % 10) ∷ []) ∙ rw h (digit_is (n % 10) small)
+more_digits n ds h = grind (arith, common_steps)
 
 pub decimal_is_word : (n : ℕ) → n < 10 ^ 64 → is_word (decimal n) ≡ true
 decimal_is_word n h = decimal_by_steps_wide (λ m ds. is_word ds ≡ true) digit_is (λ m ds i w. more_digits m ds w) n h

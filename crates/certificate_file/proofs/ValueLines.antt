@@ -1,5 +1,5 @@
 -- The lines of a value stand in order, and say the value.
-use Rattle.std.proofs.Common.{◌≡◌, ◌≢◌, ℕ, zero, suc, ◌+◌, ◌<◌, ◌≤◌, Bool, true, false, cond, eqb, ltb, inl, inr, List, [], ◌∷◌, ◌++◌, length, map, get_or, Option, Some, None, refl, sym, ap, ◌∙◌, subst, arith, append-nil}
+use Rattle.std.proofs.Common.{◌≡◌, ◌≢◌, ℕ, zero, suc, ◌+◌, ◌<◌, ◌≤◌, Bool, true, false, cond, eqb, ltb, List, [], ◌∷◌, ◌++◌, length, map, get_or, Option, Some, None, refl, sym, ap, ◌∙◌, subst, arith, append-nil}
 use Rattle.std.proofs.lemmas.Bool.{eq-eqb, ne_eqb}
 use Rattle.std.specs.Prelude.{◌&&◌}
 use Rattle.std.specs.List.{All}
@@ -22,6 +22,7 @@ use Rattle.certificate_file.specs.Written.{pit_at, line_of_block, pair_at, amoun
 use Rattle.certificate_file.proofs.Additions.{present, one_place}
 use Rattle.certificate_file.proofs.Order.{InOrder}
 use Rattle.certificate_file.proofs.LineOrder.{Proper}
+use Rattle.std.proofs.lemmas.Grind.{common_steps}
 
 -- What is read before has at most this rank.
 abbrev pub UpTo : ℕ → Option BodyLine → Type 0
@@ -38,9 +39,6 @@ lower_first a b o h = let e : Less ≡ nat_cmp a b = nat_cmp_is a b Less h in ap
 same_first : (a : ℕ) (o : Ordering) → is_lt o ≡ true → is_lt (ordering_then (nat_cmp a a) o) ≡ true
 same_first a o h = let e : Equal ≡ nat_cmp a a = nat_cmp_is a a Equal refl in ap (λ (x : Ordering). is_lt (ordering_then x o)) (sym e) ∙ h
 
-last_lower : (a b : ℕ) → a < b → is_lt (nat_cmp a b) ≡ true
-last_lower a b h = let e : Less ≡ nat_cmp a b = nat_cmp_is a b Less h in ap is_lt (sym e)
-
 pub higher : (r : ℕ) (p : Option BodyLine) (l : BodyLine) → UpTo r p → r < rank l.kind → may_follow p l ≡ true
 higher r None l u h = refl
 higher r (Some m) l u h = lower_first (rank m.kind) (rank l.kind) (ordering_then (nat_cmp m.block l.block) (nat_cmp m.other l.other)) (omega arith)
@@ -52,13 +50,7 @@ pit_step : (a b : ℕ) → a < b → may_follow (Some (pit_at a)) (pit_at b) ≡
 pit_step a b h = same_first 0 (ordering_then (nat_cmp a b) (nat_cmp 0 0)) (lower_first a b (nat_cmp 0 0) h)
 
 pair_step : (ps : List (ℕ × ℕ)) (i j : ℕ) (x y : Amount) → IsRising ps → i < j → j < length ps → may_follow (Some (pair_at ps i x)) (pair_at ps j y) ≡ true
-pair_step ps i j x y r h l =
-    let a = get_or ps i (0, 0) in
-    let b = get_or ps j (0, 0) in
-    elim (r.rises i j h l) [
-      | inl s ↦ same_first 2 (ordering_then (nat_cmp a.0 b.0) (nat_cmp a.1 b.1)) (lower_first a.0 b.0 (nat_cmp a.1 b.1) s)
-      | inr s ↦ same_first 2 (ordering_then (nat_cmp a.0 b.0) (nat_cmp a.1 b.1)) (ap (λ (z : ℕ). is_lt (ordering_then (nat_cmp a.0 z) (nat_cmp a.1 b.1))) (sym s.0) ∙ same_first a.0 (nat_cmp a.1 b.1) (last_lower a.1 b.1 s.1))
-    ]
+pair_step ps i j x y r h l = grind (arith, common_steps)
 
 -- PIT lines before others.
 abbrev FirstFollows : Option BodyLine → List ℕ → Type 0
@@ -89,17 +81,10 @@ record Rises (line : ℕ → Amount → BodyLine) (top r : ℕ) : Type 0 where
   step : (i j : ℕ) (x y : Amount) → i < j → j < top → may_follow (Some (line i x)) (line j y) ≡ true
   rank_is : (i : ℕ) (x : Amount) → rank (line i x).kind ≤ r
 
-amounts_at : (P : BodyLine → Type 0) (line : ℕ → Amount → BodyLine) (k : ℕ) (x : Amount) (xs : List Amount) (p : Option BodyLine) (rest : List BodyLine) (t : Bool) → is_zero x ≡ t → (is_zero x ≡ false → P (line k x)) → may_follow p (line k x) ≡ true
-    → InOrder P p (amount_lines line (k + 1) xs ++ rest) → InOrder P (Some (line k x)) (amount_lines line (k + 1) xs ++ rest) → InOrder P p (cond t (amount_lines line (k + 1) xs) (line k x ∷ amount_lines line (k + 1) xs) ++ rest)
-amounts_at P line k x xs p rest true e f m a b = a
-amounts_at P line k x xs p rest false e f m a b = (m, f e, b)
-
 amounts : (P : BodyLine → Type 0) (line : ℕ → Amount → BodyLine) (top r : ℕ) → Rises line top r → (xs : List Amount) (k : ℕ) (p : Option BodyLine) (rest : List BodyLine) → k + length xs ≤ top → ((j : ℕ) (x : Amount) → k ≤ j → j < top → may_follow p (line j x) ≡ true) → Each P line k xs → UpTo r p
     → ((q : Option BodyLine) → UpTo r q → InOrder P q rest) → InOrder P p (amount_lines line k xs ++ rest)
 amounts P line top r s [] k p rest l f e u c = c p u
-amounts P line top r s (x ∷ xs) k p rest l f e u c = amounts_at P line k x xs p rest (is_zero x) refl e.0 (f k x (omega arith) (omega arith))
-    (amounts P line top r s xs (k + 1) p rest (omega arith) (λ j y g h. f j y (omega arith) h) e.1 u c)
-    (amounts P line top r s xs (k + 1) (Some (line k x)) rest (omega arith) (λ j y g h. s.step k j x y (omega arith) h) e.1 (s.rank_is k x) c)
+amounts P line top r s (x ∷ xs) k p rest l f e u c = grind (arith, common_steps, (amounts P line top r s xs (k + 1) p rest (omega arith) (λ j y g h. f j y (omega arith) h) e.1 u c), (amounts P line top r s xs (k + 1) (Some (line k x)) rest (omega arith) (λ j y g h. s.step k j x y (omega arith) h) e.1 (s.rank_is k x) c))
 
 no_more : (ls : List BodyLine) → ls ++ [] ≡ ls
 no_more ls = append-nil ls
@@ -138,17 +123,9 @@ line_given : (gives : BodyLine → Bool) (line : ℕ → Amount → BodyLine) (k
 line_given gives line k x y ls true = refl
 line_given gives line k x y ls false = refl
 
-not_given : (t u : Bool) (a y : Amount) → u ≡ false → cond t y (cond u a y) ≡ y
-not_given true u a y h = refl
-not_given false true a y h = absurd (let z : true ≡ false = h in cc)
-not_given false false a y h = refl
-
 amounts_give_nothing : (gives : BodyLine → Bool) (line : ℕ → Amount → BodyLine) (top : ℕ) (xs : List Amount) (k : ℕ) (y : Amount) → k + length xs ≤ top → ((j : ℕ) (x : Amount) → k ≤ j → j < top → gives (line j x) ≡ false) → given_amount gives y (amount_lines line k xs) ≡ y
 amounts_give_nothing gives line top [] k y l f = refl
-amounts_give_nothing gives line top (x ∷ xs) k y l f =
-    line_given gives line k x y (amount_lines line (k + 1) xs) (is_zero x)
-    ∙ ap (λ (a : Amount). given_amount gives a (amount_lines line (k + 1) xs)) (not_given (is_zero x) (gives (line k x)) (amount_of (line k x)) y (f k x (omega arith) (omega arith)))
-    ∙ amounts_give_nothing gives line top xs (k + 1) y (omega arith) (λ j a g h. f j a (omega arith) h)
+amounts_give_nothing gives line top (x ∷ xs) k y l f = grind (arith, common_steps, (amounts_give_nothing gives line top xs (k + 1) y (omega arith) (λ j a g h. f j a (omega arith) h)))
 
 own_given : (x : Amount) (t u : Bool) (a : Amount) → is_zero x ≡ t → u ≡ true → a ≡ x → cond t zero_amount (cond u a zero_amount) ≡ x
 own_given x true u a e f g = sym ((is_eq_tells x zero_amount).0 e)
@@ -169,10 +146,7 @@ amount_given gives line top i o (x ∷ xs) k zero l e h =
     line_given gives line k x zero_amount (amount_lines line (k + 1) xs) (is_zero x)
     ∙ ap (λ (a : Amount). given_amount gives a (amount_lines line (k + 1) xs)) (own_given x (is_zero x) (gives (line k x)) (amount_of (line k x)) refl so (o.same k x))
     ∙ amounts_give_nothing gives line top xs (k + 1) x (omega arith) (λ m y g f. o.others m y (λ s. omega (arith, s)) f)
-amount_given gives line top i o (x ∷ xs) k (suc j) l e h =
-    line_given gives line k x zero_amount (amount_lines line (k + 1) xs) (is_zero x)
-    ∙ ap (λ (a : Amount). given_amount gives a (amount_lines line (k + 1) xs)) (not_given (is_zero x) (gives (line k x)) (amount_of (line k x)) zero_amount (o.others k x (λ s. omega (arith, s)) (omega arith)))
-    ∙ amount_given gives line top i o xs (k + 1) j (omega arith) (omega arith) (omega arith)
+amount_given gives line top i o (x ∷ xs) k (suc j) l e h = grind (arith, common_steps, (amount_given gives line top i o xs (k + 1) j (omega arith) (omega arith) (omega arith)))
 
 -- The blocks of the pit.
 pub joins : (k : LineKind) (b : ℕ) (xs ys : List ℕ) → block_if_pit k b (xs ++ ys) ≡ block_if_pit k b xs ++ ys
@@ -199,13 +173,7 @@ no_pit line f k [] = refl
 no_pit line f k (x ∷ xs) = no_pit_at (line k x) (amount_lines line (k + 1) xs) (is_zero x) (f k x (pit_of (amount_lines line (k + 1) xs))) ∙ no_pit line f (k + 1) xs
 
 pit_is : (pairs : List (ℕ × ℕ)) (pit : List ℕ) (flow : FlowView) → pit ≡ pit_of (value_lines pairs pit flow)
-pit_is pairs pit flow =
-    let none : pit_of (flow_lines pairs flow) ≡ [] = pit_append (amount_lines (line_of_block Source) 0 flow.source) (amount_lines (pair_at pairs) 0 flow.rest ++ amount_lines (line_of_block Sink) 0 flow.sink)
-    ∙ ap (λ (xs : List ℕ). xs ++ pit_of (amount_lines (pair_at pairs) 0 flow.rest ++ amount_lines (line_of_block Sink) 0 flow.sink)) (no_pit (line_of_block Source) (λ k x bs. refl) 0 flow.source)
-    ∙ pit_append (amount_lines (pair_at pairs) 0 flow.rest) (amount_lines (line_of_block Sink) 0 flow.sink)
-    ∙ ap (λ (xs : List ℕ). xs ++ pit_of (amount_lines (line_of_block Sink) 0 flow.sink)) (no_pit (pair_at pairs) (λ k x bs. refl) 0 flow.rest)
-    ∙ no_pit (line_of_block Sink) (λ k x bs. refl) 0 flow.sink in
-    sym (pit_append (map pit_at pit) (flow_lines pairs flow) ∙ ap (λ (xs : List ℕ). pit_of (map pit_at pit) ++ xs) none ∙ append-nil (pit_of (map pit_at pit)) ∙ pit_of_pits pit)
+pit_is pairs pit flow = grind (arith, common_steps, pit_append, no_pit, append-nil, pit_of_pits)
 
 four_parts : (gives : BodyLine → Bool) (hs ls ms ns : List BodyLine) → given_amount gives zero_amount (hs ++ (ls ++ (ms ++ ns))) ≡ given_amount gives (given_amount gives (given_amount gives (given_amount gives zero_amount hs) ls) ms) ns
 four_parts gives hs ls ms ns = given_append gives zero_amount hs (ls ++ (ms ++ ns)) ∙ given_append gives (given_amount gives zero_amount hs) ls (ms ++ ns) ∙ given_append gives (given_amount gives (given_amount gives zero_amount hs) ls) ms ns

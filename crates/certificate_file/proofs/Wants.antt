@@ -2,7 +2,6 @@
 use Rattle.std.proofs.Common.{◌≡◌, ℕ, ◌+◌, Bool, true, false, cond, eqb, List, Option, Some, None, Result, Ok, Err, refl, sym, ap, ◌∙◌, arith}
 use Rattle.std.specs.Result.{result_unwrap_or}
 use Rattle.std.proofs.lemmas.Slice.Eq.{bytes_eq-Decides}
-use Rattle.std.proofs.lemmas.Bool.Decides.{nat_tests}
 use lib.Chars.{codes}
 use Rattle.fixed_worth.specs.declared.limits.TheConstants.{MOST_BLOCKS}
 use Rattle.ordered_group.specs.declared.groups.Group.{Group}
@@ -19,6 +18,7 @@ use Rattle.certificate_file.specs.Pieces.{Piece, piece_at, read_line, words_of, 
 use Rattle.certificate_file.specs.Written.{header_with}
 use Rattle.certificate_file.specs.Header.{◌>>=◌, header_for, version_in, blocks_in, price_in, group_in, blocks_said, wanted_blocks, is_same_group, group_named, group_said, or_number, value_behind}
 use Rattle.certificate_file.proofs.Going.{text_read}
+use Rattle.std.proofs.lemmas.Grind.{common_steps}
 
 -- A header has the blocks and the group that are wanted.
 pub record Joined (a : Result Version CertFault) (b : Result ℕ CertFault) (c : Version → Result Price CertFault) (d : Result Group CertFault) (h : Header) : Type 0 where
@@ -31,15 +31,7 @@ pub record Joined (a : Result Version CertFault) (b : Result ℕ CertFault) (c :
 -- the price and the group, when the version and the number of blocks are read
 joined_last : (x : Version) (b : ℕ) (c : Version → Result Price CertFault) (said : Result Price CertFault) (d : Result Group CertFault) (h : Header) → c x ≡ said
     → (said >>= λ price. d >>= λ group. Ok (header_with b price group)) ≡ Ok h → Joined (Ok x) (Ok b) c d h
-joined_last x b c (Ok price) (Ok group) h same e =
-    let is : header_with b price group ≡ h = ap (λ (r : Result Header CertFault). result_unwrap_or r h) e in
-    record {
-      version = x;
-      said = refl;
-      blocks = ap (λ (k : Header). Ok k.blocks) is;
-      price = same ∙ ap (λ (k : Header). Ok k.price) is;
-      group = ap (λ (k : Header). Ok k.group) is;
-    }
+joined_last x b c (Ok price) (Ok group) h same e = grind (arith, common_steps)
 joined_last x b c (Ok price) (Err group) h same e = absurd cc
 joined_last x b c (Err price) d h same e = absurd cc
 
@@ -50,9 +42,7 @@ joined (Ok x) (Err b) c d h e = absurd cc
 joined (Err x) b c d h e = absurd cc
 
 wanted_number : (w : Wanted) (k n : ℕ) (t : Bool) → eqb k w.blocks ≡ t → or_number (cond t (Some k) None) ≡ Ok n → n ≡ w.blocks
-wanted_number w k n true e h =
-    let same : k ≡ n = ap (λ (r : Result ℕ LineFault). result_unwrap_or r n) h in
-    grind (arith, nat_tests)
+wanted_number w k n true e h = grind (arith, common_steps)
 wanted_number w k n false e h = absurd cc
 
 wanted_option : (w : Wanted) (o : Option ℕ) (n : ℕ) → or_number (wanted_blocks (Some w) o) ≡ Ok n → n ≡ w.blocks

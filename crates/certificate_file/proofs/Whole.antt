@@ -31,6 +31,7 @@ use Rattle.certificate_file.proofs.ValueLines.{EachLine, each_all, each_both, va
 use Rattle.certificate_file.proofs.Readable.{Readable, pit_readable, source_readable, rest_readable, sink_readable}
 use Rattle.certificate_file.proofs.ReadBack.{Both, ReadAs, body_read, header_read, body_left}
 use Rattle.certificate_file.specs.declared.body_lines.LineKind.TheVariants.{Source, Sink}
+use Rattle.std.proofs.lemmas.Grind.{common_steps}
 
 -- A text without a fault is the text of the value that it gives.
 pub spelled : (counts : Bool) (name : Group) (n : ℕ) (pairs : List (ℕ × ℕ)) (text : List ℕ) (price : Price) (pit : List ℕ) (flow : FlowView) → IsRests (record { blocks = n; pairs = pairs }) → header_for (wanted_for n name) (pieces_of text) ≡ Ok (header_with n price name)
@@ -48,10 +49,7 @@ spelled counts name n pairs text price pit flow r h k f d a b =
 -- What is wrong with a text is wrong with its body, where its header is as wanted.
 body_alone : (counts : Bool) (name : Group) (n : ℕ) (pairs : List (ℕ × ℕ)) (text : List ℕ) (w : Wanted) (h : Header) (left : Unread) → w.blocks ≡ n → w.group ≡ name → header_for (Some w) (pieces_of text) ≡ Ok h → left.pieces ≡ drop 4 (pieces_of text) → left.number ≡ 4
     → fault_of counts name n pairs text ≡ body_fault counts n (has_pair pairs) None left.number left.pieces
-body_alone counts name n pairs text w h left b g e p k =
-    let same : w ≡ record { blocks = n; group = name } = λ i. record { blocks = b i; group = g i } in
-    let ok : header_for (wanted_for n name) (pieces_of text) ≡ Ok h = subst (λ (v : Wanted). header_for (Some v) (pieces_of text) ≡ Ok h) same e in
-    ap (fault_behind counts n pairs (drop 4 (pieces_of text))) ok ∙ rw (p, k) refl
+body_alone counts name n pairs text w h left b g e p k = grind (arith, common_steps)
 
 pub none_ascends : (counts : Bool) (n : ℕ) (pairs : List (ℕ × ℕ)) (left : Unread) (start later : Gathered) → start.pit ≡ [] → body_fault counts n (has_pair pairs) None left.number left.pieces ≡ None → Adds n pairs (lines_of_pieces counts n left.pieces) start later → IsAscending later.pit
 none_ascends counts n pairs left start later e f a =

@@ -4,13 +4,14 @@ use Rattle.certificate_file.specs.declared.cert_fault.CertFault.{CertFault}
 use Rattle.certificate_file.specs.declared.cert_fault.CertFault.TheVariants as fault
 use Rattle.certificate_file.specs.declared.body_lines.BodyLine.{BodyLine}
 use Rattle.certificate_file.specs.Pieces.{Piece, onto_piece, pieces_of, piece_at, no_line}
-use Rattle.certificate_file.specs.BodyLines.{line_of, is_end, may_follow, next_line, end_fault, fault_from, body_fault, lines_of_pieces, lines_from}
+use Rattle.certificate_file.specs.BodyLines.{line_of, is_end, may_follow, next_line, end_fault, fault_from, body_fault, lines_of_pieces}
 use Rattle.certificate_file.specs.Certificate.{has_pair}
 use Rattle.check_pit.specs.StreamLines.{IsLine}
 use Rattle.check_pit.specs.TakenLines.{held_piece}
 use Rattle.certificate_file.proofs.Going.{text_read, sound}
 use Rattle.check_pit.proofs.HeldLines.{line_held}
 use Rattle.certificate_file.proofs.Order.{InOrder, Good, met}
+use Rattle.std.proofs.lemmas.Grind.{common_steps}
 
 -- The last of some lines, or else this one.
 abbrev pub last_line : Option BodyLine → List BodyLine → Option BodyLine
@@ -39,26 +40,16 @@ begins counts n pairs body = record { same_fault = λ future. refl; lines = λ f
 
 -- More bytes are held.
 pub reads_on : (counts : Bool) (n : ℕ) (pairs : List (ℕ × ℕ)) (body held : List ℕ) (number : ℕ) (previous : Option BodyLine) (ls : List BodyLine) (bytes : List ℕ) → BeginsWith counts n pairs body held number previous ls → BeginsWith counts n pairs (body ++ bytes) (held ++ bytes) number previous ls
-reads_on counts n pairs body held number previous ls bytes b = record {
-  same_fault = λ future. ap (λ (t : List ℕ). body_fault counts n (has_pair pairs) None 4 (pieces_of t)) (append_assoc body bytes future) ∙ b.same_fault (bytes ++ future) ∙ sym (ap (λ (t : List ℕ). body_fault counts n (has_pair pairs) previous number (pieces_of t)) (append_assoc held bytes future));
-  lines = λ future. ap (λ (t : List ℕ). lines_of_pieces counts n (pieces_of t)) (append_assoc body bytes future) ∙ b.lines (bytes ++ future) ∙ sym (ap (λ (t : List ℕ). ls ++ lines_of_pieces counts n (pieces_of t)) (append_assoc held bytes future));
-  order = b.order;
-  last = b.last;
-}
+reads_on counts n pairs body held number previous ls bytes b = grind (arith, common_steps)
 
 -- What a line that is taken says of the text, whatever follows.
 fault_behind_line : (counts : Bool) (n : ℕ) (has : ℕ → ℕ → Bool) (held : List ℕ) (number j : ℕ) (previous : Option BodyLine) (line : BodyLine) → IsLine held j → next_line counts n has previous (number + 1) (held_piece j held) ≡ Ok line → (future : List ℕ)
     → body_fault counts n has previous number (pieces_of (held ++ future)) ≡ cond (is_end line.kind) (end_fault (number + 1) (pieces_of (drop (j + 1) held ++ future))) (body_fault counts n has (Some line) (number + 1) (pieces_of (drop (j + 1) held ++ future)))
-fault_behind_line counts n has held number j previous line h ok future =
-    let ps = pieces_of (drop (j + 1) held ++ future) in
-    ap (body_fault counts n has previous number) (line_held held j h.ends future)
-    ∙ ap (fault_from (end_fault (number + 1) ps) (λ l. body_fault counts n has (Some l) (number + 1) ps)) ok
+fault_behind_line counts n has held number j previous line h ok future = grind (arith, common_steps, line_held)
 
 lines_behind_line : (counts : Bool) (n : ℕ) (held : List ℕ) (j : ℕ) (line : BodyLine) → IsLine held j → line_of counts n (take j held) ≡ Ok line → (future : List ℕ)
     → lines_of_pieces counts n (pieces_of (held ++ future)) ≡ cond (is_end line.kind) [] (line ∷ lines_of_pieces counts n (pieces_of (drop (j + 1) held ++ future)))
-lines_behind_line counts n held j line h ok future =
-    let ps = pieces_of (drop (j + 1) held ++ future) in
-    ap (lines_of_pieces counts n) (line_held held j h.ends future) ∙ ap (lines_from (lines_of_pieces counts n ps)) ok
+lines_behind_line counts n held j line h ok future = grind (arith, common_steps, line_held)
 
 -- One line on.
 pub takes_line : (counts : Bool) (n : ℕ) (pairs : List (ℕ × ℕ)) (body held : List ℕ) (number j : ℕ) (previous : Option BodyLine) (ls : List BodyLine) (line : BodyLine) → BeginsWith counts n pairs body held number previous ls → IsLine held j
@@ -95,12 +86,6 @@ takes_end counts n pairs body held number j previous ls line b h ok e =
           ∙ ap (λ (ms : List BodyLine). ls ++ ms) (lines_behind_line counts n held j line h text future ∙ ap (λ (t : Bool). cond t [] (line ∷ lines_of_pieces counts n (pieces_of (drop (j + 1) held ++ future)))) e)
           ∙ append-nil ls;
     }
-
-pub ends_on : (counts : Bool) (n : ℕ) (pairs : List (ℕ × ℕ)) (body : List ℕ) (number : ℕ) (left : List ℕ) (ls : List BodyLine) (bytes : List ℕ) → Ends counts n pairs body number left ls → Ends counts n pairs (body ++ bytes) number (left ++ bytes) ls
-ends_on counts n pairs body number left ls bytes e = record {
-  fault = λ future. ap (λ (t : List ℕ). body_fault counts n (has_pair pairs) None 4 (pieces_of t)) (append_assoc body bytes future) ∙ e.fault (bytes ++ future) ∙ sym (ap (λ (t : List ℕ). end_fault number (pieces_of t)) (append_assoc left bytes future));
-  lines = λ future. ap (λ (t : List ℕ). lines_of_pieces counts n (pieces_of t)) (append_assoc body bytes future) ∙ e.lines (bytes ++ future);
-}
 
 -- Nothing is left behind the last line.
 pub ends_whole : (counts : Bool) (n : ℕ) (pairs : List (ℕ × ℕ)) (body left : List ℕ) (number : ℕ) (ls : List BodyLine) → Ends counts n pairs body number left ls → left ≡ [] → (body_fault counts n (has_pair pairs) None 4 (pieces_of body) ≡ None) × (lines_of_pieces counts n (pieces_of body) ≡ ls)

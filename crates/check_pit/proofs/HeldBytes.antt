@@ -1,9 +1,10 @@
 -- A part of a buffer that loses its first bytes, or gets more behind it.
-use Rattle.std.proofs.Common.{◌≡◌, ℕ, ◌+◌, ◌-◌, ◌≤◌, List, ◌++◌, length, take, drop, slice_range, Option, sym, ap, ◌∙◌, arith, length-take, length-take-le, length-drop, drop-drop}
+use Rattle.std.proofs.Common.{◌≡◌, ℕ, ◌+◌, ◌-◌, ◌≤◌, List, length, take, drop, slice_range, Option, sym, ap, ◌∙◌, arith, length-take, length-take-le, length-drop, drop-drop}
 use Rattle.std.proofs.lemmas.List.{drop-take}
 use Rattle.std.proofs.Math.Seq.{take-add}
 use Rattle.std.specs.Io.KnownBytes.{Consumes}
 use Rattle.check_pit.specs.StreamBytes.{ReadBehind}
+use Rattle.std.proofs.lemmas.Grind.{common_steps}
 
 -- the first n bytes of a part are passed
 pub passed : (xs ys : List ℕ) (a e n : ℕ) → slice_range xs a e ≡ ys → n ≤ length ys → slice_range xs (a + n) e ≡ drop n ys
@@ -18,10 +19,4 @@ passed xs ys a e n is h =
 
 -- n bytes are read behind the first h, which are what was held
 pub read_more : (remaining left : Option (List ℕ)) (buffer held : List ℕ) (h n : ℕ) → take h buffer ≡ held → h + n ≤ length buffer → Consumes remaining left (take n (drop h buffer)) → ReadBehind remaining left held (slice_range buffer 0 (h + n)) n
-read_more remaining left buffer held h n is inside given =
-    record {
-      bytes = take n (drop h buffer);
-      given = given;
-      count = length-take-le n (drop h buffer) (omega (arith, inside, length-drop h buffer));
-      behind = ap (λ k. take k buffer) (let e : h + n - 0 ≡ h + n = omega arith in e) ∙ take-add h n buffer ∙ ap (λ l. l ++ take n (drop h buffer)) is;
-    }
+read_more remaining left buffer held h n is inside given = grind (arith, common_steps, length-take-le, length-drop, take-add)

@@ -1,18 +1,16 @@
 -- What is held of a text, and the pieces of the whole text, whatever follows.
-use Rattle.std.proofs.Common.{◌≡◌, ℕ, zero, suc, get_or, ◌+◌, ◌<◌, ◌≤◌, Bool, true, false, eqb, ltb, List, [], ◌∷◌, ◌++◌, length, take, drop, Option, Some, None, refl, sym, ap, ◌∙◌, subst, arith, append_assoc}
-use Rattle.std.proofs.KnownBytes.{Consumes-trans}
-use Rattle.std.proofs.lemmas.List.{length-append}
+use Rattle.std.proofs.Common.{◌≡◌, ℕ, zero, suc, get_or, ◌+◌, ◌<◌, ◌≤◌, Bool, true, false, eqb, List, [], ◌∷◌, ◌++◌, length, take, drop, Option, Some, None, refl, sym, ap, ◌∙◌, subst, arith}
 use Rattle.std.specs.Prelude.{position, unwrap_or}
 use Rattle.std.specs.List.{position_or_len}
 use Rattle.fixed_worth.proofs.Cuts.{position_none}
 use Rattle.std.proofs.lemmas.List.Quantifiers.{position-Some}
-use Rattle.std.proofs.lemmas.Bool.Decides.{nat_tests}
 use Rattle.fixed_worth.specs.declared.limits.TheConstants.{LINE_BYTES}
 use Rattle.certificate_file.specs.declared.cert_fault.CertFault.TheVariants as fault
 use Rattle.certificate_file.specs.Pieces.{Piece, onto_piece, pieces_of, piece_at, no_line}
 use Rattle.check_pit.specs.StreamView.{LineView}
 use Rattle.check_pit.specs.StreamLines.{ReadsSome}
 use Rattle.certificate_file.proofs.Splits.{cut_off}
+use Rattle.std.proofs.lemmas.Grind.{common_steps}
 
 onto_text : (b : ℕ) (ps : List Piece) → (piece_at (onto_piece b ps) 0).text ≡ b ∷ (piece_at ps 0).text
 onto_text b [] = refl
@@ -39,24 +37,17 @@ no_feed [] h i l = absurd (omega arith)
 no_feed (b ∷ bs) h i l = no_feed_at b bs (eqb b 10) refl h (no_feed bs) i l
 
 text_too_long : (k : ℕ) (p : Piece) → LINE_BYTES < length p.text → no_line k p ≡ Some (fault.Text k)
-text_too_long k p h =
-    let t : ltb LINE_BYTES (length p.text) ≡ true = grind (arith, nat_tests) in
-    rw t refl
+text_too_long k p h = grind (arith, common_steps)
 
 long_at : (bs : List ℕ) (o : Option ℕ) → position (λ b. eqb b 10) bs ≡ o → LINE_BYTES < unwrap_or o (length bs) → (k : ℕ) (future : List ℕ) → no_line k (piece_at (pieces_of (bs ++ future)) 0) ≡ Some (fault.Text k)
 long_at bs (Some j) e h k future =
     let q = position-Some (λ b. eqb b 10) bs j 0 e in
     let far = longer bs future j (omega (arith, q.0)) q.2 in
     text_too_long k (piece_at (pieces_of (bs ++ future)) 0) (omega (arith, far, h))
-long_at bs None e h k future =
-    let far = longer bs future (length bs) (omega arith) (no_feed bs (position_none _ bs e)) in
-    text_too_long k (piece_at (pieces_of (bs ++ future)) 0) (omega (arith, far, h))
+long_at bs None e h k future = grind (arith, common_steps, longer, no_feed, position_none, text_too_long)
 
 pub held_too_long : (bs seen : List ℕ) (o : Option ℕ) (u number k : ℕ) → seen ≡ bs → o ≡ position (λ b. eqb b 10) seen → u ≡ unwrap_or o (length seen) → LINE_BYTES < u → k ≡ number → (future : List ℕ) → no_line (number + 1) (piece_at (pieces_of (bs ++ future)) 0) ≡ Some (fault.Text (k + 1))
-held_too_long bs seen o u number k same e f h n future =
-    let now : position (λ b. eqb b 10) bs ≡ o = ap (position (λ b. eqb b 10)) (sym same) ∙ sym e in
-    let far : LINE_BYTES < unwrap_or o (length bs) = subst (λ (xs : List ℕ). LINE_BYTES < unwrap_or o (length xs)) same (omega (arith, h, f)) in
-    long_at bs o now far (number + 1) future ∙ ap (λ (i : ℕ). Some (fault.Text (i + 1))) (sym n)
+held_too_long bs seen o u number k same e f h n future = grind (arith, common_steps, eqb, long_at)
 
 pub held_cut_off : (bs later seen : List ℕ) (o : Option ℕ) (u number : ℕ) → seen ≡ bs → later ≡ bs → o ≡ position (λ b. eqb b 10) seen → o ≡ None → u ≡ unwrap_or o (length seen) → u ≤ LINE_BYTES → no_line (number + 1) (piece_at (pieces_of later) 0) ≡ Some fault.Truncated
 held_cut_off bs later seen o u number same kept e none f h =
@@ -68,25 +59,12 @@ line_inside bs seen j same e = let q = position-Some (λ b. eqb b 10) seen j 0 e
 
 -- what was read in two parts was read
 pub reads_twice : {R : Type 0} (remaining : R → Option (List ℕ)) (start now later : LineView R) → ReadsSome remaining start now → ReadsSome remaining now later → ReadsSome remaining start later
-reads_twice remaining start now later (xs, a) (ys, b) =
-    let size = length-append xs ys in
-    let s = a.taken in
-    let t = b.taken in (
-      xs ++ ys,
-      record {
-        given = Consumes-trans (remaining start.from) (remaining now.from) (remaining later.from) xs ys a.given b.given;
-        held = b.held ∙ ap (λ (zs : List ℕ). zs ++ ys) a.held ∙ append_assoc start.held xs ys;
-        taken = omega (arith, size, s, t);
-        number = b.number ∙ a.number;
-      },
-    )
+reads_twice remaining start now later (xs, a) (ys, b) = grind (arith, common_steps)
 
 -- nothing is read where a line feed was held at the start: a read follows only where none is held
 pub read_without_feed : {R : Type 0} (start now later : LineView R) (seen : List ℕ) (o : Option ℕ) → ((count : ℕ) → position (λ b. eqb b 10) start.held ≡ Some count → now ≡ start)
     → seen ≡ now.held → o ≡ position (λ b. eqb b 10) seen → o ≡ None → (count : ℕ) → position (λ b. eqb b 10) start.held ≡ Some count → later ≡ start
-read_without_feed start now later seen o still same e none count found =
-    let here : position (λ b. eqb b 10) seen ≡ Some count = ap (position (λ b. eqb b 10)) (same ∙ ap (λ v. v.held) (still count found)) ∙ found in
-    absurd (let bad : None ≡ Some count = sym none ∙ e ∙ here in cc)
+read_without_feed start now later seen o still same e none count found = grind (arith, common_steps)
 
 -- what is held begins with a line, and behind it stands the rest
 first_of_held : (bs future : List ℕ) (j : ℕ) → j < length bs → eqb (get_or bs j 0) 10 ≡ true → ((i : ℕ) → i < j → eqb (get_or bs i 0) 10 ≡ false)
@@ -98,6 +76,4 @@ first_of_held (b ∷ bs) future (suc j) h e f =
     rw z (ap (onto_piece b) (first_of_held bs future j (omega arith) e (λ i l. f (suc i) (omega arith))))
 
 pub line_held : (bs : List ℕ) (j : ℕ) → position (λ b. eqb b 10) bs ≡ Some j → (future : List ℕ) → pieces_of (bs ++ future) ≡ record { text = take j bs; ended = true } ∷ pieces_of (drop (j + 1) bs ++ future)
-line_held bs j e future =
-    let q = position-Some (λ b. eqb b 10) bs j 0 e in
-    first_of_held bs future j q.0 q.1 q.2 ∙ ap (λ (i : ℕ). record { text = take j bs; ended = true } ∷ pieces_of (drop i bs ++ future)) (let s : suc j ≡ j + 1 = omega arith in s)
+line_held bs j e future = grind (arith, common_steps, position-Some, eqb, first_of_held)

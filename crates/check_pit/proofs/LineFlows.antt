@@ -27,6 +27,7 @@ use Rattle.certificate_file.proofs.Order.{InOrder, Good, in_order_weaker, stands
 use Rattle.certificate_file.proofs.LineOrder.{Has, has_good, Proper, good_is_proper, found}
 use Rattle.certificate_file.proofs.SameLines.{tells_source, tells_sink, tells_rest, source_so, sink_so, rest_so}
 use Rattle.check_pit.proofs.LineSums.{sum_giving, sum_given, sources_of_lines, end_sum, ends_of_lines, balance_is}
+use Rattle.std.proofs.lemmas.Grind.{common_steps}
 
 -- what the pit is worth, block by block
 
@@ -44,16 +45,7 @@ not_behind b bs true a e =
 not_behind b bs false a e = refl
 
 one_more : (p q x y z w : Amount) → plus p q ≡ plus x y → q ≡ zero_amount → y ≡ z → x ≡ w → p ≡ plus z w
-one_more p q x y z w e f g h =
-    let ew = ap (λ (a : Amount). a.w) e in
-    let ec = ap (λ (a : Amount). a.c) e in
-    let fw = ap (λ (a : Amount). a.w) f in
-    let fc = ap (λ (a : Amount). a.c) f in
-    let gw = ap (λ (a : Amount). a.w) g in
-    let gc = ap (λ (a : Amount). a.c) g in
-    let hw = ap (λ (a : Amount). a.w) h in
-    let hc = ap (λ (a : Amount). a.c) h in
-    Amount_eq _ _ (omega (arith, ints, ew, fw, gw, hw)) (omega (arith, ints, ec, fc, gc, hc))
+one_more p q x y z w e f g h = grind (arith, common_steps)
 
 pub worth_is : (ws : List Amount) (bs : List ℕ) → IsAscending bs → All (λ b. b < length ws) bs → group_worth ws (holds_of bs) ≡ worth_of_blocks ws bs
 worth_is ws [] a k = total-zero (length ws)

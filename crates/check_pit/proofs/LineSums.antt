@@ -17,6 +17,7 @@ use Rattle.check_pit.specs.LineSums.{brings_by, balance_of, source_by, source_su
 use Rattle.certificate_file.proofs.Additions.{one_place}
 use Rattle.certificate_file.proofs.Order.{InOrder}
 use Rattle.certificate_file.proofs.LineOrder.{Has, has_good, all_above, Tells, none_gives}
+use Rattle.std.proofs.lemmas.Grind.{common_steps}
 
 -- the amounts of the lines that give
 abbrev pub sum_giving : (BodyLine → Bool) → List BodyLine → Amount
@@ -141,6 +142,4 @@ joined p s i t o s' i' t' o' q e f =
 -- the balance of b by lines: what SOURCE lines and REST lines bring, less what SINK lines and REST lines take
 pub balance_is : (ls : List BodyLine) (b : ℕ) → balance_of ls b ≡ minus (plus (sum_giving (gives_source b) ls) (end_sum (λ l. l.other) b ls)) (plus (sum_giving (gives_sink b) ls) (end_sum (λ l. l.block) b ls))
 balance_is [] b = refl
-balance_is (l ∷ ls) b =
-    joined (brings_by l.kind l b) (where_so (is_source l.kind && (eqb l.block b)) (amount_of l)) (end_by l.kind l.other b (amount_of l)) (where_so (is_sink l.kind && (eqb l.block b)) (amount_of l)) (end_by l.kind l.block b (amount_of l))
-    (sum_giving (gives_source b) ls) (end_sum (λ m. m.other) b ls) (sum_giving (gives_sink b) ls) (end_sum (λ m. m.block) b ls) (balance_of ls b) (one_balance l.kind l b) (balance_is ls b)
+balance_is (l ∷ ls) b = grind (arith, common_steps, joined, eqb, end_by, sum_giving, end_sum, one_balance, (balance_is ls b))

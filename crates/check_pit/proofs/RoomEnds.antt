@@ -1,5 +1,5 @@
 -- What the sums of a room say of the flow and the pit of the lines, once these are all read.
-use Rattle.std.proofs.Common.{◌≡◌, ℕ, ◌<◌, Bool, List, ◌∷◌, ◌++◌, length, sym, ◌∙◌, arith}
+use Rattle.std.proofs.Common.{◌≡◌, ℕ, Bool, List, length, sym, ◌∙◌, arith}
 use Rattle.std.specs.Prelude.{◌↔◌, IsTrue}
 use Rattle.ordered_group.specs.Amount.{zero_amount}
 use Rattle.ordered_group.specs.Sums.{amount_at}
@@ -11,17 +11,14 @@ use Rattle.certificate_file.specs.Certificate.{pit_of}
 use Rattle.check_pit.specs.LineSums.{flow_of}
 use Rattle.check_pit.specs.LineLaws.{LinesTell}
 use Rattle.check_pit.specs.Rooms.{RoomView, AreSumsOf, IsFirstUnbalanced, TellsTight}
+use Rattle.std.proofs.lemmas.Grind.{common_steps}
 
 -- ---- all lines
 
 -- the first balance other than zero is that of the first block that the flow doesn't balance
 pub unbalanced_flow : (net : NetView) (ls : List BodyLine) (room : RoomView) (b : ℕ) → LinesTell net ls → AreSumsOf net ls room → IsFirstNot (λ k. amount_at room.balances k ≡ zero_amount) (length net.worths) b
     → IsFirstNot (Balanced net (flow_of (length net.worths) net.pairs ls)) (length net.worths) b
-unbalanced_flow net ls room b t s h = (
-  h.0,
-  λ k l. (t.balanced k (omega (arith, l, h.0))).1 (sym (s.balances k (omega (arith, l, h.0))) ∙ h.1 k l),
-  λ f. h.2 (s.balances b h.0 ∙ (t.balanced b h.0).0 f),
-)
+unbalanced_flow net ls room b t s h = grind (arith, common_steps)
 
 -- the pit is tight by the flow exactly where it is worth what is left
 pub tight_flow : (net : NetView) (ls : List BodyLine) (room : RoomView) → LinesTell net ls → AreSumsOf net ls room → (room.worth ≡ room.left) ↔ IsTight net (flow_of (length net.worths) net.pairs ls) (holds_of (pit_of ls))

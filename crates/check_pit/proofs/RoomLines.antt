@@ -1,5 +1,5 @@
 -- What comes of putting a line of each kind into a room.
-use Rattle.std.proofs.Common.{◌≡◌, ◌≢◌, ℕ, get_or, ◌+◌, ◌<◌, ◌≤◌, eqb, inl, inr, List, [], ◌∷◌, ◌++◌, length, refl, sym, ap, ◌∙◌, subst, arith, Result, Ok, Err, MatchResult, get_or-set_other}
+use Rattle.std.proofs.Common.{◌≡◌, ◌≢◌, ℕ, ◌+◌, ◌<◌, ◌≤◌, eqb, inl, inr, List, [], ◌∷◌, ◌++◌, length, refl, sym, ap, ◌∙◌, subst, arith, Result, Ok, Err, MatchResult, get_or-set_other}
 use Rattle.std.specs.Prelude.{IfOk, IfErr}
 use Rattle.std.proofs.lemmas.List.{length-append}
 use Rattle.std.proofs.Math.Seq.{get_or-append_seam}
@@ -19,17 +19,12 @@ use Rattle.certificate_file.specs.Certificate.{amount_of}
 use Rattle.check_pit.specs.LineSums.{keeps_by}
 use Rattle.check_pit.specs.Rooms.{RoomView, MayPut, TakesBlock, WithLine, SumOverflowsWith, RefusedWhere, PutsLine, RefusesLine, with_balance, with_left}
 use Rattle.check_pit.proofs.RoomSums.{puts_line, refuses_line, with_source, with_sink}
+use Rattle.std.proofs.lemmas.Grind.{common_steps}
 
 -- ---- space for a block that stands behind those before it
 
 pub space_for : (xs : List ℕ) (b n s : ℕ) → IsAscending (xs ++ b ∷ []) → b < n → n ≤ s → length xs < s
-space_for xs b n s a h k =
-    let size : length (xs ++ b ∷ []) ≡ length xs + 1 = length-append xs (b ∷ []) in
-    let last : get_or (xs ++ b ∷ []) (length xs) 0 ≡ b = get_or-append_seam xs b [] 0 in
-    let same : 0 + length xs ≡ length xs = omega arith in
-    let far : get_or (xs ++ b ∷ []) 0 0 + length xs ≤ get_or (xs ++ b ∷ []) (length xs) 0 =
-    subst (λ (i : ℕ). get_or (xs ++ b ∷ []) 0 0 + length xs ≤ get_or (xs ++ b ∷ []) i 0) same (apart_by_places (xs ++ b ∷ []) a 0 (length xs) (omega (arith, size))) in
-    omega (arith, far, last, h, k)
+space_for xs b n s a h k = grind (arith, common_steps, length-append, get_or-append_seam, apart_by_places)
 
 pub block_space : (net : NetView) (room : RoomView) (line : BodyLine) → line.kind ≡ Pit → MayPut net room line → length room.blocks < room.space
 block_space net room line is may =
@@ -58,9 +53,7 @@ sink_over net l room x is h e k n =
 
 pub to_over : (net : NetView) (l : BodyLine) (room mid : RoomView) (x : Amount) → l.kind ≡ Rest → l.block ≢ l.other → l.other < length net.worths → x ≡ amount_of l → AtMost zero_amount (amount_of l)
     → mid ≡ with_balance l.block (minus (amount_at room.balances l.block) x) room → ¬ (FitsPair (plus (amount_at mid.balances l.other) x)) → RefusedWhere net l (SumOverflowsWith net room l) TooLarge
-to_over net l room mid x is d h e k m n =
-    let same : amount_at mid.balances l.other ≡ amount_at room.balances l.other = ap (λ (r : RoomView). amount_at r.balances l.other) m ∙ get_or-set_other room.balances l.block l.other _ zero_amount (λ i. d (sym i)) in
-    rw is (k, inl (l.other, h, λ f. n (fits_same _ _ (ap (λ (y : Amount). plus y x) same ∙ ap (plus (amount_at room.balances l.other)) e ∙ to_here (amount_at room.balances l.other) (amount_of l) l.block l.other d) f)))
+to_over net l room mid x is d h e k m n = grind (arith, common_steps, get_or-set_other, fits_same, to_here)
 
 -- ---- what the last step of a line comes to
 

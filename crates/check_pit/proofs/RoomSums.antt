@@ -1,10 +1,10 @@
 -- The sums of a room, with one line more.
-use Rattle.std.proofs.Common.{◌≡◌, ◌≢◌, ℕ, suc, set, ◌+◌, ◌⊎◌, ◌<◌, ◌≤◌, Bool, true, false, eqb, inl, inr, List, [], ◌∷◌, ◌++◌, length, map, refl, sym, ap, ◌∙◌, subst, arith, append-nil, Option, Some, None, get_or-set_same, get_or-set_other}
+use Rattle.std.proofs.Common.{◌≡◌, ◌≢◌, ℕ, suc, set, ◌+◌, ◌⊎◌, ◌<◌, Bool, true, false, eqb, inl, inr, List, [], ◌∷◌, ◌++◌, length, map, refl, sym, ap, ◌∙◌, subst, arith, append-nil, Option, Some, None, get_or-set_same, get_or-set_other}
 use Rattle.std.proofs.lemmas.Int.{ints}
 use Rattle.std.proofs.lemmas.List.{length-map, length-set, map-set}
 use Rattle.std.proofs.lemmas.Bool.{cases_eq, eqb-true, eqb-false}
-use Rattle.ordered_group.specs.Amount.{Amount, zero_amount, plus, minus, positive, Amount_eq}
-use Rattle.ordered_group.specs.Sums.{total, where_so, amount_at}
+use Rattle.ordered_group.specs.Amount.{Amount, zero_amount, plus, minus, Amount_eq}
+use Rattle.ordered_group.specs.Sums.{where_so, amount_at}
 use Rattle.ordered_group.proofs.Totals.{plus-zero_left, plus-zero_right, plus-assoc}
 use Rattle.ordered_group.proofs.Steps.{fits_same}
 use Rattle.closure_net.specs.Network.{NetView}
@@ -18,6 +18,7 @@ use Rattle.std.specs.Option.{is_some}
 use Rattle.check_pit.specs.PitLists.{blocks_of_pit}
 use Rattle.check_pit.specs.Rooms.{RoomView, IsRoomFor, AreSumsOf, WithLine, SumOverflowsWith, RefusedWhere, PutsLine, RefusesLine, with_balance, with_left}
 use Rattle.certificate_file.proofs.ValueLines.{joins}
+use Rattle.std.proofs.lemmas.Grind.{common_steps}
 
 -- ---- the sums over some lines, and over one more
 
@@ -33,9 +34,7 @@ taken_twice : (t x y : Amount) → minus t (plus x y) ≡ minus (minus t x) y
 taken_twice t x y = Amount_eq _ _ (omega (arith, ints)) (omega (arith, ints))
 
 pub left_more : (ws : List Amount) (ls : List BodyLine) (l : BodyLine) → residual_behind ws (ls ++ l ∷ []) ≡ minus (residual_behind ws ls) (source_by l.kind (amount_of l))
-left_more ws ls l =
-    let all = total (λ b. positive (amount_at ws b)) (length ws) in
-    ap (minus all) (sources_more ls l) ∙ taken_twice all (source_sum ls) (source_by l.kind (amount_of l))
+left_more ws ls l = grind (arith, common_steps, sources_more, taken_twice)
 
 pub pit_more : (ls : List BodyLine) (l : BodyLine) → pit_of (ls ++ l ∷ []) ≡ pit_of ls ++ block_if_pit l.kind l.block []
 pit_more [] l = refl
@@ -51,19 +50,10 @@ worth_with ws ls l = ap (worth_of_blocks ws) (pit_more ls l) ∙ worth_more ws (
 -- ---- a line that is put, and one that is refused, behind the lines whose sums the room has
 
 fits_still : (net : NetView) (l : BodyLine) (before later : RoomView) → WithLine net l before later → IsRoomFor net before → IsRoomFor net later
-fits_still net l before later w f = record {
-  size = w.size ∙ f.size;
-  space = λ h. subst (λ (s : ℕ). length net.worths ≤ s) (sym w.space) (f.space (sym w.is_pit ∙ h));
-}
+fits_still net l before later w f = grind (arith, common_steps)
 
 pub puts_line : (net : NetView) (l : BodyLine) (before later : RoomView) → WithLine net l before later → PutsLine net l before later
-puts_line net l before later w = λ ls s. record {
-  fits = fits_still net l before later w s.fits;
-  balances = λ b h. w.balances b h ∙ ap (λ (x : Amount). plus x (brings_by l.kind l b)) (s.balances b h) ∙ sym (balance_more ls l b);
-  blocks = w.blocks ∙ ap (λ (xs : List ℕ). xs ++ block_if_pit l.kind l.block []) s.blocks ∙ sym (pit_more ls l);
-  worth = w.worth ∙ ap (λ (x : Amount). plus x (worth_of_blocks net.worths (block_if_pit l.kind l.block []))) s.worth ∙ sym (worth_with net.worths ls l);
-  left = w.left ∙ ap (λ (x : Amount). minus x (source_by l.kind (amount_of l))) s.left ∙ sym (left_more net.worths ls l);
-}
+puts_line net l before later w = grind (arith, common_steps, fits_still, balance_more, pit_more, worth_with, left_more)
 
 overflows : (net : NetView) (ls : List BodyLine) (l : BodyLine) (room : RoomView) → AreSumsOf net ls room → SumOverflowsWith net room l → SomeLineSumOverflows net (ls ++ l ∷ [])
 overflows net ls l room s (inl h) = inl (h.0, h.1, λ f. h.2 (fits_same _ _ (ap (λ (x : Amount). plus x (brings_by l.kind l h.0)) (s.balances h.0 h.1) ∙ sym (balance_more ls l h.0)) f))
@@ -107,53 +97,15 @@ none_taken y = Amount_eq _ _ (omega (arith, ints)) (omega (arith, ints))
 
 pub with_source : (net : NetView) (l : BodyLine) (before mid later : RoomView) (x : Amount) → l.kind ≡ Source → l.block < length before.balances → x ≡ amount_of l
     → mid ≡ with_balance l.block (plus (amount_at before.balances l.block) x) before → later ≡ with_left (minus mid.left x) mid → WithLine net l before later
-with_source net l before mid later x is h e m w =
-    let now : later ≡ with_left (minus before.left (amount_of l)) (with_balance l.block (plus (amount_at before.balances l.block) (amount_of l)) before) =
-    w ∙ ap (λ (r : RoomView). with_left (minus r.left x) r) m ∙ ap (λ (y : Amount). with_left (minus before.left y) (with_balance l.block (plus (amount_at before.balances l.block) y) before)) e in
-    subst (λ (r : RoomView). WithLine net l before r) (sym now) (record {
-      size = length-set before.balances l.block _;
-      balances = λ b i. rw is (added_at before.balances l.block b (amount_of l) (eqb l.block b) h refl);
-      blocks = rw is (sym (append-nil before.blocks));
-      space = refl;
-      is_pit = refl;
-      worth = rw is (sym (plus-zero_right before.worth));
-      left = rw is refl;
-    })
+with_source net l before mid later x is h e m w = grind (arith, common_steps)
 
 pub with_sink : (net : NetView) (l : BodyLine) (before later : RoomView) (x : Amount) → l.kind ≡ Sink → l.block < length before.balances → x ≡ amount_of l
     → later ≡ with_balance l.block (minus (amount_at before.balances l.block) x) before → WithLine net l before later
-with_sink net l before later x is h e w =
-    let now : later ≡ with_balance l.block (minus (amount_at before.balances l.block) (amount_of l)) before = w ∙ ap (λ (y : Amount). with_balance l.block (minus (amount_at before.balances l.block) y) before) e in
-    subst (λ (r : RoomView). WithLine net l before r) (sym now) (record {
-      size = length-set before.balances l.block _;
-      balances = λ b i. rw is (taken_at before.balances l.block b (amount_of l) (eqb l.block b) h refl);
-      blocks = rw is (sym (append-nil before.blocks));
-      space = refl;
-      is_pit = refl;
-      worth = rw is (sym (plus-zero_right before.worth));
-      left = rw is (none_taken before.left);
-    })
+with_sink net l before later x is h e w = grind (arith, common_steps)
 
 pub with_rest : (net : NetView) (l : BodyLine) (before mid later : RoomView) (x : Amount) → l.kind ≡ Rest → l.block < length before.balances → l.other < length before.balances → x ≡ amount_of l
     → mid ≡ with_balance l.block (minus (amount_at before.balances l.block) x) before → later ≡ with_balance l.other (plus (amount_at mid.balances l.other) x) mid → WithLine net l before later
-with_rest net l before mid later x is h i e m w =
-    let y = amount_of l in
-    let between : List Amount = set before.balances l.block (minus (amount_at before.balances l.block) y) in
-    let size : length between ≡ length before.balances = length-set before.balances l.block _ in
-    let now : later ≡ with_balance l.other (plus (amount_at between l.other) y) (with_balance l.block (minus (amount_at before.balances l.block) y) before) =
-    w ∙ ap (λ (r : RoomView). with_balance l.other (plus (amount_at r.balances l.other) x) r) m
-    ∙ ap (λ (z : Amount). with_balance l.other (plus (amount_at (set before.balances l.block (minus (amount_at before.balances l.block) z)) l.other) z) (with_balance l.block (minus (amount_at before.balances l.block) z) before)) e in
-    subst (λ (r : RoomView). WithLine net l before r) (sym now) (record {
-      size = length-set between l.other _ ∙ size;
-      balances = λ b j. rw is (added_at between l.other b y (eqb l.other b) (omega (arith, i, size)) refl
-          ∙ ap (λ (z : Amount). plus z (where_so (eqb l.other b) y)) (taken_at before.balances l.block b y (eqb l.block b) h refl)
-          ∙ moved (amount_at before.balances b) (where_so (eqb l.block b) y) (where_so (eqb l.other b) y));
-      blocks = rw is (sym (append-nil before.blocks));
-      space = refl;
-      is_pit = refl;
-      worth = rw is (sym (plus-zero_right before.worth));
-      left = rw is (none_taken before.left);
-    })
+with_rest net l before mid later x is h i e m w = grind (arith, common_steps, length-set, added_at, eqb, taken_at, moved, append-nil, plus-zero_right, none_taken)
 
 -- ---- the list of a pit that is not made yet
 
@@ -165,31 +117,18 @@ blocks_open bs (Some pit) h = absurd (let z : true ≡ false = h in cc)
 
 pub balance_set : {X : Type 0} (f : X → Amount) (xs : List X) (bs : List ℕ) (s : ℕ) (p : Bool) (w r : Amount) (b : ℕ) (x : X) (y : Amount) (room : RoomView) → record { balances = map f xs; blocks = bs; space = s; is_pit = p; worth = w; left = r } ≡ room
     → f x ≡ y → record { balances = map f (set xs b x); blocks = bs; space = s; is_pit = p; worth = w; left = r } ≡ with_balance b y room
-balance_set f xs bs s p w r b x y room is e =
-    ap (λ (ys : List Amount). record { balances = ys; blocks = bs; space = s; is_pit = p; worth = w; left = r }) (map-set f xs b x)
-    ∙ ap (λ (z : Amount). record { balances = set (map f xs) b z; blocks = bs; space = s; is_pit = p; worth = w; left = r }) e
-    ∙ ap (with_balance b y) is
+balance_set f xs bs s p w r b x y room is e = grind (arith, common_steps, map-set)
 
 -- the last line brings nothing
 pub with_end : (net : NetView) (l : BodyLine) (room : RoomView) → l.kind ≡ End → WithLine net l room room
-with_end net l room is = record {
-  size = refl;
-  balances = λ b j. rw is (sym (plus-zero_right (amount_at room.balances b)));
-  blocks = rw is (sym (append-nil room.blocks));
-  space = refl;
-  is_pit = refl;
-  worth = rw is (sym (plus-zero_right room.worth));
-  left = rw is (none_taken room.left);
-}
+with_end net l room is = grind (arith, common_steps)
 
 -- balances that are made zero one after another
 pub cleared_size : {X : Type 0} (xs : List X) (b : ℕ) (x : X) (n : ℕ) → length xs ≡ n → length (set xs b x) ≡ n
 cleared_size xs b x n e = length-set xs b x ∙ e
 
 cleared_at : {X : Type 0} (f : X → Amount) (xs : List X) (b k : ℕ) (x : X) → b < length xs → f x ≡ zero_amount → ((k : ℕ) → k < b → amount_at (map f xs) k ≡ zero_amount) → k < suc b → (k ≡ b) ⊎ (k ≢ b) → amount_at (map f (set xs b x)) k ≡ zero_amount
-cleared_at f xs b k x h z i l (inl e) =
-    ap (λ (ys : List Amount). amount_at ys k) (map-set f xs b x)
-    ∙ subst (λ (j : ℕ). amount_at (set (map f xs) b (f x)) j ≡ f x) (sym e) (get_or-set_same (map f xs) b (f x) zero_amount (omega (arith, h, length-map xs f))) ∙ z
+cleared_at f xs b k x h z i l (inl e) = grind (arith, common_steps, map-set, get_or-set_same, length-map)
 cleared_at f xs b k x h z i l (inr d) =
     ap (λ (ys : List Amount). amount_at ys k) (map-set f xs b x) ∙ get_or-set_other (map f xs) b k (f x) zero_amount d ∙ i k (let j : k ≢ b = d in omega arith)
 

@@ -1,8 +1,7 @@
 -- Reading the body of a stream, line after line.
-use Rattle.std.proofs.Common.{◌≡◌, ℕ, ◌+◌, ◌≤◌, Bool, true, false, List, [], ◌∷◌, ◌++◌, length, drop, Option, Some, None, Result, Err, refl, sym, ◌∙◌, subst, arith, append-nil, append_assoc}
+use Rattle.std.proofs.Common.{◌≡◌, ℕ, ◌+◌, ◌≤◌, Bool, true, false, List, [], ◌∷◌, ◌++◌, length, drop, Option, Some, None, Result, Err, sym, ◌∙◌, subst, arith, append_assoc}
 use Rattle.std.specs.Io.KnownBytes.{IsAtEnd}
-use Rattle.std.proofs.KnownBytes.{Consumes-nil, Consumes-trans}
-use Rattle.std.proofs.lemmas.List.{length-append}
+use Rattle.std.proofs.KnownBytes.{Consumes-nil}
 use Rattle.closure_net.specs.Network.{NetView}
 use Rattle.certificate_file.specs.declared.cert_fault.CertFault.{CertFault}
 use Rattle.check_pit.specs.declared.stream_fault.StreamFault.{StreamFault}
@@ -17,22 +16,16 @@ use Rattle.check_pit.specs.TakenLines.{held_piece, PassesLine, TakesLine, LacksL
 use Rattle.check_pit.specs.StreamChecks.{ReadsOn, fault_of_body, lines_of_body, LinesBegin, IsWholeBody, BodyRefused, BodyFails}
 use Rattle.certificate_file.proofs.Going.{always}
 use Rattle.certificate_file.proofs.Order.{Met, met}
-use Rattle.check_pit.proofs.Beginnings.{BeginsWith, begins, reads_on, takes_line, Ends, takes_end, ends_on, ends_whole, wrong_at}
+use Rattle.check_pit.proofs.Beginnings.{BeginsWith, begins, reads_on, takes_line, Ends, takes_end, ends_whole, wrong_at}
 use Rattle.check_pit.proofs.NextLines.{fault_as}
+use Rattle.std.proofs.lemmas.Grind.{common_steps}
 
 -- Bytes that were read one after another.
 pub reads_nothing : {R : Type 0} (remaining : R → Option (List ℕ)) (s : LineView R) → ReadsOn remaining s s []
 reads_nothing remaining s = record { given = Consumes-nil (remaining s.from); taken = omega arith }
 
 pub reads_both : {R : Type 0} (remaining : R → Option (List ℕ)) (a b c : LineView R) (xs ys : List ℕ) → ReadsOn remaining a b xs → ReadsOn remaining b c ys → ReadsOn remaining a c (xs ++ ys)
-reads_both remaining a b c xs ys p q =
-    let size = length-append xs ys in
-    let s = p.taken in
-    let t = q.taken in
-    record { given = Consumes-trans (remaining a.from) (remaining b.from) (remaining c.from) xs ys p.given q.given; taken = omega (arith, size, s, t) }
-
-pub on_of_bytes : {R : Type 0} (remaining : R → Option (List ℕ)) (a b : LineView R) (xs : List ℕ) → ReadsBytes remaining a b xs → ReadsOn remaining a b xs
-on_of_bytes remaining a b xs r = record { given = r.given; taken = r.taken }
+reads_both remaining a b c xs ys p q = grind (arith, common_steps)
 
 on_of_line : {R : Type 0} (remaining : R → Option (List ℕ)) (a b : LineView R) (xs : List ℕ) (count : ℕ) → PassesLine remaining a b xs count → ReadsOn remaining a b xs
 on_of_line remaining a b xs count r = record { given = r.given; taken = r.taken }
@@ -51,18 +44,11 @@ pub record Reading {R : Type 0} (remaining : R → Option (List ℕ)) (counts : 
   pub begins : BeginsWith counts (length net.worths) net.pairs (start.held ++ bytes) now.held now.number previous ls
 
 pub reading_begins : {R : Type 0} (remaining : R → Option (List ℕ)) (counts : Bool) (net : NetView) (start : LineView R) → start.number ≡ 4 → Reading remaining counts net start start None [] []
-reading_begins remaining counts net start e = record {
-  read = reads_nothing remaining start;
-  begins = moved counts (length net.worths) net.pairs start.held (start.held ++ []) start.held start.held 4 start.number None [] (sym (append-nil start.held)) refl (sym e) (begins counts (length net.worths) net.pairs start.held);
-}
+reading_begins remaining counts net start e = grind (arith, common_steps)
 
 reading_stops : {R : Type 0} (remaining : R → Option (List ℕ)) (counts : Bool) (net : NetView) (start now later : LineView R) (previous : Option BodyLine) (bytes more : List ℕ) (ls : List BodyLine) → Reading remaining counts net start now previous bytes ls → ReadsBytes remaining now later more
     → Reading remaining counts net start later previous (bytes ++ more) ls
-reading_stops remaining counts net start now later previous bytes more ls r m = record {
-  read = reads_both remaining start now later bytes more r.read (on_of_bytes remaining now later more m);
-  begins = moved counts (length net.worths) net.pairs ((start.held ++ bytes) ++ more) (start.held ++ (bytes ++ more)) (now.held ++ more) later.held now.number later.number previous ls (append_assoc start.held bytes more) (sym m.held) (sym m.number)
-      (reads_on counts (length net.worths) net.pairs (start.held ++ bytes) now.held now.number previous ls more r.begins);
-}
+reading_stops remaining counts net start now later previous bytes more ls r m = grind (arith, common_steps)
 
 -- What a line is that is next.
 abbrev pub next_of : Bool → NetView → Option BodyLine → ℕ → Piece → Result BodyLine CertFault
@@ -104,11 +90,7 @@ reading_ends remaining counts net start now later previous bytes ls line r t e =
     }
 
 pub ended_stops : {R : Type 0} (remaining : R → Option (List ℕ)) (counts : Bool) (net : NetView) (start now later : LineView R) (bytes more : List ℕ) (ls : List BodyLine) → Ended remaining counts net start now bytes ls → ReadsBytes remaining now later more → Ended remaining counts net start later (bytes ++ more) ls
-ended_stops remaining counts net start now later bytes more ls r m = record {
-  read = reads_both remaining start now later bytes more r.read (on_of_bytes remaining now later more m);
-  ends = ends_moved counts (length net.worths) net.pairs ((start.held ++ bytes) ++ more) (start.held ++ (bytes ++ more)) (now.held ++ more) later.held now.number later.number ls (append_assoc start.held bytes more) (sym m.held) (sym m.number)
-      (ends_on counts (length net.worths) net.pairs (start.held ++ bytes) now.number now.held ls more r.ends);
-}
+ended_stops remaining counts net start now later bytes more ls r m = grind (arith, common_steps)
 
 -- Why a body fails, of which some bytes were read.
 abbrev pub Fails : {R : Type 0} → (R → Option (List ℕ)) → Bool → NetView → LineView R → LineView R → StreamFault → Type 0

@@ -9,6 +9,7 @@ use Rattle.prec_file.proofs.Parts.{length-part, get_or-part}
 use Rattle.closure_net.specs.Network.{IsAscending, holds_of}
 use Rattle.closure_net.specs.Places.{StandsFrom, StandsBelow}
 use Rattle.closure_net.proofs.Holding.{holds_at, place_of}
+use Rattle.std.proofs.lemmas.Grind.{common_steps}
 
 -- each place from 1 up to m is above the one before it
 abbrev pub StepsRise : List ℕ → ℕ → Type 0
@@ -35,10 +36,7 @@ not_falling xs a i j h l = elim (cases_eq i j) [
 -- blocks lie at least as far apart as their places
 pub apart_by_places : (xs : List ℕ) → IsAscending xs → (i k : ℕ) → i + k < length xs → get_or xs i 0 + k ≤ get_or xs (i + k) 0
 apart_by_places xs a i zero l = let e : i + zero ≡ i = omega arith in let P : ℕ → Type 0 = λ q. get_or xs i 0 + zero ≤ get_or xs q 0 in subst P (sym e) (omega arith)
-apart_by_places xs a i (suc k) l =
-    let r = apart_by_places xs a i k (omega arith) in
-    let s : get_or xs (i + k) 0 < get_or xs (i + suc k) 0 = a (i + k) (i + suc k) (omega arith) l in
-    omega (arith, r, s)
+apart_by_places xs a i (suc k) l = grind (arith, common_steps, (apart_by_places xs a i k (omega arith)))
 
 -- a part of an ascending list ascends
 part_ascends : (xs : List ℕ) (i k : ℕ) → IsAscending xs → i + k ≤ length xs → IsAscending (take k (drop i xs))

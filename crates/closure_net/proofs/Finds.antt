@@ -1,11 +1,10 @@
 -- What a search has found.
-use Rattle.std.proofs.Common.{rules, ◌≡◌, ℕ, ◌<◌, ◌≤◌, true, ◌==◌, ◌⊎◌, inl, inr, List, [], ◌∷◌, ◌++◌, length, get_or, sym, refl, ap, ◌∙◌, arith, length-append}
+use Rattle.std.proofs.Common.{◌≡◌, ℕ, ◌<◌, ◌≤◌, true, ◌==◌, List, length, get_or, ap, ◌∙◌, arith, length-append}
 use Rattle.std.proofs.lemmas.List.Folds.{list_any-append}
 use Rattle.std.proofs.lemmas.List.{get_or_append_left}
-use Rattle.std.proofs.lemmas.Bool.{cases_eq, cases_Bool, or_left}
+use Rattle.std.proofs.lemmas.Bool.{or_left}
 use Rattle.closure_net.specs.Network.{holds_of}
-use Rattle.closure_net.specs.Searches.{list_with, Extends}
-use Rattle.closure_net.proofs.Holding.{push_holds_last, push_holds_rest}
+use Rattle.closure_net.specs.Searches.{Extends}
 
 -- a list that becomes longer keeps what it holds, and where
 pub holds_grows : (old new : List ℕ) (x : ℕ) → Extends old new → holds_of old x ≡ true → holds_of new x ≡ true
@@ -16,27 +15,3 @@ get_grows old new i e h = ap (λ xs. get_or xs i 0) e.is ∙ get_or_append_left 
 
 pub length_grows : (old new : List ℕ) → Extends old new → length old ≤ length new
 length_grows old new e = omega (arith, ap length e.is, length-append old e.more)
-
--- what is found is added, and nothing else is
-pub added_extends : (xs : List ℕ) (x : ℕ) → Extends xs (list_with xs x)
-added_extends xs x = elim (cases_Bool (holds_of xs x)) [
-  | inl h ↦ record { more = []; is = rw h (search rules) }
-  | inr h ↦ record { more = x ∷ []; is = rw h refl }
-]
-
-pub added_holds : (xs : List ℕ) (x : ℕ) → holds_of (list_with xs x) x ≡ true
-added_holds xs x = elim (cases_Bool (holds_of xs x)) [
-  | inl h ↦ let e : list_with xs x ≡ xs = rw h refl in ap (λ ys. holds_of ys x) e ∙ h
-  | inr h ↦ let e : list_with xs x ≡ xs ++ x ∷ [] = rw h refl in ap (λ ys. holds_of ys x) e ∙ push_holds_last xs x
-]
-
-pub added_only : (xs : List ℕ) (x y : ℕ) → holds_of (list_with xs x) y ≡ true → (holds_of xs y ≡ true) ⊎ (x ≡ y)
-added_only xs x y t = elim (cases_eq x y) [
-  | inl e ↦ inr e
-  | inr d ↦ elim (cases_Bool (holds_of xs x)) [
-    | inl h ↦ let e : xs ≡ list_with xs x = rw h refl in inl (ap (λ ys. holds_of ys y) e ∙ t)
-    | inr h ↦
-        let e : xs ++ x ∷ [] ≡ list_with xs x = rw h refl in
-        inl (sym (push_holds_rest xs x y d) ∙ ap (λ ys. holds_of ys y) e ∙ t)
-  ]
-]

@@ -1,13 +1,9 @@
 -- The marks of a search.
-use Rattle.std.proofs.Common.{◌≡◌, ℕ, zero, suc, ◌<◌, ◌≤◌, Bool, true, false, inl, inr, List, [], ◌∷◌, ◌++◌, length, get_or, set, replicate, sym, refl, ap, subst, ◌∙◌, arith, All, length-append, length-set, get_or-set_same, get_or-set_other}
-use Rattle.std.proofs.lemmas.List.{get_or_default, length-replicate}
-use Rattle.std.proofs.lemmas.List.Elements.{All-push, All-nil}
-use Rattle.std.proofs.lemmas.Bool.{cases_eq}
+use Rattle.std.proofs.Common.{◌≡◌, ℕ, zero, suc, ◌<◌, ◌≤◌, Bool, true, false, List, [], ◌∷◌, ◌++◌, length, get_or, set, replicate, sym, refl, ap, ◌∙◌, arith, length-set}
+use Rattle.std.proofs.lemmas.List.{get_or_default}
 use Rattle.fixed_worth.specs.declared.limits.TheConstants.{MOST_BLOCKS}
-use Rattle.prec_file.proofs.Marks.{none_marked}
-use Rattle.closure_net.specs.Network.{holds_of}
 use Rattle.closure_net.specs.Searches.{trues, IsSearch}
-use Rattle.closure_net.proofs.Holding.{push_holds_last, push_holds_rest}
+use Rattle.std.proofs.lemmas.Grind.{common_steps}
 
 -- how many marks are set
 pub trues_most : (ts : List Bool) → trues ts ≤ length ts
@@ -30,16 +26,7 @@ trues_none (suc n) = trues_none n
 
 -- a search begins with no mark set
 pub search_none : (n space : ℕ) (marks : List Bool) (found : List ℕ) → n ≤ MOST_BLOCKS → n ≤ space → marks ≡ replicate n false → found ≡ [] → IsSearch marks found space
-search_none n space marks found h r e f =
-    let P : List Bool → Type 0 = λ ts. IsSearch ts found space in
-    let Q : List ℕ → Type 0 = λ xs. IsSearch (replicate n false) xs space in
-    subst P (sym e) (subst Q (sym f) (record {
-      few = omega (arith, length-replicate n false);
-      room = omega (arith, length-replicate n false);
-      count = sym (trues_none n);
-      same = λ b. none_marked n b;
-      known = All-nil (λ b. b < length (replicate n false));
-    }))
+search_none n space marks found h r e f = grind (arith, common_steps, trues_none)
 
 -- there is room for a block that has no mark
 pub search_room : (marks : List Bool) (found : List ℕ) (space b : ℕ) → IsSearch marks found space → b < length marks → get_or marks b false ≡ false → length found < space
@@ -49,20 +36,7 @@ search_room marks found space b h l e =
 
 -- a block that has no mark is found
 pub search_more : (marks : List Bool) (found : List ℕ) (space b : ℕ) → IsSearch marks found space → b < length marks → get_or marks b false ≡ false → IsSearch (set marks b true) (found ++ b ∷ []) space
-search_more marks found space b h l e =
-    let s = length-set marks b true in
-    record {
-      few = omega (arith, s, h.few);
-      room = omega (arith, s, h.room);
-      count = omega (arith, length-append found (b ∷ []), trues_set marks b l e, h.count);
-      same = λ x. elim (cases_eq x b) [
-        | inl z ↦
-            let P : ℕ → Type 0 = λ y. get_or (set marks b true) y false ≡ holds_of (found ++ b ∷ []) y in
-            subst P (sym z) (get_or-set_same marks b true false l ∙ sym (push_holds_last found b))
-        | inr d ↦ get_or-set_other marks b x true false d ∙ h.same x ∙ sym (push_holds_rest found b x (λ q. d (sym q)))
-      ];
-      known = let P : ℕ → Type 0 = λ n. All (λ y. y < n) (found ++ b ∷ []) in subst P (sym s) (All-push (λ y. y < length marks) found b h.known l);
-    }
+search_more marks found space b h l e = grind (arith, common_steps, trues_set)
 
 -- a mark that was read with its own value for default
 pub read_false : (marks : List Bool) (b : ℕ) (t : Bool) → b < length marks → t ≡ get_or marks b t → t ≡ false → get_or marks b false ≡ false

@@ -1,5 +1,5 @@
 -- The ports of a block, by the two indexes of its pairs.
-use Rattle.std.proofs.Common.{◌≡◌, ℕ, ◌+◌, ◌<◌, ◌≤◌, ◌==◌, List, length, get_or, sym, ap, subst, ◌∙◌, arith, Some}
+use Rattle.std.proofs.Common.{◌≡◌, ℕ, ◌+◌, ◌<◌, ◌≤◌, ◌==◌, List, length, get_or, sym, ap, ◌∙◌, arith, Some}
 use Rattle.std.specs.Prelude.{slice_get}
 use Rattle.std.proofs.lemmas.List.{get_or-map, length-map}
 use Rattle.std.proofs.lemmas.Option.{slice_get-get_or}
@@ -9,6 +9,7 @@ use Rattle.prec_file.proofs.Order.{own_at}
 use Rattle.closure_net.specs.declared.port.Port.{Port}
 use Rattle.closure_net.specs.declared.port.PortKind.TheVariants.{Forward}
 use Rattle.closure_net.specs.Ports.{forward_port, backward_port, forward_ports, backward_ports}
+use Rattle.std.proofs.lemmas.Grind.{common_steps}
 
 -- the ports of these pairs to the blocks that b rests on, and to those that rest on b
 abbrev pub fore : List (ℕ × ℕ) → ℕ → List Port
@@ -19,9 +20,7 @@ back ps b = backward_ports (from_at ps) (to_at ps) (length ps) b
 
 -- as many as the index has blocks, or numbers
 pub length_fore : (ps : List (ℕ × ℕ)) (b : ℕ) (ts : List ℕ) → ts ≡ above_of ps b → length (fore ps b) ≡ length ts
-length_fore ps b ts e =
-    let ks = numbers (from_at ps) b (length ps) in
-    length-map ks (forward_port (to_at ps)) ∙ sym (ap length e ∙ length-map ks (to_at ps))
+length_fore ps b ts e = grind (arith, common_steps)
 
 pub length_back : (ps : List (ℕ × ℕ)) (b : ℕ) (ks : List ℕ) → ks ≡ below_of ps b → length (back ps b) ≡ length ks
 length_back ps b ks e = length-map (below_of ps b) (backward_port (from_at ps)) ∙ sym (ap length e)
@@ -54,6 +53,4 @@ fore_is ps r b i top first ts e l q f =
     slice_get-get_or (fore ps b) i d l ∙ ap Some (sym (same ∙ sym (get_or-map (forward_port (to_at ps)) ks i 0 d inside)))
 
 pub number_below : (ps : List (ℕ × ℕ)) (b i : ℕ) (ks : List ℕ) → ks ≡ below_of ps b → i < length ks → get_or ks i 0 < length ps
-number_below ps b i ks e l =
-    let P : List ℕ → Type 0 = λ xs. (i < length xs) → get_or xs i 0 < length ps in
-    subst P (sym e) (λ r. (passing_at (λ j. to_at ps j == b) (length ps) i r).below) l
+number_below ps b i ks e l = grind (arith, common_steps, passing_at)

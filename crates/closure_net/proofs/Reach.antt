@@ -1,6 +1,6 @@
 -- A search that has passed over all that it found has reached the least set.
 use Rattle.std.proofs.Common.{◌≡◌, ℕ, ◌+◌, ◌<◌, ◌≤◌, ◌==◌, nat_lt, Bool, true, inl, inr, List, length, get_or, sym, ap, subst, ◌∙◌, arith, All}
-use Rattle.std.proofs.lemmas.Bool.{cases_eq, cases_lt, eq-eqb, eqb-true, lt-ltb, ltb-true}
+use Rattle.std.proofs.lemmas.Bool.{cases_eq, eq-eqb, eqb-true, ltb-true}
 use Rattle.std.proofs.lemmas.List.{get_or-map, get_or_default, length-map}
 use Rattle.prec_file.specs.Rests.{from_at, to_at, numbers_passing, numbers, above_of, below_of, IsKnown}
 use Rattle.prec_file.proofs.Passing.{passing_at, passing_here, passing_after, passing_grows}
@@ -9,6 +9,7 @@ use Rattle.closure_net.specs.Network.{NetView, FlowView, holds_of, IsAscending}
 use Rattle.closure_net.specs.Searches.{PassedPlaces, Always, above_at, sender_at, SendsAt}
 use Rattle.closure_net.proofs.Finds.{holds_grows, get_grows, length_grows}
 use Rattle.closure_net.proofs.Holding.{holds_at, place_of}
+use Rattle.std.proofs.lemmas.Grind.{common_steps}
 
 -- the blocks before place h were looked at: what is beside them is found, and nothing that a set of this kind could lack
 pub record Searched (net : NetView) (flow : FlowView) (found : List ℕ) (h : ℕ) : Type 0 where
@@ -90,19 +91,11 @@ module _ (net : NetView) (flow : FlowView) (b : ℕ) where
 
 -- where all that is found was looked at
 pub searched_reaches : (net : NetView) (flow : FlowView) (found : List ℕ) (h : ℕ) → Searched net flow found h → length found ≤ h → Reaches net flow (holds_of found)
-searched_reaches net flow found h s l = record {
-  begins = s.begun;
-  down = λ k r t. let a = place_of found (from_at net.pairs k) t in s.down a.0 k (omega (arith, a.1)) r (sym a.2);
-  up = λ k r w t. let a = place_of found (to_at net.pairs k) t in s.up a.0 k (omega (arith, a.1)) r w (sym a.2);
-}
+searched_reaches net flow found h s l = grind (arith, common_steps, place_of)
 
 -- the known blocks are such a set
 all_reach : (net : NetView) (flow : FlowView) → All (IsKnown (length net.worths)) net.pairs → Reaches net flow (λ x. nat_lt x (length net.worths))
-all_reach net flow h = record {
-  begins = λ b l w. lt-ltb b (length net.worths) l;
-  down = λ k l t. lt-ltb (to_at net.pairs k) (length net.worths) (h k (0, 0) l).1;
-  up = λ k l w t. lt-ltb (from_at net.pairs k) (length net.worths) (h k (0, 0) l).0;
-}
+all_reach net flow h = grind (arith, common_steps)
 
 -- a list of all that pass below n holds what passes
 passing_holds : (e : ℕ → Bool) (n x : ℕ) → x < n → e x ≡ true → holds_of (numbers_passing e n) x ≡ true
@@ -111,10 +104,7 @@ passing_holds e n x l t =
     ap (holds_of (numbers_passing e n)) (sym at) ∙ holds_at (numbers_passing e n) (length (numbers_passing e x)) (passing_after e x n l t)
 
 passing_held : (e : ℕ → Bool) (n x : ℕ) → holds_of (numbers_passing e n) x ≡ true → e x ≡ true
-passing_held e n x t =
-    let a = place_of (numbers_passing e n) x t in
-    let p = passing_at e n a.0 a.1 in
-    ap e (sym a.2) ∙ p.passes
+passing_held e n x t = grind (arith, common_steps, place_of, passing_at)
 
 -- the search's end
 pub reached : (net : NetView) (flow : FlowView) (found : List ℕ) (h n : ℕ) (pit : List ℕ) → n ≡ length net.worths → All (IsKnown (length net.worths)) net.pairs → Searched net flow found h → length found ≤ h → pit ≡ numbers_passing (holds_of found) n → IsReached net flow (holds_of pit)
@@ -136,15 +126,7 @@ reached net flow found h n pit e k s l q =
 
 -- a list of all that pass below n ascends, and is of numbers below n
 pub ascends : (e : ℕ → Bool) (n : ℕ) (pit : List ℕ) → pit ≡ numbers_passing e n → IsAscending pit
-ascends e n pit q =
-    let P : List ℕ → Type 0 = λ xs. IsAscending xs in
-    subst P (sym q) (λ i j l r.
-    let a = passing_at e n i (omega arith) in
-    let b = passing_at e n j r in
-    elim (cases_lt (get_or (numbers_passing e n) i 0) (get_or (numbers_passing e n) j 0)) [
-      | inl y ↦ y
-      | inr y ↦ absurd (omega (arith, passing_grows e (get_or (numbers_passing e n) j 0) (get_or (numbers_passing e n) i 0) y, a.place, b.place))
-    ])
+ascends e n pit q = grind (arith, common_steps, passing_at, passing_grows)
 
 pub passing_known : (e : ℕ → Bool) (n : ℕ) (pit : List ℕ) → pit ≡ numbers_passing e n → All (λ b. b < n) pit
 passing_known e n pit q =

@@ -1,21 +1,16 @@
 -- A block is marked where a line named it.
-use Rattle.std.proofs.Common.{◌≡◌, ℕ, ◌<◌, ◌≢◌, Bool, true, false, cond, not, eqb, List, [], ◌∷◌, ◌++◌, length, get_or, set, Option, Some, None, refl, sym, ap, ◌∙◌, subst, arith, append-nil, get_or-set_same, get_or-set_other}
+use Rattle.std.proofs.Common.{◌≡◌, ℕ, ◌<◌, Bool, true, false, cond, not, eqb, List, [], ◌++◌, length, get_or, set, Option, Some, None, refl, sym, ap, ◌∙◌, arith, append-nil}
 use Rattle.std.specs.Prelude.{◌||◌, nat_le}
-use Rattle.std.proofs.lemmas.Bool.Decides.{nat_tests}
-use Rattle.std.proofs.lemmas.List.Folds.{list_any-append}
-use Rattle.fixed_worth.specs.Record.{reads, number_of}
+use Rattle.fixed_worth.specs.Record.{number_of}
 use Rattle.design_file.specs.declared.design_fault.DesignFault.{DesignFault}
-use Rattle.design_file.specs.declared.design_fault.DesignFault.TheVariants.{Number, UnknownBlock, Repeated}
 use Rattle.design_file.specs.Records.{is_passed, block_word, word_fault, named_fault, record_fault, block_in, blocks_in, has, set_in, marks_after}
-use Rattle.fixed_worth.proofs.Bits.{or_true, or_false}
+use Rattle.std.proofs.lemmas.Grind.{common_steps}
 
 -- ---- what is known of blocks below n alone counts
 
 word_same : (n : ℕ) (g h : ℕ → Bool) (line : ℕ) (word : List ℕ) → ((b : ℕ) → b < n → g b ≡ h b) → (t : Bool) → nat_le n (number_of word) ≡ t → word_fault n g line word ≡ word_fault n h line word
 word_same n g h line word same true e = rw e refl
-word_same n g h line word same false e =
-    let below : number_of word < n = grind (arith, nat_tests) in
-    rw (e, same (number_of word) below) refl
+word_same n g h line word same false e = grind (arith, common_steps)
 
 named_same : (n : ℕ) (g h : ℕ → Bool) (line : ℕ) (o : Option (List ℕ)) → ((b : ℕ) → b < n → g b ≡ h b) → named_fault n g line o ≡ named_fault n h line o
 named_same n g h line None same = refl
@@ -31,27 +26,16 @@ third false b x y o h = cc
 third true true x y o h = cc
 third true false x y o h = refl
 
-word_known : (n : ℕ) (g : ℕ → Bool) (line : ℕ) (word : List ℕ) → word_fault n g line word ≡ None → number_of word < n
-word_known n g line word h =
-    let e : nat_le n (number_of word) ≡ false = third (reads word) (nat_le n (number_of word)) (Number line) (UnknownBlock line) (cond (g (number_of word)) (Some (Repeated line)) None) h in
-    grind (arith, nat_tests)
-
 -- ---- marks
 
 mark_at : (marks : List Bool) (bs : List ℕ) (b k : ℕ) → b < length marks → get_or marks k false ≡ has bs k → (t : Bool) → eqb b k ≡ t → get_or (set marks b true) k false ≡ (has bs k || (t || false))
-mark_at marks bs b k i h true e =
-    let same : k ≡ b = grind (arith, nat_tests) in
-    subst (λ (x : ℕ). get_or (set marks b true) x false ≡ true) (sym same) (get_or-set_same marks b true false i) ∙ sym (or_true (has bs k))
-mark_at marks bs b k i h false e =
-    let ne : k ≢ b = grind (arith, nat_tests) in
-    get_or-set_other marks b k true false ne ∙ h ∙ sym (or_false (has bs k))
+mark_at marks bs b k i h true e = grind (arith, common_steps)
+mark_at marks bs b k i h false e = grind (arith, common_steps)
 
 mark_word : (n : ℕ) (g : ℕ → Bool) (line : ℕ) (marks : List Bool) (bs : List ℕ) (o : Option (List ℕ)) → length marks ≡ n → named_fault n g line o ≡ None → ((k : ℕ) → k < n → get_or marks k false ≡ has bs k)
     → (k : ℕ) → k < n → get_or (set_in marks o) k false ≡ has (bs ++ block_in o) k
 mark_word n g line marks bs None e w h k j = cc
-mark_word n g line marks bs (Some word) e w h k j =
-    let below : number_of word < length marks = omega (arith, word_known n g line word w, e) in
-    mark_at marks bs (number_of word) k below (h k j) (eqb (number_of word) k) refl ∙ sym (list_any-append (λ x. eqb x k) bs (number_of word ∷ []))
+mark_word n g line marks bs (Some word) e w h k j = grind (arith, common_steps)
 
 mark_by : (s : Bool) (n : ℕ) (g : ℕ → Bool) (line : ℕ) (marks : List Bool) (bs : List ℕ) (o : Option (List ℕ)) → length marks ≡ n → cond s None (named_fault n g line o) ≡ None → ((k : ℕ) → k < n → get_or marks k false ≡ has bs k)
     → (k : ℕ) → k < n → get_or (cond s marks (set_in marks o)) k false ≡ has (bs ++ cond s [] (block_in o)) k

@@ -1,16 +1,15 @@
 -- Reading line after line.
-use Rattle.std.proofs.Common.{◌≡◌, ℕ, ◌+◌, ◌<◌, ◌≤◌, Bool, false, List, [], ◌∷◌, ◌++◌, length, get_or, Option, Some, None, refl, sym, ap, ◌∙◌, subst, arith, append_assoc, append-nil}
-use Rattle.std.specs.Prelude.{nat_lt}
+use Rattle.std.proofs.Common.{◌≡◌, ℕ, ◌+◌, ◌<◌, ◌≤◌, Bool, false, List, [], ◌∷◌, ◌++◌, length, get_or, Some, None, refl, subst, arith, append_assoc, append-nil}
 use Rattle.std.specs.Option.{option_or}
-use Rattle.std.proofs.lemmas.Bool.Decides.{nat_tests}
 use Rattle.std.proofs.lemmas.List.Concat.{flat_map-append}
 use Rattle.fixed_worth.specs.Text.{Left, fields_of}
 use Rattle.fixed_worth.specs.declared.limits.TheConstants.{LINE_BYTES}
 use Rattle.fixed_worth.specs.Record.{Line, numbered_lines, lines_in}
 use Rattle.design_file.specs.declared.design_fault.DesignFault.{DesignFault}
 use Rattle.design_file.specs.declared.design_fault.DesignFault.TheVariants.{Text, Number, UnknownBlock, Repeated, NoMemory}
-use Rattle.design_file.specs.Records.{record_fault, line_fault, blocks_in, blocks_of, has, first_fault, fault_of, AreMarks, marks_after, UnlessMemory}
-use Rattle.design_file.proofs.Marks.{record_same, mark}
+use Rattle.design_file.specs.Records.{record_fault, line_fault, blocks_of, has, first_fault, fault_of, AreMarks, marks_after, UnlessMemory}
+use Rattle.design_file.proofs.Marks.{mark}
+use Rattle.std.proofs.lemmas.Grind.{common_steps}
 
 -- What has been read, and what is left.
 pub record ReadSoFar (n : ℕ) (text : List ℕ) (marks : List Bool) (left : Left) : Type 0 where
@@ -29,9 +28,7 @@ unless (Repeated k) h = h
 -- The fault of the next line is that of its record, as the reader knows it.
 behind : (n : ℕ) (text : List ℕ) (marks : List Bool) (left : Left) (g : ReadSoFar n text marks left) (k : ℕ) (line : List ℕ) → length line ≤ LINE_BYTES
     → line_fault n (has (blocks_of g.before)) (record { number = k; text = line }) ≡ record_fault n (λ b. get_or marks b false) k (fields_of line)
-behind n text marks left g k line h =
-    let short : nat_lt LINE_BYTES (length line) ≡ false = grind (arith, nat_tests) in
-    rw (short) (record_same n (has (blocks_of g.before)) (λ b. get_or marks b false) k (fields_of line) (λ b i. sym (g.marks_so b i)))
+behind n text marks left g k line h = grind (arith, common_steps)
 
 next_fault : (n : ℕ) (before : List Line) (left next : Left) (line : List ℕ) → left.lines ≡ line ∷ next.lines → next.number ≡ left.number + 1
     → first_fault n before (numbered_lines left.number left.lines) ≡ option_or (line_fault n (has (blocks_of before)) (record { number = next.number; text = line })) (first_fault n (before ++ record { number = next.number; text = line } ∷ []) (numbered_lines next.number next.lines))
@@ -44,25 +41,13 @@ next_lines left next line e f = rw (e, f) refl
 goes_wrong : (n : ℕ) (text : List ℕ) (marks : List Bool) (left next : Left) (line : List ℕ) (x : DesignFault) → ReadSoFar n text marks left
     → left.lines ≡ line ∷ next.lines → next.number ≡ left.number + 1 → length line ≤ LINE_BYTES
     → record_fault n (λ b. get_or marks b false) next.number (fields_of line) ≡ Some x → fault_of n text ≡ Some x
-goes_wrong n text marks left next line x g e f h w =
-    let l : Line = record { number = next.number; text = line } in
-    sym g.fault ∙ next_fault n g.before left next line e f
-    ∙ ap (λ (o : Option DesignFault). option_or o (first_fault n (g.before ++ l ∷ []) (numbered_lines next.number next.lines))) (behind n text marks left g next.number line h ∙ w)
+goes_wrong n text marks left next line x g e f h w = grind (arith, common_steps)
 
 goes_on : (n : ℕ) (text : List ℕ) (marks more : List Bool) (left next : Left) (line : List ℕ) → ReadSoFar n text marks left → length marks ≡ n
     → left.lines ≡ line ∷ next.lines → next.number ≡ left.number + 1 → length line ≤ LINE_BYTES
     → record_fault n (λ b. get_or marks b false) next.number (fields_of line) ≡ None
     → more ≡ marks_after (fields_of line) marks → ReadSoFar n text more next
-goes_on n text marks more left next line g e f h i w m =
-    let l : Line = record { number = next.number; text = line } in
-    let rest = numbered_lines next.number next.lines in
-    let bs : blocks_of (g.before ++ l ∷ []) ≡ blocks_of g.before ++ blocks_in (fields_of line) = flat_map-append (λ x. blocks_in (fields_of x.text)) g.before (l ∷ []) ∙ ap (λ (xs : List ℕ). blocks_of g.before ++ xs) (append-nil (blocks_in (fields_of line))) in
-    record {
-      before = g.before ++ l ∷ [];
-      fault = sym (ap (λ (o : Option DesignFault). option_or o (first_fault n (g.before ++ l ∷ []) rest)) (behind n text marks left g next.number line i ∙ w)) ∙ sym (next_fault n g.before left next line f h) ∙ g.fault;
-      whole = append_assoc g.before (l ∷ []) rest ∙ ap (λ (ls : List Line). g.before ++ ls) (sym (next_lines left next line f h)) ∙ g.whole;
-      marks_so = λ b j. ap (λ (xs : List Bool). get_or xs b false) m ∙ mark n (λ x. get_or marks x false) next.number marks (blocks_of g.before) (fields_of line) e w g.marks_so b j ∙ ap (λ (xs : List ℕ). has xs b) (sym bs);
-    }
+goes_on n text marks more left next line g e f h i w m = grind (arith, common_steps, flat_map-append, append-nil, behind, next_fault, append_assoc, next_lines, mark)
 
 -- The same, where the reader has the line's number apart.
 pub step_on : (n k : ℕ) (text : List ℕ) (marks more : List Bool) (left next : Left) (line : List ℕ) → ReadSoFar n text marks left → length marks ≡ n → k ≡ next.number
@@ -80,8 +65,4 @@ step_wrong n k text marks left next line x g j f h i w =
 
 -- Where no line is left, the marks are those of the text.
 pub all_read : (n : ℕ) (text : List ℕ) (marks : List Bool) (left : Left) → ReadSoFar n text marks left → length marks ≡ n → left.lines ≡ [] → (fault_of n text ≡ None) × AreMarks n text marks
-all_read n text marks left g e none =
-    let whole : g.before ≡ lines_in text = sym (append-nil g.before) ∙ ap (λ (ls : List (List ℕ)). g.before ++ numbered_lines left.number ls) (sym none) ∙ g.whole in (
-      sym g.fault ∙ ap (λ (ls : List (List ℕ)). first_fault n g.before (numbered_lines left.number ls)) none,
-      record { size = e; at = λ b j. g.marks_so b j ∙ ap (λ (ls : List Line). has (blocks_of ls) b) whole },
-    )
+all_read n text marks left g e none = grind (arith, common_steps)

@@ -1,6 +1,5 @@
 -- The pairs that lead out of a set, pair by pair and block by block.
-use Rattle.std.proofs.Common.{◌≡◌, ℕ, suc, ◌+◌, ◌<◌, ◌≤◌, Bool, true, false, cond, inl, inr, List, [], ◌∷◌, ◌++◌, length, take, get_or, refl, sym, ap, ◌∙◌, subst, arith, add-one, length-append, append-nil}
-use Rattle.std.proofs.lemmas.Bool.{cases_lt}
+use Rattle.std.proofs.Common.{◌≡◌, ℕ, suc, ◌+◌, ◌<◌, ◌≤◌, Bool, true, false, cond, List, [], ◌∷◌, ◌++◌, length, take, get_or, refl, sym, ap, ◌∙◌, subst, arith, add-one, length-append}
 use Rattle.std.proofs.lemmas.List.{take_all, take_more, take-append-le, length-take-le}
 use Rattle.std.proofs.lemmas.List.Elements.{filter-append}
 use Rattle.prec_file.specs.Rests.{IsKnown, IsRests, RestsView, from_at, first_of, above_of}
@@ -8,6 +7,7 @@ use Rattle.prec_file.proofs.Finding.{above_at, above_length}
 use Rattle.prec_file.proofs.Slots.{ending_next, ending_none, ending_all}
 use Rattle.prec_file.proofs.Sorting.{length_filter_most}
 use Rattle.design_value.specs.OpenPairs.{leads_out, open_pairs, most_told, AreOpen}
+use Rattle.std.proofs.lemmas.Grind.{common_steps}
 
 -- ---- one pair more
 
@@ -19,24 +19,16 @@ with_pair : (design : ℕ → Bool) (ps : List (ℕ × ℕ)) (pair : ℕ × ℕ)
 with_pair design ps pair t e = filter-append (leads_out design) ps (pair ∷ []) ∙ ap (λ (xs : List (ℕ × ℕ)). open_pairs design ps ++ xs) (one design pair t e)
 
 pub stays : (design : ℕ → Bool) (ps : List (ℕ × ℕ)) (pair : ℕ × ℕ) (count : ℕ) (first : List (ℕ × ℕ)) → leads_out design pair ≡ false → AreOpen design ps count first → AreOpen design (ps ++ pair ∷ []) count first
-stays design ps pair count first e h =
-    let same : open_pairs design (ps ++ pair ∷ []) ≡ open_pairs design ps = with_pair design ps pair false e ∙ append-nil (open_pairs design ps) in
-    record { all = h.all ∙ ap length (sym same); first = h.first ∙ ap (take most_told) (sym same) }
+stays design ps pair count first e h = grind (arith, common_steps)
 
 more_all : (design : ℕ → Bool) (ps : List (ℕ × ℕ)) (pair : ℕ × ℕ) (count : ℕ) → leads_out design pair ≡ true → count ≡ length (open_pairs design ps) → count + 1 ≡ length (open_pairs design (ps ++ pair ∷ []))
 more_all design ps pair count e h = omega (arith, h, ap length (with_pair design ps pair true e), length-append (open_pairs design ps) (pair ∷ []))
 
 few_open : (xs first : List (ℕ × ℕ)) → first ≡ take most_told xs → length first < most_told → length xs < most_told
-few_open xs first e l = elim (cases_lt (length xs) most_told) [
-  | inl o ↦ o
-  | inr o ↦ absurd (omega (arith, l, ap length e, length-take-le most_told xs o))
-]
+few_open xs first e l = grind (arith, common_steps)
 
 many_open : (xs first : List (ℕ × ℕ)) → first ≡ take most_told xs → most_told ≤ length first → most_told ≤ length xs
-many_open xs first e l = elim (cases_lt (length xs) most_told) [
-  | inl o ↦ absurd (omega (arith, l, o, ap length e, ap length (take_all most_told xs (omega arith))))
-  | inr o ↦ o
-]
+many_open xs first e l = grind (arith, common_steps)
 
 pub opens_told : (design : ℕ → Bool) (ps : List (ℕ × ℕ)) (pair : ℕ × ℕ) (count : ℕ) (first : List (ℕ × ℕ)) → leads_out design pair ≡ true → length first < most_told → AreOpen design ps count first → AreOpen design (ps ++ pair ∷ []) (count + 1) (first ++ pair ∷ [])
 opens_told design ps pair count first e l h =
@@ -86,6 +78,4 @@ pub none_passed : (ps : List (ℕ × ℕ)) → first_of ps 0 ≡ 0
 none_passed ps = ending_none (from_at ps) (length ps)
 
 pub all_passed : (v : RestsView) → IsRests v → take (first_of v.pairs v.blocks) v.pairs ≡ v.pairs
-all_passed v r =
-    let all : first_of v.pairs v.blocks ≡ length v.pairs = ending_all (from_at v.pairs) v.blocks (length v.pairs) (λ k l. (r.known k (0, 0) l).0) in
-    take_all (first_of v.pairs v.blocks) v.pairs (omega (arith, all))
+all_passed v r = grind (arith, common_steps, ending_all, take_all)

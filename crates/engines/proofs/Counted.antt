@@ -1,11 +1,12 @@
 -- The number of blocks of an ascending list.
-use Rattle.std.proofs.Common.{◌≡◌, ℕ, zero, suc, ◌+◌, ◌<◌, ◌≤◌, Bool, false, cond, ◌||◌, ◌==◌, List, [], ◌∷◌, length, get_or, refl, sym, ap, ◌∙◌, arith, inl, inr, All}
-use Rattle.std.proofs.lemmas.Bool.{cases_eq, eq-eqb, ne_eqb}
+use Rattle.std.proofs.Common.{◌≡◌, ℕ, zero, suc, ◌+◌, ◌<◌, ◌≤◌, Bool, false, cond, ◌||◌, ◌==◌, List, [], ◌∷◌, length, get_or, refl, ap, ◌∙◌, arith, inl, inr, All}
+use Rattle.std.proofs.lemmas.Bool.{cases_eq, ne_eqb}
 use Rattle.std.proofs.lemmas.List.Folds.{list_any_none}
 use Rattle.std.proofs.lemmas.List.{get_or_default}
 use Rattle.ordered_group.specs.Sets.{count_in}
 use Rattle.ordered_group.proofs.BlockSets.{count_in-most}
 use Rattle.closure_net.specs.Network.{IsAscending, holds_of}
+use Rattle.std.proofs.lemmas.Grind.{common_steps}
 
 -- the set with one block more
 with_block : ℕ → (ℕ → Bool) → ℕ → Bool
@@ -18,9 +19,7 @@ count_apart x e (suc n) h = rw (count_apart x e n (omega (arith, h)), ne_eqb x n
 
 one_more : (x n : ℕ) (e : ℕ → Bool) (t : Bool) (k : ℕ) → x ≡ n → e x ≡ false → count_in (with_block x e) n ≡ k → count_in e n ≡ k → e n ≡ t → count_in (with_block x e) n + cond (with_block x e n) 1 0 ≡ suc (count_in e n + cond (e n) 1 0)
 unfolding with_block
-one_more x n e t k h off p q s =
-    let last : e n ≡ false = ap e (sym h) ∙ off in
-    rw (eq-eqb x n h, last, p, q) (omega arith)
+one_more x n e t k h off p q s = grind (arith, common_steps)
 
 one_later : (x n : ℕ) (e : ℕ → Bool) → (x ≡ n → ⊥) → count_in (with_block x e) n ≡ suc (count_in e n) → count_in (with_block x e) n + cond (with_block x e n) 1 0 ≡ suc (count_in e n + cond (e n) 1 0)
 unfolding with_block

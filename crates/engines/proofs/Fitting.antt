@@ -7,7 +7,7 @@ use Rattle.ordered_group.specs.Amount.{Amount, zero_amount, plus, minus, positiv
 use Rattle.ordered_group.specs.Sums.{total, amount_at}
 use Rattle.ordered_group.specs.declared.groups.Group.{Group}
 use Rattle.ordered_group.specs.declared.groups.Group.TheVariants.{Worth, Pair, Scaled}
-use Rattle.ordered_group.proofs.Signs.{NonNeg, NonNeg-positive, positive-of_NonNeg, sign_or}
+use Rattle.ordered_group.proofs.Signs.{NonNeg, NonNeg-positive}
 use Rattle.ordered_group.proofs.Totals.Ranges.{total_nonneg}
 use Rattle.closure_net.specs.Network.{NetView, IsNet}
 use Rattle.closure_net.specs.Mine.{IsNetOf}
@@ -19,17 +19,11 @@ use Rattle.mine_inputs.specs.Mines.{MineTexts, mine_of}
 use Rattle.mine_inputs.specs.FaultStands.{AreWorths}
 use Rattle.engines.specs.FaultStands.{ModelFails}
 use Rattle.engines.specs.Readings.{block_by}
+use Rattle.std.proofs.lemmas.Grind.{common_steps}
 
 -- a worth fits whose opposite does, and whose sum with one that isn't negative does where it is positive itself
 worth_fits : (x t : Amount) → NonNeg t → FitsPair (minus zero_amount x) → FitsPair (plus t (positive x)) → FitsSigned w128 x.w
-worth_fits x t n o s =
-    elim (sign_or x) [
-      | inl most ↦ omega (arith, ints, o.0, most.worths)
-      | inr above ↦
-          let zero_first : NonNeg x = record { worths = above.worths; counts = λ e. let q = above.counts e in omega (arith, ints, q) } in
-          let sum : FitsPair (plus t x) = subst (λ (y : Amount). FitsPair (plus t y)) (positive-of_NonNeg x zero_first) s in
-          omega (arith, ints, o.0, sum.0, n.worths, above.worths)
-    ]
+worth_fits x t n o s = grind (arith, common_steps)
 
 -- so does each worth of a net
 net_worth_fits : (net : NetView) → IsNet net → (b : ℕ) → b < length net.worths → FitsSigned w128 (amount_at net.worths b).w

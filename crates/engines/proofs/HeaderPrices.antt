@@ -9,19 +9,17 @@ use Rattle.certificate_file.specs.Header.{header_of, price_in, price_said, mill_
 use Rattle.certificate_file.specs.ReadBack.{IsPrice}
 use Rattle.certificate_file.specs.declared.header.Header.{Header}
 use Rattle.certificate_file.specs.declared.header.Price.{Price}
-use Rattle.certificate_file.specs.declared.header.Price.TheVariants.{Objective, Factor}
+use Rattle.certificate_file.specs.declared.header.Price.TheVariants.{Objective}
 use Rattle.certificate_file.specs.declared.header.Price.TheVariants as price_mill
 use Rattle.certificate_file.specs.declared.header.Version.{Version}
 use Rattle.certificate_file.specs.declared.header.Version.TheVariants.{One, Two}
 use Rattle.certificate_file.specs.declared.cert_fault.LineFault.{LineFault}
-use Rattle.certificate_file.proofs.Going.{text_read, below_limit}
+use Rattle.certificate_file.proofs.Going.{text_read}
 use Rattle.certificate_file.proofs.Wants.{joined}
+use Rattle.std.proofs.lemmas.Grind.{common_steps}
 
 factor_below : (word : List ℕ) (o : Option ℕ) (price : Price) → number_below (MOST_FACTOR + 1) word ≡ o → or_number (factor_of o) ≡ Ok price → IsPrice price
-factor_below word (Some k) price e h =
-    let same : Factor k ≡ price = ap (λ (r : Result Price LineFault). result_unwrap_or r price) h in
-    let k_below = below_limit (MOST_FACTOR + 1) k word e in
-    subst IsPrice same (omega (arith, k_below))
+factor_below word (Some k) price e h = grind (arith, common_steps)
 factor_below word None price e h = absurd cc
 
 word_price : (word : List ℕ) (t : Bool) (price : Price) → cond t (Ok Objective) (or_number (factor_of (number_below (MOST_FACTOR + 1) word))) ≡ Ok price → IsPrice price
@@ -33,10 +31,7 @@ plain_bound (Some word) price h = word_price word (bytes_eq word (codes "OBJECTI
 plain_bound None price h = absurd cc
 
 mill_below : (word : List ℕ) (o : Option ℕ) (price : Price) → number_below (MOST_FACTOR + 1) word ≡ o → or_number (mill_of o) ≡ Ok price → IsPrice price
-mill_below word (Some k) price e h =
-    let same : price_mill.Mill k ≡ price = ap (λ (r : Result Price LineFault). result_unwrap_or r price) h in
-    let k_below = below_limit (MOST_FACTOR + 1) k word e in
-    subst IsPrice same (omega (arith, k_below))
+mill_below word (Some k) price e h = grind (arith, common_steps)
 mill_below word None price e h = absurd cc
 
 mill_bound : (o : Option (List ℕ)) (price : Price) → mill_said o ≡ Ok price → IsPrice price

@@ -1,7 +1,7 @@
 -- From what was read to the judgement.
-use Rattle.std.proofs.Common.{◌≡◌, ℕ, ◌<◌, ℤ, pos, Bool, List, length, map, refl, sym, ap, ◌∙◌, subst, arith, None, Some, Ok, inr}
+use Rattle.std.proofs.Common.{◌≡◌, ℕ, ℤ, pos, Bool, List, length, map, refl, sym, ap, ◌∙◌, subst, arith, None, Some, Ok, inr}
 use Rattle.std.proofs.lemmas.List.{length-map, get_or-map}
-use Rattle.ordered_group.specs.Amount.{Amount, zero_amount}
+use Rattle.ordered_group.specs.Amount.{Amount}
 use Rattle.ordered_group.specs.Laws.{SumsTellWorth}
 use Rattle.ordered_group.specs.declared.groups.Group.{Group}
 use Rattle.prec_file.specs.Rests.{RestsView}
@@ -16,7 +16,7 @@ use Rattle.certificate_file.specs.declared.header.Header.{Header}
 use Rattle.certificate_file.specs.Pieces.{pieces_of}
 use Rattle.certificate_file.specs.Header.{header_of}
 use Rattle.mine_inputs.specs.Limits.{IsWithinLimit}
-use Rattle.mine_inputs.specs.Mines.{MineTexts, precedence_of, price_wanted, mine_of, DenoteMine}
+use Rattle.mine_inputs.specs.Mines.{MineTexts, price_wanted, mine_of, DenoteMine}
 use Rattle.engines.specs.Readings.{IsHeader, Reads, IsGroupNamed}
 use Rattle.engines.specs.Judgements.{CertificateAccepted}
 use Rattle.mine_inputs.specs.FaultStands.{AreWorths}
@@ -30,17 +30,11 @@ use Rattle.mine_inputs.specs.EngineFaults.{of_certificate, of_model}
 use Rattle.mine_inputs.specs.ReadMines.{AreRead}
 use Rattle.engines.proofs.Told.{size_told, worth_told}
 use Rattle.engines.proofs.Listed.{listed_rests}
+use Rattle.std.proofs.lemmas.Grind.{common_steps}
 
 -- the net that is made of the worths that were read
 pub net_made : (block : ℤ → ℕ → Amount) (texts : MineTexts) (rests : RestsView) (worths : List ℤ) → AreRead texts worths rests → IsNetOf block (mine_of rests.blocks texts) (net_view rests.pairs (map (λ v. block v rests.blocks) worths))
-net_made block texts rests worths a =
-    record {
-      blocks = length-map worths (λ v. block v rests.blocks) ∙ a.worths.size;
-      worths = λ b h.
-          let l : b < length worths = omega (arith, h, a.worths.size) in
-          get_or-map (λ v. block v rests.blocks) worths b (pos 0) zero_amount l ∙ ap (λ v. block v rests.blocks) (a.worths.each b h);
-      pairs = listed_rests (prec.pairs_of_text (precedence_of texts)) rests.pairs a.pairs;
-    }
+net_made block texts rests worths a = grind (arith, common_steps, length-map, get_or-map, pos, listed_rests)
 
 -- What is known once the net is made and the certificate is read without a fault.
 pub record HasRead (name : Group) (block : ℤ → ℕ → Amount) (counts : Bool) (texts : MineTexts) (certificate : List ℕ) (net : NetView) (pit : List ℕ) (flow : FlowView) : Type 0 where
@@ -86,15 +80,7 @@ module _ (name : Group) (block : ℤ → ℕ → Amount) (counts : Bool) (texts 
 
 -- the fault of a certificate's text behind its header, for the net that was made
 body_fails : (name : Group) (block : ℤ → ℕ → Amount) (counts : Bool) (texts : MineTexts) (certificate : List ℕ) (net : NetView) (fault : CertFault) → IsGroupNamed name block counts → IsHeader texts certificate (length net.worths) name → IsNet net → IsNetOf block (mine_of (length net.worths) texts) net → fault_of counts name (length net.worths) net.pairs certificate ≡ Some fault → BodyTextFails texts certificate (length net.worths) fault
-body_fails name block counts texts certificate net fault named header is_net of_mine f =
-    record {
-      group = name;
-      header = header;
-      net = net;
-      is_net = is_net;
-      of_mine = let P : (ℤ → ℕ → Amount) → Type 0 = λ b. IsNetOf b (mine_of (length net.worths) texts) net in subst P (sym named.block_is) of_mine;
-      stands = let P : Bool → Type 0 = λ c. fault_of c name (length net.worths) net.pairs certificate ≡ Some fault in subst P (sym named.counts_is) f;
-    }
+body_fails name block counts texts certificate net fault named header is_net of_mine f = grind (arith, common_steps)
 
 -- a fault in answering it
 pub text_fails : (name : Group) (block : ℤ → ℕ → Amount) (counts : Bool) (texts : MineTexts) (certificate : List ℕ) (net : NetView) (fault : CertFault) → DenoteMine texts (length net.worths) → IsGroupNamed name block counts → IsHeader texts certificate (length net.worths) name → IsNet net → IsNetOf block (mine_of (length net.worths) texts) net → UnlessMemory fault (fault_of counts name (length net.worths) net.pairs certificate ≡ Some fault) → Fails texts certificate (of_certificate fault)
@@ -138,18 +124,10 @@ pub record NetKnown (block : ℤ → ℕ → Amount) (texts : MineTexts) (certif
   pub of_mine : IsNetOf block (mine_of (length net.worths) texts) net
 
 known_at : (block : ℤ → ℕ → Amount) (texts : MineTexts) (certificate : List ℕ) (name : Group) (n m : ℕ) (net : NetView) → n ≡ m → m ≡ length net.worths → DenoteMine texts n → IsHeader texts certificate n name → IsNetOf block (mine_of n texts) net → NetKnown block texts certificate name net
-known_at block texts certificate name n m net e f mine header of_mine =
-    let D : ℕ → Type 0 = λ k. DenoteMine texts k in
-    let H : ℕ → Type 0 = λ k. IsHeader texts certificate k name in
-    let M : ℕ → Type 0 = λ k. IsNetOf block (mine_of k texts) net in
-    record { mine = subst D (e ∙ f) mine; header = subst H (e ∙ f) header; of_mine = subst M (e ∙ f) of_mine }
+known_at block texts certificate name n m net e f mine header of_mine = grind (arith, common_steps)
 
 pub net_known : (block : ℤ → ℕ → Amount) (texts : MineTexts) (certificate : List ℕ) (name : Group) (rests : RestsView) (worths : List ℤ) (net : NetView) → AreRead texts worths rests → IsHeader texts certificate rests.blocks name → net ≡ net_view rests.pairs (map (λ v. block v rests.blocks) worths) → rests.blocks ≡ length worths → NetKnown block texts certificate name net
-net_known block texts certificate name rests worths net a header is l =
-    let made = net_made block texts rests worths a in
-    let M : NetView → Type 0 = λ n. IsNetOf block (mine_of rests.blocks texts) n in
-    let size = sym (ap (λ (n : NetView). length n.worths) is ∙ length-map worths (λ v. block v rests.blocks)) in
-    known_at block texts certificate name rests.blocks (length worths) net l size a.mine header (subst M (sym is) made)
+net_known block texts certificate name rests worths net a header is l = grind (arith, common_steps, net_made, length-map, known_at)
 
 pub header_is : (texts : MineTexts) (certificate : List ℕ) (header : Header) (n : ℕ) (group : Group) → header_of (pieces_of certificate) ≡ Ok header → header.blocks ≡ n → header.price ≡ price_wanted texts → header.group ≡ group → IsHeader texts certificate n group
 header_is texts certificate header n group e p q r = e ∙ ap Ok (λ i. record { blocks = p i; price = q i; group = r i })

@@ -1,5 +1,5 @@
 -- From a run to what is written of it.
-use Rattle.std.proofs.Common.{◌≡◌, ℕ, ℤ, Bool, List, length, map, refl, sym, ap, ◌∙◌, subst, Option, Result, Ok, Err, inr}
+use Rattle.std.proofs.Common.{◌≡◌, ℕ, ℤ, Bool, List, length, map, refl, subst, Option, Result, Ok, Err, inr, arith}
 use Rattle.std.proofs.lemmas.List.{length-map}
 use Rattle.ordered_group.specs.Amount.{Amount}
 use Rattle.ordered_group.specs.declared.groups.Group.{Group}
@@ -18,24 +18,18 @@ use Rattle.mine_inputs.specs.declared.engine_fault.EngineFault.TheVariants as en
 use Rattle.mine_inputs.specs.ReadMines.{AreRead}
 use Rattle.engines.specs.Readings.{IsGroupNamed}
 use Rattle.mine_inputs.specs.EngineFaults.{of_model}
-use Rattle.mine_inputs.specs.Mines.{MineTexts, price_wanted, mine_of, DenoteMine}
+use Rattle.mine_inputs.specs.Mines.{MineTexts, price_wanted, mine_of}
 use Rattle.engines.specs.declared.method.Method.{Method}
 use Rattle.engines.specs.Solving.{IsCertificateOf, AnswersNet, SolvesNet, IsCertificate, IsNetBy, AnswersMine, Solves}
 use Rattle.engines.proofs.Answered.{keeps_self}
 use Rattle.engines.proofs.Judged.{HasRead, reads, net_made, worths_fail}
 use Rattle.engines.proofs.Lone.{header_alone}
+use Rattle.std.proofs.lemmas.Grind.{common_steps}
 
 -- ---- the mine of the texts
 
 pub net_by : (block : ℤ → ℕ → Amount) (counts : Bool) (texts : MineTexts) (name : Group) (rests : RestsView) (worths : List ℤ) (net : NetView) → AreRead texts worths rests → IsGroupNamed name block counts → IsNet net → net ≡ net_view rests.pairs (map (λ v. block v rests.blocks) worths) → rests.blocks ≡ length worths → IsNetBy texts name net
-net_by block counts texts name rests worths net a named is_net is l =
-    let made = net_made block texts rests worths a in
-    let size = l ∙ sym (ap (λ (n : NetView). length n.worths) is ∙ length-map worths (λ v. block v rests.blocks)) in
-    let D : ℕ → Type 0 = λ k. DenoteMine texts k in
-    let N : NetView → Type 0 = λ n. IsNetOf block (mine_of rests.blocks texts) n in
-    let M : ℕ → Type 0 = λ k. IsNetOf block (mine_of k texts) net in
-    let B : (ℤ → ℕ → Amount) → Type 0 = λ b. IsNetOf b (mine_of (length net.worths) texts) net in
-    record { mine = subst D size a.mine; is_net = is_net; of_mine = subst B (sym named.block_is) (subst M size (subst N (sym is) made)) }
+net_by block counts texts name rests worths net a named is_net is l = grind (arith, common_steps, net_made, length-map, ℤ)
 
 module _ (block : ℤ → ℕ → Amount) (counts : Bool) (texts : MineTexts) (name : Group) (net : NetView) (method : Method) (limit : ℕ) (named : IsGroupNamed name block counts) (by : IsNetBy texts name net) where
   pub certificate_is : (text : List ℕ) → IsCertificateOf counts name (price_wanted texts) net text → IsCertificate texts name text

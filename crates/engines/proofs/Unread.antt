@@ -38,6 +38,7 @@ use Rattle.mine_inputs.specs.FaultStands.{PrecFails, ValuesFail, SettingsFail, B
 use Rattle.engines.specs.FaultStands.{ModelFails, HeaderFails, BodyTextFails, PriceDiffers}
 use Rattle.engines.proofs.Alone.{ok_same, nets_same}
 use Rattle.engines.proofs.Fitting.{no_model_fails}
+use Rattle.std.proofs.lemmas.Grind.{common_steps}
 
 pub never : {F : Type 0} (o : Option F) (f : F) → o ≡ None → o ≡ Some f → ⊥
 never o f e g = let h : None ≡ Some f = sym e ∙ g in cc
@@ -45,15 +46,8 @@ never o f e g = let h : None ≡ Some f = sym e ∙ g in cc
 not_both : {A F : Type 0} (r : Result A F) (a : A) (f : F) → r ≡ Ok a → r ≡ Err f → ⊥
 not_both r a f e g = let h : Ok a ≡ Err f = sym e ∙ g in cc
 
-declared_is : (k n : ℕ) (fault : Option UpitFault) → upit.unless_fault k fault ≡ Ok n → k ≡ n
-declared_is k n None e = ok_same _ k n refl e
-declared_is k n (Some f) e = absurd (let h : Err f ≡ Ok n = e in cc)
-
 values_fault : (text : List ℕ) (n : ℕ) (fault : UpitFault) → ValuesRead text n → upit.fault_of (upit.blocks_declared (upit.lines_in text)) text ≡ Some fault → ⊥
-values_fault text n fault r h =
-    let same = declared_is _ n _ r.declared in
-    let P : ℕ → Type 0 = λ k. upit.fault_of k text ≡ None in
-    never _ _ (subst P (sym same) r.read) h
+values_fault text n fault r h = grind (arith, common_steps)
 
 values_stand : (texts : MineTexts) (n : ℕ) (q : Problem UpitFault) → WorthsRead texts n → ValuesFail texts q → ⊥
 values_stand (mine_texts u p) n problem.InputTooLong r h = let within = r.within in omega (arith, within, h)
@@ -126,27 +120,16 @@ prices_read texts certificate fault r h = prices_stand texts r.blocks fault r.mi
 pub upit_read : (texts : MineTexts) (certificate : List ℕ) (q : Problem UpitFault) → Reads texts certificate → ValuesFail texts q → ⊥
 upit_read texts certificate q r h = values_stand texts r.blocks q r.mine.worths_read h
 
--- what the blocks are worth is said of one number of blocks
-blocks_same : (texts : MineTexts) (n k : ℕ) → WorthsRead texts n → WorthsRead texts k → n ≡ k
-blocks_same (mine_texts u p) n k a b = ok_same _ _ _ a.declared b.declared
-blocks_same (priced_texts s t p f) n k a b = sym a.count ∙ b.count
-
 pub prec_read : (texts : MineTexts) (certificate : List ℕ) (n : ℕ) (q : Problem PrecFault) → Reads texts certificate → WorthsRead texts n → PrecFails n (precedence_of texts) q → ⊥
 prec_read texts certificate n problem.InputTooLong r v h = let within = r.mine.precedence_within in omega (arith, within, h)
-prec_read texts certificate n (problem.Fault f) r v h =
-    let e = blocks_same texts _ _ r.mine.worths_read v in
-    let P : ℕ → Type 0 = λ k. prec.fault_of k (precedence_of texts) ≡ None in
-    never _ _ (subst P e r.mine.precedence_read) h.1
+prec_read texts certificate n (problem.Fault f) r v h = grind (arith, common_steps)
 
 pub price_read : (texts : MineTexts) (certificate : List ℕ) (n : ℕ) → Reads texts certificate → PriceDiffers texts certificate n → ⊥
 price_read texts certificate n r h = let e = ok_same _ _ _ h.1 r.header in h.3 (ap (λ (z : Header). z.price) e)
 
 pub header_read : (texts : MineTexts) (certificate : List ℕ) (n : ℕ) (fault : CertFault) → Reads texts certificate → DenoteMine texts n → HeaderFails certificate n fault → ⊥
 header_read texts certificate n fault r m (inl e) = not_both _ _ _ r.header e
-header_read texts certificate n fault r m (inr h) =
-    let e = ok_same _ _ _ h.1 r.header in
-    let b = blocks_same texts _ _ r.mine.worths_read m.worths_read in
-    h.2 (ap (λ (z : Header). z.blocks) e ∙ b)
+header_read texts certificate n fault r m (inr h) = grind (arith, common_steps)
 
 pub model_read : (texts : MineTexts) (certificate : List ℕ) (n : ℕ) (group : Group) (fault : NetFault) → Reads texts certificate → IsHeader texts certificate n group → ModelFails texts n group fault → ⊥
 model_read texts certificate n group fault r h f =

@@ -3,31 +3,25 @@ use Rattle.std.proofs.Common.{◌≡◌, ℕ, suc, get_or, ◌+◌, ◌<◌, ◌
 use Rattle.std.specs.Prelude.{unwrap_or, position}
 use Rattle.std.specs.List.{onto_first, position_or_len}
 use Rattle.std.proofs.lemmas.List.Sums.{prefix_len-le-length}
-use Rattle.std.proofs.lemmas.List.Folds.{length-prefix_len}
 use Rattle.std.proofs.lemmas.List.{drop-drop}
 use Rattle.std.proofs.lemmas.Bool.Decides.{nat_tests}
 use Rattle.fixed_worth.specs.declared.limits.TheConstants.{LINE_BYTES}
 use Rattle.fixed_worth.specs.Text.{lines_of, BeginsTooLong, is_separator, WordRun, run_before, runs_from}
+use Rattle.std.proofs.lemmas.Grind.{common_steps}
 
 one-add : (n : ℕ) → 1 + n ≡ suc n
 one-add n = omega arith
 
 pub position_none : {X : Type 0} (p : X → Bool) (xs : List X) → position p xs ≡ None → length xs ≡ position_or_len p xs
-position_none p xs e =
-    let small : position_or_len p xs ≤ length xs = prefix_len-le-length _ xs in
-    grind (arith, nat_tests)
+position_none p xs e = grind (arith, common_steps, prefix_len-le-length)
 
 pub unwrap_position : {X : Type 0} (p : X → Bool) (xs : List X) → unwrap_or (position p xs) (length xs) ≡ position_or_len p xs
-unwrap_position p xs =
-    let small : position_or_len p xs ≤ length xs = prefix_len-le-length _ xs in
-    grind (arith, nat_tests)
+unwrap_position p xs = grind (arith, common_steps, prefix_len-le-length)
 
 -- The first line ends at the first line feed.
 longer : (b : ℕ) (bs : List ℕ) (j : ℕ) → lines_of bs ≡ take j bs ∷ lines_of (drop (j + 1) bs)
     → onto_first b (lines_of bs) ≡ take (1 + j) (b ∷ bs) ∷ lines_of (drop (1 + j + 1) (b ∷ bs))
-longer b bs j ih =
-    let e : 1 + j + 1 ≡ suc (j + 1) = omega arith in
-    rw (e, one-add j) (ap (onto_first b) ih)
+longer b bs j ih = grind (arith, common_steps)
 
 first_at : (b : ℕ) (bs : List ℕ) (t : Bool) → eqb b 10 ≡ t → (0 < length bs → lines_of bs ≡ take (position_or_len (λ x. eqb x 10) bs) bs ∷ lines_of (drop (position_or_len (λ x. eqb x 10) bs + 1) bs))
     → lines_of (b ∷ bs) ≡ take (position_or_len (λ x. eqb x 10) (b ∷ bs)) (b ∷ bs) ∷ lines_of (drop (position_or_len (λ x. eqb x 10) (b ∷ bs) + 1) (b ∷ bs))
@@ -69,17 +63,10 @@ joined b p text rs = let e : eqb (p + 1) (p + 1) ≡ true = grind (arith, nat_te
 abbrev pub Runs : ℕ → List ℕ → ℕ → Type 0
 Runs p bs w = runs_from p bs ≡ record { text = take w bs; place = p } ∷ runs_from (p + w) (drop w bs)
 
-extend : (p b : ℕ) (bs : List ℕ) (w : ℕ) → is_separator b ≡ false → Runs (p + 1) bs w → Runs p (b ∷ bs) (1 + w)
-extend p b bs w e ih =
-    let f : p + (1 + w) ≡ p + 1 + w = omega arith in
-    rw (e, f, one-add w) (ap (run_before b p) ih ∙ joined b p (take w bs) (runs_from (p + 1 + w) (drop w bs)))
-
 run_step : (p b c : ℕ) (cs : List ℕ) → is_separator b ≡ false → (t : Bool) → is_separator c ≡ t
     → (is_separator c ≡ false → Runs (p + 1) (c ∷ cs) (1 + position_or_len is_separator cs)) → Runs p (b ∷ c ∷ cs) (1 + position_or_len is_separator (c ∷ cs))
 run_step p b c cs e true f ih = rw (e, f, f) (alone b p (runs_from (p + 1 + 1) cs) (begins_from (p + 1 + 1) cs))
-run_step p b c cs e false f ih =
-    let n : position_or_len is_separator (c ∷ cs) ≡ 1 + position_or_len is_separator cs = rw f refl in
-    subst (λ (w : ℕ). Runs p (b ∷ c ∷ cs) (1 + w)) (sym n) (extend p b (c ∷ cs) (1 + position_or_len is_separator cs) e (ih f))
+run_step p b c cs e false f ih = grind (arith, common_steps)
 
 run_from : (p b : ℕ) (bs : List ℕ) → is_separator b ≡ false → Runs p (b ∷ bs) (1 + position_or_len is_separator bs)
 run_from p b [] e = rw e refl
@@ -87,9 +74,7 @@ run_from p b (c ∷ cs) e = run_step p b c cs e (is_separator c) refl (run_from 
 
 pub first_run : (p : ℕ) (bs : List ℕ) → 0 < length bs → is_separator (get_or bs 0 0) ≡ false → Runs p bs (position_or_len is_separator bs)
 first_run p [] h e = absurd (omega arith)
-first_run p (b ∷ bs) h e =
-    let n : position_or_len is_separator (b ∷ bs) ≡ 1 + position_or_len is_separator bs = rw e refl in
-    subst (λ (w : ℕ). Runs p (b ∷ bs) w) (sym n) (run_from p b bs e)
+first_run p (b ∷ bs) h e = grind (arith, common_steps, run_from)
 
 abbrev pub gap : List ℕ → ℕ
 gap bs = position_or_len (λ b. not (is_separator b)) bs
@@ -101,10 +86,7 @@ skip p b bs true e ih =
     let n : gap (b ∷ bs) ≡ 1 + gap bs = rw e refl in
     let f : p + (1 + gap bs) ≡ p + 1 + gap bs = omega arith in
     subst (λ (w : ℕ). runs_from p (b ∷ bs) ≡ runs_from (p + w) (drop w (b ∷ bs))) (sym n) (rw (e, f, one-add (gap bs)) ih)
-skip p b bs false e ih =
-    let n : gap (b ∷ bs) ≡ 0 = rw e refl in
-    let z : p + 0 ≡ p = omega arith in
-    subst (λ (w : ℕ). runs_from p (b ∷ bs) ≡ runs_from (p + w) (drop w (b ∷ bs))) (sym n) (subst (λ (q : ℕ). runs_from p (b ∷ bs) ≡ runs_from q (b ∷ bs)) (sym z) refl)
+skip p b bs false e ih = grind (arith, common_steps)
 
 pub gap_skipped : (p : ℕ) (bs : List ℕ) → runs_from p bs ≡ runs_from (p + gap bs) (drop (gap bs) bs)
 gap_skipped p [] = refl
@@ -112,12 +94,8 @@ gap_skipped p (b ∷ bs) = skip p b bs (is_separator b) refl (gap_skipped (p + 1
 
 stops : (b : ℕ) (bs : List ℕ) (t : Bool) → is_separator b ≡ t → (0 < length (drop (gap bs) bs) → is_separator (get_or (drop (gap bs) bs) 0 0) ≡ false)
     → 0 < length (drop (gap (b ∷ bs)) (b ∷ bs)) → is_separator (get_or (drop (gap (b ∷ bs)) (b ∷ bs)) 0 0) ≡ false
-stops b bs true e ih =
-    let n : gap (b ∷ bs) ≡ suc (gap bs) = rw e (one-add (gap bs)) in
-    subst (λ (w : ℕ). 0 < length (drop w (b ∷ bs)) → is_separator (get_or (drop w (b ∷ bs)) 0 0) ≡ false) (sym n) ih
-stops b bs false e ih =
-    let n : gap (b ∷ bs) ≡ 0 = rw e refl in
-    subst (λ (w : ℕ). 0 < length (drop w (b ∷ bs)) → is_separator (get_or (drop w (b ∷ bs)) 0 0) ≡ false) (sym n) (λ _. e)
+stops b bs true e ih = grind (arith, common_steps)
+stops b bs false e ih = grind (arith, common_steps)
 
 pub gap_stops : (bs : List ℕ) → 0 < length (drop (gap bs) bs) → is_separator (get_or (drop (gap bs) bs) 0 0) ≡ false
 gap_stops [] h = absurd (omega arith)
@@ -130,31 +108,14 @@ line_given bs line back rest j h e f g k =
     rw (f, m, e) (first_line bs h)
 
 pub line_too_long : (bs : List ℕ) (j : ℕ) → LINE_BYTES < j → j ≡ position_or_len (λ x. eqb x 10) bs → BeginsTooLong (lines_of bs)
-line_too_long bs j h e =
-    let small : position_or_len (λ x. eqb x 10) bs ≤ length bs = prefix_len-le-length _ bs in
-    let all : length (take (position_or_len (λ x. eqb x 10) bs) bs) ≡ position_or_len (λ x. eqb x 10) bs = length-prefix_len _ bs in
-    let long : LINE_BYTES < length (take (position_or_len (λ x. eqb x 10) bs) bs) = omega arith in
-    let some : 0 < length bs = omega arith in
-    subst BeginsTooLong (sym (first_line bs some)) long
-
-empty_runs : (p : ℕ) (bs : List ℕ) → eqb (length bs) 0 ≡ true → runs_from p bs ≡ []
-empty_runs p [] h = refl
-empty_runs p (b ∷ bs) h = absurd (grind (arith, nat_tests))
+line_too_long bs j h e = grind (arith, common_steps, first_line)
 
 pub field_none : (p g : ℕ) (bs back : List ℕ) → g ≡ gap bs → back ≡ drop g bs → eqb (length back) 0 ≡ true → (runs_from p bs ≡ []) × (runs_from (p + g) back ≡ [])
-field_none p g bs back e f h =
-    let none : runs_from (p + g) back ≡ [] = empty_runs (p + g) back h in
-    let same : runs_from (p + g) back ≡ runs_from (p + gap bs) (drop (gap bs) bs) = rw (f, e) refl in
-    (gap_skipped p bs ∙ sym same ∙ none, none)
+field_none p g bs back e f h = grind (arith, common_steps, gap_skipped)
 
 pub field_given : (p g w : ℕ) (bs back text rest : List ℕ) → g ≡ gap bs → back ≡ drop g bs → eqb (length back) 0 ≡ false → w ≡ position_or_len is_separator back → text ≡ take w back → rest ≡ drop w back
     → runs_from p bs ≡ record { text = text; place = p + g } ∷ runs_from (p + g + w) rest
-field_given p g w bs back text rest e f h k m n =
-    let here : back ≡ drop (gap bs) bs = f ∙ ap (λ i. drop i bs) e in
-    let some : 0 < length back = grind (arith, nat_tests) in
-    let head : is_separator (get_or back 0 0) ≡ false = rw here (gap_stops bs (subst (λ (l : List ℕ). 0 < length l) here some)) in
-    let same : runs_from p bs ≡ runs_from (p + g) back = gap_skipped p bs ∙ rw (here, e) refl in
-    same ∙ rw (m, n, k) (first_run (p + g) back some head)
+field_given p g w bs back text rest e f h k m n = grind (arith, common_steps, gap_stops, gap_skipped, first_run)
 
 few_before : (b p : ℕ) (rs : List WordRun) (n : ℕ) → length rs ≤ n → length (run_before b p rs) ≤ suc n
 few_before b p [] n h = omega arith

@@ -6,6 +6,7 @@ use Rattle.std.specs.Prelude.{◌&&◌}
 use Rattle.std.specs.List.{list_all}
 use Rattle.std.proofs.lemmas.Bool.Decides.{nat_tests}
 use Rattle.fixed_worth.specs.Numeral.{is_digit, value_of}
+use Rattle.std.proofs.lemmas.Grind.{common_steps}
 
 spread : (v d p r : ℕ) → v * (10 * p) + (d * p + r) ≡ (v * 10 + d) * p + r
 spread v d p r = omega arith
@@ -39,10 +40,7 @@ pub carried : (v u i w : ℕ) (bs : List ℕ) → i < length bs → v * 10 ^ len
 carried v u i w bs h e f = rw f (sym (value_step v i bs h) ∙ e)
 
 pub finished : (v i w : ℕ) (bs : List ℕ) → length bs ≤ i → v * 10 ^ length (drop i bs) + value_of (drop i bs) ≡ w → v ≡ w
-finished v i w bs h e =
-    let none : drop i bs ≡ [] = drop_all i bs h in
-    let f : v * 1 + 0 ≡ w = rw none at e in
-    omega arith
+finished v i w bs h e = grind (arith, common_steps, drop_all)
 
 joins : (d p q x y : ℕ) → d * (p * q) + (x * q + y) ≡ (d * p + x) * q + y
 joins d p q x y = omega arith
@@ -73,14 +71,7 @@ value_below (b ∷ bs) h =
     rw f (spaced (b - 48) (10 ^ length bs) (value_of bs) q.0 (value_below bs q.1))
 
 pub short_value : (xs ys : List ℕ) → list_all is_digit (xs ++ ys) ≡ true → length xs + length ys ≤ 36 → value_of (xs ++ ys) < 10 ^ 36
-short_value xs ys h j =
-    let a = value_below (xs ++ ys) h in
-    let l : length (xs ++ ys) ≤ 36 = simp length-append (j) in
-    let b : 10 ^ length (xs ++ ys) ≤ 10 ^ 36 = pow-le-pow_right {n = 10} (lit< tt) l in
-    omega (arith, a, b)
-
-next_product : (v d p : ℕ) → d ≤ 9 → v < p → v * 10 + d < 10 * p
-next_product v d p h j = omega arith
+short_value xs ys h j = grind (arith, common_steps, value_below, pow-le-pow_right)
 
 and_both : (s t : Bool) → s ≡ true → t ≡ true → (s && t) ≡ true
 and_both true true e f = refl
@@ -89,10 +80,7 @@ and_both false t e f = e
 
 -- one more digit makes a number less than the next power of ten
 pub next_below : (v i b : ℕ) → v < 10 ^ i → is_digit b ≡ true → v * 10 + (b - 48) < 10 ^ (i + 1)
-next_below v i b h t =
-    let d : b - 48 ≤ 9 = grind (arith, nat_tests) in
-    let e : 10 ^ (i + 1) ≡ 10 * 10 ^ i = ap (λ n. 10 ^ n) (add-one i) ∙ pow-succ' 10 i in
-    rw e (next_product v (b - 48) (10 ^ i) d h)
+next_below v i b h t = grind (arith, common_steps)
 
 -- and so does each power on the way to the nineteenth fit
 pub power_fits : (i : ℕ) → i ≤ 19 → 10 ^ i ≤ 10 ^ 19

@@ -1,33 +1,26 @@
 -- The fields of a line are its longest runs of bytes that are no separators.
-use Rattle.std.proofs.Common.{◌≡◌, ℕ, suc, zero, ◌+◌, ◌-◌, ◌<◌, ◌≤◌, inl, inr, Bool, true, false, not, List, [], ◌∷◌, length, take, drop, get_or, refl, sym, ap, ◌∙◌, subst, arith, length-drop, All}
+use Rattle.std.proofs.Common.{◌≡◌, ℕ, suc, zero, ◌+◌, ◌-◌, ◌<◌, ◌≤◌, inl, inr, true, false, not, List, [], ◌∷◌, length, take, drop, get_or, refl, sym, ap, ◌∙◌, subst, arith, length-drop, All}
 use Rattle.std.specs.List.{position_or_len}
-use Rattle.std.proofs.lemmas.List.{get_or-drop, drop-drop, drop_all, get_or-take}
+use Rattle.std.proofs.lemmas.List.{get_or-drop, drop-drop, drop_all}
 use Rattle.std.proofs.lemmas.List.Elements.{All-nil, All-cons}
 use Rattle.std.proofs.lemmas.List.Folds.{length-prefix_len}
-use Rattle.std.proofs.lemmas.List.Sums.{prefix_len-le-length, prefix_len_passes, prefix_len_stops}
+use Rattle.std.proofs.lemmas.List.Sums.{prefix_len_passes, prefix_len_stops}
 use Rattle.std.proofs.lemmas.Bool.{cases_lt}
 use Rattle.fixed_worth.specs.Text.{is_separator, WordRun, runs_from}
 use Rattle.fixed_worth.specs.Laws.{IsField, AreInOrder, LiesIn, AreFields}
 use Rattle.fixed_worth.proofs.Cuts.{gap, gap_skipped, gap_stops, first_run}
-use Rattle.fixed_worth.proofs.Bits.{not_true, not_false}
-
-not_not : (t : Bool) → not (not t) ≡ true → t ≡ true
-not_not true e = refl
-not_not false e = cc
+use Rattle.fixed_worth.proofs.Bits.{not_true}
+use Rattle.std.proofs.lemmas.Grind.{common_steps}
 
 -- the bytes of a gap, and of a run
 gap_byte : (line : List ℕ) (p k : ℕ) → k < gap (drop p line) → is_separator (get_or line (p + k) 0) ≡ true
-gap_byte line p k h =
-    let e = prefix_len_passes (λ b. not (not (is_separator b))) (drop p line) k 0 h in
-    ap is_separator (sym (get_or-drop p line k 0)) ∙ not_not (is_separator (get_or (drop p line) k 0)) e
+gap_byte line p k h = grind (arith, common_steps, prefix_len_passes)
 
 run_byte : (line : List ℕ) (p k : ℕ) → k < position_or_len is_separator (drop p line) → is_separator (get_or (drop p line) k 0) ≡ false
 run_byte line p k h = not_true (is_separator (get_or (drop p line) k 0)) (prefix_len_passes (λ b. not (is_separator b)) (drop p line) k 0 h)
 
 run_ends : (line : List ℕ) (p : ℕ) → position_or_len is_separator (drop p line) < length (drop p line) → is_separator (get_or line (p + position_or_len is_separator (drop p line)) 0) ≡ true
-run_ends line p h =
-    let w = position_or_len is_separator (drop p line) in
-    ap is_separator (sym (get_or-drop p line w 0)) ∙ not_false (is_separator (get_or (drop p line) w 0)) (prefix_len_stops (λ b. not (is_separator b)) (drop p line) 0 h)
+run_ends line p h = grind (arith, common_steps, prefix_len_stops)
 
 -- a field that begins at p has no byte before it
 abbrev Fresh : List ℕ → ℕ → Type 0
@@ -53,42 +46,19 @@ behind_gap line p = gap_skipped p (drop p line) ∙ ap (λ bs. runs_from (end_of
 gap_ends : (line : List ℕ) (p : ℕ) → end_of_gap line p < length line → is_separator (get_or line (end_of_gap line p) 0) ≡ false
 gap_ends line p h =
     let g = gap (drop p line) in
-    let e : drop g (drop p line) ≡ drop (p + g) line = drop-drop g p line in
-    let l : 0 < length (drop g (drop p line)) = rw e (omega (arith, length-drop (p + g) line)) in
     let z : p + g + 0 ≡ p + g = omega arith in
-    ap (λ i. is_separator (get_or line i 0)) (sym z) ∙ ap is_separator (sym (get_or-drop (p + g) line 0 0)) ∙ ap (λ bs. is_separator (get_or bs 0 0)) (sym e) ∙ gap_stops (drop p line) l
+    grind (arith, common_steps, get_or-drop, gap_stops, gap, drop-drop, length-drop)
 
 run_given : (line : List ℕ) (q : ℕ) → q < length line → is_separator (get_or line q 0) ≡ false
     → runs_from q (drop q line) ≡ first line q ∷ runs_from (q + width line q) (drop (q + width line q) line)
-run_given line q h e =
-    let l : 0 < length (drop q line) = omega (arith, length-drop q line) in
-    let z : q + 0 ≡ q = omega arith in
-    let head : is_separator (get_or (drop q line) 0 0) ≡ false = ap is_separator (get_or-drop q line 0 0) ∙ ap (λ i. is_separator (get_or line i 0)) z ∙ e in
-    first_run q (drop q line) l head ∙ ap (λ bs. first line q ∷ runs_from (q + width line q) bs) (drop-drop (width line q) q line)
+run_given line q h e = grind (arith, common_steps, first_run)
 
 wide_by : (line : List ℕ) (q w : ℕ) → width line q ≡ w → q < length line → is_separator (get_or line q 0) ≡ false → 0 < w
-wide_by line q zero n h e =
-    let z : q + width line q ≡ q = omega arith in
-    let l : width line q < length (drop q line) = omega (arith, length-drop q line) in
-    let s : is_separator (get_or line q 0) ≡ true = ap (λ i. is_separator (get_or line i 0)) (sym z) ∙ run_ends line q l in
-    let no : true ≡ false = sym s ∙ e in
-    cc
+wide_by line q zero n h e = grind (arith, common_steps)
 wide_by line q (suc w) n h e = omega arith
 
 is_field : (line : List ℕ) (q : ℕ) → q < length line → is_separator (get_or line q 0) ≡ false → ((k : ℕ) → k + 1 ≡ q → is_separator (get_or line k 0) ≡ true) → IsField line (first line q)
-is_field line q h e before =
-    let w = width line q in
-    let len : length (take (width line q) (drop q line)) ≡ width line q = length-prefix_len (λ b. not (is_separator b)) (drop q line) in
-    let most : width line q ≤ length (drop q line) = prefix_len-le-length (λ b. not (is_separator b)) (drop q line) in
-    let wide : 0 < width line q = wide_by line q (width line q) refl h e in
-    record {
-      some = omega arith;
-      inside = omega (arith, length-drop q line);
-      slice = ap (λ n. take n (drop q line)) (sym len);
-      bytes = λ k l. ap is_separator (get_or-take w (drop q line) k 0 (omega arith)) ∙ run_byte line q k (omega arith);
-      before = before;
-      behind = λ l. ap (λ n. is_separator (get_or line (q + n) 0)) len ∙ run_ends line q (omega (arith, length-drop q line));
-    }
+is_field line q h e before = grind (arith, common_steps, run_byte, run_ends)
 
 finished : (line : List ℕ) (p : ℕ) → length line ≤ end_of_gap line p → FieldsFrom line p []
 finished line p h = record {
@@ -145,15 +115,10 @@ one_more line p fields fresh h more =
     }
 
 stays_fresh : (line : List ℕ) (q : ℕ) → q < length line → Fresh line (q + width line q)
-stays_fresh line q h l e =
-    let s : is_separator (get_or line (q + width line q) 0) ≡ true = run_ends line q (omega (arith, length-drop q line)) in
-    let no : true ≡ false = sym s ∙ e in
-    cc
+stays_fresh line q h l e = grind (arith, common_steps, run_ends)
 
 found : (n : ℕ) (line : List ℕ) (p : ℕ) → length line ≤ p + n → Fresh line p → FieldsFrom line p (runs_from p (drop p line))
-found zero line p h fresh =
-    let l : length line ≤ end_of_gap line p = omega arith in
-    subst (FieldsFrom line p) (nothing_left line p l) (finished line p l)
+found zero line p h fresh = grind (arith, common_steps)
 found (suc n) line p h fresh =
     elim (cases_lt (end_of_gap line p) (length line)) [
       | inl short ↦

@@ -7,7 +7,7 @@ use Rattle.std.proofs.lemmas.Bool.Decides.{nat_tests}
 use Rattle.std.proofs.lemmas.List.{drop_all, take-append-drop, length-take-le}
 use Rattle.std.proofs.lemmas.List.Folds.{list_all-append}
 use Rattle.std.proofs.Math.Nat.{mul-le-mul_left, pow-le-pow_right}
-use Rattle.std.proofs.Math.Seq.{take-append_seam, drop-append_seam, take-length}
+use Rattle.std.proofs.Math.Seq.{drop-append_seam, take-length}
 use Rattle.fixed_worth.specs.Numeral.{is_digit, value_of, is_minus, unsigned_of}
 use Rattle.fixed_worth.specs.Decimal.{first_decimal, is_mark, is_point, whole_part, fraction_part, exponent_of, has_mark, decimal_of}
 use Rattle.fixed_worth.specs.Rounding.{rounded_of}
@@ -18,6 +18,7 @@ use Rattle.std.proofs.lemmas.Option.{none-some}
 use Rattle.fixed_worth.proofs.Digits.{value_of-append, value_below}
 use Rattle.fixed_worth.proofs.FirstNumbers.{passed, begins_with}
 use Rattle.fixed_worth.proofs.Powers.{rounds_up, ten_positive}
+use Rattle.std.proofs.lemmas.Grind.{common_steps}
 
 -- The bytes of a decimal without an exponent.
 abbrev is_plain_byte : ℕ → Bool
@@ -25,21 +26,21 @@ is_plain_byte b = is_digit b || (eqb b 46 || (eqb b 43 || eqb b 45))
 
 no_separator : (b : ℕ) → is_plain_byte b ≡ true → not (is_separator b) ≡ true
 unfolding is_separator
-no_separator b h = grind (arith, nat_tests)
+no_separator b h = grind arith
 
 no_mark : (b : ℕ) → is_plain_byte b ≡ true → not (is_mark b) ≡ true
 unfolding is_mark
-no_mark b h = grind (arith, nat_tests)
+no_mark b h = grind arith
 
 pub no_point : (b : ℕ) → is_digit b ≡ true → not (is_point b) ≡ true
 unfolding is_point
-no_point b h = grind (arith, nat_tests)
+no_point b h = grind arith
 
 digit_plain : (b : ℕ) → is_digit b ≡ true → is_plain_byte b ≡ true
-digit_plain b h = grind (arith, nat_tests)
+digit_plain b h = grind arith
 
 sign_plain : (b : ℕ) → (eqb b 43 || eqb b 45) ≡ true → is_plain_byte b ≡ true
-sign_plain b h = grind (arith, nat_tests)
+sign_plain b h = grind arith
 
 every : (p q : ℕ → Bool) → ((b : ℕ) → p b ≡ true → q b ≡ true) → (xs : List ℕ) → list_all p xs ≡ true → list_all q xs ≡ true
 every p q f [] h = refl
@@ -90,32 +91,15 @@ front (b ∷ bs) unsigned rest h some = front_at b bs unsigned rest (eqb b 43 ||
 -- The parts of such a field.
 whole_is : (field whole point fraction : List ℕ) → unsigned_of field ≡ whole ++ (point ++ fraction) → before_first is_mark field ≡ field → list_all is_digit whole ≡ true → MayFollow fraction point → whole_part field ≡ whole
 unfolding whole_part is_point
-whole_is field whole [] fraction e m h f =
-    let all = every is_digit (λ b. not (is_point b)) no_point whole h in
-    let none : whole ++ ([] ++ fraction) ≡ whole = ap (λ xs. whole ++ xs) f ∙ append-nil whole in
-    ap (λ xs. before_first is_point (unsigned_of xs)) m ∙ ap (before_first is_point) (e ∙ none) ∙ ap (λ n. take n whole) (passed_all is_point whole all) ∙ take-length whole
-whole_is field whole (b ∷ bs) fraction e m h f =
-    let all = every is_digit (λ b. not (is_point b)) no_point whole h in
-    let stop : is_point b ≡ true = ap (λ x. eqb x 46) f.0 in
-    let at : position_or_len is_point (b ∷ bs ++ fraction) ≡ 0 = rw stop refl in
-    let place : position_or_len is_point (whole ++ (b ∷ bs ++ fraction)) ≡ length whole = passed is_point whole (b ∷ bs ++ fraction) all ∙ omega (arith, at) in
-    ap (λ xs. before_first is_point (unsigned_of xs)) m ∙ ap (before_first is_point) e ∙ ap (λ n. take n (whole ++ (b ∷ bs ++ fraction))) place ∙ take-append_seam whole (b ∷ bs ++ fraction)
+whole_is field whole [] fraction e m h f = grind (arith, common_steps, every, passed_all)
+whole_is field whole (b ∷ bs) fraction e m h f = grind (arith, common_steps, every, passed)
 
 fraction_is : (field whole point fraction : List ℕ) → unsigned_of field ≡ whole ++ (point ++ fraction) → before_first is_mark field ≡ field → list_all is_digit whole ≡ true → MayFollow fraction point → fraction_part field ≡ fraction
 unfolding fraction_part is_point
-fraction_is field whole [] fraction e m h f =
-    let all = every is_digit (λ b. not (is_point b)) no_point whole h in
-    let none : whole ++ ([] ++ fraction) ≡ whole = ap (λ xs. whole ++ xs) f ∙ append-nil whole in
-    let place = passed_all is_point whole all in
-    ap (λ xs. after_first is_point (unsigned_of xs)) m ∙ ap (after_first is_point) (e ∙ none) ∙ drop_all (position_or_len is_point whole + 1) whole (omega (arith, place)) ∙ sym f
+fraction_is field whole [] fraction e m h f = grind (arith, common_steps, every, passed_all)
 fraction_is field whole (b ∷ bs) fraction e m h f =
-    let all = every is_digit (λ b. not (is_point b)) no_point whole h in
-    let stop : is_point b ≡ true = ap (λ x. eqb x 46) f.0 in
-    let at : position_or_len is_point (b ∷ bs ++ fraction) ≡ 0 = rw stop refl in
     let joined : whole ++ (b ∷ bs ++ fraction) ≡ (whole ++ b ∷ []) ++ fraction = ap (λ xs. whole ++ (b ∷ xs ++ fraction)) f.1 ∙ sym (append_assoc whole (b ∷ []) fraction) in
-    let size : length (whole ++ b ∷ []) ≡ length whole + 1 = length-append whole (b ∷ []) ∙ omega arith in
-    let place : position_or_len is_point (whole ++ (b ∷ bs ++ fraction)) + 1 ≡ length (whole ++ b ∷ []) = let p = passed is_point whole (b ∷ bs ++ fraction) all in omega (arith, at, p, size) in
-    ap (λ xs. after_first is_point (unsigned_of xs)) m ∙ ap (after_first is_point) e ∙ ap (λ n. drop n (whole ++ (b ∷ bs ++ fraction))) place ∙ ap (drop (length (whole ++ b ∷ []))) joined ∙ drop-append_seam (whole ++ b ∷ []) fraction
+    grind (arith, common_steps, drop-append_seam, every, no_point, eqb, append_assoc, length-append, passed)
 
 -- Its value.
 scaled : (v f a b : ℕ) → (v * a + f) * b ≡ v * (a * b) + f * b
@@ -130,7 +114,7 @@ value_scaled whole fraction h =
 
 -- It is at most a million million units.
 bounded : (v f p q : ℕ) → v < 10 ^ 12 → f * q < p * q → p * q ≡ 10 ^ 6 → v * 10 ^ 6 + f * q ≤ 10 ^ 18
-bounded v f p q h j e = omega (arith, h, j, e)
+bounded v f p q h j e = omega arith
 
 shifted_below : (f p q : ℕ) → f < p → 0 < q → f * q < p * q
 shifted_below f p q h some = let e : q * suc f ≤ q * p = mul-le-mul_left q (omega arith) in omega (arith, e)
@@ -148,9 +132,7 @@ small_value whole fraction h j w f =
     let split : k + (6 - k) ≡ 6 = omega arith in
     let power : 10 ^ k * 10 ^ (6 - k) ≡ 10 ^ 6 = sym (pow-add 10 k (6 - k)) ∙ ap (λ n. 10 ^ n) split in
     let a = value_below whole h in
-    let b = value_below fraction j in
-    let most : 10 ^ length whole ≤ 10 ^ 12 = pow-le-pow_right {n = 10} (lit< tt) w in
-    bounded (value_of whole) (value_of fraction) (10 ^ k) (10 ^ (6 - k)) (omega (arith, a, most)) (shifted_below (value_of fraction) (10 ^ k) (10 ^ (6 - k)) b (ten_positive (6 - k))) power
+    grind (arith, common_steps, bounded, shifted_below, ten_positive, pow-add, value_below, pow-le-pow_right, lit<)
 
 -- What the definition says of it.
 decimal_is : (field whole point fraction : List ℕ) → unsigned_of field ≡ whole ++ (point ++ fraction) → list_all is_plain_byte field ≡ true → list_all is_digit whole ≡ true → list_all is_digit fraction ≡ true → MayFollow fraction point
@@ -171,9 +153,7 @@ decimal_is field whole point fraction e plain h j f few small some =
 
 plain_point : (digits point : List ℕ) → MayFollow digits point → list_all is_plain_byte digits ≡ true → list_all is_plain_byte (point ++ digits) ≡ true
 plain_point digits [] f h = h
-plain_point digits (b ∷ bs) f h =
-    let e : b ∷ bs ++ digits ≡ 46 ∷ digits = ap (λ x. x ∷ bs ++ digits) f.0 ∙ ap (λ xs. 46 ∷ xs ++ digits) f.1 in
-    ap (list_all is_plain_byte) e ∙ h
+plain_point digits (b ∷ bs) f h = grind (arith, common_steps)
 
 -- A decimal with at most twelve digits before its point and six behind it is the first field where a separator or the
 -- end follows.
@@ -201,9 +181,7 @@ amount_read text whole behind left rest value places e g h few small some r ends
 
 point_first : (text : List ℕ) → 1 ≤ length text → get_or text 0 0 ≡ 46 → text ≡ 46 ∷ take (length text - 1) (drop 1 text)
 point_first [] h e = absurd (omega arith)
-point_first (b ∷ bs) h e =
-    let n : suc (length bs) - 1 ≡ length bs = omega arith in
-    ap (λ x. x ∷ bs) e ∙ ap (λ xs. 46 ∷ xs) (sym (ap (λ k. take k bs) n ∙ take-length bs))
+point_first (b ∷ bs) h e = grind (arith, common_steps)
 
 -- Behind a point stand the digits that were read.
 pub behind_point : (text : List ℕ) (v k : ℕ) (rest : List ℕ) → 1 ≤ length text → get_or text 0 0 ≡ 46

@@ -1,22 +1,20 @@
 -- A number that stands first in a line, and what is left behind it.
-use Rattle.std.proofs.Common.{◌≡◌, ℕ, ◌+◌, ◌-◌, ◌*◌, ◌^◌, ◌<◌, ◌≤◌, Bool, true, false, not, List, [], ◌∷◌, ◌++◌, length, take, drop, get_or, refl, sym, ap, ◌∙◌, subst, arith, length-append}
-use Rattle.std.specs.Prelude.{nat_lt, unwrap_or, Some, None, Result, Ok}
+use Rattle.std.proofs.Common.{◌≡◌, ℕ, ◌+◌, ◌-◌, ◌*◌, ◌<◌, ◌≤◌, Bool, true, false, not, List, [], ◌∷◌, ◌++◌, length, take, drop, get_or, refl, sym, ap, ◌∙◌, arith}
+use Rattle.std.specs.Prelude.{unwrap_or, Some, None, Result, Ok}
 use Rattle.std.specs.List.{list_all, position_or_len}
-use Rattle.std.proofs.lemmas.List.{take_more, length-drop, get_or-drop, take-append-drop, length-take-le}
+use Rattle.std.proofs.lemmas.List.{take_more, length-drop, take-append-drop, length-take-le}
 use Rattle.std.proofs.lemmas.List.Folds.{list_all_more}
-use Rattle.std.proofs.lemmas.List.Sums.{prefix_len_passes, prefix_len_stops}
-use Rattle.std.proofs.lemmas.Bool.{and_parts, and_from, false≢true}
-use Rattle.std.proofs.lemmas.Bool.Decides.{nat_tests}
+use Rattle.std.proofs.lemmas.List.Sums.{prefix_len_stops}
+use Rattle.std.proofs.lemmas.Bool.{and_parts, and_from}
 use Rattle.std.proofs.lemmas.Option.{none-some}
-use Rattle.std.proofs.Math.Seq.{take-append_seam, drop-append_seam}
 use Rattle.fixed_worth.specs.declared.numerals.NumberFault.{NumberFault}
 use Rattle.fixed_worth.specs.Front.{BeginsWithField}
 use Rattle.fixed_worth.specs.Numeral.{is_digit, value_of, whole_of}
 use Rattle.fixed_worth.specs.Record.{first_whole, reads, is_remark}
 use Rattle.fixed_worth.specs.Text.{WordRun, is_separator, runs_from}
-use Rattle.fixed_worth.proofs.Cuts.{first_run, Runs}
+use Rattle.fixed_worth.proofs.Cuts.{first_run}
 use Rattle.fixed_worth.proofs.Digits.{value_of-append, value_below, power_fits}
-use Rattle.fixed_worth.proofs.Bits.{not_true, not_false}
+use Rattle.std.proofs.lemmas.Grind.{common_steps}
 
 -- one more digit behind those that are read
 pub one_more : (text : List ℕ) (i : ℕ) → i < length text → value_of (take (i + 1) text) ≡ value_of (take i text) * 10 + (get_or text i 0 - 48)
@@ -30,48 +28,22 @@ digit_more text i h all one = list_all_more is_digit text i 0 h ∙ rw (all, one
 -- a digit parts no fields
 digit_inside : (b : ℕ) → is_digit b ≡ true → is_separator b ≡ false
 unfolding is_separator
-digit_inside b h = grind (arith, nat_tests)
+digit_inside b h = grind arith
 
 separator_behind : (w : ℕ) (bs behind : List ℕ) → position_or_len is_separator bs ≡ w → behind ≡ drop w bs → 0 < length behind → is_separator (get_or behind 0 0) ≡ true
-separator_behind w bs behind ends e h =
-    let size : length behind ≡ length bs - w = ap length e ∙ length-drop w bs in
-    let at : get_or behind 0 0 ≡ get_or bs (w + 0) 0 = ap (λ (xs : List ℕ). get_or xs 0 0) e ∙ get_or-drop w bs 0 0 in
-    let stop : not (is_separator (get_or bs (position_or_len is_separator bs) 0)) ≡ false = prefix_len_stops (λ b. not (is_separator b)) bs 0 (omega (arith, ends)) in
-    let here : w + 0 ≡ position_or_len is_separator bs = omega (arith, ends) in
-    ap is_separator (at ∙ ap (λ n. get_or bs n 0) here) ∙ not_false _ stop
+separator_behind w bs behind ends e h = grind (arith, common_steps, prefix_len_stops)
 
 rest_at_most : (behind rest : List ℕ) → rest ≡ drop 1 behind → length rest ≤ length behind
 rest_at_most behind rest f = let e : length rest ≡ length behind - 1 = ap length f ∙ length-drop 1 behind in omega arith
 
 reads_as : (text : List ℕ) (w v : ℕ) → length text ≡ w → 0 < w → w ≤ 19 → list_all is_digit text ≡ true → v ≡ value_of text → whole_of text ≡ Ok v
 unfolding whole_of
-reads_as text w v size some few digits value =
-    let a : nat_lt 0 (length text) ≡ true = grind (arith, nat_tests) in
-    let b : nat_lt 39 (length text) ≡ false = grind (arith, nat_tests) in
-    let below = value_below text digits in
-    let p = power_fits (length text) (omega arith) in
-    let c : nat_lt (value_of text) (2 ^ 64) ≡ true = let s : value_of text < 2 ^ 64 = omega (arith, below, p) in grind (arith, nat_tests) in
-    rw (a, digits, b) (rw (c, value) refl)
-
-past_separator : (p : ℕ) (bs : List ℕ) → (0 < length bs → is_separator (get_or bs 0 0) ≡ true) → runs_from p bs ≡ runs_from (p + (length bs - length (drop 1 bs))) (drop 1 bs)
-past_separator p [] h = refl
-past_separator p (b ∷ bs) h =
-    let s : is_separator b ≡ true = h (omega arith) in
-    let one : p + (length (b ∷ bs) - length bs) ≡ p + 1 = omega arith in
-    rw (s, one) refl
+reads_as text w v size some few digits value = grind (arith, common_steps, value_below, power_fits)
 
 -- What stands first is the field, and what is left behind it and its separator are the other fields.
 field_passed : (p w : ℕ) (bs behind rest : List ℕ) → 0 < w → w ≤ length bs → position_or_len is_separator bs ≡ w → behind ≡ drop w bs → rest ≡ drop 1 behind
     → runs_from p bs ≡ record { text = take w bs; place = p } ∷ runs_from (p + (length bs - length rest)) rest
-field_passed p w bs behind rest some within ends e f =
-    let first : is_separator (get_or bs 0 0) ≡ false = not_true (is_separator (get_or bs 0 0)) (prefix_len_passes (λ b. not (is_separator b)) bs 0 0 (subst (λ (n : ℕ). 0 < n) (sym ends) some)) in
-    let run : runs_from p bs ≡ record { text = take w bs; place = p } ∷ runs_from (p + w) (drop w bs) = subst (λ (n : ℕ). Runs p bs n) ends (first_run p bs (omega arith) first) in
-    let stop : 0 < length behind → is_separator (get_or behind 0 0) ≡ true = λ h. separator_behind w bs behind ends e h in
-    let size : length behind ≡ length bs - w = ap length e ∙ length-drop w bs in
-    let small : length rest ≤ length behind = rest_at_most behind rest f in
-    let place : p + w + (length behind - length rest) ≡ p + (length bs - length rest) = omega arith in
-    let past : runs_from (p + w) behind ≡ runs_from (p + w + (length behind - length rest)) rest = rw f (past_separator (p + w) behind stop) in
-    run ∙ ap (λ rs. record { text = take w bs; place = p } ∷ rs) (ap (runs_from (p + w)) (sym e) ∙ past ∙ ap (λ n. runs_from n rest) place)
+field_passed p w bs behind rest some within ends e f = grind (arith, common_steps, first_run, separator_behind, rest_at_most)
 
 -- nothing that is looked for stands in the first part
 pub passed : (p : ℕ → Bool) (xs ys : List ℕ) → list_all (λ b. not (p b)) xs ≡ true → position_or_len p (xs ++ ys) ≡ length xs + position_or_len p ys
@@ -87,18 +59,7 @@ ends_at (b ∷ bs) h = let e : is_separator b ≡ true = h (omega arith) in rw e
 
 -- Bytes without a separator that a separator or the end follows are the first field.
 pub begins_with : (text field behind rest : List ℕ) → text ≡ field ++ behind → 0 < length field → list_all (λ b. not (is_separator b)) field ≡ true → (0 < length behind → is_separator (get_or behind 0 0) ≡ true) → rest ≡ drop 1 behind → BeginsWithField text field rest
-begins_with text field behind rest e some inside ends f =
-    let parted = passed is_separator field behind inside in
-    let stop = ends_at behind ends in
-    let position : position_or_len is_separator text ≡ length field = ap (position_or_len is_separator) e ∙ parted ∙ omega (arith, stop) in
-    let size : length text ≡ length field + length behind = ap length e ∙ length-append field behind in
-    let taken : take (length field) text ≡ field = ap (take (length field)) e ∙ take-append_seam field behind in
-    let left : behind ≡ drop (length field) text = sym (ap (drop (length field)) e ∙ drop-append_seam field behind) in
-    let small = rest_at_most behind rest f in
-    record {
-      shorter = omega (arith, size, small);
-      fields = λ p. field_passed p (length field) text behind rest some (omega (arith, size)) position left f ∙ ap (λ xs. record { text = xs; place = p } ∷ runs_from (p + (length text - length rest)) rest) taken;
-    }
+begins_with text field behind rest e some inside ends f = grind (arith, common_steps, passed, field_passed)
 
 digits_inside : (xs : List ℕ) → list_all is_digit xs ≡ true → list_all (λ b. not (is_separator b)) xs ≡ true
 digits_inside [] h = refl
@@ -131,10 +92,8 @@ no_field (field ∷ fields) e = absurd (none-some (whole_of field.text) e)
 
 not_remark : (b : ℕ) (bs : List ℕ) (t : Bool) → is_digit b ≡ t → reads (b ∷ bs) ≡ true → is_remark (b ∷ bs) ≡ false
 unfolding whole_of
-not_remark b bs true e h = grind (arith, nat_tests)
-not_remark b bs false e h =
-    let some : nat_lt 0 (length (b ∷ bs)) ≡ true = grind (arith, nat_tests) in
-    absurd (false≢true (rw (some, e) at h))
+not_remark b bs true e h = grind arith
+not_remark b bs false e h = grind (arith, common_steps)
 
 -- a number begins no remark
 pub number_no_remark : (field : List ℕ) → reads field ≡ true → is_remark field ≡ false

@@ -1,5 +1,5 @@
 -- Lines and words that are put together are cut apart again.
-use Rattle.std.proofs.Common.{◌≡◌, ℕ, ◌+◌, Bool, true, false, not, eqb, List, [], ◌∷◌, ◌++◌, length, drop, refl, sym, ap, ◌∙◌, subst, arith, append_assoc, append-nil}
+use Rattle.std.proofs.Common.{◌≡◌, ℕ, ◌+◌, Bool, true, false, not, eqb, List, [], ◌∷◌, ◌++◌, length, refl, sym, ap, ◌∙◌, subst, arith, append_assoc, append-nil}
 use Rattle.std.specs.Prelude.{◌&&◌, map, nat_lt}
 use Rattle.std.specs.List.{list_all, flat_map, position_or_len, onto_first}
 use Rattle.std.proofs.lemmas.Bool.{not-true, and_parts, and_from}
@@ -8,6 +8,7 @@ use Rattle.std.proofs.Math.Seq.{take-append_seam, drop-append_seam}
 use Rattle.fixed_worth.specs.Text.{lines_of, fields_of, is_separator, runs_from}
 use Rattle.fixed_worth.specs.Laws.{with_line_feeds}
 use Rattle.fixed_worth.proofs.Cuts.{Runs, first_run}
+use Rattle.std.proofs.lemmas.Grind.{common_steps}
 
 -- ---- tests of all bytes
 
@@ -77,9 +78,7 @@ word_run p (b ∷ bs) rest h r =
     let s = (and_parts (nat_lt 0 (length (b ∷ bs))) (list_all (λ x. not (is_separator x)) (b ∷ bs)) h).1 in
     let e : is_separator b ≡ false = not-true (is_separator b) (and_parts (not (is_separator b)) (list_all (λ x. not (is_separator x)) bs) s).0 in
     let runs : Runs p (b ∷ bs ++ rest) (length (b ∷ bs)) = subst (λ (w : ℕ). Runs p (b ∷ bs ++ rest) w) (place_of_break is_separator (b ∷ bs) rest s r) (first_run p (b ∷ bs ++ rest) (omega arith) e) in
-    runs
-    ∙ ap (λ t. record { text = t; place = p } ∷ runs_from (p + length (b ∷ bs)) (drop (length (b ∷ bs)) (b ∷ bs ++ rest))) (take-append_seam (b ∷ bs) rest)
-    ∙ ap (λ t. record { text = b ∷ bs; place = p } ∷ runs_from (p + length (b ∷ bs)) t) (drop-append_seam (b ∷ bs) rest)
+    grind (arith, common_steps, take-append_seam, drop-append_seam, and_parts, not-true, Runs, place_of_break, first_run)
 
 -- a separator before the fields
 pub gap_run : (p b : ℕ) (rest : List ℕ) → is_separator b ≡ true → runs_from p (b ∷ rest) ≡ runs_from (p + 1) rest

@@ -5,17 +5,14 @@ use Rattle.std.proofs.lemmas.List.Elements.{All-nil, All-cons}
 use Rattle.std.proofs.lemmas.Bool.Decides.{nat_tests}
 use Rattle.fixed_worth.specs.Text.{lines_of}
 use Rattle.fixed_worth.specs.Laws.{with_last_line_feed, with_line_feeds, AreLines}
+use Rattle.std.proofs.lemmas.Grind.{common_steps}
 
 abbrev NoLineFeed : List ℕ → Type 0
 NoLineFeed line = EachIndex line (λ k. eqb (get_or line k 0) 10 ≡ false)
 
 some_line : (b : ℕ) (bs : List ℕ) (t : Bool) → eqb b 10 ≡ t → 0 < length (lines_of (b ∷ bs))
 some_line b bs true e = rw e (omega arith)
-some_line b bs false e = rw e (some_onto b (lines_of bs))
-  where
-    some_onto : (b : ℕ) (ls : List (List ℕ)) → 0 < length (onto_first b ls)
-    some_onto b [] = omega arith
-    some_onto b (l ∷ ls) = omega arith
+some_line b bs false e = grind (arith, common_steps)
 
 onto_together : (b : ℕ) (ls : List (List ℕ)) → 0 < length ls → with_line_feeds (onto_first b ls) ≡ b ∷ with_line_feeds ls
 onto_together b [] h = absurd (omega arith)

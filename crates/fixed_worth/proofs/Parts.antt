@@ -1,7 +1,6 @@
 -- What the search of a byte cuts a text into.
-use Rattle.std.proofs.Common.{◌≡◌, ℕ, ◌+◌, ◌<◌, eqb, List, [], ◌∷◌, length, take, drop, Some, None, sym, ap, ◌∙◌, arith}
-use Rattle.std.specs.List.{position, position_or_len}
-use Rattle.std.proofs.lemmas.Bool.Decides.{nat_tests}
+use Rattle.std.proofs.Common.{◌≡◌, ℕ, ◌<◌, eqb, List, [], ◌∷◌, length, take, drop, Some, None, sym, arith}
+use Rattle.std.specs.List.{position}
 use Rattle.std.proofs.lemmas.List.Quantifiers.{position-Some}
 use Rattle.std.proofs.lemmas.List.Sums.{fails_before_first}
 use Rattle.std.proofs.lemmas.List.Splits.{length-slice_split, slice_split_none, slice_split_first}
@@ -10,6 +9,7 @@ use Rattle.memchr.specs.Find.{IsFirstByte, is_byte}
 use Rattle.fixed_worth.specs.Text.{parts}
 use Rattle.fixed_worth.proofs.Cuts.{position_none}
 use Rattle.fixed_worth.proofs.Searched.{first_place}
+use Rattle.std.proofs.lemmas.Grind.{common_steps}
 
 -- There is always a part.
 pub some_part : (c : ℕ) (bs : List ℕ) → 0 < length (parts c bs)
@@ -26,8 +26,4 @@ not_cut c bs h = none_passes c bs (sym (first_place c bs None h))
 pub cut : (c j : ℕ) (bs front back rest : List ℕ) → IsFirstByte (is_byte c) bs (Some j) → front ≡ take j bs → back ≡ drop j bs → rest ≡ drop 1 back → parts c bs ≡ front ∷ parts c rest
 cut c j bs front back rest h e f g =
     let is : position (λ b. eqb b c) bs ≡ Some j = sym (first_place c bs (Some j) h) in
-    let q = position-Some (λ b. eqb b c) bs j 0 is in
-    let at : position_or_len (λ b. eqb b c) bs ≡ j = grind (arith, nat_tests) in
-    let behind : drop (position_or_len (λ b. eqb b c) bs + 1) bs ≡ rest = ap (λ n. drop (n + 1) bs) at ∙ sym (drop-drop 1 j bs) ∙ ap (drop 1) (sym f) ∙ sym g in
-    slice_split_first (λ b. eqb b c) bs 0 (omega (arith, at, q.0)) ∙ ap (λ n. take n bs ∷ parts c (drop (position_or_len (λ b. eqb b c) bs + 1) bs)) at
-    ∙ ap (λ t. take j bs ∷ parts c t) behind ∙ ap (λ t. t ∷ parts c rest) (sym e)
+    grind (arith, common_steps, slice_split_first, eqb, first_place, position-Some, drop-drop)

@@ -1,10 +1,11 @@
 -- A text that is sent in pieces: what the writer received of each makes up what it received of all.
-use Rattle.std.proofs.Common.{inr, ◌≡◌, ℕ, ◌+◌, ◌≤◌, List, [], ◌++◌, length, take, drop, Option, refl, sym, ap, subst, ◌∙◌, append_assoc, append-nil, length-append, arith}
+use Rattle.std.proofs.Common.{◌≡◌, ℕ, ◌+◌, ◌≤◌, List, [], ◌++◌, length, take, drop, Option, refl, sym, ap, subst, ◌∙◌, append_assoc, append-nil, length-append, arith}
 use Rattle.std.proofs.Math.Seq.{take-append-add, take-add}
 use Rattle.std.proofs.lemmas.List.{take-append-le, take_all}
 use Rattle.std.proofs.KnownBytes.{Appends-trans, Appends-nil, Appends-kept}
 use Rattle.std.specs.Io.KnownBytes.{Appends, Keeps}
-use Rattle.fixed_worth.specs.Device.{ReceivedPrefix, SentOrHeld, PutFailed}
+use Rattle.fixed_worth.specs.Device.{ReceivedPrefix, SentOrHeld}
+use Rattle.std.proofs.lemmas.Grind.{common_steps}
 
 -- ---- all of a piece, or a prefix of it
 
@@ -30,9 +31,7 @@ prefix_of_second a b c xs ys first (k, most, second) = (
 -- one more write
 pub sent_more : (a b c : Option (List ℕ)) (done taken : ℕ) (text rest : List ℕ)
     → Appends a b (take done text) → rest ≡ drop done text → Appends b c (take taken rest) → Appends a c (take (done + taken) text)
-sent_more a b c done taken text rest front here next =
-    subst (Appends a c) (sym (take-add done taken text ∙ ap (λ l. take done text ++ take taken l) (sym here)))
-    (Appends-trans a b c (take done text) (take taken rest) front next)
+sent_more a b c done taken text rest front here next = grind (arith, common_steps, take-add)
 
 -- all that there is
 pub sent_all : (a b : Option (List ℕ)) (done : ℕ) (text : List ℕ) → length text ≤ done → Appends a b (take done text) → Appends a b text
@@ -53,20 +52,10 @@ pub none_held : (a b c : Option (List ℕ)) (held piece : List ℕ) → Appends 
 none_held a b c held piece first second =
     record { sent = held ++ piece; received = Appends-trans a b c held piece first second; whole = append-nil (held ++ piece) }
 
--- a write failed behind what was held: nothing is held
-pub failed_in_piece : (a b c : Option (List ℕ)) (held left piece : List ℕ) → left ≡ [] → Appends a b held → ReceivedPrefix b c piece → PutFailed a c held left piece
-failed_in_piece a b c held left piece none first (k, most, second) =
-    inr (none, (k, most, Appends-trans a b c held (take k piece) first second))
-
 -- one more piece, of which a part may be held
 pub held_more : (a b c : Option (List ℕ)) (held rest text piece : List ℕ)
     → SentOrHeld a b held text → SentOrHeld b c rest (held ++ piece) → SentOrHeld a c rest (text ++ piece)
-held_more a b c held rest text piece so more = record {
-  sent = so.sent ++ more.sent;
-  received = Appends-trans a b c so.sent more.sent so.received more.received;
-  whole = append_assoc so.sent more.sent rest ∙ ap (λ l. so.sent ++ l) more.whole
-      ∙ sym (append_assoc so.sent held piece) ∙ ap (λ l. l ++ piece) so.whole;
-}
+held_more a b c held rest text piece so more = grind (arith, common_steps, Appends-trans)
 
 -- where what is held is sent, the whole text is
 pub held_sent : (a b c : Option (List ℕ)) (held text : List ℕ) → SentOrHeld a b held text → Appends b c held → Appends a c text

@@ -1,25 +1,20 @@
 -- A plain number is what its value prints.
-use Rattle.std.proofs.Common.{◌≡◌, ℕ, zero, suc, ◌+◌, ◌-◌, ◌*◌, ◌/◌, ◌%◌, ◌^◌, ◌<◌, ◌≤◌, Bool, true, false, cond, eqb, List, [], ◌∷◌, ◌++◌, length, ℤ, pos, negsuc, neg_ℤ, refl, sym, ap, ◌∙◌, subst, arith, append_assoc, append-nil, length-append, Result, Ok, Err, lit<}
-use Rattle.std.specs.Prelude.{◌&&◌, ◌||◌, nat_lt, nat_le, not, FitsSigned}
+use Rattle.std.proofs.Common.{◌≡◌, ℕ, zero, suc, ◌+◌, ◌-◌, ◌*◌, ◌/◌, ◌%◌, ◌^◌, ◌<◌, ◌≤◌, Bool, true, false, cond, eqb, List, [], ◌∷◌, ◌++◌, length, ℤ, pos, negsuc, neg_ℤ, refl, sym, ap, ◌∙◌, subst, arith, append_assoc, append-nil, length-append, Result, Ok, Err}
+use Rattle.std.specs.Prelude.{◌&&◌, ◌||◌, nat_lt, nat_le, FitsSigned}
 use Rattle.std.specs.Int.{w128}
 use Rattle.std.specs.List.{list_all}
 use Rattle.std.specs.Fmt.{decimal, signed_decimal}
 use Rattle.std.proofs.lemmas.Fmt.{decimal_digit, decimal_step_wide, decimal_by_steps_wide, length-decimal-le_wide}
-use Rattle.std.proofs.lemmas.List.Folds.{list_all-append}
 use Rattle.std.proofs.lemmas.Bool.Decides.{nat_tests}
 use Rattle.std.proofs.lemmas.Int.{ints}
-use Rattle.fixed_worth.specs.declared.numerals.NumberFault.{NumberFault}
-use Rattle.fixed_worth.specs.declared.numerals.NumberFault.TheVariants.{NotANumber, TooLong, TooLarge}
-use Rattle.fixed_worth.specs.Numeral.{is_digit, is_number, value_of, digits_of, below, with_sign, signed_of, begins_above_zero, is_plain, plain_of}
+use Rattle.fixed_worth.specs.declared.numerals.NumberFault.TheVariants.{NotANumber}
+use Rattle.fixed_worth.specs.Numeral.{is_digit, value_of, digits_of, below, signed_of, begins_above_zero, is_plain, plain_of}
 use Rattle.std.proofs.Math.Nat.{pow-le-pow_right}
-use Rattle.fixed_worth.proofs.Powers.{ten_more}
 use Rattle.fixed_worth.proofs.Digits.{value_of-append}
+use Rattle.std.proofs.lemmas.Grind.{common_steps}
 
 one_more_digit : (v e : ℕ) → e ≤ 9 → 0 < v → v * 10 + e < 10 ^ 64 → decimal (v * 10 + e) ≡ decimal v ++ ((48 + e) ∷ [])
-one_more_digit v e h p s =
-    let q : (v * 10 + e) / 10 ≡ v = omega arith in
-    let r : (v * 10 + e) % 10 ≡ e = omega arith in
-    decimal_step_wide (v * 10 + e) (omega arith) s ∙ ap (λ n. decimal n ++ ((48 + (v * 10 + e) % 10) ∷ [])) q ∙ ap (λ n. decimal v ++ ((48 + n) ∷ [])) r
+one_more_digit v e h p s = grind (arith, common_steps, decimal_step_wide)
 
 is_digit_so : (b : ℕ) (r : Bool) → (is_digit b && r) ≡ true → (48 ≤ b) × (b ≤ 57) × (r ≡ true)
 is_digit_so b true h = (grind (arith, nat_tests), grind (arith, nat_tests), refl)
@@ -32,17 +27,7 @@ pub record IsCanonical (ds : List ℕ) : Type 0 where
   pub small : value_of ds < 10 ^ length ds
 
 with_digit : (ds : List ℕ) (d : ℕ) → 48 ≤ d → d ≤ 57 → length ds ≤ 38 → IsCanonical ds → IsCanonical (ds ++ (d ∷ []))
-with_digit ds d low high few h =
-    let v : value_of (ds ++ (d ∷ [])) ≡ value_of ds * 10 + (d - 48) = value_of-append ds (d ∷ []) ∙ omega arith in
-    let l : length (ds ++ (d ∷ [])) ≡ length ds + 1 = length-append ds (d ∷ []) in
-    let p : 10 ^ length (ds ++ (d ∷ [])) ≡ 10 * 10 ^ length ds = ap (λ n. 10 ^ n) l ∙ ten_more (length ds) in
-    let m : 10 ^ length ds ≤ 10 ^ 38 = pow-le-pow_right {n = 10} (lit< tt) few in
-    let e : 48 + (d - 48) ≡ d = omega arith in
-    record {
-      same = ap decimal v ∙ one_more_digit (value_of ds) (d - 48) (omega arith) h.some (omega (arith, h.small)) ∙ ap (λ xs. xs ++ ((48 + (d - 48)) ∷ [])) h.same ∙ ap (λ x. ds ++ (x ∷ [])) e;
-      some = omega (arith, h.some);
-      small = omega (arith, h.small);
-    }
+with_digit ds d low high few h = grind (arith, common_steps, value_of-append, pow-le-pow_right, one_more_digit)
 
 grow : (ds es : List ℕ) → list_all is_digit es ≡ true → length ds + length es ≤ 39 → IsCanonical ds → IsCanonical (ds ++ es)
 grow ds [] all few h = subst IsCanonical (sym (append-nil ds)) h
@@ -73,75 +58,27 @@ cond_so : {E X : Type 0} (t : Bool) (r : Result X E) (e : E) (x : X) → cond t 
 cond_so true r e x h = (refl, h)
 cond_so false r e x h = absurd (let no : Err e ≡ Ok x = h in cc)
 
-cond_else_so : {E X : Type 0} (t : Bool) (r : Result X E) (e : E) (x : X) → cond t (Err e) r ≡ Ok x → (t ≡ false) × (r ≡ Ok x)
-cond_else_so true r e x h = absurd (let no : Err e ≡ Ok x = h in cc)
-cond_else_so false r e x h = (refl, h)
-
-with_sign_so : (m : Bool) (r : Result ℕ NumberFault) (z : ℤ) → with_sign m r ≡ Ok z → (n : ℕ) × (r ≡ Ok n) × (z ≡ cond m (neg_ℤ (pos n)) (pos n))
-with_sign_so m (Ok n) z h = (n, refl, cc)
-with_sign_so m (Err e) z h = cc
-
-below_so : (limit : ℕ) (r : Result ℕ NumberFault) (n : ℕ) → below limit r ≡ Ok n → r ≡ Ok n
-below_so limit (Ok k) n h = (cond_so (nat_lt k limit) (Ok k) TooLarge n h).1
-below_so limit (Err e) n h = cc
-
-digits_so : (ds : List ℕ) (n : ℕ) → digits_of ds ≡ Ok n → (list_all is_digit ds ≡ true) × (length ds ≤ 39) × (n ≡ value_of ds)
-digits_so ds n h =
-    let a = cond_else_so (not (is_number ds)) (cond (nat_lt 39 (length ds)) (Err TooLong) (Ok (value_of ds))) NotANumber n h in
-    let b = cond_else_so (nat_lt 39 (length ds)) (Ok (value_of ds)) TooLong n a.1 in
-    let v : Ok n ≡ Ok (value_of ds) = sym b.1 in
-    (grind (arith, nat_tests), grind (arith, nat_tests), cc)
-
-signed_so : (m : Bool) (ds : List ℕ) (limit : ℕ) (z : ℤ) → with_sign m (below limit (digits_of ds)) ≡ Ok z
-    → (list_all is_digit ds ≡ true) × (length ds ≤ 39) × (z ≡ cond m (neg_ℤ (pos (value_of ds))) (pos (value_of ds)))
-signed_so m ds limit z h =
-    let w = with_sign_so m (below limit (digits_of ds)) z h in
-    let d = digits_so ds w.0 (below_so limit (digits_of ds) w.0 w.1) in
-    (d.0, d.1, w.2 ∙ ap (λ n. cond m (neg_ℤ (pos n)) (pos n)) d.2)
-
--- the three forms of a plain number
-negative_text : (v : ℕ) → 0 < v → signed_decimal (neg_ℤ (pos v)) ≡ 45 ∷ decimal v
-negative_text zero h = absurd (omega arith)
-negative_text (suc v) h = refl
-
 text_of_negative : (bs : List ℕ) (z : ℤ) → is_plain (45 ∷ bs) ≡ true → signed_of (45 ∷ bs) ≡ Ok z → 45 ∷ bs ≡ signed_decimal z
 unfolding is_plain signed_of
-text_of_negative bs z p h =
-    let s = signed_so true bs (2 ^ 127 + 1) z h in
-    let i = printed_of_value bs p s.0 s.1 in
-    sym (ap signed_decimal s.2 ∙ negative_text (value_of bs) i.some ∙ ap (λ ds. 45 ∷ ds) i.same)
+text_of_negative bs z p h = grind (arith, common_steps, printed_of_value)
 
 text_of_zero : (z : ℤ) → signed_of (48 ∷ []) ≡ Ok z → 48 ∷ [] ≡ signed_decimal z
 unfolding signed_of
-text_of_zero z h =
-    let e : z ≡ pos 0 = cc in
-    sym (ap signed_decimal e ∙ decimal_digit 0 (omega arith))
+text_of_zero z h = grind (arith, common_steps, decimal_digit)
 
 text_of_positive : (b : ℕ) (bs : List ℕ) (z : ℤ) → begins_above_zero (b ∷ bs) ≡ true → signed_of (b ∷ bs) ≡ Ok z → b ∷ bs ≡ signed_decimal z
 unfolding signed_of
-text_of_positive b bs z p h =
-    let minus : eqb b 45 ≡ false = grind (arith, nat_tests) in
-    let plus : eqb b 43 ≡ false = grind (arith, nat_tests) in
-    let k : with_sign false (below (2 ^ 127) (digits_of (b ∷ bs))) ≡ Ok z = rw (minus, plus) at h in
-    let s = signed_so false (b ∷ bs) (2 ^ 127) z k in
-    let i = printed_of_value (b ∷ bs) p s.0 s.1 in
-    sym (ap signed_decimal s.2 ∙ i.same)
+text_of_positive b bs z p h = grind (arith, common_steps, printed_of_value)
 
 text_by_zero : (b : ℕ) (bs : List ℕ) (z : ℤ) (t : Bool) → (eqb b 48 && eqb (length bs) 0) ≡ t → (t || begins_above_zero (b ∷ bs)) ≡ true → signed_of (b ∷ bs) ≡ Ok z → b ∷ bs ≡ signed_decimal z
-text_by_zero b [] z true e p h =
-    let f : b ≡ 48 = grind (arith, nat_tests) in
-    rw f (text_of_zero z (rw f at h))
+text_by_zero b [] z true e p h = grind (arith, common_steps, text_of_zero)
 text_by_zero b (c ∷ cs) z true e p h = absurd (grind (arith, nat_tests))
 text_by_zero b bs z false e p h = text_of_positive b bs z p h
 
 text_by_minus : (b : ℕ) (bs : List ℕ) (z : ℤ) (t : Bool) → eqb b 45 ≡ t → is_plain (b ∷ bs) ≡ true → signed_of (b ∷ bs) ≡ Ok z → b ∷ bs ≡ signed_decimal z
 unfolding is_plain
-text_by_minus b bs z true e p h =
-    let f : b ≡ 45 = grind (arith, nat_tests) in
-    subst (λ (x : ℕ). is_plain (x ∷ bs) ≡ true → signed_of (x ∷ bs) ≡ Ok z → x ∷ bs ≡ signed_decimal z) (sym f) (text_of_negative bs z) p h
-text_by_minus b bs z false e p h =
-    let k : ((eqb b 48 && eqb (length bs) 0) || begins_above_zero (b ∷ bs)) ≡ true = rw e at p in
-    text_by_zero b bs z (eqb b 48 && eqb (length bs) 0) refl k h
+text_by_minus b bs z true e p h = grind (arith, common_steps, text_of_negative)
+text_by_minus b bs z false e p h = grind (arith, common_steps, text_by_zero)
 
 -- A plain number has one spelling: what its value prints.
 pub one_spelling : (text : List ℕ) (z : ℤ) → plain_of text ≡ Ok z → text ≡ signed_decimal z
@@ -159,36 +96,16 @@ record IsNumeralOf (n : ℕ) (ds : List ℕ) : Type 0 where
   first : 0 < n → begins_above_zero ds ≡ true
 
 one_digit : (n : ℕ) → n < 10 → IsNumeralOf n ((48 + n) ∷ [])
-one_digit n h = record {
-  value = omega arith;
-  digits = grind (arith, nat_tests);
-  some = omega arith;
-  first = λ p. grind (arith, nat_tests);
-}
-
-begins_so : (ds es : List ℕ) → begins_above_zero ds ≡ true → begins_above_zero (ds ++ es) ≡ true
-begins_so [] es h = cc
-begins_so (d ∷ ds) es h = h
+one_digit n h = grind (arith, common_steps)
 
 more_digits : (n : ℕ) (ds : List ℕ) → 10 ≤ n → IsNumeralOf (n / 10) ds → IsNumeralOf n (ds ++ ((48 + n % 10) ∷ []))
-more_digits n ds h i =
-    let v : value_of (ds ++ ((48 + n % 10) ∷ [])) ≡ value_of ds * 10 + n % 10 = value_of-append ds ((48 + n % 10) ∷ []) ∙ omega arith in
-    let last : list_all is_digit ((48 + n % 10) ∷ []) ≡ true = grind (arith, nat_tests) in
-    record {
-      value = omega (arith, i.value);
-      digits = list_all-append is_digit ds ((48 + n % 10) ∷ []) ∙ rw (i.digits) last;
-      some = omega (arith, length-append ds ((48 + n % 10) ∷ []));
-      first = λ p. begins_so ds ((48 + n % 10) ∷ []) (i.first (omega arith));
-    }
+more_digits n ds h i = grind (arith, common_steps, value_of-append)
 
 numeral_of : (n : ℕ) → n < 10 ^ 64 → IsNumeralOf n (decimal n)
 numeral_of n s = decimal_by_steps_wide IsNumeralOf one_digit more_digits n s
 
 digits_read : (n : ℕ) (ds : List ℕ) → IsNumeralOf n ds → length ds ≤ 39 → digits_of ds ≡ Ok n
-digits_read n ds i few =
-    let s : nat_lt 0 (length ds) ≡ true = let k = i.some in grind (arith, nat_tests) in
-    let f : nat_lt 39 (length ds) ≡ false = grind (arith, nat_tests) in
-    rw (s, i.digits, f) (ap (λ v. Ok v) i.value)
+digits_read n ds i few = grind (arith, common_steps)
 
 below_read : (limit n : ℕ) → n < limit → below limit (Ok n) ≡ Ok n
 below_read limit n h = let t : nat_lt n limit ≡ true = grind (arith, nat_tests) in rw t refl
@@ -196,11 +113,7 @@ below_read limit n h = let t : nat_lt n limit ≡ true = grind (arith, nat_tests
 positive_read : (n : ℕ) (ds : List ℕ) → begins_above_zero ds ≡ true → digits_of ds ≡ Ok n → n < 2 ^ 127 → plain_of ds ≡ Ok (pos n)
 unfolding plain_of is_plain signed_of
 positive_read n [] h d l = cc
-positive_read n (b ∷ bs) h d l =
-    let zero_digit : eqb b 48 ≡ false = grind (arith, nat_tests) in
-    let minus : eqb b 45 ≡ false = grind (arith, nat_tests) in
-    let plus : eqb b 43 ≡ false = grind (arith, nat_tests) in
-    rw (zero_digit, minus, plus, h, d, below_read (2 ^ 127) n l) refl
+positive_read n (b ∷ bs) h d l = grind (arith, common_steps)
 
 negative_read : (n : ℕ) (ds : List ℕ) → begins_above_zero ds ≡ true → digits_of ds ≡ Ok n → n < 2 ^ 127 + 1 → plain_of (45 ∷ ds) ≡ Ok (neg_ℤ (pos n))
 unfolding plain_of is_plain signed_of

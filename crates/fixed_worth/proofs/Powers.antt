@@ -1,8 +1,9 @@
 -- Powers of ten.
 use Rattle.std.proofs.Common.{◌≡◌, ℕ, suc, ◌+◌, ◌-◌, ◌*◌, ◌/◌, ◌%◌, ◌^◌, ◌<◌, ◌≤◌, sym, ap, ◌∙◌, arith, lit<, pow-add}
-use Rattle.std.proofs.Math.Nat.{pow-succ', one-le-pow, mul-le-mul_left, pow-le-pow_right, div-eq_of_lt, mul-div_cancel_left, div-div-eq-div-mul}
+use Rattle.std.proofs.Math.Nat.{pow-succ', one-le-pow, mul-le-mul_left, pow-le-pow_right, mul-div_cancel_left, div-div-eq-div-mul}
 use Rattle.std.proofs.lemmas.Nat.{div-mul-add}
 use Rattle.fixed_worth.specs.Rounding.{rounded_of}
+use Rattle.std.proofs.lemmas.Grind.{common_steps}
 
 pub ten_positive : (k : ℕ) → 1 ≤ 10 ^ k
 ten_positive k = one-le-pow k 10 (lit< tt)
@@ -28,21 +29,14 @@ regroup m a p = omega arith
 pub shifted : (v i k : ℕ) → i < k → (v * 10) * 10 ^ (k - (i + 1)) ≡ v * 10 ^ (k - i)
 shifted v i k h =
     let e : k - i ≡ (k - (i + 1)) + 1 = omega arith in
-    let f : 10 ^ (k - i) ≡ 10 * 10 ^ (k - (i + 1)) = ap (λ n. 10 ^ n) e ∙ ten_more (k - (i + 1)) in
-    rw f (spread v (10 ^ (k - (i + 1))))
+    grind (arith, common_steps, spread, ten_more)
 
 pub too_large : (v j w : ℕ) → v * 10 ^ j ≡ w → 10 ^ 18 < v → w ≤ 10 ^ 18 → ⊥
 too_large v j w e h s = let f = at_most_product v (10 ^ j) (ten_positive j) in omega (arith, f)
 
 pub rounds_up : (m up down : ℕ) → down ≤ up → rounded_of m up down ≡ m * 10 ^ (up - down)
 unfolding rounded_of
-rounds_up m up down h =
-    let e : up ≡ (up - down) + down = omega arith in
-    let f : 10 ^ up ≡ 10 ^ (up - down) * 10 ^ down = ap (λ n. 10 ^ n) e ∙ pow-add 10 (up - down) down in
-    let p = 10 ^ down in
-    let one : 1 ≤ p = ten_positive down in
-    let g : 2 * (m * 10 ^ up) + p ≡ (m * 10 ^ (up - down)) * (2 * p) + p = rw f (regroup m (10 ^ (up - down)) p) in
-    ap (λ x. x / (2 * p)) g ∙ div-mul-add (m * 10 ^ (up - down)) (2 * p) p (omega arith)
+rounds_up m up down h = grind (arith, common_steps, pow-add, ten_positive, regroup, div-mul-add)
 
 pub rounds_down : (m up down : ℕ) → up < down → rounded_of m up down ≡ (2 * m + 10 ^ (down - up)) / (2 * 10 ^ (down - up))
 unfolding rounded_of
@@ -58,17 +52,11 @@ rounds_down m up down h =
     ∙ sym (div-div-eq-div-mul (p * (2 * m + q)) p (2 * q)) ∙ ap (λ x. x / (2 * q)) (mul-div_cancel_left (2 * m + q) one)
 
 pub rounds_away : (m k : ℕ) → m < 10 ^ 36 → 37 < k → (2 * m + 10 ^ k) / (2 * 10 ^ k) ≡ 0
-rounds_away m k h j =
-    let l = ten_least k j in
-    let s : 2 * m + 10 ^ k < 2 * 10 ^ k = omega (arith, l) in
-    div-eq_of_lt s
+rounds_away m k h j = grind (arith, common_steps, ten_least)
 
 -- what is left below a tenth power of at most nine places
 pub rest_below : (n k : ℕ) → n % 10 ^ k < 10 ^ k
 rest_below n k = let t = ten_positive k in omega arith
 
 pub rest_small : (n k : ℕ) → k ≤ 9 → n % 10 ^ k < 2 ^ 32
-rest_small n k h =
-    let m : 10 ^ k ≤ 10 ^ 9 = pow-le-pow_right {n = 10} (lit< tt) h in
-    let r = rest_below n k in
-    omega arith
+rest_small n k h = grind (arith, common_steps, pow-le-pow_right, rest_below)

@@ -5,6 +5,7 @@ use Rattle.std.proofs.lemmas.Bool.{cases_Bool}
 use Rattle.std.proofs.lemmas.Bool.Decides.{nat_tests}
 use Rattle.std.proofs.lemmas.List.Sums.{position_or_len_is}
 use Rattle.memchr.specs.Find.{IsFirstByte, is_byte}
+use Rattle.std.proofs.lemmas.Grind.{common_steps}
 
 fails : (t : Bool) → (t ≡ true → ⊥) → t ≡ false
 fails t h = elim (cases_Bool t) [ inl e ↦ absurd (h e) | inr e ↦ e ]
@@ -13,7 +14,4 @@ pub first_place : (a : ℕ) (xs : List ℕ) (r : Option ℕ) → IsFirstByte (is
 first_place a xs None h =
     let e = position_or_len_is (λ b. b == a) xs (length xs) 0 (omega arith) (λ k l. fails (get_or xs k 0 == a) (h k (omega arith) l)) (λ l. absurd (omega arith)) in
     grind (arith, nat_tests)
-first_place a xs (Some k) h =
-    let inside = h.0.high in
-    let e = position_or_len_is (λ b. b == a) xs k 0 (omega arith) (λ j l. fails (get_or xs j 0 == a) (h.0.before j (omega arith) l)) (λ l. h.1) in
-    grind (arith, nat_tests)
+first_place a xs (Some k) h = grind (arith, common_steps, position_or_len_is)

@@ -7,7 +7,7 @@ use Rattle.std.proofs.lemmas.Option.{slice_get_within}
 use Rattle.ordered_group.specs.Amount.{Amount, zero_amount, plus, minus, AtMost, Below, positive, negative}
 use Rattle.ordered_group.specs.Sums.{amount_at}
 use Rattle.ordered_group.proofs.Order.{AtMost-refl, AtMost-trans, Below-most, least-left, least-right}
-use Rattle.ordered_group.proofs.Signs.{NonNeg-plus, AtMost-plus, NonNeg-positive, NonNeg-negative, NonNeg-zero}
+use Rattle.ordered_group.proofs.Signs.{NonNeg-plus, AtMost-plus}
 use Rattle.prec_file.specs.Rests.{to_at}
 use Rattle.closure_net.specs.Network.{NetView}
 use Rattle.closure_net.specs.Ports.{ports}
@@ -28,6 +28,7 @@ use Rattle.machine_law.proofs.Numbers.{shifted, joined, Below-least, positive-ye
 use Rattle.machine_law.proofs.Points.{put-other, put-each}
 use Rattle.machine_law.proofs.PortLists.{port_with, port-at}
 use Rattle.machine_law.proofs.Coming.{has_port}
+use Rattle.std.proofs.lemmas.Grind.{common_steps}
 
 -- ---- what a step of another block leaves to x: all that its operation may rely on
 pub record IsMore (net : NetView) (s t : State) (x : ℕ) : Type 0 where
@@ -289,14 +290,4 @@ module _ (net : NetView) (s : State) (b : ℕ) (k : HasAmounts net s) where
   amounts_advance l = amounts_advance_by (s.operation b) refl l (k.operation b)
 
 pub amounts_opening : (net : NetView) → HasAmounts net (opening net)
-amounts_opening net = record {
-  excess = λ b. NonNeg-positive (amount_at net.worths b);
-  source = λ b. NonNeg-positive (amount_at net.worths b);
-  source_most = λ b. AtMost-refl (positive (amount_at net.worths b));
-  sink = λ b. NonNeg-zero;
-  sink_most = λ b. NonNeg-negative (amount_at net.worths b);
-  flow = λ k. NonNeg-zero;
-  at_source = NonNeg-zero;
-  at_sink = NonNeg-zero;
-  operation = λ b. tt;
-}
+amounts_opening net = grind (arith, common_steps)

@@ -1,12 +1,12 @@
 -- A function after one of its values is changed.
-use Rattle.std.proofs.Common.{◌≡◌, ◌≢◌, ℕ, ◌<◌, ◌==◌, inl, inr, arith, refl, ap, sym, subst, ◌∙◌}
-use Rattle.std.proofs.lemmas.Int.{ints}
+use Rattle.std.proofs.Common.{◌≡◌, ◌≢◌, ℕ, ◌<◌, ◌==◌, arith, refl, ap, ◌∙◌}
 use Rattle.std.proofs.lemmas.Bool.{cases_eq, eq-eqb, ne_eqb}
 use Rattle.ordered_group.specs.Amount.{Amount, plus}
 use Rattle.ordered_group.specs.Sums.{total, where_so}
 use Rattle.ordered_group.proofs.Totals.{total_changed}
 use Rattle.machine_law.specs.States.{with_value_at}
 use Rattle.machine_law.proofs.Numbers.{Same, same}
+use Rattle.std.proofs.lemmas.Grind.{common_steps}
 
 pub put-same : {X : Type 0} (f : ℕ → X) (k : ℕ) (v : X) → with_value_at f k v k ≡ v
 unfolding with_value_at
@@ -18,10 +18,7 @@ put-other f k v i ne = rw (ne_eqb i k ne) refl
 
 -- what holds of the new value, and of each other one
 pub put-each : {X : Type 0} (P : ℕ → X → Type 0) (f : ℕ → X) (k : ℕ) (v : X) → P k v → ((i : ℕ) → i ≢ k → P i (f i)) → (i : ℕ) → P i (with_value_at f k v i)
-put-each P f k v hv h i = elim (cases_eq i k) [
-  | inl e ↦ subst (P i) (sym (ap (with_value_at f k v) e ∙ put-same f k v)) (subst (λ j. P j v) (sym e) hv)
-  | inr ne ↦ subst (P i) (sym (put-other f k v i ne)) (h i ne)
-]
+put-each P f k v hv h i = grind (arith, common_steps, cases_eq, put-same, put-other)
 
 -- a sum over the values
 pub total-put : {X : Type 0} (F : ℕ → X → Amount) (f : ℕ → X) (k : ℕ) (v : X) (n : ℕ) → k < n → Same (plus (total (λ i. F i (with_value_at f k v i)) n) (F k (f k))) (plus (total (λ i. F i (f i)) n) (F k v))
@@ -31,12 +28,4 @@ total-put F f k v n l =
 
 -- an amount at each place, where the old value is named
 pub where-put : {X : Type 0} (F : X → Amount) (f : ℕ → X) (k : ℕ) (old v : X) (x : ℕ) → f k ≡ old → Same (plus (F (with_value_at f k v x)) (where_so (k == x) (F old))) (plus (F (f x)) (where_so (k == x) (F v)))
-where-put F f k old v x e = elim (cases_eq k x) [
-  | inl at ↦
-      let new = same (ap F (ap (with_value_at f k v) (sym at) ∙ put-same f k v)) in
-      let was = same (ap F (ap f (sym at) ∙ e)) in
-      rw (eq-eqb k x at) (record { w = omega (arith, ints, new, was); c = omega (arith, ints, new, was) })
-  | inr ne ↦
-      let kept = same (ap F (put-other f k v x (λ i. ne (sym i)))) in
-      rw (ne_eqb k x ne) (record { w = omega (arith, ints, kept); c = omega (arith, ints, kept) })
-]
+where-put F f k old v x e = grind (arith, common_steps, cases_eq, same, put-same, eq-eqb, put-other, ne_eqb)

@@ -1,7 +1,7 @@
 -- What an operation remembers of labels, over its reads: how far it has looked.
-use Rattle.std.proofs.Common.{◌≡◌, ℕ, ◌≤◌, ◌+◌, ◌==◌, inl, inr, Bool, true, false, not, nat_lt, ◌&&◌, cond, Option, Some, None, List, ◌∷◌, refl, ap, sym, ◌∙◌, subst, subst₂, arith}
+use Rattle.std.proofs.Common.{◌≡◌, ℕ, ◌≤◌, ◌+◌, ◌==◌, inl, inr, Bool, true, false, not, nat_lt, ◌&&◌, Option, Some, None, List, ◌∷◌, refl, ap, sym, ◌∙◌, subst, subst₂, arith}
 use Rattle.std.proofs.lemmas.Int.{ints}
-use Rattle.std.proofs.lemmas.Bool.{and_parts, and_from, cases_Bool, cond_both, eqb-true, ltb-true, ltb-false, lt-ltb, or_from, not-true, not_from_false, true≢false}
+use Rattle.std.proofs.lemmas.Bool.{and_parts, and_from, cases_Bool, cond_both, eqb-true, ltb-true, ltb-false, or_from, not-true, not_from_false, true≢false}
 use Rattle.ordered_group.specs.Amount.{Amount, zero_amount, minus, AtMost, Below}
 use Rattle.ordered_group.proofs.Order.{AtMost-refl, AtMost-trans}
 use Rattle.prec_file.specs.Rests.{from_at, to_at}
@@ -22,6 +22,7 @@ use Rattle.machine_law.proofs.Numbers.{same, shifted, positive-no, Below-absurd}
 use Rattle.machine_law.proofs.Arcs.{arcs-most, arcs-most_or, arcs-none}
 use Rattle.machine_law.proofs.PortLists.{has_backward, has_open}
 use Rattle.machine_law.proofs.Coming.{coming_nonneg}
+use Rattle.std.proofs.lemmas.Grind.{common_steps}
 
 -- not forward
 abbrev pub IsLimited : PortKind → Type 0
@@ -70,14 +71,7 @@ better-most (Some best) new = cond_both (nat_lt new.label best.label) new best (
 
 under_better : (best : Option (Best Amount)) (new : Best Amount) (n : ℕ) → is_under (Some (better best new)) n ≡ true → is_under best n ≡ true
 under_better None new n e = refl
-under_better (Some best) new n e = elim (cases_Bool (nat_lt new.label best.label)) [
-  | inl y ↦
-      let h = ltb-true new.label best.label y in
-      let u = subst (λ (r : Bool). nat_lt n (cond r new best).label ≡ true) y e in
-      let v = ltb-true n new.label u in
-      lt-ltb n best.label (omega (arith, h, v))
-  | inr z ↦ subst (λ (r : Bool). nat_lt n (cond r new best).label ≡ true) z e
-]
+under_better (Some best) new n e = grind (arith, common_steps)
 
 above_better : (best : Option (Best Amount)) (new : Best Amount) (n : ℕ) → IsAbove best n → (better best new).label ≤ n
 above_better None new n h = absurd h

@@ -1,8 +1,7 @@
 -- From what is read of the inputs of a mine to the mine of its texts.
-use Rattle.std.proofs.Common.{◌≡◌, ℕ, ℤ, pos, ◌*ℤ◌, List, refl, sym, ap, ◌∙◌, subst, arith, Option, Some, None, IfSome}
-use Rattle.std.proofs.lemmas.List.{length-map, get_or-map}
+use Rattle.std.proofs.Common.{◌≡◌, ℕ, ℤ, pos, List, refl, sym, ap, ◌∙◌, subst, arith, Option, Some, None, IfSome}
 use Rattle.std.proofs.lemmas.List.FromFn.{length-map-range_with_len, get_or-map-range_with_len}
-use Rattle.prec_file.specs.Rests.{RestsView, ArePairsOf}
+use Rattle.prec_file.specs.Rests.{RestsView}
 use Rattle.prec_file.specs.Records as prec
 use Rattle.upit_file.specs.Records as upit
 use Rattle.settings_file.specs.Settings.{SettingsView, first_missing}
@@ -14,9 +13,8 @@ use Rattle.mine_inputs.specs.declared.mines.MineInputs.{MineInputs}
 use Rattle.mine_inputs.specs.declared.priced_inputs.PriceColumns.{PriceColumns}
 use Rattle.mine_inputs.specs.declared.worths.Worths.{Worths}
 use Rattle.mine_inputs.specs.declared.worths.Worths.TheVariants.{Values, Prices}
-use Rattle.mine_inputs.specs.FaultStands.{AreWorths, MineFails, PrecFails}
+use Rattle.mine_inputs.specs.FaultStands.{MineFails, PrecFails}
 use Rattle.mine_inputs.specs.Inputs.{ReadsUpit, ReadsSettingsText, SettingsReadFails, IsMissing, ReadsPrices, PricesReadFail, ReadsPrec, PrecReadFails, PricedMineFails}
-use Rattle.mine_inputs.specs.Limits.{IsWithinLimit}
 use Rattle.mine_inputs.specs.MineInputs.{ForWorths, ForTexts}
 use Rattle.mine_inputs.specs.Mines.{MineTexts, mine_texts, priced_texts, precedence_of, price_wanted, WorthsRead}
 use Rattle.mine_inputs.specs.PricedTexts.{price_keys, columns_said, table_by, table_of}
@@ -25,17 +23,12 @@ use Rattle.mine_inputs.specs.Worths.{blocks_valued, nanos_at, price_at}
 use Rattle.settings_file.proofs.Known.{settings_are}
 use Rattle.mine_inputs.proofs.MineDevices.{always, under, under2, all_texts, for_worths, for_texts}
 use Rattle.mine_inputs.proofs.PricedAnswers.{settings_answer, missing_answer, prices_unsaid, prices_answer, prices_said, priced}
+use Rattle.std.proofs.lemmas.Grind.{common_steps}
 
 -- ---- values
 
 values_known : (u p : List ℕ) (factor : ℕ) (values : upit.UpitView) → ReadsUpit u values → AreWorthsOf (mine_texts u p) factor (Values values)
-values_known u p factor values a =
-    let size = length-map values.values (λ x. pos 1000 *ℤ x) in
-    record {
-      read = a.0;
-      are = record { size = size; each = λ b h. get_or-map (λ x. pos 1000 *ℤ x) values.values b (pos 0) (pos 0) h ∙ ap (λ x. pos 1000 *ℤ x) (a.1.worth b h) };
-      price = refl;
-    }
+values_known u p factor values a = grind (arith, common_steps)
 
 pub values_read : (o : Option (List ℕ)) (p : List ℕ) (factor : ℕ) (values : upit.UpitView) → IfSome o (λ u. ReadsUpit u values) → IfSome o (λ u. AreWorthsOf (mine_texts u p) factor (Values values))
 values_read o p factor values h = under o (λ u. ReadsUpit u values) (λ u. AreWorthsOf (mine_texts u p) factor (Values values)) h (λ u a. values_known u p factor values a)
@@ -111,19 +104,7 @@ pub read_as : (texts : MineTexts) (worths shown : List ℤ) (rests : RestsView) 
 read_as texts worths shown rests e a = subst (λ (ws : List ℤ). AreRead texts ws rests) (sym e) a
 
 mine_known : (texts : MineTexts) (p : List ℕ) (factor n : ℕ) (worths : Worths) (rests : RestsView) → precedence_of texts ≡ p → n ≡ blocks_valued worths → AreWorthsOf texts factor worths → ReadsPrec n p rests → IsMineRead texts factor worths rests
-mine_known texts p factor n worths rests same e a b =
-    let q : blocks_valued worths ≡ rests.blocks = sym e ∙ sym b.2 in
-    let F : ℕ → Type 0 = λ k. prec.fault_of k p ≡ None in
-    let G : List ℕ → Type 0 = λ x. prec.fault_of rests.blocks x ≡ None in
-    let L : List ℕ → Type 0 = λ x. ArePairsOf (prec.pairs_of_text x) rests.pairs in
-    let W : ℕ → Type 0 = λ k. AreWorths texts k (nanos_at worths factor) in (
-      record {
-        mine = record { worths_read = subst (WorthsRead texts) q a.read; precedence_within = subst IsWithinLimit (sym same) b.0; precedence_read = subst G (sym same) (subst F (sym b.2) b.1) };
-        worths = subst W q a.are;
-        pairs = subst L (sym same) b.3;
-      },
-      a.price,
-    )
+mine_known texts p factor n worths rests same e a b = grind (arith, common_steps)
 
 module _ {D : Type 0} (mine : MineInputs D) (remaining : D → Option (List ℕ)) (factor : ℕ) where
   -- what the blocks are worth wasn't read

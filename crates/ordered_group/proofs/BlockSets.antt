@@ -1,5 +1,5 @@
 -- Worths, numbers and sums of sets of blocks.
-use Rattle.std.proofs.Common.{◌≡◌, ℕ, zero, suc, ◌<◌, ◌≤◌, Bool, true, false, cond, ◌==◌, refl, sym, ap, ap₂, ◌∙◌, arith, ℤ, pos, ◌+ℤ◌, ◌≤ℤ◌, ◌<ℤ◌, inl, inr, below_more}
+use Rattle.std.proofs.Common.{◌≡◌, ℕ, zero, suc, ◌<◌, ◌≤◌, Bool, true, false, cond, ◌==◌, refl, sym, ap, ap₂, ◌∙◌, arith, ℤ, pos, ◌+ℤ◌, ◌≤ℤ◌, inl, inr}
 use Rattle.std.proofs.lemmas.Int.{ints}
 use Rattle.std.proofs.lemmas.Bool.{cases_eq, eq-eqb, ne_eqb}
 use Rattle.ordered_group.specs.Amount.{Amount}
@@ -9,6 +9,7 @@ use Rattle.ordered_group.specs.LawProofs.{worth_told}
 pub use Rattle.ordered_group.specs.ScaledProofs.{count_in-most}
 use Rattle.ordered_group.specs.Laws.{SumsTellWorth, BlocksTellWorth}
 use Rattle.ordered_group.proofs.Totals.Sets.{union, intersection, total-one, two_sets}
+use Rattle.std.proofs.lemmas.Grind.{common_steps}
 
 -- equal sets are worth the same, have as many blocks, and have one sum
 pub worth_in-same : (v : ℕ → ℤ) (e c : ℕ → Bool) (n : ℕ) → ((b : ℕ) → b < n → e b ≡ c b) → worth_in v e n ≡ worth_in v c n
@@ -33,13 +34,13 @@ worth_of_two v e c n =
 worth_rises : (s t : Bool) (x y : ℤ) → (s ≡ true → t ≡ true) → x ≤ℤ y → (cond s y (pos 0) +ℤ cond t x (pos 0)) ≤ℤ (cond t y (pos 0) +ℤ cond s x (pos 0))
 worth_rises true true x y h l = omega (arith, ints)
 worth_rises true false x y h l = absurd (let i = h refl in cc)
-worth_rises false true x y h l = omega (arith, ints, l)
-worth_rises false false x y h l = omega (arith, ints)
+worth_rises false true x y h l = omega (arith, ints)
+worth_rises false false x y h l = omega arith
 
 -- where no block is worth less, a set within another falls behind it by no less
 pub lead_rises : (v w : ℕ → ℤ) (e c : ℕ → Bool) (n : ℕ) → ((b : ℕ) → b < n → e b ≡ true → c b ≡ true) → ((b : ℕ) → b < n → v b ≤ℤ w b)
     → (worth_in w e n +ℤ worth_in v c n) ≤ℤ (worth_in w c n +ℤ worth_in v e n)
-lead_rises v w e c zero h r = omega (arith, ints)
+lead_rises v w e c zero h r = omega arith
 lead_rises v w e c (suc n) h r =
     let i = lead_rises v w e c n (λ b l. h b (omega arith)) (λ b l. r b (omega arith)) in
     let t = worth_rises (e n) (c n) (v n) (w n) (h n (omega arith)) (r n (omega arith)) in
@@ -48,10 +49,7 @@ lead_rises v w e c (suc n) h r =
 -- the set of one block
 none_before : (v : ℤ) (c n : ℕ) → n ≤ c → (worth_in (λ b. v) (λ b. c == b) n ≡ pos 0) × (count_in (λ b. c == b) n ≡ 0)
 none_before v c zero h = (refl, refl)
-none_before v c (suc n) h =
-    let p = none_before v c n (omega (arith, h)) in
-    let q = ne_eqb c n (λ k. omega (arith, h, k)) in
-    (rw q (omega (arith, ints, p.0)), rw q (omega (arith, p.1)))
+none_before v c (suc n) h = grind (arith, common_steps, (none_before v c n (omega (arith, h))))
 
 pub one_block : (v : ℤ) (c n : ℕ) → c < n → (worth_in (λ b. v) (λ b. c == b) n ≡ v) × (count_in (λ b. c == b) n ≡ 1)
 one_block v c zero h = absurd (omega (arith, h))
@@ -86,9 +84,4 @@ count_term false false s = (omega arith, λ e. refl)
 -- a set within another has no more blocks, and as many only where it is that set
 pub count_in-within : (a e : ℕ → Bool) (n : ℕ) → ((b : ℕ) → b < n → a b ≡ true → e b ≡ true) → (count_in a n ≤ count_in e n) × (count_in a n ≡ count_in e n → (b : ℕ) → b < n → a b ≡ e b)
 count_in-within a e zero s = (omega arith, λ p b l. absurd (omega (arith, l)))
-count_in-within a e (suc n) s =
-    let i = count_in-within a e n (λ b l. s b (omega (arith, l))) in
-    let t = count_term (a n) (e n) (s n (omega arith)) in (
-      omega (arith, i.0, t.0),
-      λ p b l. below_more (λ k. a k ≡ e k) n (i.1 (omega (arith, i.0, t.0, p))) (t.1 (omega (arith, i.0, t.0, p))) b (omega (arith, l)),
-    )
+count_in-within a e (suc n) s = grind (arith, common_steps, (count_in-within a e n (λ b l. s b (omega (arith, l)))))

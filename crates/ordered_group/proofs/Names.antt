@@ -1,12 +1,12 @@
 -- The words of the kinds of amount.
-use Rattle.std.proofs.Common.{◌≡◌, ℕ, ◌≤◌, Bool, true, false, cond, not, eqb, ◌&&◌, List, Option, Some, None, refl, sym, ap, ◌∙◌, arith, length}
+use Rattle.std.proofs.Common.{◌≡◌, ℕ, ◌≤◌, true, not, eqb, ◌&&◌, List, Option, Some, refl, sym, ap, ◌∙◌, arith, length}
 use Rattle.std.specs.Prelude.{unwrap_or}
 use Rattle.std.specs.List.{list_all}
-use Rattle.std.specs.Str.{bytes_eq}
 use Rattle.std.proofs.lemmas.Slice.Eq.{bytes_eq-Decides}
 use Rattle.ordered_group.specs.declared.groups.Group.{Group}
 use Rattle.ordered_group.specs.declared.groups.Group.TheVariants.{Worth, Pair, Scaled}
 use Rattle.ordered_group.specs.Group.{group_name, group_of}
+use Rattle.std.proofs.lemmas.Grind.{common_steps}
 
 -- each kind is read of its word
 pub group_read : (g : Group) → group_of (group_name g) ≡ Some g
@@ -14,18 +14,9 @@ group_read Worth = refl
 group_read Pair = refl
 group_read Scaled = refl
 
-named_at : (word : List ℕ) (g : Group) (t u v : Bool) → (t ≡ true → word ≡ group_name Worth) → (u ≡ true → word ≡ group_name Pair) → (v ≡ true → word ≡ group_name Scaled)
-    → cond t (Some Worth) (cond u (Some Pair) (cond v (Some Scaled) None)) ≡ Some g → word ≡ group_name g
-named_at word g true u v a b c h = a refl ∙ ap (λ (o : Option Group). group_name (unwrap_or o g)) h
-named_at word g false true v a b c h = b refl ∙ ap (λ (o : Option Group). group_name (unwrap_or o g)) h
-named_at word g false false true a b c h = c refl ∙ ap (λ (o : Option Group). group_name (unwrap_or o g)) h
-named_at word g false false false a b c h = absurd cc
-
 -- a kind is read of no other word
 pub group_spelled : (word : List ℕ) (g : Group) → group_of word ≡ Some g → word ≡ group_name g
-group_spelled word g h =
-    let is = λ (k : Group). (bytes_eq-Decides word (group_name k)).0 in
-    named_at word g (bytes_eq word (group_name Worth)) (bytes_eq word (group_name Pair)) (bytes_eq word (group_name Scaled)) (is Worth) (is Pair) (is Scaled) h
+group_spelled word g h = grind (arith, common_steps, bytes_eq-Decides)
 
 -- no two kinds have one word
 pub group_name-same : (a b : Group) → group_name a ≡ group_name b → a ≡ b

@@ -1,21 +1,18 @@
 -- Sums by a list of the numbers that pass a test.
 use Rattle.std.proofs.Common.{◌≡◌, ℕ, zero, suc, ◌<◌, ◌≤◌, Bool, true, false, cond, ◌==◌, List, [], ◌∷◌, ◌++◌, length, get_or, inl, inr, sym, refl, ap, ◌∙◌, arith}
-use Rattle.std.proofs.lemmas.List.{get_or_push, get_or_append_left, length-append}
+use Rattle.std.proofs.lemmas.List.{get_or_append_left, length-append}
 use Rattle.std.proofs.lemmas.Bool.{cases_eq}
 use Rattle.ordered_group.specs.Amount.{Amount, plus}
 use Rattle.ordered_group.specs.Sums.{total, where_so, at_end}
 use Rattle.ordered_group.proofs.Totals.Ranges.{total-same, plus-zero_right}
+use Rattle.std.proofs.lemmas.Grind.{common_steps}
 
 -- the sum of f over the first i of a list of numbers
 abbrev pub over : (ℕ → Amount) → List ℕ → ℕ → Amount
 over f ks i = total (λ j. f (get_or ks j 0)) i
 
 pub over-push : (f : ℕ → Amount) (ks : List ℕ) (k : ℕ) → over f (ks ++ k ∷ []) (length (ks ++ k ∷ [])) ≡ plus (over f ks (length ks)) (f k)
-over-push f ks k =
-    let n : length (ks ++ k ∷ []) ≡ suc (length ks) = omega (arith, length-append ks (k ∷ [])) in
-    let front = total-same (λ i. f (get_or (ks ++ k ∷ []) i 0)) (λ i. f (get_or ks i 0)) (length ks) (λ i h. ap f (get_or_append_left ks (k ∷ []) 0 i h)) in
-    let last = ap f (get_or_push ks k 0 (length ks) refl) in
-    ap (λ j. total (λ i. f (get_or (ks ++ k ∷ []) i 0)) j) n ∙ rw (front, last) refl
+over-push f ks k = grind (arith, common_steps, total-same)
 
 one_more : (f : ℕ → Amount) (ks : List ℕ) (k : ℕ) (t : Bool) (x : Amount) → over f ks (length ks) ≡ x → over f (cond t (ks ++ k ∷ []) ks) (length (cond t (ks ++ k ∷ []) ks)) ≡ plus x (where_so t (f k))
 one_more f ks k true x h = over-push f ks k ∙ rw h refl

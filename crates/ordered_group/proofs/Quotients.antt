@@ -6,12 +6,11 @@ use Rattle.std.proofs.lemmas.Int.{ints, to_z-of_z}
 use Rattle.std.proofs.lemmas.Nat.{div-mul-add, div-add-mod', mod_below}
 use Rattle.ordered_group.specs.Block.{TellsWorth}
 use Rattle.ordered_group.specs.ScaledProofs.{sum_times}
+use Rattle.std.proofs.lemmas.Grind.{common_steps}
 
 -- q times m, and less than m more
 quotient_is : (z q : ℤ) (m r : ℕ) → r < m → z ≡ (q *ℤ pos m) +ℤ pos r → int_div_euclid z (pos m) ≡ q
-quotient_is z (pos a) m r l h =
-    let e : z ≡ pos (a * m + r) = omega (arith, ints, h) in
-    ap (λ (x : ℤ). int_div_euclid x (pos m)) e ∙ ap pos (div-mul-add a m r l)
+quotient_is z (pos a) m r l h = grind (arith, common_steps, div-mul-add)
 quotient_is z (negsuc a) m r l h =
     let e : z ≡ negsuc (a * m + (m - suc r)) = omega (arith, ints, h, l) in
     ap (λ (x : ℤ). int_div_euclid x (pos m)) e ∙ ap negsuc (div-mul-add a m (m - suc r) (omega (arith, l)))

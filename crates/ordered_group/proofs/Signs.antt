@@ -1,8 +1,8 @@
 -- The sign of an amount, and the order of two by the sign of their difference.
-use Rattle.std.proofs.Common.{◌≡◌, ◌↔◌, arith, ◌≤ℤ◌, ◌<ℤ◌, ◌⊎◌, inl, inr}
+use Rattle.std.proofs.Common.{arith, ◌⊎◌}
 use Rattle.std.proofs.lemmas.Int.{ints}
 use Rattle.ordered_group.specs.Amount.{Amount, zero_amount, plus, minus, AtMost, Below, positive, negative}
-use Rattle.ordered_group.proofs.Order.{AtMost-both, larger-right, larger_is, most_or_below}
+use Rattle.ordered_group.proofs.Order.{larger-right, most_or_below}
 
 -- not below zero
 abbrev pub NonNeg : Amount → Type 0
@@ -31,7 +31,3 @@ NonNeg-positive x = larger-right x zero_amount
 
 pub NonNeg-negative : (x : Amount) → NonNeg (negative x)
 NonNeg-negative x = larger-right (minus zero_amount x) zero_amount
-
--- where x is not negative, its positive part is x, and where it is at most zero, nothing
-pub positive-of_NonNeg : (x : Amount) → NonNeg x → positive x ≡ x
-positive-of_NonNeg x h = elim (larger_is x zero_amount) [ inl k ↦ rw k.0 (AtMost-both zero_amount x h k.1) | inr k ↦ k.0 ]

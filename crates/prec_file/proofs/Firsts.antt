@@ -6,6 +6,7 @@ use Rattle.prec_file.specs.Indexes.{IsStarts}
 use Rattle.prec_file.proofs.Passing.{passing_between}
 use Rattle.prec_file.proofs.Slots.{ending_all}
 use Rattle.prec_file.proofs.Order.{up_from, lt_false}
+use Rattle.std.proofs.lemmas.Grind.{common_steps}
 
 -- the first numbers, where those below k are of the blocks that have one
 pub record FirstsSoFar (ps : List (ℕ × ℕ)) (n k : ℕ) (firsts : List ℕ) : Type 0 where
@@ -42,14 +43,7 @@ firsts_more ps r n k firsts filled h l known size more kept put = record {
 
 -- where the block of pair k has its number
 pub firsts_same : (ps : List (ℕ × ℕ)) (n k : ℕ) (firsts : List ℕ) → FirstsSoFar ps n k firsts → from_at ps k < length firsts → FirstsSoFar ps n (k + 1) firsts
-firsts_same ps n k firsts h l = record {
-  size = h.size;
-  at = h.at;
-  passed = λ j i. elim (cases_eq j k) [
-    | inl e ↦ let P : ℕ → Type 0 = λ x. from_at ps x < length firsts in subst P (sym e) l
-    | inr d ↦ h.passed j (omega arith)
-  ];
-}
+firsts_same ps n k firsts h l = grind (arith, common_steps)
 
 -- what is put for the blocks behind the last pair
 pub firsts_all : (ps : List (ℕ × ℕ)) (n : ℕ) (firsts filled : List ℕ) → FirstsSoFar ps n (length ps) firsts → length filled ≡ n + 1

@@ -1,8 +1,7 @@
 -- What is wrong with a record, given the records before it.
-use Rattle.std.proofs.Common.{◌≡◌, ℕ, ◌+◌, ◌<◌, ◌≤◌, ◌≢◌, Bool, true, false, cond, not, eqb, List, length, Option, Some, None, refl, sym, ap, ◌∙◌, arith}
+use Rattle.std.proofs.Common.{◌≡◌, ℕ, ◌+◌, ◌<◌, ◌≤◌, ◌≢◌, Bool, true, false, cond, not, List, length, Option, Some, None, refl, ap, arith}
 use Rattle.std.specs.Prelude.{nat_le, nat_lt}
 use Rattle.std.specs.List.{list_all, list_any}
-use Rattle.std.proofs.lemmas.Bool.Decides.{nat_tests}
 use Rattle.std.proofs.lemmas.List.{length-map}
 use Rattle.std.specs.Option.{option_or}
 use Rattle.prec_file.specs.declared.limits.TheConstants.{MOST_PAIRS}
@@ -12,6 +11,7 @@ use Rattle.fixed_worth.specs.Record.{reads, is_skipped}
 use Rattle.prec_file.specs.Records.{block_of, count_of, predecessors_of, pairs_in, shape_fault, history_fault, record_fault}
 use Rattle.prec_file.specs.Indexes.{TellsFault}
 use Rattle.prec_file.proofs.Shapes.{known}
+use Rattle.std.proofs.lemmas.Grind.{common_steps}
 
 -- A record with no fault of its own has a known block.
 pub third : (a b c : Bool) (x y z : PrecFault) → cond a (Some x) (cond b (Some y) (cond c (Some z) None)) ≡ None → c ≡ false
@@ -72,35 +72,22 @@ told n had k line fs (TooMany l) s f = rw (s, f) refl
 -- The faults that stand on the records before.
 pub repeated : (n : ℕ) (had : ℕ → Bool) (k line b : ℕ) (fs : List (List ℕ)) → is_skipped fs ≡ false → shape_fault n line fs ≡ None → b ≡ block_of fs → had b ≡ true → record_fault n had k line fs ≡ Some (Repeated line)
 unfolding history_fault
-repeated n had k line b fs s f e h =
-    let t : had (block_of fs) ≡ true = sym (ap had e) ∙ h in
-    rw (s, f, t) refl
+repeated n had k line b fs s f e h = grind (arith, common_steps)
 
 pub wrong_count : (n : ℕ) (had : ℕ → Bool) (k line b count found : ℕ) (fs : List (List ℕ)) → is_skipped fs ≡ false → shape_fault n line fs ≡ None → b ≡ block_of fs → had b ≡ false
     → count ≡ count_of fs → found ≡ length (predecessors_of fs) → count ≢ found → record_fault n had k line fs ≡ Some (WrongCount line)
 unfolding history_fault
-wrong_count n had k line b count found fs s f e h p q ne =
-    let t : had (block_of fs) ≡ false = sym (ap had e) ∙ h in
-    let u : eqb (count_of fs) (length (predecessors_of fs)) ≡ false = grind (arith, nat_tests) in
-    rw (s, f, t, u) refl
+wrong_count n had k line b count found fs s f e h p q ne = grind (arith, common_steps)
 
 pub too_many : (n : ℕ) (had : ℕ → Bool) (k line b count found : ℕ) (fs : List (List ℕ)) → is_skipped fs ≡ false → shape_fault n line fs ≡ None → b ≡ block_of fs → had b ≡ false
     → count ≡ count_of fs → found ≡ length (predecessors_of fs) → count ≡ found → MOST_PAIRS < k + found → record_fault n had k line fs ≡ Some (TooMany line)
 unfolding history_fault
-too_many n had k line b count found fs s f e h p q same large =
-    let t : had (block_of fs) ≡ false = sym (ap had e) ∙ h in
-    let u : eqb (count_of fs) (length (predecessors_of fs)) ≡ true = grind (arith, nat_tests) in
-    let v : nat_lt MOST_PAIRS (k + length (predecessors_of fs)) ≡ true = grind (arith, nat_tests) in
-    rw (s, f, t, u, v) refl
+too_many n had k line b count found fs s f e h p q same large = grind (arith, common_steps)
 
 pub no_fault : (n : ℕ) (had : ℕ → Bool) (k line b count found : ℕ) (fs : List (List ℕ)) → is_skipped fs ≡ false → shape_fault n line fs ≡ None → b ≡ block_of fs → had b ≡ false
     → count ≡ count_of fs → found ≡ length (predecessors_of fs) → count ≡ found → k + found ≤ MOST_PAIRS → record_fault n had k line fs ≡ None
 unfolding history_fault
-no_fault n had k line b count found fs s f e h p q same few =
-    let t : had (block_of fs) ≡ false = sym (ap had e) ∙ h in
-    let u : eqb (count_of fs) (length (predecessors_of fs)) ≡ true = grind (arith, nat_tests) in
-    let v : nat_lt MOST_PAIRS (k + length (predecessors_of fs)) ≡ false = grind (arith, nat_tests) in
-    rw (s, f, t, u, v) refl
+no_fault n had k line b count found fs s f e h p q same few = grind (arith, common_steps)
 
 pub pairs_length : (fs : List (List ℕ)) → is_skipped fs ≡ false → length (pairs_in fs) ≡ length (predecessors_of fs)
 pairs_length fs s = rw s (length-map (predecessors_of fs) (λ p. (block_of fs, p)))

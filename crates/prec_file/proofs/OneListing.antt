@@ -3,6 +3,7 @@ use Rattle.std.proofs.Common.{◌≡◌, ℕ, zero, suc, ◌⊎◌, inl, inr, Li
 use Rattle.std.specs.List.{Contains}
 use Rattle.std.proofs.lemmas.List.{get_or_default}
 use Rattle.prec_file.specs.Rests.{Before, IsRising, ArePairsOf}
+use Rattle.std.proofs.lemmas.Grind.{common_steps}
 
 no_way_back : (x y : ℕ × ℕ) → Before x y → Before y x → ⊥
 no_way_back x y (inl a) (inl b) = omega arith
@@ -35,10 +36,7 @@ same_first p q ps qs r s f g = elim (first_or_later q qs p f) [
 ]
 
 among_later : (p q : ℕ × ℕ) (ps qs : List (ℕ × ℕ)) (x : ℕ × ℕ) → p ≡ q → IsRising (p ∷ ps) → Contains ps x → Contains (q ∷ qs) x → Contains qs x
-among_later p q ps qs x e r c f = elim (first_or_later q qs x f) [
-  | inl d ↦ let h : Before p p = subst (λ y. Before p y) (sym (e ∙ d)) (head_before p ps x r c) in absurd (no_way_back p p h h)
-  | inr a ↦ a
-]
+among_later p q ps qs x e r c f = grind (arith, common_steps, first_or_later, head_before, no_way_back)
 
 one_order : (ps qs : List (ℕ × ℕ)) → IsRising ps → IsRising qs → ((x : ℕ × ℕ) → Contains ps x → Contains qs x) → ((x : ℕ × ℕ) → Contains qs x → Contains ps x) → ps ≡ qs
 one_order [] [] r s f g = refl

@@ -1,7 +1,5 @@
 -- Reading line after line.
 use Rattle.std.proofs.Common.{◌≡◌, ℕ, ◌+◌, ◌<◌, ◌≤◌, Bool, false, List, [], ◌∷◌, ◌++◌, length, get_or, Option, Some, None, refl, sym, ap, ◌∙◌, subst, arith, append_assoc, append-nil}
-use Rattle.std.specs.Prelude.{nat_lt}
-use Rattle.std.proofs.lemmas.Bool.Decides.{nat_tests}
 use Rattle.std.proofs.lemmas.List.Concat.{flat_map-append}
 use Rattle.fixed_worth.specs.Text.{Left, fields_of}
 use Rattle.std.specs.Option.{option_or}
@@ -12,6 +10,7 @@ use Rattle.prec_file.specs.Records.{block_of, pairs_in, blocks_in, record_fault,
 use Rattle.prec_file.specs.Indexes.{marks_after}
 use Rattle.prec_file.proofs.History.{record_same, record_block}
 use Rattle.prec_file.proofs.Marks.{mark}
+use Rattle.std.proofs.lemmas.Grind.{common_steps}
 
 -- What has been read, and what is left.
 pub record ReadSoFar (n : ℕ) (text : List ℕ) (seen : List Bool) (pairs : List (ℕ × ℕ)) (left : Left) : Type 0 where
@@ -24,11 +23,7 @@ pub record ReadSoFar (n : ℕ) (text : List ℕ) (seen : List Bool) (pairs : Lis
 -- The fault of the next line is that of its record, as the reader knows it.
 pub behind : (n : ℕ) (text : List ℕ) (seen : List Bool) (pairs : List (ℕ × ℕ)) (left : Left) (g : ReadSoFar n text seen pairs left) (k : ℕ) (line : List ℕ) → length line ≤ LINE_BYTES
     → fault_behind n g.before (record { number = k; text = line }) ≡ record_fault n (λ b. get_or seen b false) (length pairs) k (fields_of line)
-behind n text seen pairs left g k line h =
-    let short : nat_lt LINE_BYTES (length line) ≡ false = grind (arith, nat_tests) in
-    let e : record_fault n (has (blocks_of g.before)) (length (pairs_of g.before)) k (fields_of line) ≡ record_fault n (λ b. get_or seen b false) (length (pairs_of g.before)) k (fields_of line) =
-    record_same n (has (blocks_of g.before)) (λ b. get_or seen b false) (length (pairs_of g.before)) k (fields_of line) (λ b i. sym (g.seen_so b i)) in
-    rw (short) (e ∙ ap (λ (ps : List (ℕ × ℕ)). record_fault n (λ b. get_or seen b false) (length ps) k (fields_of line)) (sym g.pairs_so))
+behind n text seen pairs left g k line h = grind (arith, common_steps, record_same)
 
 pub next_fault : (n : ℕ) (before : List Line) (left next : Left) (line : List ℕ) → left.lines ≡ line ∷ next.lines → next.number ≡ left.number + 1
     → first_fault n before (numbered_lines left.number left.lines) ≡ option_or (fault_behind n before (record { number = next.number; text = line })) (first_fault n (before ++ record { number = next.number; text = line } ∷ []) (numbered_lines next.number next.lines))

@@ -3,10 +3,11 @@ use Rattle.std.proofs.Common.{◌≡◌, ℕ, ◌+◌, ◌<◌, ◌≤◌, inl, 
 use Rattle.std.proofs.lemmas.Bool.{cases_lt}
 use Rattle.std.proofs.lemmas.List.{get_or-map, length-map, get_or_default}
 use Rattle.std.proofs.lemmas.List.Elements.{All-map, All-contains, All-weaker}
-use Rattle.prec_file.specs.Rests.{from_at, Before, IsRising, AreApart, IsOfBlock}
+use Rattle.prec_file.specs.Rests.{from_at, IsRising, AreApart, IsOfBlock}
 use Rattle.prec_file.specs.Indexes.{AreRows, pairs_by}
 use Rattle.prec_file.proofs.Slots.{ending_all}
 use Rattle.prec_file.proofs.RowSteps.{rows_told, rows_length}
+use Rattle.std.proofs.lemmas.Grind.{common_steps}
 
 -- the first k of them rise, are below the least that comes next, and the block isn't among them
 pub record RowSoFar (row : List ℕ) (b k least : ℕ) : Type 0 where
@@ -18,13 +19,7 @@ row_at : (b : ℕ) (row : List ℕ) (i : ℕ) → i < length row → ◌≡◌ {
 row_at b row i l = get_or-map (λ p. (b, p)) row i 0 (0, 0) l
 
 pub row_rising : (row : List ℕ) (b k least : ℕ) → RowSoFar row b k least → length row ≤ k → IsRising (map (λ p. (b, p)) row)
-row_rising row b k least h all = record {
-  rises = λ i j l m.
-      let size = length-map {B = ℕ × ℕ} row (λ p. (b, p)) in
-      let inside : j < length row = omega (arith, size) in
-      subst (λ x. Before x (get_or (map (λ p. (b, p)) row) j (0, 0))) (sym (row_at b row i (omega arith)))
-      (subst (Before (b, get_or row i 0)) (sym (row_at b row j inside)) (inr (refl, h.rises i j l (omega arith))));
-}
+row_rising row b k least h all = grind (arith, common_steps, length-map, row_at)
 
 pub row_apart : (row : List ℕ) (b k least : ℕ) → RowSoFar row b k least → length row ≤ k → AreApart (map (λ p. (b, p)) row)
 row_apart row b k least h all =

@@ -1,23 +1,19 @@
 -- Reading the records of a text whose blocks rise into rows.
-use Rattle.std.proofs.Common.{◌≡◌, ◌≢◌, ℕ, ◌+◌, ◌<◌, ◌≤◌, Bool, true, false, not, inl, inr, List, ◌++◌, length, get_or, map, None, sym, ap, subst, ◌∙◌, arith, All, length-append, get_or-set_other}
-use Rattle.std.specs.Prelude.{nat_le, nat_lt}
-use Rattle.std.specs.List.{Contains, list_all, list_any}
+use Rattle.std.proofs.Common.{◌≡◌, ◌≢◌, ℕ, ◌+◌, ◌<◌, ◌≤◌, Bool, true, false, inl, inr, List, ◌++◌, length, get_or, map, None, sym, ap, subst, ◌∙◌, arith, All, length-append, get_or-set_other}
+use Rattle.std.specs.List.{Contains}
 use Rattle.std.proofs.lemmas.List.Elements.{Contains-append_cases, Contains-append_left, Contains-append_right}
-use Rattle.fixed_worth.specs.Record.{reads, is_skipped}
-use Rattle.prec_file.specs.declared.prec_fault.PrecFault.TheVariants.{Text, Number, UnknownBlock}
+use Rattle.fixed_worth.specs.Record.{is_skipped}
 use Rattle.prec_file.specs.declared.limits.TheConstants.{MOST_PAIRS}
 use Rattle.prec_file.specs.Rests.{RowsView, ArePairsOf, IsRowAdded}
 use Rattle.prec_file.specs.Records.{block_of, predecessors_of, pairs_in, shape_fault, record_fault}
 use Rattle.prec_file.specs.Indexes.{IsRecordOf, AreNew, IsLineRead, marks_after}
-use Rattle.prec_file.proofs.History.{third, pairs_length}
-use Rattle.prec_file.proofs.KnownPairs.{or_parts, none_large}
+use Rattle.prec_file.proofs.History.{pairs_length}
+use Rattle.std.proofs.lemmas.Grind.{common_steps}
 
 -- the predecessors of a record are known
 pub predecessors_known : (n line b claimed k : ℕ) (fs : List (List ℕ)) → IsRecordOf n line fs b claimed k → All (λ p. p < n) (predecessors_of fs)
 unfolding shape_fault
-predecessors_known n line b claimed k fs r =
-    let q = or_parts (nat_le n (block_of fs)) (list_any (nat_le n) (predecessors_of fs)) (third (nat_lt (length fs) 2) (not (list_all reads fs)) _ (Text line) (Number line) (UnknownBlock line) r.sound) in
-    none_large n (predecessors_of fs) q.1
+predecessors_known n line b claimed k fs r = grind (arith, common_steps)
 
 -- the pairs of a record's block
 pub record_pairs : (b : ℕ) (fs : List (List ℕ)) → is_skipped fs ≡ false → b ≡ block_of fs → map (λ p. (b, p)) (predecessors_of fs) ≡ pairs_in fs

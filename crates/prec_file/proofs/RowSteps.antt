@@ -1,9 +1,9 @@
 -- The next block's pairs behind those of the blocks before it.
-use Rattle.std.proofs.Common.{◌≡◌, ℕ, zero, suc, ◌+◌, ◌-◌, ◌<◌, ◌≤◌, Bool, cond, false, nat_lt, inl, inr, List, [], ◌∷◌, ◌++◌, length, get_or, map, sym, refl, ap, subst, ◌∙◌, arith, length-append, All, Contains}
+use Rattle.std.proofs.Common.{◌≡◌, ℕ, zero, suc, ◌+◌, ◌-◌, ◌<◌, ◌≤◌, Bool, false, nat_lt, inl, inr, List, [], ◌∷◌, ◌++◌, length, get_or, map, sym, refl, ap, subst, ◌∙◌, arith, length-append, All, Contains}
 use Rattle.std.proofs.lemmas.Bool.{cases_lt}
 use Rattle.std.proofs.lemmas.Bool.Decides.{nat_tests}
 use Rattle.std.proofs.lemmas.List.{get_or_append_left, get_or-append_right, get_or_push, length-map, map-append}
-use Rattle.std.proofs.lemmas.List.Elements.{All-append, All-weaker, All-nil, All-contains, All-contains_itself, Contains-append_cases}
+use Rattle.std.proofs.lemmas.List.Elements.{All-append, All-weaker, All-contains, All-contains_itself, Contains-append_cases}
 use Rattle.prec_file.specs.declared.limits.TheConstants.{MOST_PAIRS}
 use Rattle.fixed_worth.specs.declared.limits.TheConstants.{MOST_BLOCKS}
 use Rattle.prec_file.specs.Rests.{numbers_passing, count_ending_below, from_at, Before, IsRising, AreApart, IsKnown, IsOfBlock, IsRests, ArePairsOf}
@@ -11,26 +11,14 @@ use Rattle.prec_file.specs.Indexes.{IsStarts, AreRows, pairs_by}
 use Rattle.prec_file.proofs.Passing.{passing_between}
 use Rattle.prec_file.proofs.Slots.{ending_all}
 use Rattle.prec_file.proofs.Rows.{pairs_are}
+use Rattle.std.proofs.lemmas.Grind.{common_steps}
 
 passing_same : (test other : ℕ → Bool) (m : ℕ) → ((k : ℕ) → k < m → test k ≡ other k) → numbers_passing test m ≡ numbers_passing other m
 passing_same test other zero h = refl
-passing_same test other (suc m) h =
-    let e = h m (omega arith) in
-    let q = passing_same test other m (λ k l. h k (omega arith)) in
-    λ i. cond (e i) (q i ++ m ∷ []) (q i)
+passing_same test other (suc m) h = grind (arith, common_steps, (passing_same test other m (λ k l. h k (omega arith))))
 
 not_below : (x b : ℕ) → b ≤ x → nat_lt x b ≡ false
 not_below x b h = grind (arith, nat_tests)
-
--- no block is listed yet
-pub no_rows : (n : ℕ) → n ≤ MOST_BLOCKS → AreRows n 0 [] (0 ∷ []) []
-no_rows n h = record {
-  rests = record { blocks = h; few = omega arith; known = All-nil (IsKnown n); rising = record { rises = λ i j l m. absurd (omega arith) }; apart = λ p k e. absurd (omega (arith, k.1)) };
-  within = omega arith;
-  listed = λ k l. absurd (omega arith);
-  predecessors = refl;
-  firsts = record { size = refl; at = λ b l. let e : b ≡ 0 = omega arith in rw e refl };
-}
 
 -- what rows tell
 pub rows_told : (n next : ℕ) (ps : List (ℕ × ℕ)) (firsts predecessors : List ℕ) → AreRows n next ps firsts predecessors → pairs_by firsts predecessors ≡ ps
@@ -137,7 +125,4 @@ own_kept n b listed row s h = All-weaker (Contains row) (IsOfBlock n b) (λ p c.
 
 -- the lists at first
 pub none_pushed : (n : ℕ) (begun listed : List ℕ) → n ≤ MOST_BLOCKS → begun ≡ 0 ∷ [] → listed ≡ [] → AreRows n 0 (pairs_by begun listed) begun listed
-none_pushed n begun listed h f p =
-    let P : List ℕ → Type 0 = λ xs. AreRows n 0 (pairs_by xs listed) xs listed in
-    let Q : List ℕ → Type 0 = λ xs. AreRows n 0 (pairs_by (0 ∷ []) xs) (0 ∷ []) xs in
-    subst P (sym f) (subst Q (sym p) (no_rows n h))
+none_pushed n begun listed h f p = grind (arith, common_steps)

@@ -10,6 +10,7 @@ use Rattle.prec_file.proofs.Passing.{passing_all, passing_between, passing_most,
 use Rattle.prec_file.proofs.Slots.{ending_all, ending_next, ending_none}
 use Rattle.prec_file.proofs.Finding.{above_length, found_pair}
 use Rattle.prec_file.proofs.Firsts.{later}
+use Rattle.std.proofs.lemmas.Grind.{common_steps}
 
 le_true : (x y : ℕ) → x ≤ y → nat_le x y ≡ true
 le_true x y h = grind (arith, nat_tests)
@@ -91,6 +92,4 @@ block_taken ps b i e =
 
 -- all of all blocks
 pub all_taken : (n b : ℕ) (ps : List (ℕ × ℕ)) → All (IsKnown n) ps → b ≡ n → take (first_of ps b) ps ≡ ps
-all_taken n b ps h e =
-    let all : first_of ps b ≡ length ps = ending_all (from_at ps) b (length ps) (λ k l. let u = (h k (0, 0) l).0 in omega arith) in
-    ap (λ k. take k ps) all ∙ take-length ps
+all_taken n b ps h e = grind (arith, common_steps, ending_all, take-length)

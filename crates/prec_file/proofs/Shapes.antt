@@ -1,5 +1,5 @@
 -- What is wrong with a record by itself.
-use Rattle.std.proofs.Common.{◌≡◌, ℕ, suc, ◌<◌, ◌≤◌, Bool, true, false, ltb, List, [], ◌∷◌, length, map, take, drop, Option, Some, None, Result, Ok, Err, refl, sym, ap, ◌∙◌, arith}
+use Rattle.std.proofs.Common.{◌≡◌, ℕ, suc, ◌<◌, ◌≤◌, Bool, true, false, ltb, List, [], ◌∷◌, length, map, take, drop, Option, Some, None, Result, Ok, Err, refl, sym, ap, arith}
 use Rattle.std.specs.Prelude.{◌||◌, nat_le, is_ok}
 use Rattle.std.specs.List.{list_all, list_any}
 use Rattle.std.specs.Result.{result_unwrap_or}
@@ -15,6 +15,7 @@ use Rattle.fixed_worth.specs.Record.{first_whole, reads, number_of, is_remark, i
 use Rattle.fixed_worth.proofs.FirstNumbers.{first_is, no_field, number_no_remark}
 use Rattle.prec_file.specs.Records.{pairs_in, shape_fault, UnlessMemory}
 use Rattle.prec_file.specs.Indexes.{TellsFault}
+use Rattle.std.proofs.lemmas.Grind.{common_steps}
 
 -- what is known of a fault that was told
 pub unless_told : (e : PrecFault) (o : Option PrecFault) {Q : Type 0} → (o ≡ Some e → Q) → TellsFault e o → UnlessMemory e Q
@@ -61,16 +62,12 @@ bad_rest n line fs f g gs e m r s t = rw e (m, rw (two (length gs), r, s, t) ref
 pub unknown : (n line v : ℕ) (fs : List (List ℕ)) (f g : List ℕ) (gs : List (List ℕ)) → fs ≡ f ∷ g ∷ gs → is_remark f ≡ false → reads f ≡ true → number_of f ≡ v → reads g ≡ true → list_all reads gs ≡ true
     → (nat_le n v || list_any (nat_le n) (map number_of gs)) ≡ true → Wrong n line fs (UnknownBlock line)
 unfolding shape_fault
-unknown n line v fs f g gs e m r k s t u =
-    let w : (nat_le n (number_of f) || list_any (nat_le n) (map number_of gs)) ≡ true = rw k u in
-    rw e (m, rw (two (length gs), r, s, t, w) refl)
+unknown n line v fs f g gs e m r k s t u = grind (arith, common_steps)
 
 pub sound : (n line v : ℕ) (fs : List (List ℕ)) (f g : List ℕ) (gs : List (List ℕ)) → fs ≡ f ∷ g ∷ gs → is_remark f ≡ false → reads f ≡ true → number_of f ≡ v → reads g ≡ true → list_all reads gs ≡ true
     → (nat_le n v || list_any (nat_le n) (map number_of gs)) ≡ false → (is_skipped fs ≡ false) × (shape_fault n line fs ≡ None)
 unfolding shape_fault
-sound n line v fs f g gs e m r k s t u =
-    let w : (nat_le n (number_of f) || list_any (nat_le n) (map number_of gs)) ≡ false = rw k u in
-    rw e (m, rw (two (length gs), r, s, t, w) refl)
+sound n line v fs f g gs e m r k s t u = grind (arith, common_steps)
 
 pub known : (n v : ℕ) (b : Bool) → (nat_le n v || b) ≡ false → v < n
 known n v b h = grind (arith, nat_tests)
@@ -83,10 +80,7 @@ pairs_at v fs f g gs e m k = rw (e, m) (ap (λ (w : ℕ). map (λ p. (w, p)) (ma
 
 -- The fields of a line of which two were read as numbers, or one and no second one was there.
 pub one_read : (rs ss : List WordRun) (v : ℕ) → Some (Ok v) ≡ first_whole rs → ss ≡ drop 1 rs → None ≡ first_whole ss → (f : List ℕ) × (texts rs ≡ f ∷ []) × (reads f ≡ true)
-one_read rs ss v a left b =
-    let f = first_is rs (Ok v) a in
-    let none : drop 1 rs ≡ [] = sym left ∙ no_field ss b in
-    (f.0.text, ap texts (f.1 ∙ ap (λ ts. f.0 ∷ ts) none), (reads_ok f.0.text v f.2).0)
+one_read rs ss v a left b = grind (arith, common_steps, first_is, no_field, texts, reads_ok)
 
 pub record TwoRead (rs ts : List WordRun) (v : ℕ) (read : Result ℕ NumberFault) : Type 0 where
   pub block : List ℕ
@@ -99,20 +93,7 @@ pub record TwoRead (rs ts : List WordRun) (v : ℕ) (read : Result ℕ NumberFau
   pub fewer : length ts ≤ length rs
 
 pub two_read : (rs ss ts : List WordRun) (v : ℕ) (read : Result ℕ NumberFault) → Some (Ok v) ≡ first_whole rs → ss ≡ drop 1 rs → Some read ≡ first_whole ss → ts ≡ drop 1 ss → TwoRead rs ts v read
-two_read rs ss ts v read a left b behind =
-    let f = first_is rs (Ok v) a in
-    let g = first_is ss read b in
-    let k = reads_ok f.0.text v f.2 in
-    record {
-      block = f.0.text;
-      count = g.0.text;
-      fields = ap texts (f.1 ∙ ap (λ us. f.0 ∷ us) (sym left ∙ g.1 ∙ ap (λ us. g.0 ∷ us) (sym behind)));
-      good = k.0;
-      value = k.1;
-      second = g.2;
-      plain = number_no_remark f.0.text k.0;
-      fewer = let a = ap length f.1 in let b = ap length g.1 in let c = ap length left in let d = ap length behind in omega (arith, a, b, c, d);
-    }
+two_read rs ss ts v read a left b behind = grind (arith, common_steps, first_is, reads_ok, texts, number_no_remark)
 
 unread : (f : List ℕ) (fs gs : List (List ℕ)) → fs ≡ f ∷ gs → list_all reads (take 1 fs) ≡ false → (t : Bool) → reads f ≡ t → reads f ≡ false
 unread f fs gs e h true r = let none : true ≡ false = rw (e, r) at h in absurd (false≢true (sym none))

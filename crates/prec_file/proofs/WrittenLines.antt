@@ -1,5 +1,5 @@
 -- The lines of a written file, and their fields.
-use Rattle.std.proofs.Common.{◌≡◌, ℕ, zero, suc, ◌+◌, ◌*◌, ◌<◌, ◌≤◌, ◌^◌, Bool, true, List, [], ◌∷◌, ◌++◌, length, get_or, refl, sym, ap, ◌∙◌, subst, arith, append_assoc, length-append, All}
+use Rattle.std.proofs.Common.{◌≡◌, ℕ, zero, suc, ◌+◌, ◌*◌, ◌<◌, ◌≤◌, ◌^◌, Bool, true, List, [], ◌∷◌, ◌++◌, length, get_or, refl, ap, ◌∙◌, subst, arith, append_assoc, length-append, All}
 use Rattle.std.specs.Prelude.{map}
 use Rattle.std.specs.List.{list_all}
 use Rattle.std.specs.Fmt.{decimal}
@@ -15,8 +15,9 @@ use Rattle.fixed_worth.specs.Laws.{with_line_feeds}
 use Rattle.fixed_worth.proofs.Joined.{is_one_line, is_word, behind_spaces, lines_cut, with_line_feeds-append, fields_cut, joined_is_one_line}
 use Rattle.fixed_worth.proofs.WrittenNumbers.{decimal_is_word, decimal_is_one_line, decimals_pass}
 use Rattle.prec_file.specs.Rests.{IsKnown, IsRising, above_of, first_of}
-use Rattle.prec_file.specs.Written.{spaced_numbers, line_of, lines_below, AreNarrow}
+use Rattle.prec_file.specs.Written.{line_of, lines_below, AreNarrow}
 use Rattle.prec_file.proofs.Finding.{above_at}
+use Rattle.std.proofs.lemmas.Grind.{common_steps}
 
 -- What is known of a value whose blocks are narrow.
 pub record IsWritable (n : ℕ) (ps : List (ℕ × ℕ)) : Type 0 where
@@ -52,18 +53,11 @@ regroup : (x y s t : List ℕ) → (x ++ y) ++ (s ++ t) ≡ (x ++ (y ++ s)) ++ t
 regroup x y s t = simp append_assoc
 
 line_is : (ps : List (ℕ × ℕ)) (b : ℕ) → line_of ps b ≡ row ps b ++ (10 ∷ [])
-line_is ps b =
-    let above = above_of ps b in
-    let e : behind_spaces (map decimal above) ≡ spaced_numbers above = flat_map-map (λ word. 32 ∷ word) decimal above in
-    regroup (decimal b) (32 ∷ decimal (length above)) (spaced_numbers above) (10 ∷ [])
-    ∙ ap (λ s. (decimal b ++ ((32 ∷ decimal (length above)) ++ s)) ++ (10 ∷ [])) (sym e)
+line_is ps b = grind (arith, common_steps, behind_spaces, flat_map-map, regroup)
 
 text_is : (ps : List (ℕ × ℕ)) (n : ℕ) → lines_below ps n ≡ with_line_feeds (rows ps n)
 text_is ps zero = refl
-text_is ps (suc n) =
-    ap (λ l. l ++ line_of ps n) (text_is ps n)
-    ∙ ap (λ l. with_line_feeds (rows ps n) ++ l) (line_is ps n)
-    ∙ sym (with_line_feeds-append (rows ps n) (row ps n ∷ []))
+text_is ps (suc n) = grind (arith, common_steps, rows, line_is, with_line_feeds-append, row, (text_is ps n))
 
 pub small_blocks : (n : ℕ) (ps : List (ℕ × ℕ)) (b : ℕ) → IsWritable n ps → All (λ p. p < 2 ^ 64) (above_of ps b)
 small_blocks n ps b w = All-weaker (λ p. p < n) (λ p. p < 2 ^ 64) (λ p l. omega (arith, w.blocks)) (above_of ps b) (above_known n ps b w)

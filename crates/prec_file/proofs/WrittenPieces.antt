@@ -3,8 +3,7 @@ use Rattle.std.proofs.Common.{◌≡◌, ℕ, zero, suc, ◌+◌, ◌<◌, ◌�
 use Rattle.std.specs.Fmt.{decimal}
 use Rattle.std.proofs.lemmas.List.{take-append-drop}
 use Rattle.std.proofs.lemmas.Bool.{cases_eq}
-use Rattle.std.proofs.Math.Seq.{take-suc}
-use Rattle.std.proofs.lemmas.Grind.{flat_map-append}
+use Rattle.std.proofs.lemmas.Grind.{flat_map-append, common_steps}
 use Rattle.prec_file.specs.Written.{spaced_numbers, line_of, lines_below}
 
 -- what holds anyhow
@@ -12,11 +11,7 @@ use Rattle.prec_file.specs.Written.{spaced_numbers, line_of, lines_below}
 -- one more number
 pub spaced_more : (before : List ℕ) (numbers : List ℕ) (i : ℕ) → i < length numbers
     → (before ++ spaced_numbers (take i numbers)) ++ (32 ∷ decimal (get_or numbers i 0)) ≡ before ++ spaced_numbers (take (i + 1) numbers)
-spaced_more before numbers i here =
-    append_assoc before (spaced_numbers (take i numbers)) (32 ∷ decimal (get_or numbers i 0))
-    ∙ ap (λ l. before ++ (spaced_numbers (take i numbers) ++ l)) (sym (append-nil (32 ∷ decimal (get_or numbers i 0))))
-    ∙ ap (λ l. before ++ l) (sym (flat_map-append (λ n. 32 ∷ decimal n) (take i numbers) (get_or numbers i 0 ∷ [])))
-    ∙ ap (λ l. before ++ spaced_numbers l) (sym (rw add-one (take-suc numbers i 0 here)))
+spaced_more before numbers i here = grind (arith, common_steps)
 
 -- the first numbers and the others
 pub spaced_parts : (before : List ℕ) (numbers : List ℕ) (i : ℕ) → (before ++ spaced_numbers (take i numbers)) ++ spaced_numbers (drop i numbers) ≡ before ++ spaced_numbers numbers

@@ -1,5 +1,5 @@
 -- A written file has no fault, and its pairs are those that were written.
-use Rattle.std.proofs.Common.{◌≡◌, ℕ, zero, suc, ◌+◌, ◌<◌, ◌≤◌, ◌^◌, inl, inr, Bool, false, eqb, List, [], ◌∷◌, ◌++◌, length, get_or, Option, Some, None, refl, sym, ap, ◌∙◌, subst, arith, append_assoc, append-nil, length-append, All}
+use Rattle.std.proofs.Common.{◌≡◌, ℕ, zero, suc, ◌+◌, ◌<◌, ◌≤◌, ◌^◌, inl, inr, Bool, false, eqb, List, [], ◌∷◌, ◌++◌, length, get_or, None, refl, sym, ap, ◌∙◌, subst, arith, append_assoc, append-nil, length-append, All}
 use Rattle.std.specs.Prelude.{map, nat_le, nat_lt}
 use Rattle.std.specs.List.{list_any, Contains}
 use Rattle.std.specs.Fmt.{decimal}
@@ -15,7 +15,6 @@ use Rattle.fixed_worth.proofs.WrittenNumbers.{decimal_is_no_remark, decimal_read
 use Rattle.std.specs.Option.{option_or}
 use Rattle.fixed_worth.specs.declared.limits.TheConstants.{LINE_BYTES}
 use Rattle.prec_file.specs.declared.limits.TheConstants.{MOST_PAIRS}
-use Rattle.prec_file.specs.declared.prec_fault.PrecFault.{PrecFault}
 use Rattle.prec_file.specs.Rests.{RestsView, IsRests, ArePairsOf, from_at, to_at, numbers, above_of, first_of}
 use Rattle.prec_file.specs.Records.{pairs_in, blocks_in, shape_fault, record_fault, fault_behind, has, blocks_of, pairs_of, first_fault, pairs_of_text}
 use Rattle.prec_file.specs.Written.{prec_text, AreNarrow}
@@ -26,6 +25,7 @@ use Rattle.prec_file.proofs.Slots.{ending_next, ending_none, ending_most}
 use Rattle.prec_file.proofs.OneListing.{one_listing}
 use Rattle.prec_file.proofs.Finding.{above_length, found_pair, above_has}
 use Rattle.prec_file.proofs.WrittenLines.{IsWritable, above_known, words_at, row, rows, text_lines, row_fields, row_short, small_blocks}
+use Rattle.std.proofs.lemmas.Grind.{common_steps}
 
 -- ---- one record
 
@@ -51,14 +51,7 @@ record_sound n ps b line w l =
 
 fields_sound : (n : ℕ) (ps : List (ℕ × ℕ)) (b line k : ℕ) (had : ℕ → Bool) → IsWritable n ps → b < n → had b ≡ false → k + length (above_of ps b) ≤ MOST_PAIRS
     → record_fault n had k line (decimal b ∷ words_at ps b) ≡ None
-fields_sound n ps b line k had w l new few =
-    let above = above_of ps b in
-    let narrow = w.narrow b l in
-    let q = record_sound n ps b line w l in
-    no_fault n had k line b (length above) (length above) (decimal b ∷ words_at ps b) q.0 q.1
-    (sym (number_of-decimal b (omega (arith, w.blocks)))) new
-    (sym (number_of-decimal (length above) (omega (arith, narrow))))
-    (sym (ap length (numbers_of-decimals above (small_blocks n ps b w)))) refl few
+fields_sound n ps b line k had w l new few = grind (arith, common_steps, record_sound, no_fault, words_at, number_of-decimal, numbers_of-decimals, small_blocks)
 
 -- the pair of a block and its predecessor
 abbrev with_block : ℕ → ℕ → ℕ × ℕ
@@ -139,13 +132,7 @@ pairs_so_far n ps (suc m) w l =
 
 first_fault-append : (n : ℕ) (past xs ys : List Line) → first_fault n past (xs ++ ys) ≡ option_or (first_fault n past xs) (first_fault n (past ++ xs) ys)
 first_fault-append n past [] ys = ap (λ ls. first_fault n ls ys) (sym (append-nil past))
-first_fault-append n past (x ∷ xs) ys =
-    ap (option_or (fault_behind n past x)) (first_fault-append n (past ++ x ∷ []) xs ys ∙ ap (λ ls. option_or (first_fault n (past ++ x ∷ []) xs) (first_fault n ls ys)) (append_assoc past (x ∷ []) xs))
-    ∙ sym (option_or_assoc (fault_behind n past x) (first_fault n (past ++ x ∷ []) xs) (first_fault n (past ++ (x ∷ xs)) ys))
-  where
-    option_or_assoc : (a b c : Option PrecFault) → option_or (option_or a b) c ≡ option_or a (option_or b c)
-    option_or_assoc (Some e) b c = refl
-    option_or_assoc None b c = refl
+first_fault-append n past (x ∷ xs) ys = grind (arith, common_steps, (first_fault-append n (past ++ x ∷ []) xs ys ∙ ap (λ ls. option_or (first_fault n (past ++ x ∷ []) xs) (first_fault n ls ys)) (append_assoc past (x ∷ []) xs)))
 
 line_sound : (n : ℕ) (ps : List (ℕ × ℕ)) (b : ℕ) → IsWritable n ps → b < n → fault_behind n (before ps b) (line_at ps b) ≡ None
 unfolding line_at

@@ -8,13 +8,12 @@ use Rattle.closure_net.proofs.SameLists.{same_at_default}
 use Rattle.machine_law.specs.declared.events.Event.{Event}
 use Rattle.machine_law.specs.declared.events.TheConstants.{MOST_EVENTS}
 use Rattle.machine_law.specs.States.{State, opening, IsQuiet}
-use Rattle.machine_law.specs.Steps.{Step, Run, ActiveRun}
+use Rattle.machine_law.specs.Steps.{Run, ActiveRun}
 use Rattle.machine_law.specs.Quiet.{IsFlowOf}
 use Rattle.machine_law.proofs.Runs.{step_unique, step_counts, run_unique}
 use Rattle.machine_law.proofs.ActiveRuns.{active_is_run}
 use Rattle.async_step.specs.declared.limits.TheConstants.{MOST_STEPS}
 use Rattle.async_step.specs.declared.refusals.StepRefusal.{StepRefusal}
-use Rattle.async_step.specs.declared.refusals.StepRefusal.TheVariants.{NoSuchBlock, OutOfTurn, TooLarge, TooManySteps}
 use Rattle.async_step.specs.Answers.{Fits, RefusalStands}
 use Rattle.trace_file.proofs.RoundTrip.{read_is_written}
 use Rattle.boards.specs.Runs.{AreTurnsTo}
@@ -23,21 +22,12 @@ use Rattle.replay_engines.specs.declared.outcome.Outcome.{Outcome}
 use Rattle.replay_engines.specs.declared.outcome.Outcome.TheVariants.{Quiet, Open, Refused}
 use Rattle.replay_engines.specs.Outcomes.{IsFlowJudged, IsOutcome}
 use Rattle.replay_engines.specs.Histories.{TellsFlow, HistoriesAreReplayed}
-
--- a step that was made, and leaves a state that fits, isn't refused
-not_refused : (net : NetView) (s : State) (e : Event) (t : State) (refusal : StepRefusal) → Step net s e t → Fits net t → s.steps < MOST_STEPS → ¬ (RefusalStands net s e refusal)
-not_refused net s e t NoSuchBlock step fits few r = omega (arith, step.block, r)
-not_refused net s e t (OutOfTurn kind) step fits few r = r.2 (sym r.1 ∙ step.kind)
-not_refused net s e t TooLarge step fits few r = r.1 (subst (λ (u : State). Fits net u) step.after fits)
-not_refused net s e t TooManySteps step fits few r = omega (arith, few, r.2)
+use Rattle.std.proofs.lemmas.Grind.{common_steps}
 
 -- so no event of such a run is
 none_refused : (net : NetView) (s : State) (es : List Event) (t : State) → ActiveRun (Fits net) net s es t → s.steps + length es < MOST_STEPS → (before : ℕ) (u : State) → Run net s (take before es) u → (e : Event) → slice_get es before ≡ Some e → (refusal : StepRefusal) → ¬ (RefusalStands net u e refusal)
 none_refused net s [] t h few before u run e at refusal r = cc
-none_refused net s (x ∷ es) t h few zero u run e at refusal r =
-    let same : x ≡ e = cc in
-    let P : State → Type 0 = λ v. RefusalStands net v e refusal in
-    not_refused net s e h.0 refusal (subst (λ (y : Event). Step net s y h.0) same h.1) h.3 (omega (arith, few)) (subst P run r)
+none_refused net s (x ∷ es) t h few zero u run e at refusal r = grind (arith, common_steps)
 none_refused net s (x ∷ es) t h few (suc k) u run e at refusal r =
     let counts = step_counts net s x h.0 h.1 in
     none_refused net h.0 es t h.4 (omega (arith, few, counts)) k u (subst (λ (v : State). Run net v (take k es) u) (step_unique net s x run.0 h.0 run.1 h.1) run.2) e at refusal r
@@ -61,14 +51,9 @@ told_of texts name net events state flow (Quiet steps judgement) few turns quiet
       is = ap (λ (k : ℕ). Quiet k judgement) h.0;
       judged = subst (λ (f : FlowView). IsFlowJudged texts name net f judgement) (one_flow net state h.1.0 flow other amounts) h.1.2;
     }
-told_of texts name net events state flow (Open steps) few turns quiet amounts h =
-    let same = run_unique net (opening net) events h.1.state state h.1.run (active_is_run (Fits net) net (opening net) events state turns) in
-    absurd (h.1.unquiet (subst (λ (s : State). IsQuiet net s) (sym same) quiet))
+told_of texts name net events state flow (Open steps) few turns quiet amounts h = grind (arith, common_steps, run_unique, active_is_run)
 told_of texts name net events state flow (Refused place refusal) few turns quiet amounts h =
     absurd (none_refused net (opening net) events state turns (omega (arith, few)) h.before h.state h.run h.event h.present refusal h.stands)
 
 pub histories_are_replayed : HistoriesAreReplayed
-histories_are_replayed texts name net events state flow trace outcome turns quiet amounts back h =
-    let written = read_is_written trace back.sound in
-    let few : length events ≤ MOST_EVENTS = subst (λ (es : List Event). length es ≤ MOST_EVENTS) back.same written.few in
-    told_of texts name net events state flow outcome few turns quiet amounts (subst (λ (es : List Event). IsOutcome texts name net es outcome) back.same h)
+histories_are_replayed texts name net events state flow trace outcome turns quiet amounts back h = grind (arith, common_steps, read_is_written, told_of)

@@ -1,21 +1,20 @@
 -- What a check says of the flow of a quiet state.
-use Rattle.std.proofs.Common.{◌≡◌, ℕ, ℤ, Bool, List, length, sym, ◌∙◌, subst}
+use Rattle.std.proofs.Common.{◌≡◌, ℕ, ℤ, Bool, List, length, sym, ◌∙◌, subst, arith}
 use Rattle.ordered_group.specs.Amount.{Amount}
 use Rattle.ordered_group.specs.Laws.{SumsTellWorth}
 use Rattle.ordered_group.specs.declared.groups.Group.{Group}
 use Rattle.closure_net.specs.Network.{NetView, FlowView, holds_of}
 use Rattle.closure_net.specs.Mine.{IsNetOf}
 use Rattle.machine_law.specs.Quiet.{IsSolved}
-use Rattle.check_pit.specs.Checks.{PitFaultStands}
 use Rattle.check_pit.specs.declared.pit_fault.PitFault.{PitFault}
 use Rattle.engines.specs.Certification.{IsSolution, IsRefusedFlow}
 use Rattle.engines.specs.declared.judgement.Judgement.TheVariants.{Accepted}
 use Rattle.mine_inputs.specs.Mines.{MineTexts, mine_of}
 use Rattle.engines.specs.Readings.{IsGroupNamed}
 use Rattle.engines.specs.Solving.{IsNetBy}
-use Rattle.engines.proofs.RefusedRuns.{refused_for_size}
 use Rattle.engines.proofs.Told.{size_told, worth_told}
 use Rattle.replay_engines.specs.Outcomes.{IsFlowJudged, IsFlowRefused}
+use Rattle.std.proofs.lemmas.Grind.{common_steps}
 
 -- the check accepted the flow, with the pit of the blocks that the source reaches in it
 pub flow_accepted : (block : ℤ → ℕ → Amount) (counts : Bool) (texts : MineTexts) (name : Group) (net : NetView) (flow : FlowView) (pit : List ℕ) → IsNetBy texts name net → IsGroupNamed name block counts
@@ -37,6 +36,4 @@ flow_accepted block counts texts name net flow pit by named set_worth tells grou
 
 -- it refused the flow of a run that ended: a sum doesn't fit
 pub flow_refused : (net : NetView) (flow : FlowView) (fault : PitFault) → IsSolved net flow → IsRefusedFlow net flow fault → IsFlowRefused net flow fault
-flow_refused net flow fault solved refused =
-    let size = refused_for_size net flow fault solved refused in
-    record { pit = size.pit; reached = size.reached; of_net = size.of_net; stands = subst (λ (f : PitFault). PitFaultStands net flow size.pit f) (sym size.only) size.stands; only = size.only }
+flow_refused net flow fault solved refused = grind (arith, common_steps)

@@ -1,5 +1,5 @@
 -- Sums of tonnes and of worths don't overflow 128 bits.
-use Rattle.std.proofs.Common.{◌≡◌, ℕ, zero, suc, ◌+◌, ◌*◌, ◌^◌, ◌<◌, ◌≤◌, ℤ, pos, ◌+ℤ◌, ◌-ℤ◌, ◌*ℤ◌, Bool, true, false, cond, [], get_or, sym, ap, ◌∙◌, subst, arith, unsigned_abs, FitsSigned}
+use Rattle.std.proofs.Common.{◌≡◌, ℕ, zero, suc, ◌*◌, ◌^◌, ◌<◌, ◌≤◌, ℤ, pos, ◌-ℤ◌, ◌*ℤ◌, Bool, [], get_or, sym, ap, ◌∙◌, subst, arith, unsigned_abs, FitsSigned}
 use Rattle.std.specs.Int.{w128, int_max}
 use Rattle.std.proofs.lemmas.Int.{ints, clamps, fits_signed_from_abs, unsigned_abs-mul}
 use Rattle.std.proofs.lemmas.Nat.{mul-le}
@@ -15,21 +15,16 @@ use Rattle.mine_inputs.specs.PricedTexts.{place_beside, values_of, first_charges
 use Rattle.bench_report.specs.Benches.{reported_blocks, blocks_at}
 use Rattle.bench_report.specs.FaultStands.{SameLengths, AllSumsFit, SomeBenchSumOverflows}
 use Rattle.report_engines.specs.ReportParts.{IsPricedModel}
+use Rattle.std.proofs.lemmas.Grind.{common_steps}
 
 -- the most that an amount of a block can be, either way
 abbrev most : ℕ
 most = 20000000000000000000000
 
-sum_step : (t : Bool) (x y : ℤ) (m : ℕ) → unsigned_abs x ≤ m → unsigned_abs y ≤ most → unsigned_abs (x +ℤ cond t y (pos 0)) ≤ m + most
-sum_step true x y m p q = omega (arith, ints, p, q)
-sum_step false x y m p q = omega (arith, ints, p)
-
 -- so many amounts, each at most that, sum to at most so many times that
 pub sum_bound : (v : ℕ → ℤ) (e : ℕ → Bool) (n : ℕ) → ((b : ℕ) → b < n → unsigned_abs (v b) ≤ most) → unsigned_abs (worth_in v e n) ≤ n * most
 sum_bound v e zero h = omega arith
-sum_bound v e (suc n) h =
-    let s = sum_step (e n) (worth_in v e n) (v n) (n * most) (sum_bound v e n (λ b l. h b (omega (arith, l)))) (h n (omega arith)) in
-    omega (arith, s)
+sum_bound v e (suc n) h = grind (arith, common_steps, (sum_bound v e n (λ b l. h b (omega (arith, l)))))
 
 sum_fits : (v : ℕ → ℤ) (e : ℕ → Bool) (n j : ℕ) → n ≤ MOST_BLOCKS → j ≤ n → ((b : ℕ) → b < n → unsigned_abs (v b) ≤ most) → FitsSigned w128 (worth_in v e j)
 sum_fits v e n j few l h =
@@ -47,10 +42,7 @@ difference_bound : (x y : ℤ) → unsigned_abs x ≤ 10000 * 10 ^ 18 → unsign
 difference_bound x y p q = omega (arith, ints, p, q)
 
 value_bound : (m : BlocksView) (i b : ℕ) → IsSmall m i → b < m.blocks → unsigned_abs (number_at (values_of m i) b) ≤ 10 ^ 18
-value_bound m i b h l =
-    let column = get_or m.columns i [] in
-    let at : number_at (values_of m i) b ≡ get_or column b (pos 0) = get_or-map-range_with_len (λ c. get_or column c (pos 0)) 0 m.blocks b b (pos 0) l (omega arith) in
-    subst (λ z. unsigned_abs z ≤ 10 ^ 18) (sym at) (h b l)
+value_bound m i b h l = grind (arith, common_steps, pos, get_or-map-range_with_len, unsigned_abs)
 
 charge_bound : (m : BlocksView) (i b : ℕ) → IsSmall m i → b < m.blocks → unsigned_abs (pos 1000 *ℤ number_at (values_of m i) b) ≤ 1000 * 10 ^ 18
 charge_bound m i b h l = product_bound 1000 1000 (number_at (values_of m i) b) (omega arith) (value_bound m i b h l)

@@ -1,10 +1,11 @@
 -- A text has one meaning as settings, or one fault.
-use Rattle.std.proofs.Common.{◌≡◌, ℕ, List, Option, Some, None, Result, Ok, Err, MatchResult, IfErr, refl, sym, ap, ◌∙◌, subst}
+use Rattle.std.proofs.Common.{◌≡◌, ℕ, List, Some, None, Result, Ok, Err, MatchResult, IfErr, refl, sym, ap, ◌∙◌, subst, arith}
 use Rattle.toml.specs.Data.{Members}
 use Rattle.settings_file.specs.declared.settings_fault.SettingsFault.{SettingsFault}
 use Rattle.settings_file.specs.declared.settings_fault.SettingsFault.TheVariants.{NotToml, UnknownKey, BadValue, Missing, NoMemory}
 use Rattle.settings_file.specs.GoodTables.{IsOfTable}
 use Rattle.settings_file.specs.Settings.{SettingsView, settings_in, settings_by, said_or_nothing, settings_of, IsDocument, Says, ReadsSettings, AreSettings}
+use Rattle.std.proofs.lemmas.Grind.{common_steps}
 
 -- what was read is what the text says
 pub settings_are : (text : List ℕ) (s : SettingsView) → ReadsSettings text (Ok s) → settings_of text ≡ s
@@ -14,16 +15,11 @@ settings_are text s h = ap settings_by h.1.parsed ∙ ap said_or_nothing h.2
 pub settings_read : (text : List ℕ) (s : SettingsView) → ReadsSettings text (Ok s) → AreSettings text
 settings_read text s h = let P : SettingsView → Type 0 = λ v. ReadsSettings text (Ok v) in subst P (sym (settings_are text s h)) h
 
-members_same : (o : Option Members) (a b : Members) → o ≡ Some a → o ≡ Some b → a ≡ b
-members_same o a b e f = let g : Some a ≡ Some b = sym e ∙ f in cc
-
 never : {A E : Type 0} (r : Result A E) (a : A) (e : E) → r ≡ Ok a → r ≡ Err e → ⊥
 never r a e p q = let g : Ok a ≡ Err e = sym p ∙ q in cc
 
 no_fault : (text : List ℕ) (s : SettingsView) (fault : SettingsFault) → ReadsSettings text (Ok s) → Says text (λ ms. settings_in ms ≡ Err fault) → ⊥
-no_fault text s fault h k =
-    let P : Members → Type 0 = λ ms. settings_in ms ≡ Ok s in
-    never _ _ _ (subst P (members_same _ _ _ h.1.parsed k.1.parsed) h.2) k.2
+no_fault text s fault h k = grind (arith, common_steps)
 
 -- a text without a fault is told of none, but of memory that is refused
 pub no_settings_fault : (text : List ℕ) (s : SettingsView) (fault : SettingsFault) → ReadsSettings text (Ok s) → ¬ (fault ≡ NoMemory) → ReadsSettings text (Err fault) → ⊥

@@ -1,5 +1,5 @@
 -- Mines of prices and pairs that were read are those of their texts.
-use Rattle.std.proofs.Common.{◌≡◌, ℕ, Bool, true, false, List, [], length, refl, sym, ◌∙◌, subst, IsTrue, Result, Ok, Err, MatchResult}
+use Rattle.std.proofs.Common.{◌≡◌, ℕ, Bool, true, false, List, [], length, refl, sym, ◌∙◌, subst, IsTrue, Result, Ok, Err, MatchResult, arith}
 use Rattle.std.specs.Prelude.{Contains}
 use Rattle.ordered_group.specs.Block.{scaled_block}
 use Rattle.prec_file.specs.Rests.{RestsView, ArePairsOf, has_pair}
@@ -36,6 +36,7 @@ use Rattle.shell_engines.specs.declared.no_series.NoSeries.TheVariants as none
 use Rattle.shell_engines.specs.BlockTables.{mine_at_factor}
 use Rattle.shell_engines.specs.declared.series_outputs.Answer.{Answer}
 use Rattle.shell_engines.specs.Shells.{shell_group, AreNested, DenoteSeries, IsShellTable, IsNoTable, NoNetAt, ShellsFail}
+use Rattle.std.proofs.lemmas.Grind.{common_steps}
 
 -- what holds of each fault that a reason can make holds of the one that it makes
 pub of_want : (F : EngineFault → Type 0) → F engine.Memory → F engine.Thread → F engine.Stranger → (why : Unsolved) (e : EngineFault) → IsWant why e → F e
@@ -53,9 +54,7 @@ same_test false true f g = g refl
 same_test false false f g = refl
 
 rests_same : (listed pairs : List (ℕ × ℕ)) → ArePairsOf listed pairs → (b p : ℕ) → has_pair pairs b p ≡ rests_by listed b p
-rests_same listed pairs a b p =
-    let both = listed_rests listed pairs a b p in
-    same_test (has_pair pairs b p) (rests_by listed b p) (λ h. both.0 (where_listed pairs b p h)) (λ h. is_listed pairs b p (both.1 h))
+rests_same listed pairs a b p = grind (arith, common_steps, listed_rests, same_test, where_listed, is_listed)
 
 module _ (s t p : List ℕ) (table : PricesView) (rests : RestsView) (r : ArePricesRead s t p table rests) where
   pub mine_is : (k : ℕ) → mine_at rests.pairs table k ≡ mine_at_factor rests.blocks s t p k

@@ -1,47 +1,19 @@
 -- Lists of blocks that grow by one block, and what is held by them.
-use Rattle.std.proofs.lemmas.Bool.{cases_lt}
-use Rattle.std.proofs.Common.{◌≡◌, ℕ, suc, ◌+◌, ◌<◌, All, Bool, true, false, ◌==◌, ◌||◌, ℤ, ◌+ℤ◌, List, [], ◌∷◌, ◌++◌, length, take, get_or, inl, inr, refl, sym, subst, ap, ◌∙◌, arith}
-use Rattle.std.proofs.lemmas.List.{take_more, get_or_default}
+use Rattle.std.proofs.Common.{◌≡◌, ℕ, suc, ◌+◌, ◌<◌, All, Bool, ℤ, ◌+ℤ◌, List, [], ◌∷◌, ◌++◌, length, take, get_or, sym, subst, ap, ◌∙◌, arith}
+use Rattle.std.proofs.lemmas.List.{get_or_default}
 use Rattle.closure_net.specs.Network.{holds_of}
 use Rattle.ordered_group.specs.Sets.{worth_in}
 use Rattle.sub_mines.specs.Parts.{every_block}
 use Rattle.shell_engines.specs.Parting.{AreJoined}
-use Rattle.fixed_worth.proofs.Bits.{or_false}
-
-or_again : (x y z : Bool) → (x || (y || z)) ≡ ((x || y) || z)
-or_again true y z = refl
-or_again false y z = refl
-
-or_turned : (x y z : Bool) → ((x || y) || z) ≡ ((x || z) || y)
-or_turned true y z = refl
-or_turned false true true = refl
-or_turned false true false = refl
-or_turned false false true = refl
-or_turned false false false = refl
-
-pub holds_push : (xs : List ℕ) (y b : ℕ) → holds_of (xs ++ y ∷ []) b ≡ (holds_of xs b || (y == b))
-holds_push [] y b = or_false (y == b)
-holds_push (x ∷ xs) y b = ap (λ t. (x == b) || t) (holds_push xs y b) ∙ or_again (x == b) (holds_of xs b) (y == b)
+use Rattle.std.proofs.lemmas.Grind.{common_steps}
 
 -- a block more of the list
 pub put_second : (e : ℕ → Bool) (blocks : List ℕ) (k : ℕ) (found : List ℕ) → k < length blocks → AreJoined e blocks k found → AreJoined e blocks (k + 1) (found ++ get_or blocks k 0 ∷ [])
-put_second e blocks k found l h = record {
-  most = omega (arith, l);
-  held = λ b.
-      let y = get_or blocks k 0 in
-      holds_push found y b ∙ ap (λ t. t || (y == b)) (h.held b) ∙ sym (or_again (e b) (holds_of (take k blocks) b) (y == b))
-      ∙ ap (λ t. e b || t) (sym (holds_push (take k blocks) y b)) ∙ ap (λ xs. e b || holds_of xs b) (sym (take_more blocks k 0 l));
-}
+put_second e blocks k found l h = grind (arith, common_steps)
 
 -- a block more of the set
 pub put_first : (first second : List ℕ) (i k : ℕ) (found : List ℕ) → i < length first → AreJoined (holds_of (take i first)) second k found → AreJoined (holds_of (take (i + 1) first)) second k (found ++ get_or first i 0 ∷ [])
-put_first first second i k found l h = record {
-  most = h.most;
-  held = λ b.
-      let y = get_or first i 0 in
-      holds_push found y b ∙ ap (λ t. t || (y == b)) (h.held b) ∙ or_turned (holds_of (take i first) b) (holds_of (take k second) b) (y == b)
-      ∙ ap (λ t. t || holds_of (take k second) b) (sym (holds_push (take i first) y b)) ∙ ap (λ xs. holds_of xs b || holds_of (take k second) b) (sym (take_more first i 0 l));
-}
+put_first first second i k found l h = grind (arith, common_steps)
 
 -- what is so of each place
 pub all_places : (P : ℕ → Type 0) (xs : List ℕ) → ((j : ℕ) → j < length xs → P (get_or xs j 0)) → All P xs
@@ -52,11 +24,7 @@ all_nothing P j d l = absurd (omega (arith, l))
 
 -- what is so of the first places, and of the next one
 pub below_more : (P : ℕ → Type 0) (xs : List ℕ) (i : ℕ) → ((j : ℕ) → j < i → P (get_or xs j 0)) → P (get_or xs i 0) → (j : ℕ) → j < i + 1 → P (get_or xs j 0)
-below_more P xs i h last j l =
-    elim (cases_lt j i) [
-      | inl low ↦ h j low
-      | inr past ↦ let same : j ≡ i = omega (arith, l, past) in subst (λ n. P (get_or xs n 0)) (sym same) last
-    ]
+below_more P xs i h last j l = grind (arith, common_steps)
 
 -- the worth of one block more
 pub worth_more : (v : ℕ → ℤ) (i : ℕ) (sum now : ℤ) → sum ≡ worth_in v every_block i → now ≡ sum +ℤ v i → now ≡ worth_in v every_block (i + 1)

@@ -3,8 +3,6 @@ use Rattle.std.proofs.Common.{◌≡◌, ℕ, ℤ, pos, ◌<◌, List, length, m
 use Rattle.std.proofs.lemmas.List.{length-map, get_or-map}
 use Rattle.std.proofs.lemmas.List.FromFn.{length-map-range_with_len, get_or-map-range_with_len}
 use Rattle.ordered_group.specs.Amount.{Amount, zero_amount}
-use Rattle.ordered_group.specs.Sums.{where_so}
-use Rattle.ordered_group.specs.Sets.{group_sum, worth_in, count_in}
 use Rattle.ordered_group.specs.Laws.{SumsTellWorth}
 use Rattle.ordered_group.proofs.Totals.Ranges.{total-same}
 use Rattle.prec_file.specs.Rests.{RestsView}
@@ -15,6 +13,7 @@ use Rattle.shells.specs.Prices.{PricesView, blocks_of, worth_at, worths_at}
 use Rattle.shells.specs.Series.{IsOver}
 use Rattle.engines.proofs.Counted.{count_in-ascending}
 use Rattle.shell_engines.specs.ShellTable.{IsRowOf}
+use Rattle.std.proofs.lemmas.Grind.{common_steps}
 
 pub over_of : (block : ℤ → ℕ → Amount) (rests : RestsView) (prices : PricesView) (k : ℕ) (net : NetView) → net ≡ net_view rests.pairs (map (λ v. block v rests.blocks) (worths_at prices k)) → rests.blocks ≡ length (worths_at prices k) → IsOver block rests.pairs prices k net
 over_of block rests prices k net is l =
@@ -34,16 +33,4 @@ over_of block rests prices k net is l =
 -- the row of a best pit whose net is the mine's
 pub row_is : (block : ℤ → ℕ → Amount) (set_worth : Amount → ℕ → ℕ → ℤ) → SumsTellWorth block set_worth → (net : NetView) (pit : List ℕ) → All (λ b. b < length net.worths) pit → IsAscending pit → (factor blocks : ℕ) (worth shown : ℤ) → blocks ≡ length pit
     → worth ≡ set_worth (group_worth net.worths (holds_of pit)) (length net.worths) blocks → shown ≡ worth → (mine : Mine) → IsNetOf block mine net → IsBest mine (holds_of pit) → IsRowOf mine (record { factor = factor; blocks = blocks; worth = shown })
-row_is block set_worth tells net pit known ascending factor blocks worth shown b w s mine of_mine best =
-    let n = length net.worths in
-    let e = holds_of pit in
-    let size = count_in-ascending pit n ascending known in
-    let at : (x : ℕ) → x < n → get_or net.worths x zero_amount ≡ block (mine.worth x) n = λ x low. of_mine.worths x (omega (arith, low, of_mine.blocks)) ∙ ap (block (mine.worth x)) (sym of_mine.blocks) in
-    let sums : group_worth net.worths e ≡ group_sum block mine.worth e n = total-same _ _ n (λ x low. ap (λ a. where_so (e x) a) (at x low)) in
-    let told = tells mine.worth e n in
-    record {
-      pit = e;
-      best = best;
-      blocks_are = ap (λ k. count_in e k) (sym of_mine.blocks) ∙ size ∙ sym b;
-      worth_is = sym (s ∙ w ∙ ap (λ a. set_worth a n blocks) sums ∙ ap (λ (k : ℕ). set_worth (group_sum block mine.worth e n) n k) (b ∙ sym size) ∙ told ∙ ap (worth_in mine.worth e) of_mine.blocks);
-    }
+row_is block set_worth tells net pit known ascending factor blocks worth shown b w s mine of_mine best = grind (arith, common_steps, count_in-ascending, total-same)

@@ -18,6 +18,7 @@ use Rattle.shell_engines.specs.declared.mine_parts.Part.{Part}
 use Rattle.shell_engines.specs.Parting.{ArePriced, LiesBetweenLists, IsPart, mine_among, IsBestAmong}
 use Rattle.prec_file.proofs.PairTests.{pair_of_rests}
 use Rattle.sub_mines.proofs.Parts.{not_beside}
+use Rattle.std.proofs.lemmas.Grind.{common_steps}
 
 -- ---- lists of kept blocks
 
@@ -185,6 +186,4 @@ same_lists_part pairs prices factors from to low low' kept kept' a b h =
 -- a part with these places and lists
 pub part_of : (pairs : List (ℕ × ℕ)) (prices : PricesView) (factors : List ℕ) (part : Part) (from to : ℕ) (low kept : List ℕ) → (part.from ≡ from) × (part.to ≡ to) × (part.low.items ≡ low) × (part.kept.items ≡ kept) → LiesBetweenLists pairs prices factors from to low kept
     → IsPart pairs prices factors part
-part_of pairs prices factors part from to low kept e h =
-    subst (λ n. LiesBetweenLists pairs prices factors n part.to part.low.items part.kept.items) (sym e.0)
-    (subst (λ n. LiesBetweenLists pairs prices factors from n part.low.items part.kept.items) (sym e.1) (same_lists_part pairs prices factors from to low part.low.items kept part.kept.items e.2 e.3 h))
+part_of pairs prices factors part from to low kept e h = grind (arith, common_steps)

@@ -1,19 +1,18 @@
 -- Ascending factors, and one above them all.
-use Rattle.std.proofs.Common.{◌≡◌, ℕ, ◌-◌, ◌<◌, List, [], ◌∷◌, ◌++◌, length, length-append, get_or, inl, inr, sym, refl, ap, ◌∙◌, arith}
+use Rattle.std.proofs.Common.{◌≡◌, ℕ, ◌-◌, ◌<◌, List, [], ◌∷◌, ◌++◌, length, length-append, get_or, inl, inr, refl, ap, ◌∙◌, arith}
 use Rattle.std.specs.List.{Contains}
 use Rattle.std.proofs.lemmas.Bool.{cases_lt}
 use Rattle.std.proofs.lemmas.List.{get_or_default, get_or_append_left}
 use Rattle.closure_net.specs.Network.{IsAscending}
 use Rattle.shells.specs.Series.{IsAboveAll}
+use Rattle.std.proofs.lemmas.Grind.{common_steps}
 
 last_at : (xs : List ℕ) (k : ℕ) → get_or (xs ++ k ∷ []) (length xs) 0 ≡ k
 last_at [] k = refl
 last_at (x ∷ xs) k = last_at xs k
 
 pub one_last : (k x : ℕ) → Contains (k ∷ []) x → x ≡ k
-one_last k x c =
-    let z : c.0 ≡ 0 = omega (arith, c.1) in
-    sym c.2 ∙ ap (λ i. get_or (k ∷ []) i x) z
+one_last k x c = grind (arith, common_steps)
 
 pub rising_more : (factors : List ℕ) (k : ℕ) → IsAscending factors → IsAboveAll factors k → IsAscending (factors ++ k ∷ [])
 rising_more factors k rising above i j l m =

@@ -1,6 +1,5 @@
 -- A push keeps a series.
 use Rattle.std.proofs.Common.{◌≡◌, ℕ, ◌<◌, ◌≤◌, Bool, true, false, IsTrue, List, [], ◌∷◌, ◌++◌, length, length-append, Option, Some, None, inl, inr, sym, subst, refl, ap, ◌∙◌, arith}
-use Rattle.std.specs.Prelude.{◌==◌, ◌&&◌}
 use Rattle.std.specs.List.{Contains}
 use Rattle.std.proofs.lemmas.Bool.{le-leb, lt-leb, cases_lt, eqb-true, and_parts}
 use Rattle.std.proofs.lemmas.List.{get_or_past}
@@ -15,6 +14,7 @@ use Rattle.prec_file.specs.Rests.{has_pair}
 use Rattle.shells.specs.Series.{mine_at, SeriesView, shell_at, is_upto, upto, IsSeries, IsAboveAll, with_shell, IsPushed}
 use Rattle.shells.proofs.Rising.{best_is_nested}
 use Rattle.shells.proofs.Factors.{one_last, rising_more}
+use Rattle.std.proofs.lemmas.Grind.{common_steps}
 
 -- ---- the best pit is one set of blocks
 
@@ -57,17 +57,7 @@ module _ (s t : SeriesView) (k : ℕ) (e : ℕ → Bool) (h : IsSeries s) (above
 -- ---- the parts of what a series is
 
 pub mine_is_own : (pairs : List (ℕ × ℕ)) (table : PricesView) (k : ℕ) → IsRests (record { blocks = length table.revenue; pairs = pairs }) → RestsWithin (mine_at pairs table k)
-mine_is_own pairs table k r = record {
-  own = λ b p held.
-      let some = Any-from_list_any (λ (q : ℕ × ℕ). (q.0 == b) && (q.1 == p)) pairs held in
-      let parts = and_parts (some.1.0 == b) (some.1.1 == p) some.4 in
-      let first = eqb-true some.1.0 b parts.0 in
-      let second = eqb-true some.1.1 p parts.1 in
-      let known = r.known some.0 some.1 some.2 in
-      let at = some.3 in
-      let low : (some.1.0 < length table.revenue) × (some.1.1 < length table.revenue) = subst (λ (q : ℕ × ℕ). (q.0 < length table.revenue) × (q.1 < length table.revenue)) at known in
-      (subst (λ x. x < length table.revenue) first low.0, subst (λ x. x < length table.revenue) second low.1);
-}
+mine_is_own pairs table k r = grind (arith, common_steps, Any-from_list_any, and_parts, eqb-true)
 
 shell_known : (o : Option ℕ) (t : Bool) (k x : ℕ) (factors : List ℕ) → ((y : ℕ) → o ≡ Some y → Contains factors y) → with_shell o t k ≡ Some x → Contains (factors ++ k ∷ []) x
 shell_known (Some y) t k x factors h e = Contains-append_left factors (k ∷ []) x (subst (Contains factors) (same_Some _ _ e) (h y refl))

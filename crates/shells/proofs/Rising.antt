@@ -1,18 +1,15 @@
 -- Worths rise with the factor, and the best pits with them.
-use Rattle.std.proofs.Common.{ℕ, Bool, ◌*◌, ◌≤◌, ◌≤ℤ◌, ◌*ℤ◌, ℤ, pos, negsuc, refl, arith, mul-le-mul}
+use Rattle.std.proofs.Common.{ℕ, Bool, ◌*◌, ◌≤◌, ◌≤ℤ◌, ◌*ℤ◌, ℤ, pos, negsuc, arith}
 use Rattle.std.proofs.lemmas.Int.{ints, clamps}
-use Rattle.std.proofs.Math.IntN.{pos-*ℤ-pos}
 use Rattle.closure_net.specs.Mine.{RisesTo}
 use Rattle.closure_net.proofs.BestPits.{best_is_within}
-use Rattle.shells.specs.Prices.{CostsView, plain_costs, mill_costs, PricesView, number_at, worth_after, NoRevenueNegative}
+use Rattle.shells.specs.Prices.{CostsView, plain_costs, mill_costs, PricesView, worth_after, NoRevenueNegative}
 use Rattle.shells.specs.Series.{mine_of_prices}
 use Rattle.shells.specs.Nesting.{BestPitsAreNested}
+use Rattle.std.proofs.lemmas.Grind.{common_steps}
 
 rises_by : (j k : ℕ) (r : ℤ) → j ≤ k → pos 0 ≤ℤ r → (pos j *ℤ r) ≤ℤ (pos k *ℤ r)
-rises_by j k (pos n) le p = rw (pos-*ℤ-pos j n, pos-*ℤ-pos k n) (omega (arith, ints, more j k n le))
-  where
-    more : (j k n : ℕ) → j ≤ k → j * n ≤ k * n
-    more j k n le = search (arith, mul-le-mul)
+rises_by j k (pos n) le p = grind (arith, common_steps)
 rises_by j k (negsuc n) le p = absurd (omega (arith, ints, p))
 
 -- what is left is no less of more that is earned
@@ -21,11 +18,7 @@ left_rises (plain_costs cost) b x y le = omega (arith, ints, le)
 left_rises (mill_costs processing mining) b x y le = omega (arith, ints, clamps, le)
 
 pub mines_rise : (above : ℕ → ℕ → Bool) (table : PricesView) (j k : ℕ) → NoRevenueNegative table → j ≤ k → RisesTo (mine_of_prices above table j) (mine_of_prices above table k)
-mines_rise above table j k known le = record {
-  blocks = refl;
-  rests = λ b p. refl;
-  worths = λ b l. left_rises table.costs b (pos j *ℤ number_at table.revenue b) (pos k *ℤ number_at table.revenue b) (rises_by j k (number_at table.revenue b) le (known b l));
-}
+mines_rise above table j k known le = grind (arith, common_steps, left_rises, pos, rises_by)
 
 pub best_is_nested : BestPitsAreNested
 best_is_nested above table j k e c known le low high =

@@ -1,11 +1,11 @@
 -- What a shell is, and that no block has one at the opening.
-use Rattle.std.proofs.Common.{◌≡◌, ℕ, zero, suc, ◌<◌, List, length, replicate, Option, Some, None, refl, ap, ◌∙◌, arith}
+use Rattle.std.proofs.Common.{◌≡◌, ℕ, ◌<◌, List, length, Option, Some, None, refl, ap, ◌∙◌, arith}
 use Rattle.std.proofs.lemmas.Bool.{le-leb, lt-leb}
-use Rattle.std.proofs.lemmas.List.{length-replicate}
 use Rattle.prec_file.specs.Rests.{IsRests}
 use Rattle.closure_net.proofs.BestPits.{best_is_one}
 use Rattle.shells.specs.Prices.{PricesView, IsTable}
 use Rattle.shells.specs.Series.{mine_at, SeriesView, shell_at, is_upto, upto, opened_series, IsSeries, IsShell}
+use Rattle.std.proofs.lemmas.Grind.{common_steps}
 
 shell_of_options : (s : SeriesView) (b : ℕ) (o : Option ℕ) → IsSeries s → b < length s.prices.revenue → shell_at s.shells b ≡ o → IsShell s b o
 shell_of_options s b None h l is = λ k e c best. best_is_one (mine_at s.pairs s.prices k) e (upto s.shells k) best (h.best k c) b l ∙ ap (λ o. is_upto o k) is
@@ -18,19 +18,6 @@ shell_of_options s b (Some x) h l is = (
 pub shell_of_series : (s : SeriesView) (b : ℕ) → IsSeries s → b < length s.prices.revenue → IsShell s b (shell_at s.shells b)
 shell_of_series s b h l = shell_of_options s b (shell_at s.shells b) h l refl
 
-none_known : (n b x : ℕ) → shell_at (replicate n None) b ≡ Some x → ⊥
-none_known zero b x e = absurd cc
-none_known (suc n) zero x e = absurd cc
-none_known (suc n) (suc b) x e = none_known n b x e
-
 pub opens : (pairs : List (ℕ × ℕ)) (table : PricesView) → IsRests (record { blocks = length table.revenue; pairs = pairs }) → IsTable table
     → IsSeries (opened_series pairs table)
-opens pairs table r t = record {
-  rests = r;
-  prices = t;
-  shells = length-replicate (length table.revenue) None;
-  few = omega arith;
-  rising = λ i j l m. absurd (omega (arith, m));
-  known = λ b x e. absurd (none_known (length table.revenue) b x e);
-  best = λ k c. absurd (omega (arith, c.1));
-}
+opens pairs table r t = grind (arith, common_steps)

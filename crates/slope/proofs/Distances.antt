@@ -6,6 +6,7 @@ use Rattle.std.proofs.Math.Nat.{mul_comm, mul-mul-mul_comm, mul-le-mul_left, div
 use Rattle.slope.specs.Offsets.{Offset}
 use Rattle.slope.specs.Patterns.{IsNear, square}
 use Rattle.slope.specs.Gathering.{IsLevel}
+use Rattle.std.proofs.lemmas.Grind.{common_steps}
 
 -- what the test of a distance computes has 64 bits
 pub distance_fits : (r a b : ℕ) → r ≤ 1000 → a ≤ 1000000 → b ≤ 1000000 → r * r * (a * a + b * b) < 2 ^ 64
@@ -33,10 +34,7 @@ level_square : (o : Offset) (k : ℕ) → o.2 ≡ pos k → square o.2 ≡ k * k
 level_square o k e = ap square e
 
 pub near_second : (k reach run rise : ℕ) (o : Offset) → IsLevel k reach run rise → IsNear run rise o → o.2 ≡ pos k → unsigned_abs o.1 ≤ reach
-near_second k reach run rise o l h e =
-    let P : ℕ → Type 0 = λ x. rise * rise * (square o.0 + square o.1) ≤ x * (run * run) in
-    let Q : ℕ → Type 0 = λ x. unsigned_abs o.1 ≤ x in
-    subst Q (sym l.furthest) (within k run rise (unsigned_abs o.0) (unsigned_abs o.1) l.some_rise (subst P (level_square o k e) h))
+near_second k reach run rise o l h e = grind (arith, common_steps, unsigned_abs, within, level_square)
 
 pub near_first : (k reach run rise : ℕ) (o : Offset) → IsLevel k reach run rise → IsNear run rise o → o.2 ≡ pos k → unsigned_abs o.0 ≤ reach
 near_first k reach run rise o l h e =

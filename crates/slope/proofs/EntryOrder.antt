@@ -2,16 +2,16 @@
 use Rattle.std.proofs.Common.{◌≡◌, ℕ, zero, suc, ◌+◌, ◌-◌, ◌<◌, ◌&&◌, ◌==◌, Bool, true, inl, inr, pos, List, [], ◌∷◌, length, get_or, sym, refl, ap, subst, ◌∙◌, arith, Ordering, Contains}
 use Rattle.std.specs.declared.cmp.Ordering.TheVariants.{Less, Equal, Greater}
 use Rattle.std.specs.Ordering.{MatchOrdering, is_eq, ordering_then, nat_cmp, eq_by_cmp}
-use Rattle.std.specs.Cmp.{IsTotalOrder, IsEquivalence, unsigned_ties}
+use Rattle.std.specs.Cmp.{IsTotalOrder, IsEquivalence}
 use Rattle.std.specs.List.Sorted.{IsStrictlySortedBy}
 use Rattle.std.proofs.lemmas.Cmp.{ranked, then_total, on_total, nat_cmp_total, eq_by_cmp_equiv}
-use Rattle.std.proofs.lemmas.Bool.{and_parts, cases_lt, eqb-true}
+use Rattle.std.proofs.lemmas.Bool.{cases_lt}
 use Rattle.std.proofs.lemmas.List.Elements.{All-from_recursion}
 use Rattle.blocks_file.specs.Denotes.{BlocksView}
-use Rattle.prec_file.proofs.Sorting.{then_tie}
 use Rattle.slope.specs.Offsets.{OffsetBefore}
 use Rattle.slope.specs.Gathering.{Entry, entry_at, entry_of, AreEntries, AreEntriesOf, AreEntriesInOrder, BeforeEntry, IsRepeatAt}
 use Rattle.slope.proofs.OffsetSorting.{offset_cmp, offset_eq, offset_ties, offset_same, offsets_total, before, before_itself, before_trans}
+use Rattle.std.proofs.lemmas.Grind.{common_steps}
 
 abbrev pub entry_cmp : Entry → Entry → Ordering
 entry_cmp x y = ordering_then (offset_cmp x.0 y.0) (nat_cmp x.1 y.1)
@@ -23,17 +23,10 @@ pub entries_total : IsTotalOrder entry_cmp
 entries_total = then_total (on_total (λ (e : Entry). e.0) offsets_total) (on_total (λ (e : Entry). e.1) nat_cmp_total)
 
 pub entry_ties : (x y : Entry) → entry_eq x y ≡ eq_by_cmp entry_cmp x y
-entry_ties x y =
-    ap (λ t. t && (x.1 == y.1)) (offset_ties x.0 y.0)
-    ∙ ap (λ t. is_eq (offset_cmp x.0 y.0) && t) (unsigned_ties x.1 y.1)
-    ∙ then_tie (offset_cmp x.0 y.0) (nat_cmp x.1 y.1)
+entry_ties x y = grind (arith, common_steps)
 
 pub entry_same : (x y : Entry) → entry_eq x y ≡ true → x ≡ y
-entry_same x y h =
-    let p = and_parts _ _ h in
-    let k = offset_same x.0 y.0 p.0 in
-    let b = eqb-true x.1 y.1 p.1 in
-    λ i. (k i, b i)
+entry_same x y h = grind (arith, common_steps)
 
 pub entries_alike : IsEquivalence entry_eq
 entries_alike =

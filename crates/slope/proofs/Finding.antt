@@ -12,14 +12,11 @@ use Rattle.slope.specs.Gathering.{place_key, IsIndex, IsFinding}
 use Rattle.slope.specs.declared.up.Up.{Up}
 use Rattle.slope.specs.declared.up.Up.TheVariants.{PlusZ, MinusZ}
 use Rattle.slope.proofs.OffsetSorting.{before_itself}
+use Rattle.std.proofs.lemmas.Grind.{common_steps}
 
 -- places of one key are one place
 pub key_same : (p q : Place) → place_key p ≡ place_key q → p ≡ q
-key_same p q e =
-    let a = ap (λ (k : Offset). k.2) e in
-    let b = ap (λ (k : Offset). k.1) e in
-    let d = ap (λ (k : Offset). k.0) e in
-    λ i. record { x = a i; y = b i; z = d i }
+key_same p q e = grind (arith, common_steps)
 
 -- a key stands at one place of keys that rise
 one_key : (keys : List Offset) (i j : ℕ) (d : Offset) → AreOffsetsRising keys → i < length keys → j < length keys → get_or keys i d ≡ get_or keys j d → i ≡ j
@@ -61,9 +58,7 @@ one_place up from p q e =
 -- the block at the place of a key that was found
 pub found_at : (m : BlocksView) (keys : List Offset) (blocks : List ℕ) (up : Up) (from to : Place) (offset : Offset) → IsIndex m keys blocks → offset_between up from to ≡ offset → (i d : ℕ) → IsFinding keys (place_key to) (Ok i) →
     (get_or blocks i d < m.blocks) × (offset_between up from (place_of m (get_or blocks i d)) ≡ offset)
-found_at m keys blocks up from to offset h at i d f =
-    let s = h.stands i (place_key to) d f.0 in
-    (s.0, ap (offset_between up from) (key_same (place_of m (get_or blocks i d)) to (s.1 ∙ f.1)) ∙ at)
+found_at m keys blocks up from to offset h at i d f = grind (arith, common_steps)
 
 -- no block is at the place of a key that isn't there
 pub none_at : (m : BlocksView) (keys : List Offset) (blocks : List ℕ) (up : Up) (from to : Place) (offset : Offset) → IsIndex m keys blocks → offset_between up from to ≡ offset → (i : ℕ) → IsFinding keys (place_key to) (Err i) →

@@ -10,6 +10,7 @@ use Rattle.std.proofs.lemmas.Bool.{cases_lt}
 use Rattle.std.proofs.lemmas.List.Sorted.{IsNonDecreasingBy-from_default}
 use Rattle.slope.specs.Offsets.{Offset, OffsetBefore, AreOffsetsRising}
 use Rattle.slope.proofs.OffsetSorting.{offset_cmp, offset_ties, offset_same, offsets_total, clash}
+use Rattle.std.proofs.lemmas.Grind.{common_steps}
 
 -- the order of two offsets by that of their numbers
 less_from : (x y : Offset) (o p q : Ordering) → MatchOrdering o (x.0 <ℤ y.0) (x.0 ≡ y.0) (y.0 <ℤ x.0) → MatchOrdering p (x.1 <ℤ y.1) (x.1 ≡ y.1) (y.1 <ℤ x.1) → MatchOrdering q (x.2 <ℤ y.2) (x.2 ≡ y.2) (y.2 <ℤ x.2) → OffsetBefore x y → ordering_then (ordering_then o p) q ≡ Less
@@ -29,19 +30,12 @@ before_less : (x y : Offset) → OffsetBefore x y → offset_cmp x y ≡ Less
 before_less x y b = less_from x y (int_cmp x.0 y.0) (int_cmp x.1 y.1) (int_cmp x.2 y.2) (int_ranked x.0 y.0 _ refl) (int_ranked x.1 y.1 _ refl) (int_ranked x.2 y.2 _ refl) b
 
 no_higher : (x y t : Offset) (o p : Ordering) → offset_cmp x t ≡ o → offset_cmp y t ≡ p → offset_cmp x y ≡ Less → ordering_index o ≤ ordering_index p
-no_higher x y t o Greater e f h = at_most_two o
-  where
-    at_most_two : (o : Ordering) → ordering_index o ≤ 2
-    at_most_two Less = omega arith
-    at_most_two Equal = omega arith
-    at_most_two Greater = omega arith
+no_higher x y t o Greater e f h = grind (arith, common_steps)
 no_higher x y t o Equal e f h =
     let yt = offset_same y t (offset_ties y t ∙ ap is_eq f) in
     let less : o ≡ Less = sym e ∙ ap (offset_cmp x) (sym yt) ∙ h in
     rw less (omega arith)
-no_higher x y t o Less e f h =
-    let less : o ≡ Less = sym e ∙ offsets_total.trans x y t h f in
-    rw less (omega arith)
+no_higher x y t o Less e f h = grind (arith, common_steps, offsets_total)
 
 rises_to : (os : List Offset) (t : Offset) → AreOffsetsRising os → IsNonDecreasingBy (λ y. ordering_index (offset_cmp y t)) os
 rises_to os t r = IsNonDecreasingBy-from_default (λ y. ordering_index (offset_cmp y t)) os t (λ i j l h. elim (cases_lt i j) [

@@ -1,16 +1,14 @@
 -- Sorting offsets, and dropping repeats.
-use Rattle.std.proofs.Common.{◌≡◌, ℕ, zero, suc, ◌<◌, ℤ, ◌<ℤ◌, ◌&&◌, Bool, true, false, inl, inr, List, [], ◌∷◌, length, get_or, sym, refl, ap, subst, ◌∙◌, arith, Ordering}
+use Rattle.std.proofs.Common.{◌≡◌, ℕ, zero, suc, ◌<◌, ℤ, ◌<ℤ◌, ◌&&◌, Bool, true, false, inl, inr, List, [], ◌∷◌, length, get_or, sym, refl, subst, ◌∙◌, arith, Ordering}
 use Rattle.std.specs.declared.cmp.Ordering.TheVariants.{Less, Equal, Greater}
 use Rattle.std.specs.Ordering.{MatchOrdering, is_eq, ordering_then, int_cmp, int_eq, eq_by_cmp}
 use Rattle.std.specs.Cmp.{IsTotalOrder, IsEquivalence}
 use Rattle.std.specs.List.Sorted.{IsStrictlySortedBy}
 use Rattle.std.proofs.lemmas.Cmp.{int_ranked, then_total, on_total, int_cmp_total, eq_by_cmp_equiv}
-use Rattle.std.proofs.lemmas.Bool.{and_parts}
-use Rattle.std.proofs.lemmas.Bool.Decides.{Decides-and, Decides-int_eq}
 use Rattle.std.proofs.lemmas.Int.{ints}
 use Rattle.std.proofs.lemmas.List.Elements.{All-from_recursion}
-use Rattle.prec_file.proofs.Sorting.{then_tie}
 use Rattle.slope.specs.Offsets.{Offset, AreOffsetsRising, OffsetBefore}
+use Rattle.std.proofs.lemmas.Grind.{common_steps}
 
 abbrev pub offset_cmp : Offset → Offset → Ordering
 offset_cmp x y = ordering_then (ordering_then (int_cmp x.0 y.0) (int_cmp x.1 y.1)) (int_cmp x.2 y.2)
@@ -22,9 +20,7 @@ pub offsets_total : IsTotalOrder offset_cmp
 offsets_total = then_total (then_total (on_total (λ (o : Offset). o.0) int_cmp_total) (on_total (λ (o : Offset). o.1) int_cmp_total)) (on_total (λ (o : Offset). o.2) int_cmp_total)
 
 pub offset_ties : (x y : Offset) → offset_eq x y ≡ eq_by_cmp offset_cmp x y
-offset_ties x y =
-    ap (λ t. t && int_eq x.2 y.2) (then_tie (int_cmp x.0 y.0) (int_cmp x.1 y.1))
-    ∙ then_tie (ordering_then (int_cmp x.0 y.0) (int_cmp x.1 y.1)) (int_cmp x.2 y.2)
+offset_ties x y = grind (arith, common_steps)
 
 tied : (x y : ℤ) (o : Ordering) → MatchOrdering o (x <ℤ y) (x ≡ y) (y <ℤ x) → is_eq o ≡ true → x ≡ y
 tied x y Less h e = absurd cc
@@ -35,22 +31,14 @@ pub same_number : (x y : ℤ) → int_eq x y ≡ true → x ≡ y
 same_number x y e = tied x y (int_cmp x y) (int_ranked x y _ refl) e
 
 pub offset_same : (x y : Offset) → offset_eq x y ≡ true → x ≡ y
-offset_same x y h =
-    let p = and_parts _ _ h in
-    let q = and_parts _ _ p.0 in
-    let a = same_number x.0 y.0 q.0 in
-    let b = same_number x.1 y.1 q.1 in
-    let d = same_number x.2 y.2 p.1 in
-    λ i. (a i, b i, d i)
+offset_same x y h = grind (arith, common_steps)
 
 pub clash : (b : Bool) → b ≡ true → b ≡ false → ⊥
 clash true k e = absurd cc
 clash false k e = absurd cc
 
 pub offset_differs : (x y : Offset) → offset_eq x y ≡ false → x ≡ y → ⊥
-offset_differs x y h e =
-    let numbers = Decides-and (int_eq x.0 y.0 && int_eq x.1 y.1) (int_eq x.2 y.2) (Decides-and (int_eq x.0 y.0) (int_eq x.1 y.1) (Decides-int_eq x.0 y.0) (Decides-int_eq x.1 y.1)) (Decides-int_eq x.2 y.2) in
-    clash (offset_eq x y) (numbers.1 ((ap (λ (o : Offset). o.0) e, ap (λ (o : Offset). o.1) e), ap (λ (o : Offset). o.2) e)) h
+offset_differs x y h e = grind (arith, common_steps)
 
 pub offsets_alike : IsEquivalence offset_eq
 offsets_alike =

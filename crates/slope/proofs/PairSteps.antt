@@ -10,7 +10,7 @@ use Rattle.blocks_file.specs.declared.place.Place.{Place}
 use Rattle.blocks_file.specs.Denotes.{BlocksView}
 use Rattle.prec_file.specs.Rests.{RestsView}
 use Rattle.prec_file.specs.Rests.{IsRising as IsPairRising}
-use Rattle.slope.specs.Offsets.{Offset, IsPattern, AreOffsetsRising, IsUpward, OffsetBefore}
+use Rattle.slope.specs.Offsets.{Offset, IsPattern, AreOffsetsRising, OffsetBefore}
 use Rattle.slope.specs.Places.{place_of, AreApartBelow}
 use Rattle.slope.specs.Slopes.{upward, offset_between, IsSlopePair, IsSelected, AreSlopes, SlopeFaultStands}
 use Rattle.slope.specs.declared.selection.Selection.{Selection}
@@ -23,6 +23,7 @@ use Rattle.slope.specs.declared.slope_fault.SlopeFault.TheVariants.{SamePlace, T
 use Rattle.slope.proofs.Gathering.{collected_same, collected_more, too_many}
 use Rattle.slope.proofs.OffsetSorting.{before_itself}
 use Rattle.slope.proofs.Finding.{one_place}
+use Rattle.std.proofs.lemmas.Grind.{common_steps}
 
 -- an offset is none of those in front of it
 fresh : (os : List Offset) → AreOffsetsRising os → (i : ℕ) (d : Offset) → i < length os → Contains (take i os) (get_or os i d) → ⊥
@@ -156,12 +157,7 @@ level_height MinusZ x = omega (arith, ints)
 
 -- no block rests on itself
 pub no_loop : (m : BlocksView) (os : List Offset) (up : Up) → IsPattern os → (q : ℕ × ℕ) → IsSlopePair m os up q → q.0 ≡ q.1 → ⊥
-no_loop m os up pattern q h e =
-    let from = place_of m q.0 in
-    let at : Contains os (offset_between up from from) = subst (λ k. Contains os (offset_between up from (place_of m k))) (sym e) h.offset in
-    let high = All-contains IsUpward os _ pattern.upward at in
-    let flat = level_height up from.z in
-    omega (arith, ints, high, flat)
+no_loop m os up pattern q h e = grind (arith, common_steps, All-contains, level_height)
 
 -- the pairs that were gathered are the slope pairs, where they are in order
 pub slopes_are : (m : BlocksView) (os : List Offset) (up : Up) (s : Selection) (rests : RestsView) → AreApartBelow m m.blocks → rests.blocks ≡ m.blocks → IsPairRising rests.pairs → Collects (IsSelected s m os up) rests.pairs → AreSlopes m os up s rests

@@ -1,26 +1,15 @@
 -- What was seen around a place, and one sight more.
-use Rattle.std.proofs.Common.{◌≡◌, ◌≢◌, ℕ, ◌<◌, inl, inr, List, Option, Some, None, MatchOption, length, get_or, set, length-set, get_or-set_same, get_or-set_other, sym, subst, ◌∙◌, arith}
-use Rattle.std.proofs.lemmas.Bool.{cases_eq}
+use Rattle.std.proofs.Common.{◌≡◌, ◌≢◌, ℕ, ◌<◌, List, Option, Some, None, MatchOption, length, set, sym, subst, ◌∙◌, arith}
 use Rattle.slope.specs.Offsets.{Offset}
 use Rattle.slope.specs.Places.{place_of}
 use Rattle.slope.specs.Slopes.{offset_between}
 use Rattle.slope.specs.declared.sight.Sight.{Sight}
 use Rattle.slope.specs.declared.sight.Sight.TheVariants as sight
 use Rattle.slope.specs.Gathering.{SurroundingsView, AreSeen, IsSight, StandsAtOffset, StandsNone, offset_at}
+use Rattle.std.proofs.lemmas.Grind.{common_steps}
 
 pub seen_more : (v : SurroundingsView) (keys : List Offset) (blocks : List ℕ) (seen : List Sight) (i : ℕ) (s : Sight) → AreSeen v keys blocks seen → i < length v.offsets → IsSight v i s → AreSeen v keys blocks (set seen i s)
-seen_more v keys blocks seen i s h l k =
-    let size = h.one_each in
-    record {
-      indexed = h.indexed;
-      one_each = length-set seen i s ∙ size;
-      each = λ j d m. elim (cases_eq j i) [
-        | inl e ↦
-            let P : ℕ → Type 0 = λ a. IsSight v a (get_or (set seen i s) a d) in
-            subst P (sym e) (subst (IsSight v i) (sym (get_or-set_same seen i s d (omega (arith, size, l)))) k)
-        | inr n ↦ subst (IsSight v j) (sym (get_or-set_other seen i j s d n)) (h.each j d m)
-      ];
-    }
+seen_more v keys blocks seen i s h l k = grind (arith, common_steps)
 
 -- what was found at the place of an offset stands there
 pub found_stands : (v : SurroundingsView) (i : ℕ) (found : Option ℕ) (o : Offset) → o ≡ offset_at v.offsets i →

@@ -16,6 +16,7 @@ use Rattle.slope.specs.Gathering.{offset_at, rest_after, IsFirstStep, AreFirstSt
 use Rattle.slope.specs.declared.up.Up.{Up}
 use Rattle.slope.specs.declared.up.Up.TheVariants.{PlusZ, MinusZ}
 use Rattle.slope.proofs.PairSteps.{slope_at}
+use Rattle.std.proofs.lemmas.Grind.{common_steps}
 
 rest_of_height : (up : Up) (x y z : ℤ) → upward up (z -ℤ y) ≡ upward up (z -ℤ x) -ℤ upward up (y -ℤ x)
 rest_of_height PlusZ x y z = omega (arith, ints)
@@ -95,10 +96,7 @@ module _ (v : SurroundingsView) (m : BlocksView) (os : List Offset) (up : Up) (s
 
 -- none among no offsets
 pub no_steps : (os : List Offset) (whole : Offset) (steps : List ℕ) → steps ≡ [] → AreFirstSteps os whole 0 steps
-no_steps os whole steps e = record {
-  held = λ a l h. absurd (omega (arith, l));
-  only = λ a k. absurd (let n : Contains [] a = subst (λ xs. Contains xs a) e k in omega (arith, n.1));
-}
+no_steps os whole steps e = grind (arith, common_steps)
 
 module _ (os : List Offset) (whole : Offset) (k : ℕ) (steps : List ℕ) (h : AreFirstSteps os whole k steps) where
   -- offset k is one

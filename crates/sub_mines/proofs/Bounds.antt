@@ -11,21 +11,13 @@ use Rattle.ordered_group.proofs.Totals.{within_first, within_second}
 use Rattle.sub_mines.specs.Parts.{union_of, intersection_of, no_block, every_block, IsAsGood, LiesBetween}
 use Rattle.sub_mines.specs.Bounds.{IsFloor, IsCeiling}
 use Rattle.sub_mines.proofs.Parts.{fewest_of}
+use Rattle.std.proofs.lemmas.Grind.{common_steps}
 
 pub as_good_same : (mine : Mine) (c d : ℕ → Bool) → AreSame mine c d → IsAsGood mine c d
-as_good_same mine c d s =
-    let worth : worth_of mine c ≡ worth_of mine d = worth_in-same mine.worth c d mine.blocks s in
-    let count : count_of mine c ≡ count_of mine d = count_in-same c d mine.blocks s in
-    record { pays = omega (arith, ints, worth); few = λ e. omega (arith, count) }
+as_good_same mine c d s = grind (arith, common_steps, worth_in-same, count_in-same)
 
 pub as_good_more : (mine : Mine) (c d e : ℕ → Bool) → IsAsGood mine c d → IsAsGood mine d e → IsAsGood mine c e
-as_good_more mine c d e x y = record {
-  pays = omega (arith, ints, x.pays, y.pays);
-  few = λ same.
-      let first : worth_of mine c ≡ worth_of mine d = omega (arith, ints, x.pays, y.pays, same) in
-      let second : worth_of mine d ≡ worth_of mine e = omega (arith, ints, x.pays, y.pays, same) in
-      omega (arith, x.few first, y.few second);
-}
+as_good_more mine c d e x y = grind (arith, common_steps)
 
 -- the best pit is as good as any
 pub best_is_as_good : (mine : Mine) (e c : ℕ → Bool) → IsBest mine e → IsPit mine c → IsAsGood mine e c
@@ -33,10 +25,7 @@ best_is_as_good mine e c h p = record { pays = h.most c p; few = λ same. fewest
 
 -- a pit within another that is as good is that one
 same_from_less : (mine : Mine) (c d : ℕ → Bool) → LiesWithin mine c d → IsAsGood mine d c → IsAsGood mine c d → AreSame mine c d
-same_from_less mine c d within x y =
-    let k = count_in-within c d mine.blocks within in
-    let level : worth_of mine d ≡ worth_of mine c = omega (arith, ints, x.pays, y.pays) in
-    k.1 (omega (arith, k.0, x.few level))
+same_from_less mine c d within x y = grind (arith, common_steps, count_in-within)
 
 -- ---- the best pit that is known
 
@@ -82,11 +71,7 @@ pub none_is_floor : (mine : Mine) → IsFloor mine no_block
 none_is_floor mine = record { is_pit = λ b p r t. t; with_it = λ d p. as_good_same mine (union_of no_block d) d (λ b l. refl) }
 
 pub all_is_ceiling : (mine : Mine) → IsCeiling mine every_block
-all_is_ceiling mine = record { is_pit = λ b p r t. refl; within_it = λ d p. as_good_same mine (intersection_of d every_block) d (λ b l. whole (d b)) }
-  where
-    whole : (x : Bool) → (x && true) ≡ x
-    whole true = refl
-    whole false = refl
+all_is_ceiling mine = grind (arith, common_steps)
 
 -- ---- the best pits where worths rise
 

@@ -1,7 +1,5 @@
 -- The blocks of a set as a list, their pairs, and lists of them.
-use Rattle.std.proofs.Common.{◌≡◌, ℕ, ◌<◌, All, Bool, true, false, List, length, map, get_or, inl, inr, refl, sym, subst, ap, ◌∙◌, arith}
-use Rattle.std.specs.Prelude.{◌==◌, ◌&&◌}
-use Rattle.std.proofs.lemmas.Bool.{cases_order}
+use Rattle.std.proofs.Common.{◌≡◌, ℕ, ◌<◌, All, Bool, true, false, List, length, map, get_or, refl, sym, subst, ap, ◌∙◌, arith}
 use Rattle.std.proofs.lemmas.List.{get_or-map, length-map}
 use Rattle.closure_net.specs.Network.{holds_of, IsAscending}
 use Rattle.closure_net.proofs.Holding.{holds_at, place_of}
@@ -11,16 +9,12 @@ use Rattle.closure_net.proofs.Reach.{ascends, passing_known}
 use Rattle.sub_mines.specs.Renumbered.{IsListed, IsImage, number_in}
 use Rattle.sub_mines.specs.Kept.{IsKept, IsPartPairs}
 use Rattle.prec_file.proofs.PairTests.{rests_of_pair, pair_of_rests}
+use Rattle.std.proofs.lemmas.Grind.{common_steps}
 
 -- ---- the list
 
 pub listed : (set : ℕ → Bool) (n : ℕ) (kept : List ℕ) → IsKept set n kept → IsListed set n (length kept) (number_in kept)
-listed set n kept h = record {
-  below = λ i l. h.below i 0 l;
-  held = λ i l. sym (h.are (number_in kept i) (h.below i 0 l)) ∙ holds_at kept i l;
-  rising = λ i j l k. h.ascending i j l k;
-  all = λ b l t. place_of kept b (h.are b l ∙ t);
-}
+listed set n kept h = grind (arith, common_steps, holds_at, place_of)
 
 pub same_tests : (x y : Bool) → (x ≡ true → y ≡ true) → (y ≡ true → x ≡ true) → x ≡ y
 same_tests true y h k = sym (h refl)
@@ -37,13 +31,7 @@ same_rests kept pairs less h i j l k =
 -- ---- lists of them
 
 one_place : (kept : List ℕ) (i j : ℕ) → IsAscending kept → i < length kept → j < length kept → number_in kept i ≡ number_in kept j → i ≡ j
-one_place kept i j h l k e = elim (cases_order i j) [
-  | inl same ↦ same
-  | inr w ↦ elim w [
-    | inl below ↦ absurd (let x = h i j below k in omega (arith, x, e))
-    | inr above ↦ absurd (let x = h j i above l in omega (arith, x, e))
-  ]
-]
+one_place kept i j h l k e = grind (arith, common_steps)
 
 -- the list of the blocks at the places of a list holds the image of what that list holds
 pub list_image : (n : ℕ) (kept xs : List ℕ) → IsAscending kept → All (λ i. i < length kept) xs

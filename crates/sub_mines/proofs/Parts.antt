@@ -7,18 +7,13 @@ use Rattle.ordered_group.proofs.BlockSets.{count_in-same, count_in-within}
 use Rattle.closure_net.specs.Mine.{Mine, IsPit, worth_of, count_of, AreSame, IsBest, LiesWithin, RestsWithin}
 use Rattle.closure_net.proofs.BestPits.{best_from_fewest, agree, best_of_same}
 use Rattle.sub_mines.specs.Parts.{union_of, intersection_of, difference_of, part, LiesBetween}
+use Rattle.std.proofs.lemmas.Grind.{common_steps}
 
 -- ---- of best pits
 
 -- of the pits that are worth the same the best has the fewest blocks
 pub fewest_of : (mine : Mine) (e c : ℕ → Bool) → IsBest mine e → IsPit mine c → worth_of mine c ≡ worth_of mine e → count_of mine e ≤ count_of mine c
-fewest_of mine e c h p same =
-    elim (cases_lt (count_of mine c) (count_of mine e)) [
-      | inl l ↦
-          let more = h.fewest c p (λ s. let k : count_of mine c ≡ count_of mine e = count_in-same c e mine.blocks s in omega (arith, k, l)) same in
-          absurd (omega (arith, more, l))
-      | inr l ↦ l
-    ]
+fewest_of mine e c h p same = grind (arith, common_steps, cases_lt, count_in-same)
 
 -- ---- of tests
 
@@ -185,9 +180,7 @@ trimmed v s q (suc n) = rw (trimmed v s q n, trim_term (s n) (q n) (v n)) refl
 
 -- a pit of a part has a pit of it in the part alone
 trim_is_pit : (mine : Mine) (q s : ℕ → Bool) → IsPit (part mine q) s → IsPit (part mine q) (intersection_of s q)
-trim_is_pit mine q s h b p r t =
-    let rests = and_parts (mine.rests b p) (q b && q p) r in
-    and_from (s p) (q p) (h b p r (and_parts (s b) (q b) t).0) (and_parts (q b) (q p) rests.1).1
+trim_is_pit mine q s h b p r t = grind (arith, common_steps)
 
 -- so the best one has no other blocks
 pub best_inside : (mine : Mine) (q f : ℕ → Bool) → IsBest (part mine q) f → LiesWithin mine f q

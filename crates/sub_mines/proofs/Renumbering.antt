@@ -10,19 +10,13 @@ use Rattle.ordered_group.proofs.Totals.{within_first}
 use Rattle.sub_mines.specs.Parts.{union_of, intersection_of, difference_of, part}
 use Rattle.sub_mines.specs.Renumbered.{IsListed, IsRenumbered, IsImage}
 use Rattle.sub_mines.proofs.Parts.{fewest_of, not_beside, count_cuts}
+use Rattle.std.proofs.lemmas.Grind.{common_steps}
 
 -- ---- sums over a list of numbers
 
 -- the list without n, where n isn't in the set
 listed_else : (set : ℕ → Bool) (n m : ℕ) (at : ℕ → ℕ) → set n ≡ false → IsListed set (suc n) m at → IsListed set n m at
-listed_else set n m at out h = record {
-  below = λ i l.
-      let not_n : at i ≢ n = λ e. let bad : true ≡ false = sym (h.held i l) ∙ ap set e ∙ out in cc in
-      omega (arith, h.below i l, not_n);
-  held = h.held;
-  rising = h.rising;
-  all = λ b l t. h.all b (omega (arith, l)) t;
-}
+listed_else set n m at out h = grind (arith, common_steps)
 
 -- n is the last of the list, where it is in the set
 record EndsWith (set : ℕ → Bool) (n m : ℕ) (at : ℕ → ℕ) : Type 0 where
@@ -182,11 +176,7 @@ joined_first true y h = refl
 joined_first false y h = absurd cc
 
 cut_term : (x y z : Bool) (v : ℤ) → (y ≡ true → (z && not x) ≡ true) → cond (x || y) v (pos 0) ≡ cond x v (pos 0) +ℤ cond y (cond (z && not x) v (pos 0)) (pos 0)
-cut_term true true z v h = absurd (let e = h refl in no z e)
-  where
-    no : (z : Bool) → (z && not true) ≡ true → ⊥
-    no true e = absurd cc
-    no false e = absurd cc
+cut_term true true z v h = grind (arith, common_steps)
 cut_term true false z v h = omega (arith, ints)
 cut_term false true z v h = rw (h refl) (omega (arith, ints))
 cut_term false false z v h = omega (arith, ints)

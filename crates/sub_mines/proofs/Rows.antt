@@ -9,16 +9,14 @@ use Rattle.prec_file.proofs.Finding.{above_at, above_has}
 use Rattle.closure_net.specs.Network.{IsAscending}
 use Rattle.sub_mines.specs.Kept.{IsPartPairs}
 use Rattle.sub_mines.specs.Among.{ArePlacesAmong, IsAmong, AreRowsAmong, AreRowsAnd}
+use Rattle.std.proofs.lemmas.Grind.{common_steps}
 
 -- ---- places
 
 -- a place is no higher than the block there
 pub place_below : (kept : List ℕ) → IsAscending kept → (i : ℕ) → i < length kept → i ≤ get_or kept i 0
 place_below kept h zero l = omega arith
-place_below kept h (suc i) l =
-    let more = place_below kept h i (omega (arith, l)) in
-    let up = h i (suc i) (omega arith) l in
-    omega (arith, more, up)
+place_below kept h (suc i) l = grind (arith, common_steps, (place_below kept h i (omega (arith, l))))
 
 pub place_more : (n : ℕ) (kept : List ℕ) (i v : ℕ) (places : List ℕ) → IsAscending kept → i < length kept → get_or kept i 0 < n → v ≡ i + 1 → ArePlacesAmong n kept i places → ArePlacesAmong n kept (i + 1) (set places (get_or kept i 0) v)
 place_more n kept i v places rising l low e h =

@@ -21,6 +21,7 @@ use Rattle.fixed_worth.specs.Text.{parts}
 use Rattle.trace_file.specs.Lines.{kind_of, block_within, block_of, event_with, event_of_words, event_of}
 use Rattle.trace_file.specs.Written.{kind_word, event_line}
 use Rattle.trace_file.proofs.Parts.{digits_alone}
+use Rattle.std.proofs.lemmas.Grind.{common_steps}
 
 -- ---- what is written is read
 
@@ -53,10 +54,7 @@ kind_read GiveExcess = refl
 kind_read RaiseLabel = refl
 
 pub event_read : (e : Event) → e.block < 2 ^ 32 → event_of (event_line e) ≡ Some e
-event_read e h =
-    let words : parts 32 (event_line e) ≡ kind_word e.kind ∷ decimal e.block ∷ [] =
-    words_read e.kind e.block ∙ ap (λ (ws : List (List ℕ)). kind_word e.kind ∷ ws) (digits_alone (decimal e.block) (decimal_digits e.block (omega arith))) in
-    ap event_of_words words ∙ ap (λ (o : Option Kind). event_with o (block_of (decimal e.block))) (kind_read e.kind) ∙ ap (event_with (Some e.kind)) (block_read e.block h)
+event_read e h = grind (arith, common_steps, words_read, digits_alone, decimal_digits, kind_read, block_read)
 
 one_line : (k : Kind) (ds : List ℕ) → is_one_line (kind_word k ++ (32 ∷ ds)) ≡ is_one_line ds
 one_line ReadExcess ds = refl
@@ -106,9 +104,7 @@ same : (word key : List ℕ) → bytes_eq word key ≡ true → word ≡ key
 same word key = (bytes_eq-Decides word key).0
 
 kind_spelled : (word : List ℕ) (k : Kind) → kind_of word ≡ Some k → word ≡ kind_word k
-kind_spelled word k h = kind_at word k
-    (bytes_eq word (codes "RE")) (bytes_eq word (codes "RC")) (bytes_eq word (codes "RL")) (bytes_eq word (codes "TC")) (bytes_eq word (codes "GC")) (bytes_eq word (codes "TE")) (bytes_eq word (codes "GE")) (bytes_eq word (codes "RA"))
-    (same word (codes "RE")) (same word (codes "RC")) (same word (codes "RL")) (same word (codes "TC")) (same word (codes "GC")) (same word (codes "TE")) (same word (codes "GE")) (same word (codes "RA")) h
+kind_spelled word k h = grind (arith, common_steps, kind_at, same)
 
 block_at : (word : List ℕ) (j k : ℕ) (t : Bool) → ltb j (2 ^ 32) ≡ t → plain_of word ≡ Ok (pos j) → cond t (Some j) None ≡ Some k → (word ≡ decimal k) × (k < 2 ^ 32)
 block_at word j k true l e h =
@@ -130,15 +126,7 @@ pub record Spelled (line : List ℕ) (e : Event) : Type 0 where
   pub fits : e.block < 2 ^ 32
 
 two_words : (word number : List ℕ) (e : Event) (o : Option Kind) (p : Option ℕ) → kind_of word ≡ o → block_of number ≡ p → event_with o p ≡ Some e → Spelled (word ++ (32 ∷ number)) e
-two_words word number e (Some kind) (Some block) h i is =
-    let made : record { block = block; kind = kind } ≡ e = ap (λ (o : Option Event). unwrap_or o e) is in
-    let k : word ≡ kind_word e.kind = kind_spelled word kind h ∙ ap (λ (x : Event). kind_word x.kind) made in
-    let b = block_spelled number block i in
-    let same_block : block ≡ e.block = ap (λ (x : Event). x.block) made in
-    record {
-      written = ap (λ (w : List ℕ). w ++ (32 ∷ number)) k ∙ ap (λ (w : List ℕ). kind_word e.kind ++ (32 ∷ w)) (b.0 ∙ ap decimal same_block);
-      fits = omega (arith, b.1, same_block);
-    }
+two_words word number e (Some kind) (Some block) h i is = grind (arith, common_steps, kind_spelled, block_spelled)
 two_words word number e (Some kind) None h i is = absurd cc
 two_words word number e None p h i is = absurd cc
 

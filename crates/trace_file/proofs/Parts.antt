@@ -1,6 +1,5 @@
 -- A text is cut at its line feeds, and a line at its spaces.
 use Rattle.std.proofs.Common.{◌≡◌, ℕ, ◌<◌, Bool, true, false, cond, not, eqb, List, [], ◌∷◌, ◌++◌, length, Some, None, refl, ap, ◌∙◌, arith}
-use Rattle.std.specs.Prelude.{nat_le}
 use Rattle.std.specs.List.{list_all, onto_first}
 use Rattle.std.proofs.lemmas.Bool.{not-true, and_parts}
 use Rattle.std.proofs.lemmas.Bool.Decides.{nat_tests}
@@ -12,6 +11,7 @@ use Rattle.fixed_worth.proofs.Parts.{some_part}
 use Rattle.trace_file.specs.declared.trace_fault.TraceFault.TheVariants.{Text}
 use Rattle.trace_file.specs.Lines.{event_of_words}
 use Rattle.trace_file.specs.Faults.{end_fault}
+use Rattle.std.proofs.lemmas.Grind.{common_steps}
 
 -- A line, its line feed, and what follows.
 pub line_cut : (line rest : List ℕ) → is_one_line line ≡ true → parts 10 (line ++ (10 ∷ rest)) ≡ line ∷ parts 10 rest
@@ -29,9 +29,7 @@ lines_cut (line ∷ lines) h =
     line_cut line (with_line_feeds lines) q.0 ∙ ap (λ (ls : List (List ℕ)). line ∷ ls) (lines_cut lines q.1)
 
 digit_no_space : (d : ℕ) → is_digit d ≡ true → eqb d 32 ≡ false
-digit_no_space d h =
-    let q = and_parts (nat_le 48 d) (nat_le d 57) h in
-    grind (arith, nat_tests)
+digit_no_space d h = grind (arith, common_steps)
 
 -- Digits are one word.
 pub digits_alone : (ds : List ℕ) → list_all is_digit ds ≡ true → parts 32 ds ≡ ds ∷ []

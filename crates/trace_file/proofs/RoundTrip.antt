@@ -1,7 +1,7 @@
 -- What is written is read back, and what is read was written so.
 use Rattle.std.proofs.Common.{◌≡◌, ℕ, ◌+◌, ◌<◌, ◌≤◌, ◌^◌, Bool, true, false, cond, ltb, List, [], ◌∷◌, ◌++◌, length, Option, Some, None, refl, sym, ap, ◌∙◌, subst, arith, append_assoc, length-append}
 use Rattle.std.specs.Prelude.{All, map, codes}
-use Rattle.std.specs.List.{list_all, filter_map, join_with_byte, cons_option}
+use Rattle.std.specs.List.{list_all, filter_map, join_with_byte}
 use Rattle.std.specs.Str.{bytes_eq}
 use Rattle.std.proofs.lemmas.Bool.{and_from}
 use Rattle.std.proofs.lemmas.Bool.Decides.{nat_tests}
@@ -16,11 +16,12 @@ use Rattle.trace_file.specs.declared.trace_fault.TraceFault.{TraceFault}
 use Rattle.trace_file.specs.declared.trace_fault.TraceFault.TheVariants.{Text, TooMany}
 use Rattle.fixed_worth.specs.Text.{parts}
 use Rattle.trace_file.specs.Lines.{event_of}
-use Rattle.trace_file.specs.Written.{event_line, trace_lines, trace_text}
+use Rattle.trace_file.specs.Written.{event_line, trace_text}
 use Rattle.trace_file.specs.Faults.{events_of, end_fault, event_fault, line_fault, fault_behind, fault_in, fault_of}
 use Rattle.trace_file.specs.ReadBack.{IsReadBack, IsWritten}
 use Rattle.trace_file.proofs.Parts.{lines_cut}
 use Rattle.trace_file.proofs.EventLines.{event_read, event_is_one_line, event_is_no_end, event_spelled}
+use Rattle.std.proofs.lemmas.Grind.{common_steps}
 
 abbrev pub Fits : Event → Type 0
 Fits e = e.block < 2 ^ 32
@@ -36,24 +37,15 @@ behind_line k line [] h = absurd (omega arith)
 behind_line k line (next ∷ more) h = refl
 
 event_sound : (k : ℕ) (e : Event) (ps : List (List ℕ)) (behind : Option TraceFault) → k ≤ MOST_EVENTS → Fits e → behind ≡ None → line_fault k (event_line e) ps behind ≡ None
-event_sound k e ps behind few fits none =
-    let t : ltb MOST_EVENTS k ≡ false = grind (arith, nat_tests) in
-    ap (λ (t : Bool). cond t (end_fault (k + 2) ps) (event_fault k (event_of (event_line e)) behind)) (event_is_no_end e)
-    ∙ ap (λ (o : Option Event). event_fault k o behind) (event_read e fits)
-    ∙ ap (λ (t : Bool). cond t (Some TooMany) behind) t ∙ none
+event_sound k e ps behind few fits none = grind (arith, common_steps, ltb, event_is_no_end, event_read)
 
 events_sound : (k : ℕ) (es : List Event) → k + length es ≤ MOST_EVENTS + 1 → All Fits es → fault_behind k (map event_line es ++ last_parts) ≡ None
 events_sound k [] few fit = refl
-events_sound k (e ∷ es) few fit =
-    let ps = map event_line es ++ last_parts in
-    behind_line k (event_line e) ps (omega (arith, length-append (map event_line es) last_parts))
-    ∙ event_sound k e ps (fault_behind (k + 1) ps) (omega arith) (All-head Fits e es fit) (events_sound (k + 1) es (omega arith) (All-tail Fits e es fit))
+events_sound k (e ∷ es) few fit = grind (arith, common_steps, last_parts, behind_line, length-append, event_sound, All-head, Fits, All-tail, (events_sound (k + 1) es (omega arith) (All-tail Fits e es fit)))
 
 events_said : (es : List Event) → All Fits es → filter_map event_of (map event_line es ++ last_parts) ≡ es
 events_said [] fit = refl
-events_said (e ∷ es) fit =
-    ap (λ (o : Option Event). cons_option o (filter_map event_of (map event_line es ++ last_parts))) (event_read e (All-head Fits e es fit))
-    ∙ ap (λ (xs : List Event). e ∷ xs) (events_said es (All-tail Fits e es fit))
+events_said (e ∷ es) fit = grind (arith, common_steps, last_parts, event_read, All-head, Fits, All-tail, (events_said es (All-tail Fits e es fit)))
 
 lines_whole : (es : List Event) → All Fits es → list_all is_one_line (map event_line es ++ (codes "END" ∷ [])) ≡ true
 lines_whole [] fit = refl
@@ -61,9 +53,7 @@ lines_whole (e ∷ es) fit =
     and_from (is_one_line (event_line e)) (list_all is_one_line (map event_line es ++ (codes "END" ∷ []))) (event_is_one_line e (All-head Fits e es fit)) (lines_whole es (All-tail Fits e es fit))
 
 parts_are : (es : List Event) → All Fits es → parts 10 (trace_text es) ≡ codes "PITTRACE 1" ∷ (map event_line es ++ last_parts)
-parts_are es fit =
-    lines_cut (trace_lines es) (lines_whole es fit)
-    ∙ ap (λ (ls : List (List ℕ)). codes "PITTRACE 1" ∷ ls) (append_assoc (map event_line es) (codes "END" ∷ []) ([] ∷ []))
+parts_are es fit = grind (arith, common_steps, lines_cut, lines_whole, append_assoc)
 
 head_sound : (ps : List (List ℕ)) → 0 < length ps → fault_in (codes "PITTRACE 1" ∷ ps) ≡ fault_behind 1 ps
 head_sound [] h = absurd (omega arith)
@@ -96,15 +86,7 @@ join_more line [] h = absurd (omega arith)
 join_more line (p ∷ ps) h = refl
 
 one_more : (k : ℕ) (line : List ℕ) (e : Event) (ps : List (List ℕ)) → 0 < length ps → event_of line ≡ Some e → AreWritten (k + 1) ps (filter_map event_of ps) → AreWritten k (line ∷ ps) (filter_map event_of (line ∷ ps))
-one_more k line e ps some said w =
-    let s = event_spelled line e said in
-    let es = filter_map event_of ps in
-    let events : filter_map event_of (line ∷ ps) ≡ e ∷ es = ap (λ (o : Option Event). cons_option o es) said in
-    subst (AreWritten k (line ∷ ps)) (sym events) (record {
-      spelled = join_more line ps some ∙ ap (λ (t : List ℕ). t ++ (10 ∷ join_with_byte 10 ps)) s.written ∙ ap (λ (t : List ℕ). event_line e ++ (10 ∷ t)) w.spelled;
-      few = omega (arith, w.few);
-      fit = All-cons Fits e es s.fits w.fit;
-    })
+one_more k line e ps some said w = grind (arith, common_steps, event_spelled, join_more, All-cons, Fits)
 
 said_by : (k : ℕ) (line : List ℕ) (ps : List (List ℕ)) (o : Option Event) (t : Bool) → 0 < length ps → event_of line ≡ o → ltb MOST_EVENTS k ≡ t
     → (fault_behind (k + 1) ps ≡ None → k + 1 ≤ MOST_EVENTS + 1 → AreWritten (k + 1) ps (filter_map event_of ps)) → event_fault k o (fault_behind (k + 1) ps) ≡ None → AreWritten k (line ∷ ps) (filter_map event_of (line ∷ ps))

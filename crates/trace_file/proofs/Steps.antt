@@ -1,5 +1,5 @@
 -- The steps of reading a trace, line by line.
-use Rattle.std.proofs.Common.{◌≡◌, ℕ, ◌+◌, ◌<◌, ◌≤◌, Bool, true, false, cond, ltb, List, [], ◌∷◌, ◌++◌, length, Option, Some, None, refl, sym, ap, ◌∙◌, subst, arith, append_assoc, append-nil, length-append}
+use Rattle.std.proofs.Common.{◌≡◌, ℕ, ◌+◌, ◌<◌, ◌≤◌, Bool, true, false, cond, ltb, List, [], ◌∷◌, ◌++◌, length, Option, Some, None, refl, sym, ap, ◌∙◌, arith, append_assoc, append-nil, length-append}
 use Rattle.std.specs.Prelude.{codes}
 use Rattle.std.specs.List.{filter_map, cons_option}
 use Rattle.std.specs.Str.{bytes_eq}
@@ -15,6 +15,7 @@ use Rattle.trace_file.specs.Faults.{UnlessMemory, events_of, end_fault, event_fa
 use Rattle.trace_file.specs.ReadBack.{IsWritten}
 use Rattle.fixed_worth.proofs.Parts.{some_part}
 use Rattle.trace_file.proofs.RoundTrip.{behind_line, read_is_written}
+use Rattle.std.proofs.lemmas.Grind.{common_steps}
 
 -- ---- the first line
 
@@ -56,12 +57,7 @@ nothing_said k ((b ∷ bs) ∷ ps) h = absurd cc
 -- All of the text is read.
 pub all_read : (text left line behind : List ℕ) (es : List Event) (k : ℕ) → Going text left es → k ≡ length es + 2 → parts 10 left ≡ line ∷ parts 10 behind → bytes_eq line (codes "END") ≡ true → end_fault (k + 1) (parts 10 behind) ≡ None
     → (fault_of text ≡ None) × (es ≡ events_of text) × IsWritten text es
-all_read text left line behind es k g e p f none =
-    let sound : fault_of text ≡ None = at_end text left line behind es k g e p f ∙ none in
-    let is : line ≡ codes "END" = (bytes_eq-Decides line (codes "END")).0 f in
-    let nothing : events_of left ≡ [] = ap (filter_map event_of) (p ∙ ap (λ (l : List ℕ). l ∷ parts 10 behind) is) ∙ nothing_said (k + 1) (parts 10 behind) none in
-    let same : es ≡ events_of text = sym (g.said ∙ ap (λ (xs : List Event). es ++ xs) nothing ∙ append-nil es) in
-    (sound, same, subst (IsWritten text) (sym same) (read_is_written text sound))
+all_read text left line behind es k g e p f none = grind (arith, common_steps, at_end, bytes_eq-Decides, nothing_said, append-nil, read_is_written)
 
 at_event : (text left line behind : List ℕ) (es : List Event) → Going text left es → parts 10 left ≡ line ∷ parts 10 behind → bytes_eq line (codes "END") ≡ false
     → fault_of text ≡ event_fault (length es + 1) (event_of line) (fault_behind (length es + 1 + 1) (parts 10 behind))

@@ -1,6 +1,6 @@
 -- The lines of blocks are read back.
-use Rattle.std.proofs.Common.{◌≡◌, ℕ, ℤ, pos, zero, suc, ◌+◌, ◌^◌, ◌<◌, ◌≤◌, Bool, true, false, cond, not, eqb, List, [], ◌∷◌, ◌++◌, length, get_or, Some, None, refl, sym, ap, ◌∙◌, arith, All, length-append, append-nil}
-use Rattle.std.specs.Prelude.{◌||◌, nat_lt, nat_le, unsigned_abs, codes}
+use Rattle.std.proofs.Common.{◌≡◌, ℕ, ℤ, pos, zero, suc, ◌+◌, ◌^◌, ◌<◌, ◌≤◌, Bool, true, false, cond, not, eqb, List, [], ◌∷◌, ◌++◌, length, get_or, None, refl, sym, ap, ◌∙◌, arith, All, length-append, append-nil}
+use Rattle.std.specs.Prelude.{◌||◌, unsigned_abs, codes}
 use Rattle.std.specs.Option.{option_or}
 use Rattle.std.specs.List.{list_all}
 use Rattle.std.specs.Fmt.{decimal}
@@ -13,15 +13,15 @@ use Rattle.fixed_worth.specs.Printed.{amount_text}
 use Rattle.fixed_worth.specs.Record.{Line, numbered_lines, is_skipped}
 use Rattle.fixed_worth.specs.Text.{is_separator, fields_of}
 use Rattle.fixed_worth.proofs.Lengths.{printed_micros_short}
-use Rattle.upit_file.specs.declared.upit_fault.UpitFault.TheVariants.{Text}
 use Rattle.upit_file.specs.Header.{is_long, fields_in, is_end}
-use Rattle.upit_file.specs.Body.{block_of, value_of_record, shape_fault, record_fault, line_fault, is_record_of, has_record, value_among, first_fault, before_end}
+use Rattle.upit_file.specs.Body.{block_of, value_of_record, shape_fault, line_fault, is_record_of, has_record, value_among, first_fault, before_end}
 use Rattle.upit_file.specs.Writing.{record_line, record_lines}
 use Rattle.fixed_worth.proofs.Joined.{is_one_line, is_word, fields_cut}
 use Rattle.fixed_worth.proofs.NextLine.{line, short}
 use Rattle.fixed_worth.proofs.WrittenNumbers.{whole_of-decimal, digit_separates_not, digit_is_one_line, decimal_is_word, decimal_is_one_line, decimal_is_no_remark}
 use Rattle.upit_file.proofs.BodyLines.{has-push}
 use Rattle.upit_file.proofs.ReadBack.{printed_read, printed_all, printed_some}
+use Rattle.std.proofs.lemmas.Grind.{common_steps}
 
 abbrev pub Sizes : List ℤ → Type 0
 Sizes [] = Unit {0}
@@ -33,9 +33,7 @@ sizes_each (v ∷ vs) a = (a 0 v (omega arith), sizes_each vs (λ k d h. a (suc 
 
 printed_word : (v : ℤ) → unsigned_abs v ≤ 10 ^ 18 → is_word (amount_text 6 v) ≡ true
 unfolding is_separator
-printed_word v h =
-    let some : nat_lt 0 (length (amount_text 6 v)) ≡ true = grind (arith, nat_tests, printed_some v h) in
-    and_from (nat_lt 0 (length (amount_text 6 v))) (list_all (λ b. not (is_separator b)) (amount_text 6 v)) some (printed_all (λ b. not (is_separator b)) v digit_separates_not refl refl h)
+printed_word v h = grind (arith, common_steps, printed_some, and_from, printed_all, digit_separates_not)
 
 pub record_fields : (b : ℕ) (v : ℤ) → b < MOST_BLOCKS → unsigned_abs v ≤ 10 ^ 18 → fields_of (record_line b v) ≡ decimal b ∷ amount_text 6 v ∷ []
 record_fields b v h s =
@@ -82,13 +80,8 @@ is_record k b v h s =
 record_of : (b j : ℕ) (v : ℤ) (l : Line) → IsRecordOf b v l → is_record_of j (fields_in l) ≡ eqb b j
 record_of b j v l r = rw (r.kept) (ap (λ x. eqb x j) r.block)
 
-no_record_fault : (n line b : ℕ) (had : ℕ → Bool) (fields : List (List ℕ)) → is_skipped fields ≡ false → shape_fault line fields ≡ None → block_of fields ≡ b → nat_le n b ≡ false → had b ≡ false → record_fault n had line fields ≡ None
-no_record_fault n line b had fields e f g h k = rw (e, f, g, h, k) refl
-
 no_line_fault : (n b : ℕ) (v : ℤ) (had : ℕ → Bool) (l : Line) → IsRecordOf b v l → b < n → had b ≡ false → line_fault n had l ≡ None
-no_line_fault n b v had l r h f =
-    let known : nat_le n b ≡ false = grind (arith, nat_tests) in
-    ap (λ t. cond t (Some (Text l.number)) (record_fault n had l.number (fields_in l))) r.small ∙ no_record_fault n l.number b had (fields_in l) r.kept r.shape r.block known f
+no_line_fault n b v had l r h f = grind (arith, common_steps)
 
 -- The records have no fault.
 pub no_first_fault : (n k b : ℕ) (vs : List ℤ) (before : List Line) → b + length vs ≤ n → n ≤ MOST_BLOCKS → Sizes vs → ((j : ℕ) → b ≤ j → has_record before j ≡ false) → first_fault n before (numbered_lines k (record_lines b vs)) ≡ None

@@ -1,11 +1,10 @@
 -- The header's lines are read back.
-use Rattle.std.proofs.Common.{◌≡◌, ℕ, suc, ◌+◌, ◌-◌, ◌^◌, ◌<◌, ◌≤◌, Bool, true, false, cond, not, eqb, List, [], ◌∷◌, ◌++◌, length, take, drop, get_or, Some, None, refl, sym, ap, ◌∙◌, subst, arith, length-append}
-use Rattle.std.specs.Prelude.{◌&&◌, nat_lt, nat_le, is_some, codes, map}
+use Rattle.std.proofs.Common.{◌≡◌, ℕ, ◌+◌, ◌-◌, ◌^◌, ◌<◌, ◌≤◌, true, false, cond, eqb, List, [], ◌∷◌, ◌++◌, length, take, drop, get_or, Some, None, refl, sym, ap, ◌∙◌, arith, length-append}
+use Rattle.std.specs.Prelude.{is_some, codes, map}
 use Rattle.std.specs.Option.{option_or}
 use Rattle.std.specs.List.{list_any, position_or_len}
 use Rattle.std.specs.Fmt.{decimal}
 use Rattle.std.proofs.lemmas.Bool.{not-true, and_parts}
-use Rattle.std.proofs.lemmas.Bool.Decides.{nat_tests}
 use Rattle.std.proofs.lemmas.Fmt.{length-decimal-le_wide}
 use Rattle.std.proofs.lemmas.List.{take_all}
 use Rattle.fixed_worth.specs.declared.limits.TheConstants.{MOST_BLOCKS}
@@ -16,11 +15,12 @@ use Rattle.fixed_worth.proofs.Cuts.{first_run}
 use Rattle.upit_file.specs.declared.key.Key.{Key}
 use Rattle.upit_file.specs.declared.key.Key.TheVariants.{Name, FileType, Blocks, Objective}
 use Rattle.upit_file.specs.declared.upit_fault.UpitFault.TheVariants.{Text}
-use Rattle.upit_file.specs.Header.{is_long, fields_in, key_in, header, after_header, first_count, count_fault, key_fault, last_end, from_second, name_in, last_name, header_line_fault, header_lines_fault, last_fault, end_fault, header_fault}
+use Rattle.upit_file.specs.Header.{is_long, fields_in, key_in, header, after_header, first_count, count_fault, key_fault, last_end, from_second, name_in, last_name, header_line_fault, header_lines_fault, header_fault}
 use Rattle.upit_file.specs.Records.{is_name}
 use Rattle.fixed_worth.proofs.Joined.{word_run, gap_run, word_alone}
 use Rattle.fixed_worth.proofs.NextLine.{line, short}
 use Rattle.fixed_worth.proofs.WrittenNumbers.{whole_of-decimal, decimal_is_word}
+use Rattle.std.proofs.lemmas.Grind.{common_steps}
 
 -- ---- the name
 
@@ -29,14 +29,6 @@ abbrev last_of : ℕ → List ℕ → ℕ
 last_of b [] = b
 last_of b (c ∷ cs) = last_of c cs
 
-ends_before : (b p e : ℕ) (rs : List WordRun) → 0 < length rs → last_end e (run_before b p rs) ≡ last_end e rs
-ends_before b p e [] h = absurd (omega arith)
-ends_before b p e (r ∷ rs) h = by_place (eqb r.place (p + 1)) refl
-  where
-    by_place : (t : Bool) → eqb r.place (p + 1) ≡ t → last_end e (cond t (record { text = b ∷ r.text; place = p } ∷ rs) (record { text = b ∷ []; place = p } ∷ r ∷ rs)) ≡ last_end (r.place + length r.text) rs
-    by_place true f = let k : p + suc (length r.text) ≡ r.place + length r.text = grind (arith, nat_tests) in ap (λ n. last_end n rs) k
-    by_place false f = refl
-
 some_before : (b p : ℕ) (rs : List WordRun) → 0 < length (run_before b p rs)
 some_before b p [] = omega arith
 some_before b p (r ∷ rs) = elim (eqb r.place (p + 1)) as (λ t. 0 < length (cond t (record { text = b ∷ r.text; place = p } ∷ rs) (record { text = b ∷ []; place = p } ∷ r ∷ rs))) [ true ↦ omega arith | false ↦ omega arith ]
@@ -44,16 +36,9 @@ some_before b p (r ∷ rs) = elim (eqb r.place (p + 1)) as (λ t. 0 < length (co
 abbrev EndsAt : ℕ → List WordRun → ℕ → Type 0
 EndsAt e rs n = (0 < length rs) × (last_end e rs ≡ n)
 
-ends_step : (p e b n : ℕ) (rs : List WordRun) (t : Bool) → EndsAt e rs n → EndsAt e (cond t rs (run_before b p rs)) n
-ends_step p e b n rs true h = h
-ends_step p e b n rs false h = (some_before b p rs, ends_before b p e rs h.0 ∙ h.1)
-
 ends_at : (p e b : ℕ) (bs : List ℕ) → is_separator (last_of b bs) ≡ false → EndsAt e (runs_from p (b ∷ bs)) (p + length (b ∷ bs))
 ends_at p e b [] h = rw h (omega arith, refl)
-ends_at p e b (c ∷ cs) h =
-    let k : p + 1 + length (c ∷ cs) ≡ p + length (b ∷ c ∷ cs) = omega arith in
-    let ih : EndsAt e (runs_from (p + 1) (c ∷ cs)) (p + length (b ∷ c ∷ cs)) = subst (EndsAt e (runs_from (p + 1) (c ∷ cs))) k (ends_at (p + 1) e c cs h) in
-    ends_step p e b (p + length (b ∷ c ∷ cs)) (runs_from (p + 1) (c ∷ cs)) (is_separator b) ih
+ends_at p e b (c ∷ cs) h = grind (arith, common_steps, (ends_at (p + 1) e c cs h))
 
 last_is : (c : ℕ) (cs : List ℕ) → get_or (c ∷ cs) (length cs) 0 ≡ last_of c cs
 last_is c [] = refl
@@ -67,23 +52,7 @@ record NameParts (c : ℕ) (cs : List ℕ) : Type 0 where
   last : is_separator (last_of c cs) ≡ false
 
 name_parts : (c : ℕ) (cs : List ℕ) → is_name (c ∷ cs) ≡ true → NameParts c cs
-name_parts c cs h =
-    let some : eqb (suc (length cs)) 0 ≡ false = grind (arith, nat_tests) in
-    let a = nat_le (length (c ∷ cs)) NAME_BYTES in
-    let b = not (list_any (λ x. eqb x 10) (c ∷ cs)) in
-    let d = not (is_separator c) in
-    let e = not (is_separator (get_or (c ∷ cs) (suc (length cs) - 1) 0)) in
-    let all : (a && b && d && e) ≡ true = rw some at h in
-    let p = and_parts (a && b && d) e all in
-    let q = and_parts (a && b) d p.0 in
-    let r = and_parts a b q.0 in
-    let k : suc (length cs) - 1 ≡ length cs = omega arith in
-    record {
-      few = (let t : nat_le (suc (length cs)) NAME_BYTES ≡ true = r.0 in grind (arith, nat_tests));
-      whole = not-true _ r.1;
-      first = not-true (is_separator c) q.1;
-      last = ap is_separator (sym (last_is c cs)) ∙ ap (λ i. is_separator (get_or (c ∷ cs) i 0)) (sym k) ∙ not-true _ p.1;
-    }
+name_parts c cs h = grind (arith, common_steps, eqb, and_parts, not-true, last_is)
 
 pub name_few : (name : List ℕ) → is_name name ≡ true → length name ≤ NAME_BYTES
 name_few [] h = omega arith
@@ -134,16 +103,7 @@ record IsSound (n : ℕ) (k : Key) (l : Line) : Type 0 where
   sound : header_line_fault n l ≡ None
 
 name_sound : (n : ℕ) (name : List ℕ) → is_name name ≡ true → IsSound n Name (line 1 (codes "NAME: " ++ name))
-name_sound n name h =
-    let few = name_few name h in
-    let s = short (codes "NAME: " ++ name) (omega (arith, length-append (codes "NAME: ") name)) in
-    let f : fields_in (line 1 (codes "NAME: " ++ name)) ≡ codes "NAME" ∷ texts (runs_from 6 name) = rw s (ap texts (name_runs name)) in
-    let k : key_in (fields_in (line 1 (codes "NAME: " ++ name))) ≡ Name = ap key_in f ∙ name_key (texts (runs_from 6 name)) in
-    let small : nat_lt NAME_BYTES (length name) ≡ false = grind (arith, nat_tests) in
-    record {
-      key = k;
-      sound = fault_by_key n (line 1 (codes "NAME: " ++ name)) Name s k ∙ ap (λ (xs : List ℕ). cond (nat_lt NAME_BYTES (length xs)) (Some (Text 1)) None) (name_back name h) ∙ ap (λ t. cond t (Some (Text 1)) None) small;
-    }
+name_sound n name h = grind (arith, common_steps, name_few, short, length-append, line, texts, name_runs, name_key, fault_by_key, name_back)
 
 type_sound : (n : ℕ) → IsSound n FileType (line 2 (codes "TYPE: UPIT"))
 unfolding is_separator
@@ -155,16 +115,10 @@ objective_key = refl
 
 count_runs : (n : ℕ) → n < 2 ^ 64 → runs_from 0 (codes "NBLOCKS: " ++ decimal n) ≡ record { text = codes "NBLOCKS"; place = 0 } ∷ record { text = decimal n; place = 9 } ∷ []
 unfolding is_separator
-count_runs n h =
-    let key : WordRun = record { text = codes "NBLOCKS"; place = 0 } in
-    word_run 0 (codes "NBLOCKS") (58 ∷ 32 ∷ decimal n) refl refl
-    ∙ ap (λ (rs : List WordRun). key ∷ rs) (gap_run 7 58 (32 ∷ decimal n) refl ∙ gap_run 8 32 (decimal n) refl ∙ word_alone 9 (decimal n) (decimal_is_word n h))
+count_runs n h = grind (arith, common_steps, word_run, gap_run, word_alone, decimal_is_word)
 
 count_sound_fields : (n line : ℕ) → n ≤ MOST_BLOCKS → count_fault n line (codes "NBLOCKS" ∷ decimal n ∷ []) ≡ None
-count_sound_fields n line h =
-    let same : eqb n n ≡ true = grind (arith, nat_tests) in
-    let small : nat_lt MOST_BLOCKS n ≡ false = grind (arith, nat_tests) in
-    rw (whole_of-decimal n (omega arith), same, small) refl
+count_sound_fields n line h = grind (arith, common_steps, eqb, whole_of-decimal)
 
 count_sound : (n : ℕ) → n ≤ MOST_BLOCKS → IsSound n Blocks (line 3 (codes "NBLOCKS: " ++ decimal n))
 count_sound n h =
@@ -191,14 +145,7 @@ name_of_lines : (n : ℕ) (a b c : Line) → IsSound n Name a → IsSound n File
 name_of_lines n a b c x y z = rw (x.key, y.key, z.key) refl
 
 four_sound : (n : ℕ) (a b c d : Line) (rest : List Line) → IsSound n Name a → IsSound n FileType b → IsSound n Blocks c → key_in (fields_in d) ≡ Objective → header_fault n (a ∷ b ∷ c ∷ d ∷ rest) ≡ None
-four_sound n a b c d rest x y z e =
-    let all = a ∷ b ∷ c ∷ d ∷ rest in
-    let split = split_at_end n a b c d rest x y z e in
-    ap (λ (hs : List Line). option_or (header_lines_fault n hs) (end_fault (is_some (first_count hs)) (length all) (after_header all))) split.0
-    ∙ ap (λ (rs : List Line). option_or (header_lines_fault n (a ∷ b ∷ c ∷ [])) (end_fault (is_some (first_count (a ∷ b ∷ c ∷ []))) (length all) rs)) split.1
-    ∙ ap (λ o. option_or o (end_fault (is_some (first_count (a ∷ b ∷ c ∷ []))) (length all) (d ∷ rest))) (lines_sound n a b c x y z)
-    ∙ ap (λ t. end_fault t (length all) (d ∷ rest)) (counted n a b c x y z)
-    ∙ ap (last_fault true d.number) e
+four_sound n a b c d rest x y z e = grind (arith, common_steps)
 
 -- The header of a written text.
 abbrev pub written : List ℕ → ℕ → List Line → List Line

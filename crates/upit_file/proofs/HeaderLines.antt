@@ -1,5 +1,5 @@
 -- Reading the header line after line.
-use Rattle.std.proofs.Common.{◌≡◌, ℕ, ◌+◌, suc, Bool, List, [], ◌∷◌, length, Option, None, refl, sym, ap, arith}
+use Rattle.std.proofs.Common.{◌≡◌, ℕ, ◌+◌, suc, Bool, List, [], ◌∷◌, length, Option, None, refl, ap, arith}
 use Rattle.std.specs.Prelude.{◌||◌, is_some, unwrap_or}
 use Rattle.std.specs.Option.{option_or}
 use Rattle.fixed_worth.specs.Text.{Left}
@@ -7,6 +7,7 @@ use Rattle.fixed_worth.specs.Record.{Line, numbered_lines}
 use Rattle.upit_file.specs.declared.upit_fault.UpitFault.{UpitFault}
 use Rattle.upit_file.specs.Header.{header, last_name, after_header, first_count, header_lines_fault, end_fault, header_fault}
 use Rattle.upit_file.specs.Records.{blocks_declared}
+use Rattle.std.proofs.lemmas.Grind.{common_steps}
 
 -- The first fault from here on, where an NBLOCKS record came before or not.
 abbrev pub fault_from : ℕ → Bool → ℕ → List Line → Option UpitFault
@@ -25,10 +26,4 @@ length-numbered k [] = refl
 length-numbered k (l ∷ ls) = ap suc (length-numbered (k + 1) ls)
 
 pub begins : (n : ℕ) (wanted : Option ℕ) (left : Left) → left.number ≡ 0 → n ≡ unwrap_or wanted (blocks_declared (numbered_lines 0 left.lines)) → Going n (numbered_lines 0 left.lines) [] wanted None left
-begins n wanted left z e = record {
-  fault = rw z refl;
-  name_so = rw z refl;
-  wanted_so = rw z (sym e);
-  rest = rw z refl;
-  total = omega (arith, length-numbered 0 left.lines);
-}
+begins n wanted left z e = grind (arith, common_steps, length-numbered)

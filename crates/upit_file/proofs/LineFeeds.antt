@@ -7,6 +7,7 @@ use Rattle.fixed_worth.specs.Device.{SentOrHeld, ReceivedPrefix}
 use Rattle.fixed_worth.proofs.Joined.{with_line_feeds-append}
 use Rattle.fixed_worth.proofs.Pieces.{held_both, prefix_in_first, prefix_in_second}
 use Rattle.upit_file.specs.Writing.{record_line, record_lines}
+use Rattle.std.proofs.lemmas.Grind.{common_steps}
 
 pub record_lines-append : (b : ℕ) (xs ys : List ℤ) → record_lines b (xs ++ ys) ≡ record_lines b xs ++ record_lines (b + length xs) ys
 record_lines-append b [] ys = let e : b + 0 ≡ b = omega arith in rw e refl
@@ -15,11 +16,7 @@ record_lines-append b (x ∷ xs) ys =
     ap (λ l. record_line b x ∷ l) (record_lines-append (b + 1) xs ys ∙ ap (λ k. record_lines (b + 1) xs ++ record_lines k ys) e)
 
 pub one_more : (vs : List ℤ) (i : ℕ) → i < length vs → record_lines 0 (take i vs) ++ (record_line i (get_or vs i (pos 0)) ∷ []) ≡ record_lines 0 (take (i + 1) vs)
-one_more vs i h =
-    let v = get_or vs i (pos 0) in
-    let t : take (i + 1) vs ≡ take i vs ++ (get_or vs i (pos 0) ∷ []) = rw add-one (take-suc vs i (pos 0) h) in
-    let k : 0 + length (take i vs) ≡ i = omega (arith, length-take-le i vs (omega arith)) in
-    sym (ap (record_lines 0) t ∙ record_lines-append 0 (take i vs) (v ∷ []) ∙ ap (λ (b : ℕ). record_lines 0 (take i vs) ++ (record_line b v ∷ [])) k)
+one_more vs i h = grind (arith, common_steps, pos, add-one, take-suc, length-take-le, record_lines-append)
 
 -- The lines of the blocks from the ith on.
 abbrev pub lines_behind : List ℤ → ℕ → List (List ℕ)

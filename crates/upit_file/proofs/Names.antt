@@ -15,9 +15,9 @@ use Rattle.fixed_worth.proofs.LineLaws.{lines_are}
 use Rattle.upit_file.specs.declared.key.Key.{Key}
 use Rattle.upit_file.specs.declared.key.Key.TheVariants.{Name, FileType, Blocks, Objective, End, Other}
 use Rattle.upit_file.specs.declared.upit_fault.UpitFault.{UpitFault}
-use Rattle.upit_file.specs.declared.upit_fault.UpitFault.TheVariants.{Text}
-use Rattle.upit_file.specs.Header.{is_long, fields_in, key_in, ends_header, header, last_end, from_second, name_in, name_behind, last_name, header_line_fault, header_lines_fault, header_fault}
+use Rattle.upit_file.specs.Header.{fields_in, key_in, ends_header, header, last_end, from_second, name_in, name_behind, last_name, header_line_fault, header_lines_fault, header_fault}
 use Rattle.upit_file.specs.Records.{is_name, is_upit}
+use Rattle.std.proofs.lemmas.Grind.{common_steps}
 
 rest : (line : List ℕ) (r : WordRun) (rs : List WordRun) → All (IsField line) (r ∷ rs) → All (IsField line) rs
 rest line r rs a = λ k d h. a (suc k) d (omega arith)
@@ -109,15 +109,8 @@ no_fault : (o p : Option UpitFault) → option_or o p ≡ None → (o ≡ None) 
 no_fault None p e = (refl, e)
 no_fault (Some x) p e = cc
 
-is_short : (l : Line) (t : Bool) → is_long l ≡ t → key_in (fields_in l) ≡ Name → t ≡ false
-is_short l true e k = let q : key_in (fields_in l) ≡ Other = rw e refl in let w : Name ≡ Other = sym k ∙ q in cc
-is_short l false e k = refl
-
 few_bytes : (n : ℕ) (l : Line) → key_in (fields_in l) ≡ Name → header_line_fault n l ≡ None → (t : Bool) → nat_lt NAME_BYTES (length (name_in l.text)) ≡ t → length (name_in l.text) ≤ NAME_BYTES
-few_bytes n l k f true e =
-    let s : is_long l ≡ false = is_short l (is_long l) refl k in
-    let bad : header_line_fault n l ≡ Some (Text l.number) = rw (k, s, e) refl in
-    let w : Some (Text l.number) ≡ None = sym bad ∙ f in cc
+few_bytes n l k f true e = grind (arith, common_steps)
 few_bytes n l k f false e = grind (arith, nat_tests)
 
 named_behind : (n : ℕ) (name : List ℕ) (l : Line) → is_name name ≡ true → NoLineFeed l.text → header_line_fault n l ≡ None → (k : Key) → key_in (fields_in l) ≡ k → is_name (name_behind name k l.text) ≡ true
@@ -141,19 +134,9 @@ header_named n text f = named n [] (header (numbered_lines 0 (lines_of text))) r
 -- What a text gives is what the type can hold.
 pub read_is_upit : (n : ℕ) (text : List ℕ) (lines : List (List ℕ)) (given name : List ℕ) (values : List ℤ) → lines ≡ lines_of text → header_fault n (numbered_lines 0 lines) ≡ None → given ≡ last_name [] (header (numbered_lines 0 lines)) → name ≡ given
     → length values ≡ n → n ≤ MOST_BLOCKS → is_upit name values ≡ true
-read_is_upit n text lines given name values e f g h len few =
-    let p = no_fault (header_lines_fault n (header (numbered_lines 0 lines))) _ f in
-    let q : header_lines_fault n (header (numbered_lines 0 (lines_of text))) ≡ None = subst (λ (ls : List (List ℕ)). header_lines_fault n (header (numbered_lines 0 ls)) ≡ None) e p.0 in
-    let same : name ≡ last_name [] (header (numbered_lines 0 (lines_of text))) = h ∙ g ∙ ap (λ (ls : List (List ℕ)). last_name [] (header (numbered_lines 0 ls))) e in
-    let small : nat_le (length values) MOST_BLOCKS ≡ true = grind (arith, nat_tests) in
-    let named_so : is_name name ≡ true = ap is_name same ∙ header_named n text q in
-    rw (named_so, small) refl
+read_is_upit n text lines given name values e f g h len few = grind (arith, common_steps, no_fault, header_named)
 
 -- The same, where the fields were given one after another.
 pub name_bounds : (line : List ℕ) (end : ℕ) (all seconds thirds left : List WordRun) (key r : WordRun) → all ≡ runs_from 0 line → all ≡ key ∷ seconds → seconds ≡ r ∷ thirds → left ≡ [] → last_end end left ≡ last_end (r.place + length r.text) thirds
     → (r.place < end) × (end ≤ length line)
-name_bounds line end all seconds thirds left key r e f g none last =
-    let runs : runs_from 0 line ≡ key ∷ r ∷ thirds = sym e ∙ f ∙ ap (λ (rs : List WordRun). key ∷ rs) g in
-    let same : end ≡ last_end 0 (r ∷ thirds) = sym (ap (last_end end) none) ∙ last in
-    let w = name_within line key r thirds runs in
-    (omega (arith, w.0), omega (arith, w.1))
+name_bounds line end all seconds thirds left key r e f g none last = grind (arith, common_steps, name_within)

@@ -1,6 +1,6 @@
 -- A printed value is read back.
 use Rattle.std.proofs.Common.{◌≡◌, ℕ, ℤ, pos, negsuc, neg_ℤ, zero, suc, ◌+◌, ◌-◌, ◌*◌, ◌/◌, ◌%◌, ◌^◌, ◌<◌, ◌≤◌, Bool, true, false, cond, not, eqb, List, [], ◌∷◌, ◌++◌, length, take, drop, replicate, Result, Ok, Err, refl, sym, ap, ◌∙◌, subst, arith, append-nil, length-append, pow-add}
-use Rattle.std.specs.Prelude.{◌&&◌, ◌||◌, nat_lt, nat_le, unsigned_abs}
+use Rattle.std.specs.Prelude.{◌&&◌, ◌||◌, nat_lt, unsigned_abs}
 use Rattle.std.specs.Int.{is_negative}
 use Rattle.std.specs.Fmt.{decimal, sign_text}
 use Rattle.std.specs.List.{list_all, position_or_len, before_first, after_first}
@@ -22,6 +22,7 @@ use Rattle.fixed_worth.proofs.Joined.{all_pass_weaker, Breaks, place_of_break}
 use Rattle.fixed_worth.proofs.PrintedDigits.{trimmed_digits, zeros_digits}
 use Rattle.fixed_worth.proofs.WrittenNumbers.{decimal_digits, value_of-decimal}
 use Rattle.fixed_worth.proofs.FirstAmounts.{no_point}
+use Rattle.std.proofs.lemmas.Grind.{common_steps}
 
 -- ---- a fraction
 
@@ -33,22 +34,10 @@ spread : (d p q v w : ℕ) → v * q ≡ w → (d * p + v) * q ≡ d * (p * q) +
 spread d p q v w e = omega (arith, e)
 
 same_more : (d : ℕ) (short all : List ℕ) → Same short all → Same (d ∷ short) (d ∷ all)
-same_more d short all s =
-    let k : suc (length all) - suc (length short) ≡ length all - length short = omega arith in
-    let p : 10 ^ length short * 10 ^ (length all - length short) ≡ 10 ^ length all = sym (pow-add 10 (length short) (length all - length short)) ∙ ap (λ n. 10 ^ n) (let e : length short + (length all - length short) ≡ length all = omega (arith, s.0) in e) in
-    let f : ((d - 48) * 10 ^ length short + value_of short) * 10 ^ (length all - length short) ≡ (d - 48) * (10 ^ length short * 10 ^ (length all - length short)) + value_of all = spread (d - 48) (10 ^ length short) (10 ^ (length all - length short)) (value_of short) (value_of all) s.1 in
-    (omega (arith, s.0), ap (λ n. ((d - 48) * 10 ^ length short + value_of short) * 10 ^ n) k ∙ f ∙ ap (λ n. (d - 48) * n + value_of all) p)
+same_more d short all s = grind (arith, common_steps, pow-add, spread)
 
 same_before : (d : ℕ) (short all : List ℕ) → Same short all → Same (digit_before d short) (d ∷ all)
-same_before d [] all s = by_zero (eqb d 48) refl
-  where
-    by_zero : (t : Bool) → eqb d 48 ≡ t → Same (cond t [] (d ∷ [])) (d ∷ all)
-    by_zero true e =
-        let z : d - 48 ≡ 0 = grind (arith, nat_tests) in
-        let v : 0 ≡ value_of all = omega (arith, s.1) in
-        let f : (d - 48) * 10 ^ length all + value_of all ≡ 0 = rw z (omega (arith, v)) in
-        (omega arith, omega (arith, f))
-    by_zero false e = same_more d [] all s
+same_before d [] all s = grind (arith, common_steps)
 same_before d (e ∷ es) all s = same_more d (e ∷ es) all s
 
 pub trimmed_same : (ds : List ℕ) → Same (without_trailing_zeros ds) ds
@@ -119,23 +108,12 @@ decimal_from whole fraction exponent mark minus =
     (with_sign minus (most (10 ^ 18) (rounded_of (value_of (whole ++ fraction)) (cond (is_minus exponent) 6 (6 + value_of (unsigned_of exponent))) (cond (is_minus exponent) (length fraction + value_of (unsigned_of exponent)) (length fraction))))))
 
 from_parts : (text whole fraction : List ℕ) (minus : Bool) → Parts text whole fraction minus → decimal_of text ≡ decimal_from whole fraction [] false minus
-from_parts text whole fraction minus p =
-    ap (λ (w : List ℕ). decimal_from w (fraction_part text) (exponent_of text) (has_mark text) (is_minus text)) p.front
-    ∙ ap (λ (f : List ℕ). decimal_from whole f (exponent_of text) (has_mark text) (is_minus text)) p.behind
-    ∙ ap (λ (e : List ℕ). decimal_from whole fraction e (has_mark text) (is_minus text)) p.exponent
-    ∙ ap (λ (k : Bool). decimal_from whole fraction [] k (is_minus text)) p.mark
-    ∙ ap (λ (m : Bool). decimal_from whole fraction [] false m) p.sign
+from_parts text whole fraction minus p = grind (arith, common_steps)
 
 -- What the digits of such parts are read as.
 digits_read : (whole fraction : List ℕ) (minus : Bool) (n : ℕ) → list_all is_digit (whole ++ fraction) ≡ true → 0 < length whole → length whole ≤ 13 → length fraction ≤ 6 → value_of (whole ++ fraction) * 10 ^ (6 - length fraction) ≡ n → n ≤ 10 ^ 18
     → decimal_from whole fraction [] false minus ≡ Ok (cond minus (neg_ℤ (pos n)) (pos n))
-digits_read whole fraction minus n digits some few six value small =
-    let all : length (whole ++ fraction) ≡ length whole + length fraction = length-append whole fraction in
-    let a : nat_lt 0 (length (whole ++ fraction)) ≡ true = grind (arith, nat_tests) in
-    let b : nat_lt 36 (length (whole ++ fraction)) ≡ false = grind (arith, nat_tests) in
-    let r : rounded_of (value_of (whole ++ fraction)) 6 (length fraction) ≡ n = rounds_up (value_of (whole ++ fraction)) 6 (length fraction) six ∙ value in
-    let m : nat_le n (10 ^ 18) ≡ true = grind (arith, nat_tests) in
-    rw (a, digits, b, r, m) refl
+digits_read whole fraction minus n digits some few six value small = grind (arith, common_steps, length-append, rounds_up)
 
 -- ---- the parts of a printed value
 
@@ -163,10 +141,7 @@ breaks_at_point false g = refl
 
 unsigned_so : (s : Bool) (d : ℕ) (bs : List ℕ) → is_digit d ≡ true → unsigned_of (sign_text s ++ (d ∷ bs)) ≡ d ∷ bs
 unsigned_so true d bs h = refl
-unsigned_so false d bs h =
-    let plus : eqb d 43 ≡ false = grind (arith, nat_tests) in
-    let minus : eqb d 45 ≡ false = grind (arith, nat_tests) in
-    rw (plus, minus) refl
+unsigned_so false d bs h = grind (arith, common_steps)
 
 minus_so : (s : Bool) (d : ℕ) (bs : List ℕ) → is_digit d ≡ true → is_minus (sign_text s ++ (d ∷ bs)) ≡ s
 minus_so true d bs h = refl
@@ -178,9 +153,7 @@ behind_so false w g = drop-append-add w (46 ∷ g) 1
 
 no_marks : (s t : Bool) (w g : List ℕ) → list_all is_digit w ≡ true → list_all is_digit g ≡ true → list_all (λ b. not (is_mark b)) (sign_text s ++ (w ++ pointed t g)) ≡ true
 unfolding is_mark
-no_marks s t w g h k =
-    let q : ℕ → Bool = λ b. not (is_mark b) in
-    list_all-append q (sign_text s) (w ++ pointed t g) ∙ rw (sign_all q s refl) (list_all-append q w (pointed t g) ∙ rw (all_pass_weaker is_digit q digit_no_mark w h, pointed_all q t g refl (all_pass_weaker is_digit q digit_no_mark g k)) refl)
+no_marks s t w g h k = grind (arith, common_steps, list_all-append, pointed, sign_all, all_pass_weaker, digit_no_mark, pointed_all)
 
 parts_are : (s t : Bool) (d : ℕ) (ds g : List ℕ) → list_all is_digit (d ∷ ds) ≡ true → list_all is_digit g ≡ true → Parts (sign_text s ++ ((d ∷ ds) ++ pointed t g)) (d ∷ ds) (behind_point t g) s
 unfolding has_mark exponent_of whole_part fraction_part

@@ -9,6 +9,7 @@ use Rattle.std.proofs.lemmas.List.{take-replicate}
 use Rattle.fixed_worth.specs.Printed.{fixed_width, without_trailing_zeros, fraction_text, amount_text}
 use Rattle.fixed_worth.proofs.Shown.{no_fraction, point_and_digits}
 use Rattle.upit_file.specs.Writing.{record_line}
+use Rattle.std.proofs.lemmas.Grind.{common_steps}
 
 pub no_fraction_pushed : (n : ℕ) (old : List ℕ) → n ≡ 0 → old ≡ old ++ fraction_text 6 n
 no_fraction_pushed n old e = sym (append-nil old) ∙ ap (λ t. old ++ t) (no_fraction 6 n e)
@@ -30,12 +31,7 @@ together a s w f = simp append_assoc
 pub line_made : (b size : ℕ) (z : ℤ) (one two three four five : List ℕ) → size ≡ unsigned_abs z → one ≡ decimal b → two ≡ one ++ (32 ∷ []) → three ≡ two ++ sign_text (is_negative z) → four ≡ three ++ decimal (size / 10 ^ 6)
     → five ≡ four ++ fraction_text 6 (size % 10 ^ 6) → five ≡ record_line b z
 unfolding amount_text
-line_made b size z one two three four five e p q r s t =
-    let w = decimal (size / 10 ^ 6) in
-    let f = fraction_text 6 (size % 10 ^ 6) in
-    let m = sign_text (is_negative z) in
-    t ∙ ap (λ x. x ++ f) (s ∙ ap (λ x. x ++ w) (r ∙ ap (λ x. x ++ m) (q ∙ ap (λ x. x ++ (32 ∷ [])) p))) ∙ together (decimal b) m w f
-    ∙ ap (λ n. decimal b ++ (32 ∷ (m ++ (decimal (n / 10 ^ 6) ++ fraction_text 6 (n % 10 ^ 6))))) e
+line_made b size z one two three four five e p q r s t = grind (arith, common_steps)
 
 negative : (z : ℤ) → z <ℤ pos 0 → is_negative z ≡ true
 negative (pos n) h = absurd (omega (arith, ints))

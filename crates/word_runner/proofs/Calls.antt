@@ -1,5 +1,5 @@
 -- What the four operations write is what the step writes.
-use Rattle.std.proofs.Common.{◌≡◌, ◌≢◌, ℕ, ◌+◌, ◌-◌, ◌%◌, ◌<◌, ◌^◌, ◌++◌, ◌∷◌, [], get_or, refl, ap, sym, ◌∙◌, subst, arith}
+use Rattle.std.proofs.Common.{◌≡◌, ◌≢◌, ℕ, ◌+◌, ◌-◌, ◌%◌, ◌<◌, ◌^◌, get_or, refl, ap, sym, ◌∙◌, subst, arith}
 use mathlib.Core.Option.{none}
 use Rattle.atomic_table.specs.Table.{Allows, step}
 use Rattle.closure_net.specs.Network.{NetView}
@@ -9,12 +9,13 @@ use Rattle.machine_law.specs.declared.operations.Operation.{Operation}
 use Rattle.machine_law.specs.declared.operations.Operation.TheVariants.{Idle, Scan, PushDue, TakeDue, GiveDue, RaiseDue}
 use Rattle.word_runner.specs.declared.view.View.{View}
 use Rattle.word_runner.specs.Layout.{width}
-use Rattle.word_runner.specs.StepWords.{after, word_after, push_units, word_after_push}
+use Rattle.word_runner.specs.StepWords.{word_after, push_units, word_after_push}
 use Rattle.word_runner.specs.Views.{Ruled}
-use Rattle.word_runner.specs.Turns.{Sat, stopped_after, labels_after, event_of_operation, view_after_turn, TurnsSeat, block_of_view}
+use Rattle.word_runner.specs.Turns.{Sat, view_after_turn, TurnsSeat, block_of_view}
 use Rattle.word_runner.specs.Seats.{IsNextAt, StepReads, StepAdds, Subtracts, Stores}
 use Rattle.word_runner.proofs.Writes.{Fits, push_fits}
 use Rattle.word_runner.proofs.KeepsRule.{turns}
+use Rattle.std.proofs.lemmas.Grind.{common_steps}
 
 reads : (o : Operation ℕ) (x : ℕ) → StepReads o → x ≡ word_after o x
 reads Idle x h = refl
@@ -60,18 +61,8 @@ stores (TakeDue d p) k x h = absurd h
 stores (GiveDue d p) k x h = absurd h
 stores (RaiseDue have best) k x h = h
 
-unread_by : (net : NetView) (b label : ℕ) (o : Operation ℕ) (k x y : ℕ) → Stores o k → (after net b label o x ≡ after net b label o y) × (stopped_after o x ≡ stopped_after o y)
-unread_by net b label Idle k x y h = absurd h
-unread_by net b label (Scan have place read best) k x y h = absurd h
-unread_by net b label (PushDue have best) k x y h = absurd h
-unread_by net b label (TakeDue d p) k x y h = absurd h
-unread_by net b label (GiveDue d p) k x y h = absurd h
-unread_by net b label (RaiseDue have best) k x y h = (refl, refl)
-
 unread : (b : ℕ) (v : View) (k x y : ℕ) → Stores v.operation k → view_after_turn b v x ≡ view_after_turn b v y
-unread b v k x y h =
-    let e = unread_by v.net b (get_or v.labels b 0) v.operation k x y h in
-    λ j. record v { labels = labels_after v.labels b v.operation; block = b; operation = e.0 j; stopped = e.1 j; made = v.made ++ event_of_operation v.net b v.operation ∷ [] }
+unread b v k x y h = grind (arith, common_steps)
 
 -- the same at the words of a table whose key is the seat's net
 module _ (key : NetView) (slots id b i : ℕ) (me : Sat) (e : me.0.net ≡ key) (n : IsNextAt me.0 b i) where

@@ -1,7 +1,7 @@
 -- How runs by seats end.
 use Rattle.std.proofs.Common.{inl, inr, ◌⊎◌, ◌≡◌, ℕ, ◌<◌, ◌≤◌, List, [], ◌∷◌, ◌++◌, length, refl, ap, sym, ◌∙◌, subst, arith}
 use Rattle.std.specs.Prelude.{Result, Ok, Err, MatchResult}
-use Rattle.std.proofs.lemmas.List.{length-append, append-nil}
+use Rattle.std.proofs.lemmas.List.{append-nil}
 use Rattle.ordered_group.specs.Amount.{AtMost}
 use Rattle.closure_net.specs.Network.{NetView, FlowView, IsNet}
 use Rattle.machine_law.specs.Conservation.{all_given}
@@ -17,6 +17,7 @@ use Rattle.word_runner.specs.CutNets.{IsCutNet}
 use Rattle.word_runner.specs.Openings.{AreNeitherOneNorTwo}
 use Rattle.word_runner.specs.Runs.{steps_made_by, SomeIsBusy, IsQuietRunOf, IsOpenRunOf, IsRunSettled, SettleFaultStands}
 use Rattle.word_runner.specs.Ends.{IsQuietEnd, EndFaultStands, WordRunFaultStands, WordSolveFaultStands, IsSolvedBy}
+use Rattle.std.proofs.lemmas.Grind.{common_steps}
 
 -- what follows on either side of a result
 pub on_sides : {A B : Type 0} (P R : A → Type 0) (Q S : B → Type 0) (r : Result A B) → ((a : A) → P a → R a) → ((b : B) → Q b → S b) → MatchResult r P Q → MatchResult r R S
@@ -32,12 +33,7 @@ pub last_one : (xs ys : List Own) (s : Own) → xs ≡ ys ++ s ∷ [] → length
 last_one xs ys s e l = e ∙ ap (λ (z : List Own). z ++ s ∷ []) (no_items ys l)
 
 pub last_two : (xs ys zs : List Own) (s t : Own) → xs ≡ ys ++ t ∷ [] → ys ≡ zs ++ s ∷ [] → length xs < 3 → xs ≡ s ∷ t ∷ []
-last_two xs ys zs s t e f l =
-    let a = ap (λ (z : List Own). length z) e in
-    let b = length-append ys (t ∷ []) in
-    let c = ap (λ (z : List Own). length z) f in
-    let d = length-append zs (s ∷ []) in
-    e ∙ ap (λ (z : List Own). z ++ t ∷ []) (last_one ys zs s f (omega (arith, a, b, c, d, l)))
+last_two xs ys zs s t e f l = grind (arith, common_steps)
 
 -- ---- what closing the words says of the seats that were handed in
 module _ (w : WordsView) (xs : List Own) (m : List Event) (Busy : Type 0) (is : m ≡ steps_made_by xs) (busy : Busy → SomeIsBusy xs) where

@@ -1,13 +1,10 @@
 -- A load of an arrival keeps the rule, and tells a number below 2^63.
 use Rattle.std.proofs.Common.{◌≡◌, ℕ, ◌<◌, ◌^◌, List, [], ◌∷◌, ◌++◌, get_or, set, sym, refl, subst, arith}
-use mathlib.Core.Logic.{dite}
-use native.Mathlib.Decide.{ℕ_discrete}
 use mathlib.Core.Option.{none, some}
 use lib.ListN.{get_elem?}
 use lib.Seq.{set-get_or}
 use Rattle.atomic_table.specs.Table.{State, step, keeps, Allows}
 use Rattle.closure_net.specs.Network.{NetView}
-use Rattle.machine_law.specs.Conservation.{all_given}
 use Rattle.machine_law.proofs.Conserved.{runs_conserve}
 use Rattle.word_runner.specs.declared.view.View.{View}
 use Rattle.word_runner.specs.Views.{Ruled, Sees, IsSeatsOwn, IsMadeBy}
@@ -15,15 +12,10 @@ use Rattle.word_runner.specs.Turns.{Sat}
 use Rattle.word_runner.specs.Halves.{LooksUp}
 use Rattle.word_runner.proofs.SeatViews.{seats_set}
 use Rattle.word_runner.proofs.Units.{fits_in}
+use Rattle.std.proofs.lemmas.Grind.{common_steps}
 
 arrived_small : (net : NetView) (s : State (Unit {0}) View) → Ruled net s → (i : ℕ) → i < 2 → get_or s.words i 0 < 2 ^ 63
-arrived_small net s r i l =
-    let w = runs_conserve net r.events r.machine r.is_net.rests.known r.run in
-    let a = fits_in 9223372036854775807 (get_or s.words 0 0) r.machine.at_source (all_given net) r.cells.at_source w.source_most r.small in
-    let b = fits_in 9223372036854775807 (get_or s.words 1 0) r.machine.at_sink (all_given net) r.cells.at_sink w.sink_most r.small in
-    dite (ℕ_discrete i 0)
-    (λ e. subst (λ (k : ℕ). get_or s.words k 0 < 2 ^ 63) (sym e) (omega (arith, a)))
-    (λ ne. let e : i ≡ 1 = omega (arith, ne, l) in subst (λ (k : ℕ). get_or s.words k 0 < 2 ^ 63) (sym e) (omega (arith, b)))
+arrived_small net s r i l = grind (arith, common_steps, runs_conserve, fits_in)
 
 -- a view that differs in what was loaded alone
 loaded_more : (net : NetView) (s : State (Unit {0}) View) (id : ℕ) (v : View) (l : List (ℕ × ℕ)) → Ruled net s → get_elem? s.views id ≡ some v → Ruled net (record { words = s.words; homes = s.homes; views = set s.views id (record v { loaded = l }) })

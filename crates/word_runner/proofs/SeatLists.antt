@@ -1,10 +1,10 @@
 -- One or two seats in a list.
-use Rattle.std.proofs.Common.{◌≡◌, ℕ, zero, suc, List, [], ◌∷◌, length, ap, sym, ◌∙◌, subst}
+use Rattle.std.proofs.Common.{◌≡◌, ℕ, List, [], ◌∷◌, length, ap, sym, ◌∙◌, subst, arith}
 use lib.ListN.{get_elem?}
-use mathlib.Core.Option.{some, some-injective, some-ne-none}
 use Rattle.word_runner.specs.Seats.{Own, WordsView, IsServed, IsWorker}
 use Rattle.word_runner.specs.Openings.{IsFirst, AreFirst}
 use Rattle.word_runner.specs.Runs.{AreSeats}
+use Rattle.std.proofs.lemmas.Grind.{common_steps}
 
 pub served_one : (w : WordsView) (xs : List Own) (s : Own) → xs ≡ s ∷ [] → AreSeats w xs → IsServed w.shared 0 1 s
 served_one w xs s e a =
@@ -28,9 +28,4 @@ pub first_two : (w : WordsView) (xs : List Own) (s t : Own) → xs ≡ s ∷ t �
 first_two w xs s t e a = (a.each 0 s (ap (λ (l : List Own). get_elem? l 0) e), a.each 1 t (ap (λ (l : List Own). get_elem? l 1) e))
 
 pub two_seats : (w : WordsView) (s t : Own) → w.workers ≡ 2 → IsServed w.shared 0 2 s → IsServed w.shared 1 2 t → AreSeats w (s ∷ t ∷ [])
-two_seats w s t e left right = record { size = sym e; each = each }
-  where
-    each : (k : ℕ) (u : Own) → get_elem? (s ∷ t ∷ []) k ≡ some u → IsServed w.shared k w.workers u
-    each zero u at = subst (λ (x : ℕ × Own). IsServed w.shared 0 x.0 x.1) (λ i. (sym e i, some-injective s u at i)) left
-    each (suc zero) u at = subst (λ (x : ℕ × Own). IsServed w.shared 1 x.0 x.1) (λ i. (sym e i, some-injective t u at i)) right
-    each (suc (suc k)) u at = absurd (some-ne-none u (sym at))
+two_seats w s t e left right = grind (arith, common_steps)

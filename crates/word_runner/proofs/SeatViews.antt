@@ -1,5 +1,5 @@
 -- The views of the seats, where one of them changes.
-use Rattle.std.proofs.Common.{inl, inr, ◌⊎◌, ◌≡◌, ◌≢◌, ◌↔◌, ℕ, ◌-◌, ◌<◌, ◌==◌, Bool, true, false, cond, List, [], ◌∷◌, ◌++◌, set, sym, refl, ap, ◌∙◌, subst, arith, ⊎_elim}
+use Rattle.std.proofs.Common.{inl, inr, ◌⊎◌, ◌≡◌, ◌≢◌, ◌↔◌, ℕ, ◌-◌, ◌<◌, ◌==◌, Bool, cond, List, [], ◌∷◌, ◌++◌, set, sym, refl, ap, ◌∙◌, subst, arith, ⊎_elim}
 use Rattle.std.proofs.lemmas.Bool.{eq-eqb, ne_eqb}
 use Rattle.std.proofs.lemmas.List.Elements.{filter-append}
 use mathlib.Core.Option.{some}
@@ -15,19 +15,15 @@ use Rattle.word_runner.specs.Layout.{count}
 use Rattle.word_runner.specs.StepWords.{word_of}
 use Rattle.word_runner.specs.Views.{IsSeatsOwn, of_block, IsMade, IsMadeBy, operation_in_view}
 use Rattle.word_runner.specs.Turns.{block_of_view, CanTurn}
+use Rattle.std.proofs.lemmas.Grind.{common_steps}
 
 pub seats_set : (P : ℕ → View → Type 0) (vs : List View) (me : ℕ) (w : View) → P me w → ((j : ℕ) (v : View) → j ≢ me → get_elem? vs j ≡ some v → P j v)
     → (j : ℕ) (v : View) → get_elem? (set vs me w) j ≡ some v → P j v
-seats_set P vs me w mine others j v e = ⊎_elim (λ (t : (j ≡ me) × (w ≡ v)). subst (λ (x : ℕ × View). P x.0 x.1) (λ i. (sym t.0 i, t.1 i)) mine)
-    (λ (t : (j ≢ me) × (get_elem? vs j ≡ some v)). others j v t.0 t.1) (at_set vs me j w v e)
+seats_set P vs me w mine others j v e = grind (arith, common_steps, ⊎_elim, at_set)
 
 -- a seat with no operation shows none
 pub free_operation : (v : View) (c : ℕ) → v.operation ≡ Idle → operation_in_view v c ≡ Idle
-free_operation v c e = ap (λ o. cond (v.block == c) o Idle) e ∙ both (v.block == c)
-  where
-    both : (b : Bool) → cond {A = Operation ℕ} b Idle Idle ≡ Idle
-    both true = refl
-    both false = refl
+free_operation v c e = grind (arith, common_steps)
 
 pub operation_here : (v : View) (b : ℕ) → v.block ≡ b → operation_in_view v b ≡ v.operation
 operation_here v b e = ap (λ z. cond z v.operation Idle) (eq-eqb v.block b e)

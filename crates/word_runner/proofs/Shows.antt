@@ -1,5 +1,5 @@
 -- The step of the machine that is next for a block, as its word shows it: what the block's operation and the labels become.
-use Rattle.std.proofs.Common.{◌≡◌, ◌≢◌, ℕ, ◌+◌, ◌<◌, Bool, true, false, cond, nat_lt, Option, Some, None, List, All, length, get_or, set, refl, ap, sym, ◌∙◌, subst, arith, get_or-set_other, get_or-set_same}
+use Rattle.std.proofs.Common.{◌≡◌, ◌≢◌, ℕ, ◌+◌, ◌<◌, Option, Some, None, List, All, length, get_or, set, refl, ap, sym, ◌∙◌, subst, arith, get_or-set_other, get_or-set_same}
 use Rattle.std.proofs.Common.{inl, inr}
 use Rattle.std.proofs.lemmas.Bool.{cases_eq}
 use Rattle.std.specs.Prelude.{slice_get}
@@ -18,33 +18,23 @@ use Rattle.machine_law.specs.Operations.{best_as, operation_as}
 use Rattle.machine_law.specs.States as law
 use Rattle.machine_law.specs.States.{with_value_at}
 use Rattle.machine_law.specs.Residual.{IsEnd, label_beyond}
-use Rattle.machine_law.specs.Reads.{operation_begun_with, after_port, after_capacity, after_label}
+use Rattle.machine_law.specs.Reads.{operation_begun_with, after_capacity, after_label}
 use Rattle.machine_law.specs.Steps.{after_look, after_look_by, after_label_at, push_amount, after_push_by, after_give_by, advance_by}
 use Rattle.machine_law.proofs.Points.{put-same, put-other}
-use Rattle.machine_law.proofs.Naturality.{after_port-as, after_label-as}
+use Rattle.machine_law.proofs.Naturality.{after_label-as}
 use Rattle.machine_law.proofs.PortLists.{port_with, port-at}
 use Rattle.word_runner.specs.Layout.{units, count, Cells}
 use Rattle.word_runner.specs.StepWords.{look_word, look_word_at, label_word_at, word_of, operation_begun_by_word, after_capacity_word, after_look_word, after_look_word_if, after_label_word_if, after, push_units}
 use Rattle.word_runner.specs.Turns.{labels_after}
-use Rattle.word_runner.proofs.Units.{positive_units, least_units}
+use Rattle.word_runner.proofs.Units.{least_units}
+use Rattle.std.proofs.lemmas.Grind.{common_steps}
 
 -- ---- reads over units
 begun_units : (x : ℕ) → operation_begun_with (units x) ≡ operation_as units (operation_begun_by_word x)
-begun_units x = ap (λ z. cond z (Scan (units x) 0 None None) Idle) (positive_units x) ∙ pick (nat_lt 0 x)
-  where
-    pick : (z : Bool) → cond z (Scan (units x) 0 None None) Idle ≡ operation_as units (cond z (Scan x 0 None None) Idle)
-    pick true = refl
-    pick false = refl
+begun_units x = grind (arith, common_steps)
 
 seen_units : (n label have place : ℕ) (best : Option (Best ℕ)) (x : ℕ) → after_capacity n label (units have) place (option_map (best_as units) best) (units x) ≡ operation_as units (after_capacity_word n label have place best x)
-seen_units n label have place best x =
-    ap (λ z. cond z (Scan (units have) place (Some (units x)) (option_map (best_as units) best)) (after_port n label (units have) place (option_map (best_as units) best))) (positive_units x)
-    ∙ ap (λ o. cond (nat_lt 0 x) (Scan (units have) place (Some (units x)) (option_map (best_as units) best)) o) (sym (after_port-as units n label have place best))
-    ∙ pick (nat_lt 0 x)
-  where
-    pick : (z : Bool) → cond z (Scan (units have) place (Some (units x)) (option_map (best_as units) best)) (operation_as units (after_port n label have place best)) ≡ operation_as units (cond z (Scan have place (Some x) best) (after_port n label have place best))
-    pick true = refl
-    pick false = refl
+seen_units n label have place best x = grind (arith, common_steps)
 
 pub push_of_units : (have : ℕ) (kind : PortKind) (read : ℕ) → push_amount (units have) kind (units read) ≡ units (push_units have kind read)
 push_of_units have Sink read = least_units have read

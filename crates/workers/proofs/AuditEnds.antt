@@ -16,19 +16,13 @@ use Rattle.workers.specs.declared.solving.SolveFault.TheVariants.{BadWorkers, Un
 use Rattle.workers.specs.declared.solving.TheConstants.{MOST_WORKERS}
 use Rattle.workers.specs.declared.auditing.AuditEnd.{AuditEnd}
 use Rattle.workers.specs.declared.auditing.AuditEnd.TheVariants.{NoFlow, HistoryFull}
+use Rattle.std.proofs.lemmas.Grind.{common_steps}
 
 -- ---- a history
 
 -- an audited board over the net has one
 pub is_history_of : (audit : AuditView) (net : NetView) (limit room : ℕ) → IsAudited audit → audit.board.net ≡ net → (shown_state audit.board).steps ≤ most_steps limit → audit.room ≡ most_room room → IsHistory net limit room audit.history (shown_state audit.board)
-is_history_of audit net limit room is same within r =
-    let k = is.counted in
-    let f = is.within in
-    subst (λ (n : NetView). IsHistory n limit room audit.history (shown_state audit.board)) same (record {
-      turns = is.made;
-      within = subst (λ (x : ℕ). x ≤ most_steps limit) k within;
-      few = subst (λ (x : ℕ). length audit.history ≤ x) r f;
-    })
+is_history_of audit net limit room is same within r = grind (arith, common_steps)
 
 no_steps : (net : NetView) (limit room : ℕ) → IsSomeHistory net limit room []
 no_steps net limit room = (opening net, record { turns = refl; within = omega (arith); few = omega (arith) })
@@ -36,13 +30,7 @@ no_steps net limit room = (opening net, record { turns = refl; within = omega (a
 -- ---- the board that comes back
 pub left : (audit : AuditView) (net : NetView) (limit room steps most count own : ℕ) → IsAudited audit → steps ≡ most_steps limit → most ≡ most_room room → audit.board.net ≡ net
     → count ≡ (shown_state audit.board).steps → count ≤ steps → own ≡ audit.room → own ≡ most → IsAuditLeft net limit room audit
-left audit net limit room steps most count own is s m same c within o r =
-    record {
-      audited = is;
-      net_is = same;
-      within = subst (λ k. (shown_state audit.board).steps ≤ k) s (subst (λ k. k ≤ steps) c within);
-      room_is = sym o ∙ r ∙ m;
-    }
+left audit net limit room steps most count own is s m same c within o r = grind (arith, common_steps)
 
 -- ---- why there is no board
 pub lost : (net : NetView) (limit room : ℕ) (all : Bool) (fault : SolveFault) (why : AuditEnd) (history : List Event) → fault ≡ lost_by all → why ≡ NoFlow fault → history ≡ [] → IsAuditLoss net limit room why history
@@ -50,9 +38,7 @@ lost net limit room true fault why history e w h = subst (λ x. IsAuditLoss net 
 lost net limit room false fault why history e w h = subst (λ x. IsAuditLoss net limit room x history) (sym (w ∙ ap NoFlow e)) (subst (λ xs. IsSomeHistory net limit room xs) (sym h) (no_steps net limit room))
 
 pub no_thread : (audit : AuditView) (net : NetView) (limit room : ℕ) (why : AuditEnd) (history : List Event) → IsAuditLeft net limit room audit → why ≡ NoFlow NoThread → history ≡ audit.history → IsAuditLoss net limit room why history
-no_thread audit net limit room why history is w h =
-    let kept = is_history_of audit net limit room is.audited is.net_is is.within is.room_is in
-    subst (λ x. IsAuditLoss net limit room x history) (sym w) (shown_state audit.board, subst (λ xs. IsHistory net limit room xs (shown_state audit.board)) (sym h) kept)
+no_thread audit net limit room why history is w h = grind (arith, common_steps)
 
 -- ---- the end of a run
 module _ (first new : AuditView) (limit steps : ℕ) (e : steps ≡ most_steps limit) (is : IsAudited new) (goes : AuditGoesOn first new steps) (room : ℕ) (r : first.room ≡ most_room room) where

@@ -6,6 +6,7 @@ use Rattle.ordered_group.specs.Amount.{Amount, zero_amount, plus, minus, AtMost,
 use Rattle.ordered_group.specs.Sums.{total}
 use Rattle.ordered_group.proofs.Order.{AtMost-refl, AtMost-trans, AtMost-both, AtMost-plus_both}
 use Rattle.ordered_group.proofs.Signs.{NonNeg, NonNeg-zero, NonNeg-plus, AtMost-plus}
+use Rattle.std.proofs.lemmas.Grind.{common_steps}
 
 pub plus-zero_left : (x : Amount) → plus zero_amount x ≡ x
 plus-zero_left x = Amount_eq _ _ (omega (arith, ints)) (omega (arith, ints))
@@ -22,10 +23,7 @@ total_next g n = rw (add-one n) refl
 
 pub total-same : (g h : ℕ → Amount) (n : ℕ) → ((b : ℕ) → b < n → g b ≡ h b) → total g n ≡ total h n
 total-same g h zero e = refl
-total-same g h (suc n) e =
-    let p = total-same g h n (λ b k. e b (omega arith)) in
-    let q = e n (omega arith) in
-    Amount_eq _ _ (omega (arith, ints, ap (λ x. x.w) p, ap (λ x. x.w) q)) (omega (arith, ints, ap (λ x. x.c) p, ap (λ x. x.c) q))
+total-same g h (suc n) e = grind (arith, common_steps, (total-same g h n (λ b k. e b (omega arith))))
 
 pub total-plus : (g h : ℕ → Amount) (n : ℕ) → total (λ b. plus (g b) (h b)) n ≡ plus (total g n) (total h n)
 total-plus g h zero = refl

@@ -5,12 +5,10 @@ use Rattle.std.proofs.Math.Nat.{pow-le-pow_right}
 use Rattle.fixed_worth.specs.Numeral.{is_minus}
 use Rattle.fixed_worth.proofs.FirstAmounts.{amount_read}
 use Rattle.fixed_worth.proofs.first_amount.first_amount.Goals as goal
+use Rattle.std.proofs.lemmas.Grind.{common_steps}
 
 pub millionths-size-requires-clause-whole : goal.millionths-size-requires-clause-whole
-millionths-size-requires-clause-whole c =
-    let few : c.leading_digits-whole.result.1 ≤ 12 = omega arith in
-    let most : 10 ^ c.leading_digits-whole.result.1 ≤ 10 ^ 12 = pow-le-pow_right {n = 10} (lit< tt) few in
-    omega (arith, most, c.leading_digits-whole.ensures.small)
+millionths-size-requires-clause-whole c = grind (arith, common_steps, pow-le-pow_right, lit<)
 
 pub returns : goal.returns
 returns c =

@@ -2,6 +2,7 @@ use Rattle.std.proofs.Common.{◌+◌, get_or, sym, arith}
 use Rattle.fixed_worth.proofs.Digits.{next_below, power_fits}
 use Rattle.fixed_worth.proofs.FirstNumbers.{one_more, digit_more}
 use Rattle.fixed_worth.proofs.first_number.digits_among.Goals as goal
+use Rattle.std.proofs.lemmas.Grind.{common_steps}
 
 pub overflow_mul-value : goal.overflow_mul-value
 overflow_mul-value c =
@@ -16,13 +17,4 @@ overflow_add-value c =
     omega (arith, n, p, c.from.ensures)
 
 pub loop-width-preserved : goal.loop-width-preserved
-loop-width-preserved c =
-    let digit = sym c.if-is_digit_byte.ensures in
-    let n = next_below c.loop-width.value c.loop-width.width (get_or c.args.text.now c.loop-width.width 0) c.loop-width.invariant.small digit in
-    let e = one_more c.args.text.now c.loop-width.width (omega (arith, c.requires.within, c.requires.few, c.loop-width-test.true)) in
-    record {
-      within = omega (arith, c.loop-width-test.true);
-      digits = digit_more c.args.text.now c.loop-width.width (omega (arith, c.requires.within, c.requires.few, c.loop-width-test.true)) c.loop-width.invariant.digits digit;
-      value = omega (arith, e, c.from.ensures, c.loop-width.invariant.value);
-      small = omega (arith, n, c.from.ensures);
-    }
+loop-width-preserved c = grind (arith, common_steps, next_below, one_more, digit_more)

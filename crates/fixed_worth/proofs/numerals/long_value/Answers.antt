@@ -1,6 +1,6 @@
-use Rattle.std.proofs.Common.{◌≡◌, arith}
+use Rattle.std.proofs.Common.{arith}
 use Rattle.fixed_worth.specs.Numeral.{value_of}
-use Rattle.fixed_worth.proofs.Digits.{overflows, carried, finished}
+use Rattle.fixed_worth.proofs.Digits.{overflows, carried}
 use Rattle.fixed_worth.proofs.numerals.long_value.Goals as goal
 
 pub returns-in_err-all : goal.returns-in_err-all
@@ -11,8 +11,3 @@ loop-b-preserved c = record {
   whole = carried c.loop-b.all c.in_ok-all.all c.loop-b.b-index (value_of c.args.text.now) c.args.text.now c.loop-b-test.true c.loop-b.invariant.whole c.in_ok-all.ensures.1;
   fits = omega (arith, c.in_ok-all.ensures);
 }
-
-pub returns : goal.returns
-returns c =
-    let e : c.loop-b.all ≡ value_of c.args.text.now = finished c.loop-b.all c.loop-b.b-index (value_of c.args.text.now) c.args.text.now c.loop-b-test.false c.loop-b.invariant.whole in
-    (omega arith, e)

@@ -2,6 +2,7 @@ use Rattle.std.proofs.Common.{◌+◌, ◌*◌, below_more, get_or, sym, arith}
 use Rattle.fixed_worth.specs.Numeral.{value_of}
 use Rattle.fixed_worth.proofs.Digits.{next_below, power_fits, all_digits, carried, finished}
 use Rattle.fixed_worth.proofs.numerals.short_value.Goals as goal
+use Rattle.std.proofs.lemmas.Grind.{common_steps}
 
 pub overflow_mul-all : goal.overflow_mul-all
 overflow_mul-all c =
@@ -25,7 +26,4 @@ loop-b-preserved c =
     }
 
 pub returns : goal.returns
-returns c = (
-  all_digits c.args.text.now (λ k l. c.loop-b.invariant.digits k (omega arith)),
-  finished c.loop-b.all c.loop-b.b-index (value_of c.args.text.now) c.args.text.now c.loop-b-test.false c.loop-b.invariant.whole,
-)
+returns c = grind (arith, common_steps, all_digits, finished)
