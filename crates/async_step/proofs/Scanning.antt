@@ -57,8 +57,8 @@ pub record IsStepped {N : Type 0} (f : N → Amount) (v : StateView) (os : List 
   pub here : operation_as f y ≡ o
   pub list : map (operation_as f) (set os b y) ≡ set v.operation b o
 
-pub idle_now : {N : Type 0} (f : N → Amount) (v : StateView) (os : List (Operation N)) (b : ℕ) (y z : Operation N) (o : Operation Amount) → IsStepped f v os b y o → z ≡ get_or (set os b y) b z → is_idle (operation_as f z) ≡ is_idle o
-idle_now f v os b y z o s e = ap (λ x. is_idle (operation_as f x)) (e ∙ get_or-set_same os b y z s.inside) ∙ ap is_idle s.here
+pub idle_now : {N : Type 0} (f : N → Amount) (v : StateView) (os : List (Operation N)) (b : ℕ) (y z : Operation N) (o : Operation Amount) (t : Bool) → IsStepped f v os b y o → z ≡ get_or (set os b y) b z → t ≡ is_idle (operation_as f z) → t ≡ is_idle o
+idle_now f v os b y z o t s at e = e ∙ ap (λ x. is_idle (operation_as f x)) (at ∙ get_or-set_same os b y z s.inside) ∙ ap is_idle s.here
 
 module _ {N : Type 0} (f : N → Amount) (v w : StateView) (os : List (Operation N)) (b : ℕ) (x : Operation N) (is : map (operation_as f) os ≡ v.operation) (same : v ≡ w) (block : b < length w.operation) (at : x ≡ get_or os b x) where
   within : b < length v.operation

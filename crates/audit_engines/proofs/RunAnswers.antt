@@ -87,7 +87,7 @@ trace_cut counts name price net limit room history slice before after old some s
 
 -- a run without a flow: the line that says why is one of its history, or nothing is written
 module _ (counts : Bool) (name : Group) (price : Price) (net : NetView) (workers limit room : ℕ) (why : AuditEnd) (history : List Event) (before old : Option (List ℕ)) (stands : AuditFaultStands net workers limit room why history) where
-  Ends : Result (List ℕ) EngineFault → Type 0
+  abbrev Ends : Result (List ℕ) EngineFault → Type 0
   Ends r = MatchResult r (λ line. IsNoOfRun net limit room history line) (λ fault. TracesNet counts name price net limit room before before old old (Err fault))
 
   ended : (w : AuditEnd) → AuditFaultStands net workers limit room w history → Ends (end_line w)

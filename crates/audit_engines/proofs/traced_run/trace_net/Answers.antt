@@ -1,4 +1,3 @@
-use Rattle.std.proofs.Common.{subst}
 use Rattle.std.proofs.lemmas.Result.{err_from_is_err_and}
 use Rattle.audit_engines.proofs.RunAnswers.{cut, history_of, told, trace_cut, traced, unwritten}
 use Rattle.audit_engines.proofs.traced_run.trace_net.Goals as goal
@@ -36,12 +35,12 @@ returns-in_err-write_trace-clause-answer g c =
     let ended = c.in-Err.ended in
     rw (p.1, p.2)
     (cut g.G.OrderedGroup.counts g.G.OrderedGroup.name asked.price c.args.net.now asked.effort.workers asked.effort.steps asked.room ended.fault ended.history.items (g.V.Write.contents c.args.outputs.now.trace) (g.W.Write.contents c.args.outputs.now.out) c.in-Err.ensures.answer
-    c.in_ok-line.line.now c.as_slice-in_ok-line.result.now (g.V.Write.contents c.write_trace-in_ok-line.new.out) c.in_ok-line.ensures.line c.as_slice-in_ok-line.ensures.value c.in_err-write_trace.ensures.prefix)
+    c.in_ok-line.line.now c.as_slice-2.result.now (g.V.Write.contents c.write_trace-2.new.out) c.in_ok-line.ensures.line c.as_slice-2.ensures.value c.in_err-write_trace.ensures.prefix)
 
 pub returns-clause-answer : goal.returns-clause-answer
 returns-clause-answer g c =
     let asked = c.args.asked in
     let ended = c.in-Err.ended in
     told g.G.OrderedGroup.counts g.G.OrderedGroup.name asked.price c.args.net.now asked.effort.workers asked.effort.steps asked.room ended.fault ended.history.items (g.V.Write.contents c.args.outputs.now.trace) (g.W.Write.contents c.args.outputs.now.out) c.in-Err.ensures.answer
-    c.in_ok-line.line.now c.as_slice-in_ok-line.result.now (g.V.Write.contents c.write_trace-in_ok-line.new.out) c.in_ok-line.ensures.line c.as_slice-in_ok-line.ensures.value
+    c.in_ok-line.line.now c.as_slice-2.result.now (g.V.Write.contents c.write_trace-2.new.out) c.in_ok-line.ensures.line c.as_slice-2.ensures.value
     (g.W.Write.contents c.write_no.new.out) c.write_no.result c.in_ok-write_trace.ensures.sent c.write_no.ensures.answer

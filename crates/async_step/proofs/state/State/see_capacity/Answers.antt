@@ -1,4 +1,4 @@
-use Rattle.std.proofs.Common.{◌≡◌, ◌+◌, ◌∙◌, not, ◌&&◌, ◌||◌, ap, ap₂, subst, sym, refl, set, ℕ, List, Bool, true, length, arith}
+use Rattle.std.proofs.Common.{◌≡◌, ◌+◌, ◌∙◌, not, ◌&&◌, ◌||◌, ap, ap₂, subst, sym, refl, set, ℕ, List, Bool, true, arith}
 use Rattle.std.specs.Prelude.{slice_index}
 use Rattle.std.proofs.lemmas.List.{length-map, get_or-map}
 use Rattle.ordered_group.specs.Amount.{Amount, zero_amount, is_zero}
@@ -28,7 +28,7 @@ invariant_of-self g c =
     let step : ℕ → Operation Amount → Operation Amount = λ n o. after_capacity_by c.args.ports n (f c.args.capacity) o in
     let s = step_in_place f v c.args.self.now m.operation.items b c.index_mut.result.now refl c.self.view_is c.requires.block c.index_mut.ensures.value step c.index-label.result.now c.see.new.operation c.self.invariant.sized.label c.index-label.ensures c.see.ensures in
     let o : Operation Amount = step (slice_index v.label b) (operation_at v.operation b) in
-    let i : true ≡ is_idle o = sym c.if-is_idle.true ∙ c.is_idle.ensures ∙ idle_now f v m.operation.items b c.see.new.operation c.index.result.now o s c.index.ensures in
+    let i : true ≡ is_idle o = sym c.if-is_idle.true ∙ idle_now f v m.operation.items b c.see.new.operation c.index.result.now o c.is_idle.result s c.index.ensures c.is_idle.ensures in
     let e : f c.index-excess.result.now ≡ amount_at v.excess b = let l = s.within in ap f c.index-excess.ensures ∙ sym (get_or-map f m.excess.items b c.index-excess.result.now zero_amount (omega (arith, l, c.self.invariant.sized.excess, length-map m.excess.items f))) in
     let r : c.set.new.self ≡ set m.waiting b (is_waiting (amount_at v.excess b) o) = c.set.ensures ∙ ap (set m.waiting b) (c.is_positive.ensures ∙ ap₂ (λ t x. t && is_positive x) i e) in
     let u : c.set-then-is_idle.new.self ≡ set m.busy b (is_busy (amount_at v.excess b) o) = c.set-then-is_idle.ensures ∙ ap (set m.busy b) (ap not c.is_zero.ensures ∙ ap₂ (λ t x. not t || not (is_zero x)) i e) in
@@ -49,7 +49,7 @@ invariant_of-self-else-is_idle g c =
     let scan : IsScan c.args.ports (operation_at v.operation b) = subst (λ (w : StateView). IsScan c.args.ports (operation_at w.operation b)) (sym c.self.view_is) c.requires.scan in
     subst (λ (xs : List (Operation Amount)). IsState (record v { operation = xs; steps = m.steps + 1 }) m.waiting m.busy) (sym s.list)
     (state_works v m.waiting m.busy c.self.invariant b o (m.steps + 1) s.within (scan_works c.args.ports (operation_at v.operation b) scan)
-    (sym (c.is_idle.ensures ∙ idle_now f v m.operation.items b c.see.new.operation c.index.result.now o s c.index.ensures) ∙ c.if-is_idle.false))
+    (sym (idle_now f v m.operation.items b c.see.new.operation c.index.result.now o c.is_idle.result s c.index.ensures c.is_idle.ensures) ∙ c.if-is_idle.false))
 
 pub returns-then-is_idle : goal.returns-then-is_idle
 returns-then-is_idle g c =
