@@ -1,5 +1,5 @@
 -- Reading the records line after line.
-use Rattle.std.proofs.Common.{◌≡◌, ℕ, ℤ, pos, ◌+◌, ◌*◌, ◌<◌, ◌≤◌, ◌≢◌, Bool, true, false, cond, eqb, List, [], ◌∷◌, ◌++◌, length, get_or, set, replicate, Option, Some, None, refl, sym, ap, ◌∙◌, arith, true≢false}
+use Rattle.std.proofs.Common.{◌≡◌, ℕ, ℤ, pos, ◌+◌, ◌*◌, ◌<◌, ◌≤◌, ◌≢◌, Bool, true, false, cond, eqb, List, [], ◌∷◌, ◌++◌, length, get_or, set, replicate, Option, Some, None, refl, sym, ap, ◌∙◌, arith, append-nil, true≢false}
 use Rattle.std.specs.Prelude.{◌||◌, nat_le}
 use Rattle.std.specs.Option.{option_or}
 use Rattle.std.proofs.lemmas.Bool.{or_parts}
@@ -21,6 +21,7 @@ use Rattle.fixed_worth.proofs.NextLine.{line, Next, next_is}
 use Rattle.blocks_file.proofs.Counts.{moved, still_long, push_skipped, push_record, longer}
 use Rattle.blocks_file.proofs.Marks.{marked, marked-replicate, marked-set, all_marked}
 use Rattle.blocks_file.proofs.Slots.{blocks_apart}
+use Rattle.blocks_file.proofs.Rows.{value_small}
 use Rattle.std.proofs.lemmas.Grind.{common_steps}
 
 -- What has been read, and what is left.
@@ -172,4 +173,16 @@ keeps n block chosen p row all seen more places others values new left next k te
 -- All is read.
 pub read_all : (n : ℕ) (chosen : List ℕ) (all : List Line) (seen : List Bool) (places : List Place) (values : List ℤ) (left : Left) → ReadSoFar n chosen all seen places values left → left.lines ≡ [] → n ≡ length (record_lines all) → n ≤ MOST_BLOCKS → length chosen ≤ 8
     → (first_fault n chosen [] all ≡ None) × AreKept n chosen all places values
-read_all n chosen all seen places values left g e count bound few = grind (arith, common_steps, all_marked)
+read_all n chosen all seen places values left g e count bound few =
+    let none : numbered_lines left.number left.lines ≡ [] = rw e refl in
+    let same : g.before ≡ all = sym (append-nil g.before) ∙ ap (λ (xs : List Line). g.before ++ xs) (sym none) ∙ g.whole in
+    let full : marked seen ≡ length seen = g.count ∙ ap (λ (xs : List Line). length (record_lines xs)) same ∙ sym count ∙ sym g.all_seen in
+    let had : (b : ℕ) → b < n → get_or seen b false ≡ true = λ b i. all_marked seen b full (omega (arith, g.all_seen)) in (
+      sym g.fault ∙ ap (λ (ls : List Line). first_fault n chosen g.before ls) none,
+      record {
+        model = record { bound = bound; few = few; all_places = g.all_places; all_values = g.all_values; small = λ b i h l. rw (g.value b i h (had b h) l) (value_small (columns_of (record_among g.before b)) (get_or chosen i 0)) };
+        each = λ b i. ap (λ (xs : List Line). has_record xs b) (sym same) ∙ sym (g.marks b i) ∙ had b i;
+        place = λ b i. g.place b i (had b i) ∙ ap (λ (xs : List Line). place_of_record (record_among xs b)) same;
+        value = λ b i h l. g.value b i h (had b h) l ∙ ap (λ (xs : List Line). value_in (columns_of (record_among xs b)) (get_or chosen i 0)) same;
+      },
+    )

@@ -1,12 +1,18 @@
 -- The values of a record's chosen columns.
-use Rattle.std.proofs.Common.{◌≡◌, ℕ, ℤ, suc, ◌+◌, ◌<◌, Bool, true, false, eqb, inl, inr, List, [], ◌∷◌, length, get_or, drop, Some, None, refl, sym, ap, ◌∙◌, arith, true≢false}
-use Rattle.std.specs.Prelude.{◌||◌, nat_lt, is_some}
+use Rattle.std.proofs.Common.{◌≡◌, ℕ, ℤ, pos, suc, ◌+◌, ◌^◌, ◌<◌, ◌≤◌, unsigned_abs, Bool, true, false, not, cond, eqb, inl, inr, List, [], ◌∷◌, length, get_or, drop, Some, None, Ok, Err, refl, sym, ap, ◌∙◌, arith, true≢false}
+use Rattle.std.specs.Prelude.{◌||◌, nat_lt, nat_le, is_some, unwrap_or}
+use Rattle.std.specs.Result.{result_ok}
 use Rattle.std.specs.List.{list_any}
 use Rattle.std.proofs.lemmas.Bool.{cases_eq}
 use Rattle.std.proofs.lemmas.Bool.Decides.{nat_tests}
 use Rattle.std.proofs.lemmas.List.{drop_more}
-use Rattle.blocks_file.specs.Records.{value_read, is_bad}
-use Rattle.blocks_file.specs.RowReading.{IsRow, AreTaken}
+use Rattle.std.proofs.lemmas.List.Folds.{list_all_at}
+use Rattle.std.proofs.lemmas.Int.{ints}
+use Rattle.fixed_worth.specs.declared.numerals.NumberFault.TheVariants.{NotANumber, TooLong, TooLarge}
+use Rattle.fixed_worth.specs.Numeral.{is_minus, with_sign}
+use Rattle.fixed_worth.specs.Decimal.{is_decimal, is_too_long, millionths_of, most}
+use Rattle.blocks_file.specs.Records.{value_read, value_in, is_bad, are_there}
+use Rattle.blocks_file.specs.RowReading.{IsRow, AreTaken, HoldsValues}
 use Rattle.std.proofs.lemmas.Grind.{common_steps}
 
 -- The next field is column k.
@@ -58,3 +64,24 @@ none_bad columns (c ∷ cs) f = rw (not_bad columns c (nat_lt c (length columns)
 
 pub row_good : (chosen : List ℕ) (columns : List (List ℕ)) (row : List ℤ) → IsRow chosen columns (length columns) row → list_any (is_bad columns) chosen ≡ false
 row_good chosen columns row r = none_bad columns chosen (λ i h l. ap is_some (r.each i h l))
+
+there_at : (n : ℕ) (chosen : List ℕ) (i : ℕ) → are_there chosen n ≡ true → i < length chosen → (t : Bool) → nat_lt (get_or chosen i 0) n ≡ t → get_or chosen i 0 < n
+there_at n chosen i h l true e = grind arith
+there_at n chosen i h l false e = absurd (true≢false (sym h ∙ list_all_at (λ c. nat_lt c n) chosen i 0 l e))
+
+pub row_values : (chosen : List ℕ) (columns : List (List ℕ)) (row : List ℤ) → IsRow chosen columns (length columns) row → are_there chosen (length columns) ≡ true → HoldsValues chosen columns row
+row_values chosen columns row r h = grind (arith, common_steps)
+
+-- no value is above 10 ^ 18 millionths either way
+sign_small : (minus : Bool) (n limit : ℕ) (t : Bool) → nat_le n limit ≡ t → unsigned_abs (unwrap_or (result_ok (with_sign minus (cond t (Ok n) (Err TooLarge)))) (pos 0)) ≤ limit
+sign_small true n limit true e = let l : n ≤ limit = grind (arith, nat_tests) in omega (arith, ints, l)
+sign_small false n limit true e = grind (arith, nat_tests)
+sign_small minus n limit false e = omega arith
+
+read_small : (a b minus : Bool) (n limit : ℕ) → unsigned_abs (unwrap_or (result_ok (cond a (Err NotANumber) (cond b (Err TooLong) (with_sign minus (most limit n))))) (pos 0)) ≤ limit
+read_small true b minus n limit = omega arith
+read_small false true minus n limit = omega arith
+read_small false false minus n limit = sign_small minus n limit (nat_le n limit) refl
+
+pub value_small : (columns : List (List ℕ)) (c : ℕ) → unsigned_abs (value_in columns c) ≤ 10 ^ 18
+value_small columns c = let field = get_or columns c [] in read_small (not (is_decimal field)) (is_too_long field) (is_minus field) (millionths_of field) (10 ^ 18)
