@@ -302,6 +302,18 @@ def the_gate_waits_for_a_build(tree):
     return well and build.returncode == 0, gate
 
 
+def the_gate_gives_a_crate_one_process(tree):
+    """Of the kit's gate each crate gets one where the number of processes is set; a number that somebody has set stays."""
+    tree.commit()
+    first = asked(tree, "gate()")
+    own = [line[-1] for line in tree.log() if line[0] != "ci"]
+    tree.around["RT_JOBS"] = "7"
+    second = asked(tree, "gate()")
+    given = [line[-1] for line in tree.log() if line[0] != "ci"]
+    well = len(own) == 4 and all(it.isdigit() and 1 <= int(it) <= len(os.sched_getaffinity(0)) for it in own)
+    return well and given == ["7"] * 4, first + second
+
+
 EDIT = "# function: one\nfile: src/lib.rt\nold: fn one() {}\nnew: fn one() {} // %s\n"
 
 
@@ -628,7 +640,7 @@ CASES = [
     what_a_build_proved_the_gate_keeps, only_what_changed_is_proved_again, each_library_has_a_run_of_its_own, what_is_kept_is_taken_by_one_run,
     one_run_proves_all_where_several_cannot, a_kit_that_keeps_nothing_proves_all_in_one_run, a_library_that_fails_ends_the_others, ctrl_c_ends_the_runs_of_a_build, sigterm_ends_the_runs_of_a_build,
     a_closed_terminal_ends_the_runs_of_a_build, a_killed_build_takes_its_runs_along, ctrl_c_ends_the_one_run_of_a_build,
-    sigterm_ends_the_one_run_of_a_build, a_crate_that_the_gate_refuses_is_told, a_second_build_waits_and_says_so, the_gate_waits_for_a_build,
+    sigterm_ends_the_one_run_of_a_build, a_crate_that_the_gate_refuses_is_told, a_second_build_waits_and_says_so, the_gate_waits_for_a_build, the_gate_gives_a_crate_one_process,
     the_gate_tries_edits_over_its_own_libraries, each_edit_that_shows_nothing_fails_the_gate, what_is_proved_is_kept_where_one_fails, a_crate_of_few_functions_gets_one_process,
     limits_of_a_container_count, an_answer_comes_before_any_proof, an_answer_comes_while_crates_are_proved, an_answer_that_comes_late_is_left_off, quick_stops_after_the_first_answer, no_answer_without_proof_is_told,
     the_page_of_the_example_is_made,
