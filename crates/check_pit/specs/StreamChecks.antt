@@ -126,12 +126,12 @@ IsOpenPit net previous kind pit TooLarge = ⊥
 abbrev pub AreZero : NetView → RoomView → Type 0
 AreZero net room = (b : ℕ) → b < length net.worths → amount_at room.balances b ≡ zero_amount
 
--- and the pit is worth what the source could still give
+-- each balance is zero, and the pit is worth what the source could still give
 pub record SumsSettle (net : NetView) (room : RoomView) : Type 0 where
   pub zero : AreZero net room
   pub tight : room.worth ≡ room.left
 
--- why they don't prove the pit: a balance is not zero, or the pit is worth something else
+-- why the sums don't prove the pit: a balance is not zero, or the pit is worth something else
 abbrev pub SumsFail : NetView → RoomView → PitFault → Type 0
 SumsFail net room WrongSize = ⊥
 SumsFail net room (NotClosed b p) = ⊥

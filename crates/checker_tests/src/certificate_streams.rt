@@ -105,7 +105,7 @@ fn both_answers(
     [first, second]
 }
 
-// The same, in two rooms.
+// Two checks of the stream, one after the other, each in a room of its own.
 fn answers_in_rooms(
     alloc: Global,
     stream: &mut CertStream<Device<'_>>,
@@ -130,7 +130,7 @@ fn answers_over(
     answers_in_rooms(alloc, &mut stream, net)
 }
 
-// The same of three blocks, and lines behind the header.
+// Two checks of a certificate of three blocks that has these lines after its header, where one read of it fails.
 fn answers_of(
     alloc: Global,
     body: &[u8],

@@ -29,7 +29,7 @@ on_way f (TakeDue d port) = f port d
 on_way f (GiveDue d port) = f port d
 on_way f (RaiseDue have best) = zero_amount
 
--- the same, over the operations of all blocks
+-- what counts of all pushes that have made their capacity step and have not arrived, over the operations of all blocks
 unfoldable pub sum_on_way : NetView → (Port → Amount → Amount) → (ℕ → Operation Amount) → Amount
 sum_on_way net f operation = total (λ b. on_way f (operation b)) (length net.worths)
 
@@ -52,7 +52,7 @@ into_source_by Forward d = zero_amount
 into_source_by Backward d = zero_amount
 into_source_by Source d = d
 
--- the same of a port
+-- what of d goes over a port into block x, to the sink, and to the source
 abbrev pub lands : ℕ → Port → Amount → Amount
 lands x port d = lands_by port.kind port.other x d
 

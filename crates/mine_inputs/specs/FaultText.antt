@@ -13,7 +13,7 @@ abbrev pub problem_text : {F : Type 0} → (F → List ℕ) → Problem F → Li
 problem_text text problem.InputTooLong = codes "InputTooLong"
 problem_text text (problem.Fault fault) = text fault
 
--- the same where a fault may have no text that is claimed
+-- what a problem with an input prints, where a fault may have no text that is claimed
 abbrev pub problem_output : {F : Type 0} → (F → Option (List ℕ)) → Problem F → Option (List ℕ)
 problem_output output problem.InputTooLong = Some (codes "InputTooLong")
 problem_output output (problem.Fault fault) = output fault
