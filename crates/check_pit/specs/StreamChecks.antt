@@ -73,7 +73,7 @@ pub record IsWholeBody (left : Option (List ℕ)) (taken : ℕ) (counts : Bool) 
   pub few : taken ≤ MOST_BYTES
   pub none : fault_of_body counts net body ≡ None
 
--- a line of the body is refused behind those before it, of which none has an amount that is negative or too large
+-- a line of the body is refused after those before it, of which none has an amount that is negative or too large
 abbrev pub RefusesSome : Bool → NetView → List ℕ → PitFault → Type 0
 RefusesSome counts net body e = (ls : List BodyLine) × (l : BodyLine) × LinesBegin counts net body (ls ++ l ∷ []) × KeepLimits net.worths ls × LineRefused net ls l e
 
@@ -112,7 +112,7 @@ pub record ClosesPit (net : NetView) (previous : Option BodyLine) (kind : LineKi
   pub made : later.is_pit ≡ cond (is_behind_pits previous) true (not (is_pit kind))
   pub closed : is_behind_pits previous ≡ false → is_pit kind ≡ false → IsClosed net.pairs (holds_of later.blocks)
 
--- the pit isn't closed, and behind PIT lines alone a line of this kind, other than PIT, was read
+-- the pit isn't closed, and after PIT lines alone a line of this kind, other than PIT, was read
 abbrev pub IsOpenPit : NetView → Option BodyLine → LineKind → List ℕ → PitFault → Type 0
 IsOpenPit net previous kind pit WrongSize = ⊥
 IsOpenPit net previous kind pit (NotClosed b p) = (is_behind_pits previous ≡ false) × (is_pit kind ≡ false) × IsFirstOpen net.pairs (holds_of pit) (b, p)

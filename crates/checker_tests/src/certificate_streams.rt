@@ -216,7 +216,7 @@ fn faults_of_a_pit_come_in_their_order(rt: HostRuntime) -> Result<(), Fail> {
     have_their_answers(&rt, rt.alloc(), rows.as_slice())
 }
 
-// How many reads of at most so many bytes the header takes, and a check behind it.
+// How many reads of at most so many bytes the header takes, and a check after it.
 fn reads_of(alloc: Global, text: &[u8], most: usize) -> Result<[u64; 2], Fail> {
     let net = three_blocks(alloc)?;
     let device = Failing::new(text, most, 0, Failure::Broken);

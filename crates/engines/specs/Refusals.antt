@@ -14,11 +14,11 @@ use Rattle.check_pit.specs.Rooms.{LineRefused}
 use Rattle.check_pit.specs.StreamChecks.{first_pits}
 use Rattle.mine_inputs.specs.Limits.{IsWithinLimit}
 
--- the lines of the text behind its header, before END
+-- the lines of the certificate's body: after its header, before END
 abbrev pub lines_for : Bool → NetView → List ℕ → List BodyLine
 lines_for counts net text = lines_of_text counts (length net.worths) text
 
--- the flow that they say
+-- the flow that these lines say
 abbrev pub flow_for : Bool → NetView → List ℕ → FlowView
 flow_for counts net text = flow_of (length net.worths) net.pairs (lines_for counts net text)
 

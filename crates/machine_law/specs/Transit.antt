@@ -66,17 +66,19 @@ into_source port d = into_source_by port.kind d
 abbrev pub amount_coming : NetView → State → ℕ → Amount
 amount_coming net s x = sum_on_way net (lands x) s.operation
 
--- those of the pushes to the sink, and back to the source
+-- the amounts of all pushes to the sink that have made their capacity step and have not arrived
 abbrev pub amount_coming_to_sink : NetView → State → Amount
 amount_coming_to_sink net s = sum_on_way net into_sink s.operation
 
+-- the amounts of all pushes back to the source that have made their capacity step and have not arrived
 abbrev pub amount_coming_to_source : NetView → State → Amount
 amount_coming_to_source net s = sum_on_way net into_source s.operation
 
--- what comes into block b over pairs, and what goes out of it
+-- what comes into block b over pairs, from the blocks that rest on it
 unfoldable pub inflow_at : NetView → (ℕ → Amount) → ℕ → Amount
 inflow_at net flow b = at_end (to_at net.pairs) flow (length net.pairs) b
 
+-- what goes out of block b over pairs, to the blocks that it rests on
 unfoldable pub outflow_at : NetView → (ℕ → Amount) → ℕ → Amount
 outflow_at net flow b = at_end (from_at net.pairs) flow (length net.pairs) b
 

@@ -152,7 +152,7 @@ impl Rests {
         )
     }
 
-    /// The number of b's first pair, or of the first pair of the blocks behind b where b has none.
+    /// The number of b's first pair, or of the first pair of the blocks after b where b has none.
     pub fn first(&self, b: u32) -> u32
         requires { b < self.now.blocks }
         ensures { result ≡ first_of self.now.pairs b }
