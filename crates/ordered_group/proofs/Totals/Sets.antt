@@ -83,7 +83,7 @@ route e end f n (suc m) h =
     ∙ total-plus (λ b. where_so (e b) (at_end end f m b)) (λ b. where_so (e b) (where_so (end m == b) (f m))) n
     ∙ rw (p, q) refl
 
--- the same over all numbers: each pair is counted once
+-- what ends at each number, summed by all numbers, is the sum over all pairs: each is counted once
 pub route_all : (end : ℕ → ℕ) (f : ℕ → Amount) (n m : ℕ) → ((k : ℕ) → k < m → end k < n) → total (at_end end f m) n ≡ total f m
 route_all end f n m h = route (λ b. true) end f n m h
 
