@@ -12,7 +12,7 @@ use Rattle.machine_law.specs.Reads.{after_last_port, after_port, IsScan}
 use Rattle.async_step.specs.Views.{StateView, operation_at}
 use Rattle.async_step.specs.Scans.{after_label_by}
 
--- the same under the amounts
+-- an operation looks at one of so many ports where it does so with its amounts turned by f
 pub scan_under : {N M : Type 0} (f : N → M) (n : ℕ) (o : Operation N) → IsScan n (operation_as f o) → IsScan n o
 scan_under f n Idle h = h
 scan_under f n (Scan have place read best) h = h

@@ -38,7 +38,7 @@ answer_by net s b port Forward = Label (end_label net s port)
 answer_by net s b port Backward = Capacity (capacity net s b port)
 answer_by net s b port Source = Capacity (capacity net s b port)
 
--- the same at a place of the list of ports
+-- at a place of the list of ports: what a read of that port answers, or the label 0 where the list has no such place
 abbrev pub answer_at : NetView → State → ℕ → Option Port → Saw Amount
 answer_at net s b None = Label 0
 answer_at net s b (Some port) = answer_by net s b port port.kind
@@ -99,7 +99,7 @@ CannotGo net old after (OutOfTurn kind) = ⊥
 CannotGo net old after TooLarge = ¬ (Fits net after)
 CannotGo net old after TooManySteps = Fits net after × (MOST_STEPS ≤ old.steps)
 
--- and it stays
+-- the state stays as it is, since it can't go over to the later one
 pub record StateStays (net : NetView) (old : StateView) (after : State) (new : StateView) (refusal : StepRefusal) : Type 0 where
   pub same : new ≡ old
   pub why : CannotGo net old after refusal
@@ -108,7 +108,7 @@ pub record StateStays (net : NetView) (old : StateView) (after : State) (new : S
 abbrev pub Leads : {X : Type 0} → NetView → StateView → State → StateView → Result X StepRefusal → Type 0
 Leads net old after new result = MatchResult result (λ x. GoesTo net old after new) (λ e. StateStays net old after new e)
 
--- and it tells what was seen, moved or raised
+-- the state goes over to this one, and the answer tells what was seen, moved or raised; or the state stays where it can't
 abbrev pub LeadsTelling : {N : Type 0} → (N → Amount) → NetView → StateView → State → Saw Amount → StateView → Result (Saw N) StepRefusal → Type 0
 LeadsTelling f net old after tells new result = MatchResult result (λ saw. GoesTo net old after new × (saw_as f saw ≡ tells)) (λ e. StateStays net old after new e)
 

@@ -30,7 +30,7 @@ after_change s b (Flow pair amount) = record s { flow = with_value_at s.flow pai
 after_change s b (AtSource amount) = record s { at_source = amount }
 after_change s b (AtSink amount) = record s { at_sink = amount }
 
--- the same of a state's lists
+-- the lists of a state after a change by block b
 abbrev pub lists_after_change : StateView → ℕ → Change Amount → StateView
 lists_after_change v b Nothing = v
 lists_after_change v b (Excess at amount) = record v { excess = slice_set v.excess at amount }

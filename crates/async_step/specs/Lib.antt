@@ -1,6 +1,9 @@
+-- a state, and marks for sets of its blocks
 pub mod Marks
 pub mod Views
-pub mod Answers
+-- what a step changes and answers
 pub mod Changes
+pub mod Answers
 pub mod Scans
+-- how faults print
 pub mod FaultText

@@ -1,4 +1,4 @@
-//! Where a solve with a trace writes: the trace of the run and, behind it, the answer.
+//! Where a solve with a trace writes: the trace of the run and, after it, the answer.
 
 /// The outputs of a solve with a trace. The trace is written first.
 #[derive(Drop)]

@@ -1,6 +1,9 @@
+-- the tables and their texts
 pub mod Benches
+pub mod Written
 pub mod BlockShells
+-- when there is no table, and how that prints
 pub mod FaultStands
 pub mod FaultText
+-- for this crate alone: rows as they grow
 pub mod GrowingRows
-pub mod Written

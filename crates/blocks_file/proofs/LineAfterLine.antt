@@ -72,10 +72,12 @@ record_first (x ∷ xs) l b h e =
     let p = or_parts (is_record_of b (fields_of x.text)) (has_record xs b) h in
     rw p.0 (record_first xs l b p.1 e)
 
+-- A block's fault depends only on which of the n blocks had a record.
 block_same : (n : ℕ) (g h : ℕ → Bool) (k block : ℕ) → ((b : ℕ) → b < n → g b ≡ h b) → (t : Bool) → nat_le n block ≡ t → block_fault n g k block ≡ block_fault n h k block
 block_same n g h k block e true f = rw f refl
 block_same n g h k block e false f = grind (arith, common_steps)
 
+-- A block's fault by the records before is its fault by the marks.
 known : (n : ℕ) (seen : List Bool) (before : List Line) (k block : ℕ) → ((b : ℕ) → b < n → get_or seen b false ≡ has_record before b) → length seen ≡ n
     → block_fault n (has_record before) k block ≡ block_fault (length seen) (λ b. get_or seen b false) k block
 known n seen before k block m e =
@@ -112,6 +114,7 @@ passes n chosen all seen places values left next k text g h s =
       all_values = g.all_values;
     }
 
+-- A block without a fault is one of the n, and had no record.
 fault_none : (n : ℕ) (had : ℕ → Bool) (k block : ℕ) → block_fault n had k block ≡ None → (t : Bool) → nat_le n block ≡ t → (u : Bool) → had block ≡ u → (block < n) × (had block ≡ false)
 fault_none n had k block h true e u f = absurd (let q : Some (UnknownBlock k) ≡ None = sym (rw e refl) ∙ h in cc)
 fault_none n had k block h false e true f = absurd (let q : Some (Repeated k) ≡ None = sym (rw (e, f) refl) ∙ h in cc)

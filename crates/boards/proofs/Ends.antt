@@ -58,7 +58,7 @@ due_reads : (board : BoardView) (own : Option ℕ) (from b : ℕ) → IsPicked b
 due_reads board own from b (inl own_one) kind zero = own_one.at_work (excess_read_idle board.net b ((shown_state board).operation b) kind)
 due_reads board own from b (inr waits) kind zero = Below-not zero_amount ((shown_state board).excess b) waits.1.here.excess (AtMost-same ((shown_state board).excess b) zero_amount zero)
 
--- the same turns lead to a board with the same net and state
+-- turns that lead to the state of a board lead to that of any board with its net and state
 pub same_turns : (old new : BoardView) (events : List Event) → new.net ≡ old.net → new.state ≡ old.state → AreTurnsTo old.net events (shown_state old) → AreTurnsTo new.net events (shown_state new)
 same_turns old new events net_is state_is run = subst (λ (n : NetView). AreTurnsTo n events (shown_state new)) (sym net_is) (subst (λ (v : StateView). AreTurnsTo old.net events (state_of v)) (sym state_is) run)
 

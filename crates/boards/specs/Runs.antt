@@ -27,7 +27,7 @@ IsMadeByTurns net s = IsStateOfActiveRun (Fits net) net s
 abbrev pub AreTurnsBetween : NetView → State → List Event → State → Type 0
 AreTurnsBetween net s events t = ActiveRun (Fits net) net s events t
 
--- the same from the opening state
+-- these events, in this order, are such turns, from the opening state to this one
 abbrev pub AreTurnsTo : NetView → List Event → State → Type 0
 AreTurnsTo net events s = AreTurnsBetween net (opening net) events s
 

@@ -47,7 +47,7 @@ pub record IsBlockDue (board : BoardView) (own : Option ℕ) (from steps b : ℕ
   pub going : IsGoing board steps
   pub picked : IsPicked board own from b
 
--- it is stuck, and not quiet
+-- the run is stuck, and not quiet
 pub record IsStuck (board : BoardView) : Type 0 where
   pub unquiet : ¬ (IsQuiet board.net (shown_state board))
   pub stuck : board.stuck ≡ true

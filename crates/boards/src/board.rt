@@ -162,7 +162,7 @@ impl<G: OrderedGroup> Board<G> {
 
     /// A turn at the board: the one step that is next for `own`, where that block has an operation,
     /// and else for the first block at or after `from`, going round, that has excess and no
-    /// operation. A block behind the last counts as none for `own`, and as 0 for `from`.
+    /// operation. A block after the last counts as none for `own`, and as 0 for `from`.
     ///
     /// Answers the first of these that stands: that the run is quiet; that it is stuck; that it made
     /// at least `steps` steps; that there is no block to serve. A step that would lead to a number

@@ -130,7 +130,7 @@ line_behind counts n previous k p = do
   line ← read_line (line_of counts n) k p
   in_order previous k line
 
--- the same, where its pair must be one of the model's
+-- the line that piece k is, after another one, where the pair of a line `REST` must be one of the model's
 abbrev pub next_line : Bool → ℕ → (ℕ → ℕ → Bool) → Option BodyLine → ℕ → Piece → Result BodyLine CertFault
 next_line counts n has previous k p = do
   line ← line_behind counts n previous k p

@@ -14,7 +14,7 @@ use Rattle.prec_file.proofs.Passing.{passing_at, passing_here, passing_after}
 all_over : (end : ℕ → ℕ) (f : ℕ → Amount) (m b : ℕ) → over f (numbers end b m) (length (numbers end b m)) ≡ at_end end f m b
 all_over end f m b = over-numbers end b (numbers end b) refl (λ k. refl) f m
 
--- the same up to the pair k, by the first places of the whole list
+-- the sum over the pairs before k that end at b, by the first places of the list of all that end there
 first_over : (end : ℕ → ℕ) (f : ℕ → Amount) (m b k : ℕ) → k ≤ m → over f (numbers end b m) (length (numbers end b k)) ≡ at_end end f k b
 first_over end f m b k h = over-first (λ j. end j == b) (numbers end b) refl (λ i. refl) f k m h
 
@@ -52,7 +52,7 @@ fits_more start f ks i old x p q h l = below_more _ i l (fits_there old x (plus 
 pub overflows_here : (start : Amount) (f : ℕ → Amount) (ks : List ℕ) (i : ℕ) (old x : Amount) → old ≡ plus start (over f ks i) → f (get_or ks i 0) ≡ x → ¬ (FitsPair (plus old x)) → ¬ (FitsPair (plus (plus start (over f ks i)) (f (get_or ks i 0))))
 overflows_here start f ks i old x p q h = λ k. h (fits_there (plus start (over f ks i)) (f (get_or ks i 0)) old x (sym p) (sym q) k)
 
--- the same for a list that was handed over as those numbers
+-- sums over a list that was handed over as the numbers of the pairs that end at b
 module _ (start : Amount) (end : ℕ → ℕ) (f : ℕ → Amount) (b m : ℕ) (ks : List ℕ) (is : ks ≡ numbers end b m) where
   pub number_below : (i : ℕ) → i < length ks → get_or ks i 0 < m
   number_below i l =

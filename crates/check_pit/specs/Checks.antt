@@ -68,7 +68,7 @@ pub record PassesSigns (net : NetView) (flow : FlowView) (pit : List ℕ) : Type
   pub closed : IsClosed net.pairs (holds_of pit)
   pub signs : NoneBelowZero flow
 
--- and the capacities are kept
+-- sizes, closure and signs are as they should be, and no arc carries more than its capacity
 pub record PassesCapacities (net : NetView) (flow : FlowView) (pit : List ℕ) : Type 0 where
   pub signs : PassesSigns net flow pit
   pub within : AllWithin net flow

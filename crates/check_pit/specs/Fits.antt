@@ -10,7 +10,7 @@ use Rattle.closure_net.specs.Flows.{residual_at}
 abbrev pub EndFits : Amount → (ℕ → ℕ) → (ℕ → Amount) → ℕ → ℕ → Type 0
 EndFits start end f b m = (k : ℕ) → k < m → end k ≡ b → FitsPair (plus (plus start (at_end end f k b)) (f k))
 
--- one of them doesn't
+-- start, and after it the amounts of the pairs that end at b in their order: some sum on the way doesn't fit
 abbrev pub EndOverflows : Amount → (ℕ → ℕ) → (ℕ → Amount) → ℕ → ℕ → Type 0
 EndOverflows start end f b m = (k : ℕ) × (k < m) × (end k ≡ b) × ¬ (FitsPair (plus (plus start (at_end end f k b)) (f k)))
 
@@ -18,7 +18,7 @@ EndOverflows start end f b m = (k : ℕ) × (k < m) × (end k ≡ b) × ¬ (Fits
 abbrev pub BalanceFits : NetView → FlowView → ℕ → Type 0
 BalanceFits net flow b = EndFits (amount_at flow.source b) (to_at net.pairs) (amount_at flow.rest) b (length net.pairs) × EndFits (amount_at flow.sink b) (from_at net.pairs) (amount_at flow.rest) b (length net.pairs)
 
--- one of them doesn't
+-- what enters b from the source and over pairs, or what leaves it to the sink and over pairs: some sum on the way doesn't fit
 abbrev pub BalanceOverflows : NetView → FlowView → ℕ → Type 0
 BalanceOverflows net flow b = EndOverflows (amount_at flow.source b) (to_at net.pairs) (amount_at flow.rest) b (length net.pairs) ⊎ EndOverflows (amount_at flow.sink b) (from_at net.pairs) (amount_at flow.rest) b (length net.pairs)
 
@@ -26,7 +26,7 @@ BalanceOverflows net flow b = EndOverflows (amount_at flow.source b) (to_at net.
 abbrev pub SetFits : List Amount → (ℕ → Bool) → Type 0
 SetFits ws e = (k : ℕ) → k < length ws → IsTrue (e k) → FitsPair (plus (total (λ b. where_so (e b) (amount_at ws b)) k) (amount_at ws k))
 
--- one of them doesn't
+-- the worths of a set's blocks in their order: some sum on the way doesn't fit
 abbrev pub SetOverflows : List Amount → (ℕ → Bool) → Type 0
 SetOverflows ws e = (k : ℕ) × (k < length ws) × IsTrue (e k) × ¬ (FitsPair (plus (total (λ b. where_so (e b) (amount_at ws b)) k) (amount_at ws k)))
 
@@ -48,6 +48,6 @@ pub record SumsFit (net : NetView) (flow : FlowView) (pit : List ℕ) : Type 0 w
   pub set : SetFits net.worths (holds_of pit)
   pub room : (k : ℕ) → k < length net.worths → ResidualFits net.worths flow.source k
 
--- one of them doesn't
+-- some sum of the check doesn't fit: of a block's balance, of the pit's worth, or of what the source could still give
 abbrev pub SomeSumOverflows : NetView → FlowView → List ℕ → Type 0
 SomeSumOverflows net flow pit = SomeBalanceOverflows net flow ⊎ (SetOverflows net.worths (holds_of pit) ⊎ ResidualOverflows net.worths flow.source)

@@ -1,19 +1,25 @@
-pub mod Accepted
-pub mod Balances
-pub mod CertStreams
+-- the check of a pit and a flow, and what an accepted pit is
 pub mod Checks
-pub mod Closing
-pub mod Duality
-pub mod FaultText
 pub mod Fits
-pub mod LineLaws
-pub mod LineSums
-pub mod PitLists
-pub mod Rooms
-pub mod StreamBytes
-pub mod StreamChecks
-pub mod StreamHeaders
-pub mod StreamLines
-pub mod StreamView
-pub mod TakenLines
+pub mod Accepted
+-- what acceptance proves, and what a proved pit can be refused for
+pub mod Duality
 pub mod Tightness
+-- the check line by line: what is held and read of a stream
+pub mod StreamView
+pub mod StreamBytes
+pub mod StreamLines
+pub mod TakenLines
+-- its header, the sums over its lines, and the verdict
+pub mod StreamHeaders
+pub mod CertStreams
+pub mod LineSums
+pub mod LineLaws
+pub mod Rooms
+pub mod StreamChecks
+-- parts of a check: closedness, balances, a list of blocks
+pub mod Closing
+pub mod Balances
+pub mod PitLists
+-- how faults print
+pub mod FaultText

@@ -35,7 +35,7 @@ abbrev pub source_sum : List BodyLine → Amount
 source_sum [] = zero_amount
 source_sum (l ∷ ls) = plus (source_by l.kind (amount_of l)) (source_sum ls)
 
--- the residual capacity of the source behind the lines: what it could still give
+-- the residual capacity of the source after the lines: what it could still give
 abbrev pub residual_behind : List Amount → List BodyLine → Amount
 residual_behind ws ls = minus (total (λ b. positive (amount_at ws b)) (length ws)) (source_sum ls)
 

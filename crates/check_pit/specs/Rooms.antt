@@ -45,7 +45,7 @@ pub record AreSumsOf (net : NetView) (ls : List BodyLine) (room : RoomView) : Ty
   pub worth : room.worth ≡ worth_of_blocks net.worths (pit_of ls)
   pub left : room.left ≡ residual_behind net.worths ls
 
--- a block of a PIT line stands behind those before it, and they are no pit yet
+-- a block of a PIT line is above those that the room holds, of which it has made no pit yet
 abbrev pub TakesBlock : LineKind → RoomView → ℕ → Type 0
 TakesBlock Pit room b = (room.is_pit ≡ false) × IsAscending (room.blocks ++ b ∷ [])
 TakesBlock Source room b = Unit {0}
@@ -104,7 +104,7 @@ RefusedWhere net l overflows (NotClosed b p) = ⊥
 RefusedWhere net l overflows (Unbalanced b) = ⊥
 RefusedWhere net l overflows NotTight = ⊥
 
--- a line is refused behind these
+-- a line is refused after these lines, by their sums and its own amount
 abbrev pub LineRefused : NetView → List BodyLine → BodyLine → PitFault → Type 0
 LineRefused net ls l e = RefusedWhere net l (SomeLineSumOverflows net (ls ++ l ∷ [])) e
 
@@ -112,7 +112,7 @@ LineRefused net ls l e = RefusedWhere net l (SomeLineSumOverflows net (ls ++ l �
 abbrev pub PutsLine : NetView → BodyLine → RoomView → RoomView → Type 0
 PutsLine net l before later = (ls : List BodyLine) → AreSumsOf net ls before → AreSumsOf net (ls ++ l ∷ []) later
 
--- where the room had the sums over some lines, one more is refused behind them
+-- where the room had the sums over some lines, one more is refused after them
 abbrev pub RefusesLine : NetView → BodyLine → RoomView → PitFault → Type 0
 RefusesLine net l before e = (ls : List BodyLine) → AreSumsOf net ls before → LineRefused net ls l e
 

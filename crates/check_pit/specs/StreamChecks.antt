@@ -73,7 +73,7 @@ pub record IsWholeBody (left : Option (List ℕ)) (taken : ℕ) (counts : Bool) 
   pub few : taken ≤ MOST_BYTES
   pub none : fault_of_body counts net body ≡ None
 
--- a line of the body is refused behind those before it, of which none has an amount that is negative or too large
+-- a line of the body is refused after those before it, of which none has an amount that is negative or too large
 abbrev pub RefusesSome : Bool → NetView → List ℕ → PitFault → Type 0
 RefusesSome counts net body e = (ls : List BodyLine) × (l : BodyLine) × LinesBegin counts net body (ls ++ l ∷ []) × KeepLimits net.worths ls × LineRefused net ls l e
 
@@ -112,7 +112,7 @@ pub record ClosesPit (net : NetView) (previous : Option BodyLine) (kind : LineKi
   pub made : later.is_pit ≡ cond (is_behind_pits previous) true (not (is_pit kind))
   pub closed : is_behind_pits previous ≡ false → is_pit kind ≡ false → IsClosed net.pairs (holds_of later.blocks)
 
--- the pit isn't closed, and behind PIT lines alone a line of this kind, other than PIT, was read
+-- the pit isn't closed, and after PIT lines alone a line of this kind, other than PIT, was read
 abbrev pub IsOpenPit : NetView → Option BodyLine → LineKind → List ℕ → PitFault → Type 0
 IsOpenPit net previous kind pit WrongSize = ⊥
 IsOpenPit net previous kind pit (NotClosed b p) = (is_behind_pits previous ≡ false) × (is_pit kind ≡ false) × IsFirstOpen net.pairs (holds_of pit) (b, p)
@@ -126,12 +126,12 @@ IsOpenPit net previous kind pit TooLarge = ⊥
 abbrev pub AreZero : NetView → RoomView → Type 0
 AreZero net room = (b : ℕ) → b < length net.worths → amount_at room.balances b ≡ zero_amount
 
--- and the pit is worth what the source could still give
+-- each balance is zero, and the pit is worth what the source could still give
 pub record SumsSettle (net : NetView) (room : RoomView) : Type 0 where
   pub zero : AreZero net room
   pub tight : room.worth ≡ room.left
 
--- why they don't prove the pit: a balance is not zero, or the pit is worth something else
+-- why the sums don't prove the pit: a balance is not zero, or the pit is worth something else
 abbrev pub SumsFail : NetView → RoomView → PitFault → Type 0
 SumsFail net room WrongSize = ⊥
 SumsFail net room (NotClosed b p) = ⊥

@@ -9,14 +9,14 @@ use Rattle.check_pit.specs.declared.stream_fault.StreamFault.TheVariants.{Device
 use Rattle.check_pit.specs.StreamView.{LineView}
 use Rattle.certificate_file.specs.Pieces.{pieces_of, piece_at, no_line}
 
--- these bytes were read and stand behind what was held, and no line was passed
+-- these bytes were read and stand after what was held, and no line was passed
 pub record ReadsBytes {R : Type 0} (remaining : R → Option (List ℕ)) (before later : LineView R) (bytes : List ℕ) : Type 0 where
   pub given : Consumes (remaining before.from) (remaining later.from) bytes
   pub held : later.held ≡ before.held ++ bytes
   pub taken : later.taken ≡ before.taken + length bytes
   pub number : later.number ≡ before.number
 
--- some bytes were
+-- some bytes, perhaps none, were read and stand after what was held, and no line was passed
 abbrev pub ReadsSome : {R : Type 0} → (R → Option (List ℕ)) → LineView R → LineView R → Type 0
 ReadsSome remaining before later = (bytes : List ℕ) × ReadsBytes remaining before later bytes
 

@@ -68,7 +68,7 @@ impl<'a, G: OrderedGroup> Accepted<'a, G> {
         self.on_graph.worth()
     }
 
-    /// The same pit, with the net's graph alone.
+    /// This pit as one that is accepted over the net's graph alone.
     pub fn on_graph(&self) -> &AcceptedPit<'a, G>
         ensures { result.now ≡ self.now }
     {

@@ -39,7 +39,7 @@ fn move_to_front(buffer: &mut [u8], start: usize, end: usize)
     buffer.copy_within(start..end, 0);
 }
 
-// One read behind a part of the buffer, which is moved to the front.
+// Moves a part of the buffer to its front, and reads once into what comes after it.
 fn read_behind<R: CountedRead>(
     from: &mut R,
     buffer: &mut [u8],

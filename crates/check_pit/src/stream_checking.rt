@@ -38,7 +38,7 @@ fn is_behind_pits(previous: Option<BodyLine>) -> bool
     }
 }
 
-// Whether the pit of the PIT lines is closed, at the first line behind them.
+// Whether the pit of the PIT lines is closed, at the first line after them.
 fn close_pit<G: OrderedGroup>(
     net: &GraphRef<'_, G>,
     room: &mut Room<G>,
@@ -77,7 +77,7 @@ fn line_for<R: CountedRead, G: OrderedGroup>(
     next_line(lines, net.predecessors(), counts::<G>(), previous)
 }
 
-// Whether the sums behind all lines prove the pit.
+// Whether the sums after all lines prove the pit.
 fn settle<G: OrderedGroup>(net: &GraphRef<'_, G>, room: &Room<G>) -> Result<(), PitFault>
     requires { length room.now.balances ≡ length net.now.worths }
     ensures { MatchResult result (λ _. SumsSettle net.now room.now) (λ e. SumsFail net.now room.now e) }
@@ -117,8 +117,8 @@ fn check_end<R: CountedRead, G: OrderedGroup>(
 /// Checks the lines behind the header, up to the end of the text.
 ///
 /// # Errors
-/// The first of these: the fault of a line, when it is read; `NotClosed` at the first line behind the PIT lines; `Negative`,
-/// `OverCapacity` and `TooLarge` of a line; behind END `Unbalanced` and `NotTight`.
+/// The first of these: the fault of a line, when it is read; `NotClosed` at the first line after the PIT lines; `Negative`,
+/// `OverCapacity` and `TooLarge` of a line; after END `Unbalanced` and `NotTight`.
 pub fn check_lines<R: CountedRead, G: OrderedGroup>(
     lines: &mut StreamLines<R>,
     net: &GraphRef<'_, G>,

@@ -16,7 +16,7 @@ use certificate_file::{
 };
 use fixed_worth::CountedRead;
 
-// Goes behind the line of this length that was read, and not behind one with a fault.
+// Passes the line of this length where it was read, and not where it has a fault.
 fn pass_read<R, T>(
     lines: &mut StreamLines<R>,
     count: usize,

@@ -1,7 +1,7 @@
 //! Gives the lines of a text that is read from a device one after another, in memory for one line.
 //!
 //! A line is taken in three steps, so that no borrow of it is held while the device is read: [`StreamLines::next_length`]
-//! reads until it is held whole, [`StreamLines::front`] lends it, and [`StreamLines::pass`] goes behind it.
+//! reads until it is held whole, [`StreamLines::front`] lends it, and [`StreamLines::pass`] gives it up.
 
 ghost use Rattle.std.specs.Prelude.{◌≡◌, ℕ, ◌+◌, ◌^◌, ◌-◌, ◌<◌, ◌≤◌, ◌==◌, [], length, drop, take, position, Some, IfOk, IfErr, IsErrOf, MatchResult};
 ghost use Rattle.fixed_worth.specs.declared.limits.TheConstants.{LINE_BYTES, MOST_BYTES};
@@ -93,7 +93,7 @@ impl<R> StreamLines<R> {
         front
     }
 
-    /// Goes behind the line of this length and its line feed.
+    /// Gives up the line of this length and its line feed.
     pub fn pass(&mut self, count: usize)
         requires { count < length self.old.held }
         ensures from { self.new.from ≡ self.old.from }
@@ -107,7 +107,7 @@ impl<R> StreamLines<R> {
 }
 
 impl<R: CountedRead> StreamLines<R> {
-    // One read behind what is held: whether it gave any byte.
+    // Reads once, and keeps the bytes after those that are held: whether there was any.
     fn read_more(&mut self) -> Result<bool, StreamFault>
         requires room { length self.old.held < LINE_BYTES + 1 }
         requires few { self.old.taken ≤ MOST_BYTES }

@@ -105,7 +105,7 @@ fn both_answers(
     [first, second]
 }
 
-// The same, in two rooms.
+// Two checks of the stream, one after the other, each in a room of its own.
 fn answers_in_rooms(
     alloc: Global,
     stream: &mut CertStream<Device<'_>>,
@@ -130,7 +130,7 @@ fn answers_over(
     answers_in_rooms(alloc, &mut stream, net)
 }
 
-// The same of three blocks, and lines behind the header.
+// Two checks of a certificate of three blocks that has these lines after its header, where one read of it fails.
 fn answers_of(
     alloc: Global,
     body: &[u8],
@@ -216,7 +216,7 @@ fn faults_of_a_pit_come_in_their_order(rt: HostRuntime) -> Result<(), Fail> {
     have_their_answers(&rt, rt.alloc(), rows.as_slice())
 }
 
-// How many reads of at most so many bytes the header takes, and a check behind it.
+// How many reads of at most so many bytes the header takes, and a check after it.
 fn reads_of(alloc: Global, text: &[u8], most: usize) -> Result<[u64; 2], Fail> {
     let net = three_blocks(alloc)?;
     let device = Failing::new(text, most, 0, Failure::Broken);

@@ -129,7 +129,7 @@ none_placed xs ps n e =
     ∙ ap (amount_of_place xs) (get_or-replicate n i 0 0 (inside i l))
     ∙ sym (get_or-replicate n i zero_amount zero_amount (inside i l)))
 
--- the same of what is kept, where it is of a few pairs and where it is of all
+-- the amounts that are kept of a few pairs, once a pair that had none gets one
 pub few_set : {Kept : Type 0} (items : Kept → List ℕ) (o : Option Kept) (v : Kept) (xs ys zs : List Amount) (x : Amount) (k n : ℕ)
     → o ≡ Some v → All (λ p. p ≤ length xs) (items v) → ys ≡ xs ++ x ∷ [] → n ≡ length ys → carried_by items o xs ≡ zs
     → map (amount_of_place ys) (set (items v) k n) ≡ set zs k x
@@ -140,6 +140,7 @@ few_set {Kept = Kept} items o v xs ys zs x k n e h f g is =
     ∙ placed_is_set xs x (items v) k h
     ∙ ap (λ (us : List Amount). set us k x) (sym (ap (λ (w : Option Kept). carried_by items w xs) e) ∙ is)
 
+-- the amounts that are kept of a few pairs, once a pair that had one gets another
 pub few_replaced : {Kept : Type 0} (items : Kept → List ℕ) (o : Option Kept) (v : Kept) (xs zs : List Amount) (x : Amount) (k p : ℕ)
     → o ≡ Some v → ArePlaces (items v) (length xs) → k < length (items v) → get_or (items v) k 0 ≡ suc p → carried_by items o xs ≡ zs
     → map (amount_of_place (set xs p x)) (items v) ≡ set zs k x

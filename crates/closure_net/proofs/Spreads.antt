@@ -29,6 +29,6 @@ above_known v b i ts h e l =
 pub below_known : (v : RestsView) (b i : ℕ) (ks : List ℕ) → ks ≡ below_of v.pairs b → i < length ks → get_or ks i 0 < length v.pairs
 below_known v b i ks e l = grind (arith, common_steps, passing_at)
 
--- the same list by another name
+-- places that are passed with a list are so with any list that equals it
 pub passed_same : (W : ℕ → Type 0) (g : ℕ → ℕ) (old cur new : List ℕ) (i : ℕ) → new ≡ cur → PassedPlaces W g old cur i → PassedPlaces W g old new i
 passed_same W g old cur new i e h = let P : List ℕ → Type 0 = λ xs. PassedPlaces W g old xs i in subst P (sym e) h

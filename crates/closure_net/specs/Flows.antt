@@ -22,7 +22,7 @@ Balanced net flow b = plus (amount_at flow.source b) (inflow net.pairs flow.rest
 abbrev pub Within : Amount → Amount → Amount → Type 0
 Within worth source sink = AtMost source (positive worth) × AtMost sink (negative worth)
 
--- the same at block b
+-- the source gives block b at most the positive part of its worth, and b gives the sink at most the negative part
 abbrev pub WithinAt : List Amount → List Amount → List Amount → ℕ → Type 0
 WithinAt ws ss ts b = Within (amount_at ws b) (amount_at ss b) (amount_at ts b)
 

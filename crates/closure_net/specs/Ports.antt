@@ -31,7 +31,7 @@ backward_port from k = record { kind = Backward; other = from k; slot = k }
 abbrev pub forward_ports : (ℕ → ℕ) → (ℕ → ℕ) → ℕ → ℕ → List Port
 forward_ports from to m b = map (forward_port to) (numbers from b m)
 
--- and those to the blocks that rest on b
+-- of m pairs, the ports to the blocks that rest on b
 abbrev pub backward_ports : (ℕ → ℕ) → (ℕ → ℕ) → ℕ → ℕ → List Port
 backward_ports from to m b = map (backward_port from) (numbers to b m)
 

@@ -11,7 +11,7 @@ pub record SearchView : Type 0 where
   pub blocks : ℕ
   pub found : List ℕ
 
--- x is found, and only once
+-- the list with x at its end, unless x is in it
 abbrev pub list_with : List ℕ → ℕ → List ℕ
 list_with xs x = cond (holds_of xs x) xs (xs ++ x ∷ [])
 

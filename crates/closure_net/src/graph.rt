@@ -58,7 +58,7 @@ impl<G: OrderedGroup> Graph<G> {
         }
     }
 
-    /// The same graph, lent.
+    /// The graph, lent: its predecessors and its worths.
     pub fn as_ref(&self) -> GraphRef<'_, G>
         ensures { result ≡ self.now }
     {

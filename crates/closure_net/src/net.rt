@@ -159,7 +159,7 @@ impl<G: OrderedGroup> Net<G> {
         same_pairs(&self.rests, &other.rests) && same_amounts(&self.worths, &other.worths)
     }
 
-    /// The same net, with memory of its own.
+    /// A copy of the net, with memory of its own.
     ///
     /// # Errors
     /// Where memory is refused.

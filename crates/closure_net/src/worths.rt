@@ -68,7 +68,8 @@ pub(crate) fn worths_of_blocks<G: OrderedGroup>(
     Ok(worths)
 }
 
-// The opposite of what block b is worth where that is positive, and else zero, of worths of a net.
+// The opposite of what block b is worth where b is worth less than zero, and otherwise zero; b is a block of a net with
+// these worths.
 pub(crate) fn opposite_part<G: OrderedGroup>(worths: &[G], b: u32) -> G
     requires opposites { OppositesFit (map G.parts_of worths.now) }
     requires known { b < length worths.now }

@@ -29,7 +29,7 @@ use std::thread::Threads;
 /// first fault. Nothing is written before the answer is known.
 ///
 /// # Errors
-/// Those of [`value_engine`](crate::value_engine), and behind those of the design's text those of a check: `Certificate` and
+/// Those of [`value_engine`](crate::value_engine), and after those of the design's text those of a check: `Certificate` and
 /// `Model`. `TooLarge` also where the gap doesn't fit.
 ///
 /// Each device must have counted fewer than 2^64 - 1 failures, so that one more can be counted.

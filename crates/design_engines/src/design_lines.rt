@@ -48,6 +48,7 @@ pub(crate) fn text_of(alloc: Global, valued: &Valued) -> Result<String, AllocErr
     format!(in alloc; "DESIGN {count} {worth}\n{open}")
 }
 
+// Whether the design is closed: the line `CLOSED`, or `OPEN` with how many pairs lead out of it, and the first of these.
 fn text_of_open(alloc: Global, open: &OpenPairs) -> Result<String, AllocError>
     ensures { IfOk result (λ text. string_bytes text ≡ open_text open.now.count open.now.first.items) }
 {
@@ -59,6 +60,7 @@ fn text_of_open(alloc: Global, open: &OpenPairs) -> Result<String, AllocError>
     format!(in alloc; "OPEN {count}\n{needs}")
 }
 
+// A line for each of these pairs.
 fn text_of_needs(alloc: Global, pairs: &[(u32, u32)]) -> Result<String, AllocError>
     ensures { IfOk result (λ text. string_bytes text ≡ needs_text pairs.now) }
 {
@@ -70,7 +72,7 @@ fn text_of_needs(alloc: Global, pairs: &[(u32, u32)]) -> Result<String, AllocErr
     Ok(text)
 }
 
-// The text, and the line of a pair behind it.
+// The text, and after it the line of a pair.
 fn with_needed(alloc: Global, text: &String, b: u32, p: u32) -> Result<String, AllocError>
     ensures { IfOk result (λ more. string_bytes more ≡ string_bytes text.now ++ needs_line (b, p)) }
 {

@@ -49,7 +49,7 @@ goes_on : (n : ℕ) (text : List ℕ) (marks more : List Bool) (left next : Left
     → more ≡ marks_after (fields_of line) marks → ReadSoFar n text more next
 goes_on n text marks more left next line g e f h i w m = grind (arith, common_steps, flat_map-append, append-nil, behind, next_fault, append_assoc, next_lines, mark)
 
--- The same, where the reader has the line's number apart.
+-- A line without a fault is read, where the reader has the line's number apart.
 pub step_on : (n k : ℕ) (text : List ℕ) (marks more : List Bool) (left next : Left) (line : List ℕ) → ReadSoFar n text marks left → length marks ≡ n → k ≡ next.number
     → left.lines ≡ line ∷ next.lines → next.number ≡ left.number + 1 → length line ≤ LINE_BYTES
     → record_fault n (λ b. get_or marks b false) k (fields_of line) ≡ None

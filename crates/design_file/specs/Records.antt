@@ -81,11 +81,12 @@ pub record AreMarks (n : ℕ) (text : List ℕ) (marks : List Bool) : Type 0 whe
   pub size : length marks ≡ n
   pub at : (b : ℕ) → b < n → slice_index_or marks b false ≡ design_of text b
 
--- The marks once the line with these fields is read.
+-- The marks with that of a block set, where a line names one.
 abbrev pub set_in : List Bool → Option (List ℕ) → List Bool
 set_in marks None = marks
 set_in marks (Some word) = slice_set marks (number_of word) true
 
+-- The marks once the line with these fields is read.
 abbrev pub marks_after : List (List ℕ) → List Bool → List Bool
 marks_after fields marks = cond (is_passed fields) marks (set_in marks (block_word fields))
 

@@ -14,7 +14,7 @@ closed_of_pit n pairs worth d h q c held = h q.0 q.1 (rests_of_pair pairs q.0 q.
 pit_of_closed : (n : ℕ) (pairs : List (ℕ × ℕ)) (worth : ℕ → ℤ) (d : ℕ → Bool) → IsClosedBy (Contains pairs) d → IsPit (mine_of_pairs n pairs worth) d
 pit_of_closed n pairs worth d h b p r held = h (b, p) (pair_of_rests pairs b p r) held
 
--- the same pits make the same best pit
+-- where the pits of one mine are those of another, so is its best pit
 best_moves : (n : ℕ) (from to : List (ℕ × ℕ)) (worth : ℕ → ℤ) (e : ℕ → Bool)
     → ((d : ℕ → Bool) → IsPit (mine_of_pairs n from worth) d → IsPit (mine_of_pairs n to worth) d)
     → ((d : ℕ → Bool) → IsPit (mine_of_pairs n to worth) d → IsPit (mine_of_pairs n from worth) d)

@@ -20,7 +20,7 @@ use Rattle.engines.specs.Judgements.{CertificateAccepted, CertificateRefused, Is
 use Rattle.engines.specs.FaultStands.{Fails}
 use Rattle.engines.specs.OutputLines.{judgement_line}
 
--- It wrote ACCEPTED with the number of blocks and the worth of a pit that the texts prove.
+-- The engine wrote ACCEPTED with the number of blocks and the worth of a pit that the texts prove.
 pub record WritesAccepted (texts : MineTexts) (certificate : List ℕ) (old new : Option (List ℕ)) : Type 0 where
   pub group : Group
   pub count : ℕ
@@ -28,7 +28,7 @@ pub record WritesAccepted (texts : MineTexts) (certificate : List ℕ) (old new 
   pub accepted : CertificateAccepted texts certificate group count worth
   pub written : Appends old new (judgement_line (Accepted group count worth))
 
--- It wrote REFUSED with a fault that stands.
+-- The engine wrote REFUSED with a fault that stands.
 pub record WritesRefused (texts : MineTexts) (certificate : List ℕ) (old new : Option (List ℕ)) : Type 0 where
   pub fault : PitFault
   pub refused : CertificateRefused texts certificate fault
@@ -62,7 +62,7 @@ Hinders text engine.Device = Unit {0}
 Hinders text (engine.Certificate certificate.InputTooLong) = IsTooLong text
 Hinders text _ = ⊥
 
--- it accepts, unless something hinders it, or a sum on the way doesn't fit
+-- the engine accepts, unless something hinders it, or a sum on the way doesn't fit
 abbrev pub AcceptsUnlessHindered : List ℕ → Type 0 → Result Verdict EngineFault → Type 0
 AcceptsUnlessHindered text leaves (Ok Done) = Unit {0}
 AcceptsUnlessHindered text leaves (Ok No) = leaves

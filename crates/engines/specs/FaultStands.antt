@@ -27,7 +27,7 @@ pub record NetFails (texts : MineTexts) (n : ℕ) (group : Group) (fault : NetFa
   pub are : AreWorths texts n worths
   pub stands : WorthsFaultStands (block_by group) n worths fault
 
--- the same by the fault: want of memory isn't one of the mine
+-- the mine of the texts has no net, by this fault: want of memory is no fault of a mine
 abbrev pub ModelFails : MineTexts → ℕ → Group → NetFault → Type 0
 ModelFails texts n group net_fault.NoMemory = ⊥
 ModelFails texts n group fault = NetFails texts n group fault
@@ -49,7 +49,8 @@ HeaderFails text n fault = (header_of (pieces_of text) ≡ Err fault) ⊎ ((head
 abbrev pub PriceDiffers : MineTexts → List ℕ → ℕ → Type 0
 PriceDiffers texts certificate n = (header : Header) × (header_of (pieces_of certificate) ≡ Ok header) × (header.blocks ≡ n) × (header.price ≢ price_wanted texts)
 
--- It is too long; or its price is of another kind; or it has this fault, which is told where it is read, however long the text is.
+-- The certificate is too long; or its price is of another kind; or it has this fault, which is told where it is read, however long
+-- the text is.
 abbrev pub CertificateFails : MineTexts → List ℕ → ℕ → CertificateProblem → Type 0
 CertificateFails texts certificate n certificate_problem.InputTooLong = IsTooLong certificate
 CertificateFails texts certificate n certificate_problem.WrongPrice = PriceDiffers texts certificate n

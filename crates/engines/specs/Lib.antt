@@ -1,19 +1,27 @@
+-- what the texts of a mine and of a certificate denote
 pub mod Readings
-pub mod Refusals
+-- judging a certificate, and `check`
 pub mod Judgements
+pub mod Refusals
+pub mod Judging
+pub mod Checking
+-- a flow that is certified, and what is written for a net
+pub mod Certification
+pub mod NetAnswers
+-- `solve`, and which solver makes the flow
+pub mod Methods
+pub mod Solving
+-- `slopes`, and what reduced pairs decide
+pub mod Slopes
+pub mod Reduced
+-- two certificates over one table of prices
+pub mod Nested
+-- when there is a fault; lines and exit statuses
 pub mod FaultStands
 pub mod OutputLines
-pub mod Checking
-pub mod Statuses
 pub mod Verdicts
-pub mod Judging
-pub mod Slopes
+pub mod Statuses
+-- the values of options
 pub mod WholeNumbers
-pub mod PatternWords
-pub mod Nested
-pub mod NetAnswers
-pub mod Solving
 pub mod OptionWords
-pub mod Certification
-pub mod Methods
-pub mod Reduced
+pub mod PatternWords

@@ -14,7 +14,7 @@ begins_with_pseudoflow Auto n = nat_lt 1000 n
 begins_with_pseudoflow Pseudoflow n = true
 begins_with_pseudoflow PushRelabel n = false
 
--- whether there is no pit of a mine of n blocks where pseudoflow proves none: the machine isn't tried behind it
+-- whether there is no pit of a mine of n blocks where pseudoflow proves none: the machine isn't tried after it
 abbrev pub ends_with_pseudoflow : Method → ℕ → Bool
 ends_with_pseudoflow Auto n = nat_lt 10000 n
 ends_with_pseudoflow Pseudoflow n = true

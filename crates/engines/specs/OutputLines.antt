@@ -17,7 +17,7 @@ use Rattle.mine_inputs.specs.declared.engine_fault.EngineFault.{EngineFault}
 use Rattle.mine_inputs.specs.declared.engine_fault.EngineFault.TheVariants as engine
 use Rattle.mine_inputs.specs.FaultText.{problem_text, certificate_problem_text, slope_text}
 
--- what stands behind the worth where worth alone was counted
+-- what follows the worth on the line: something where worth alone was counted, and otherwise nothing
 abbrev pub group_mark : Group → List ℕ
 group_mark Worth = codes " GROUP WORTH"
 group_mark Pair = []

@@ -14,19 +14,19 @@ use Rattle.check_pit.specs.Rooms.{LineRefused}
 use Rattle.check_pit.specs.StreamChecks.{first_pits}
 use Rattle.mine_inputs.specs.Limits.{IsWithinLimit}
 
--- the lines of the text behind its header, before END
+-- the lines of the certificate's body: after its header, before END
 abbrev pub lines_for : Bool → NetView → List ℕ → List BodyLine
 lines_for counts net text = lines_of_text counts (length net.worths) text
 
--- the flow that they say
+-- the flow that these lines say
 abbrev pub flow_for : Bool → NetView → List ℕ → FlowView
 flow_for counts net text = flow_of (length net.worths) net.pairs (lines_for counts net text)
 
--- they begin with these
+-- the lines of the certificate's body begin with these
 abbrev pub TextBegins : Bool → NetView → List ℕ → List BodyLine → Type 0
 TextBegins counts net text ls = (more : List BodyLine) × (lines_for counts net text ≡ ls ++ more)
 
--- one of them is refused behind those before it, of which none has an amount that is negative or too large
+-- a line of the certificate's body is refused after the lines before it, of which none has an amount that is negative or too large
 abbrev pub TextRefusesLine : Bool → NetView → List ℕ → PitFault → Type 0
 TextRefusesLine counts net text e = (ls : List BodyLine) × (l : BodyLine) × TextBegins counts net text (ls ++ l ∷ []) × KeepLimits net.worths ls × LineRefused net ls l e
 

@@ -125,7 +125,7 @@ SlopesFail source text up selection engine.Memory = Unit {0}
 SlopesFail source text up selection engine.Device = Unit {0}
 SlopesFail source text up selection _ = ⊥
 
--- It wrote the precedence file of the pairs.
+-- The engine wrote the precedence file of the pairs.
 pub record WritesSlopes (source : OffsetsSource) (text : List ℕ) (up : Up) (selection : Selection) (old new : Option (List ℕ)) : Type 0 where
   pub rests : RestsView
   pub slopes : AreSlopesBy source text up selection rests

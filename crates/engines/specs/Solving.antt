@@ -52,7 +52,7 @@ MachineStands net limit NoMemory = Unit {0}
 MachineStands net limit NoThread = Unit {0}
 MachineStands net limit Stranger = Unit {0}
 
--- whether pseudoflow may give up on a net: it alone was asked for, or the machine isn't tried behind it, since there are too many blocks
+-- whether pseudoflow may give up on a net: it alone was asked for, or the machine isn't tried after it, since there are too many blocks
 abbrev pub MayGiveUp : NetView → Method → Type 0
 MayGiveUp net method = ends_with_pseudoflow method (length net.worths) ≡ true
 

@@ -1,4 +1,4 @@
-//! Writes the line of a verdict: `ACCEPTED` with the pit's blocks and worth, or `REFUSED` with the fault.
+//! Writes the line of a judgement: `ACCEPTED` with the pit's blocks and worth, or `REFUSED` with the fault.
 
 ghost use Rattle.std.specs.Prelude.{◌≡◌, ◌+◌, ◌-◌, ◌^◌, ◌<◌, OnOk, IfOk, IfErr, IsErrOf, ◌↔◌};
 ghost use Rattle.std.specs.Io.KnownBytes.{Appends};
@@ -16,7 +16,8 @@ use std::alloc::{AllocError, Global};
 /// the fault.
 ///
 /// # Errors
-/// `Device` where a write fails; the writer then has a prefix of the line.
+/// `Memory` where memory is refused; then nothing is written. `Device` where a write fails; the writer then has a
+/// prefix of the line.
 pub fn write_judgement<W: CountedWrite>(
     alloc: Global,
     judgement: Judgement,
@@ -50,6 +51,7 @@ pub fn line_of(alloc: Global, judgement: Judgement) -> Result<String, AllocError
     }
 }
 
+// The line of an accepted certificate.
 fn accepted_line(
     alloc: Global,
     group: Group,
@@ -62,7 +64,7 @@ fn accepted_line(
     format!(in alloc; "ACCEPTED {count} {worth}{mark}\n")
 }
 
-// What stands behind the worth where worth alone was counted.
+// What follows the worth on the line: something where worth alone was counted, and otherwise nothing.
 fn mark_of(group: Group) -> &'static str
     ensures { result.now ≡ group_mark group }
 {

@@ -1,10 +1,16 @@
+-- lines and fields, and the records of a text
 pub mod Text
-pub mod Numeral
-pub mod Rounding
-pub mod Decimal
-pub mod Printed
-pub mod Laws
-pub mod FaultText
-pub mod Device
 pub mod Record
+-- numbers as texts: read, rounded and printed
+pub mod Numeral
+pub mod Decimal
+pub mod Rounding
+pub mod Printed
+-- laws of lines, fields and numbers
+pub mod Laws
+-- devices that count their failures
+pub mod Device
+-- how faults print
+pub mod FaultText
+-- for this crate alone: what stands first in a text
 pub mod Front

@@ -29,7 +29,7 @@ impl Failure {
 }
 
 /// A reader or writer for tests, around another one. Each call passes on at most a given number of bytes; one chosen
-/// call fails without reaching the device inside, and the calls behind it go on. A flush is a call, too. Nothing is
+/// call fails without reaching the device inside, and the calls after it go on. A flush is a call, too. Nothing is
 /// claimed of the bytes.
 #[derive(Drop)]
 pub struct Failing<T> {

@@ -134,7 +134,7 @@ impl<'a> Fields<'a> {
         Some(Ok(first.amount))
     }
 
-    // The same fields once more.
+    // A second reader of the fields that are left.
     fn now(&self) -> Fields<'a>
         ensures { result ≡ self.now }
     {

@@ -1,4 +1,4 @@
-//! Reads the whole number with which a text begins, in one pass over its bytes, and gives what is left behind its
+//! Reads the whole number with which a text begins, in one pass over its bytes, and gives what is left after its
 //! field. Only numbers of at most nineteen digits are read; for other fields there is no answer.
 
 ghost use Rattle.std.specs.Prelude.{◌≡◌, ◌<◌, ◌≤◌, ◌^◌, ℕ, List, Ok, IfSome, IsTrue, length, take, drop, slice_index_or};
@@ -51,8 +51,8 @@ pub(crate) fn leading_digits(text: &[u8]) -> (u64, usize)
     digits_among(text, text.len().min(19))
 }
 
-// What is behind the end of a field that stands before this: nothing is, or a separator comes first. Where another byte
-// does, the field goes on.
+// What is left after a field, where this text follows it: nothing where the text is empty, and where it begins with a
+// separator what comes after that. None where it begins with another byte, since then the field goes on.
 #[inline(always)]
 pub(crate) fn behind_field(text: &[u8]) -> Option<&[u8]>
     ensures rest { IfSome result (λ rest. rest.now ≡ drop 1 text.now) }
@@ -68,7 +68,7 @@ pub(crate) fn behind_field(text: &[u8]) -> Option<&[u8]>
     }
 }
 
-// A number that stands first in a text, and what is left behind its field.
+// A number that stands first in a text, and what is left after its field.
 #[derive(Clone, Copy)]
 pub(crate) struct FirstNumber<'a> {
     pub value: u64,

@@ -53,7 +53,8 @@ fn reaches(
     Ok(())
 }
 
-// The same by a flow's parts: what leaves the source, what the pairs carry, and what the sink takes.
+// The source reaches these blocks by the flow of these parts: what leaves the source, what the pairs carry, and what the
+// sink takes.
 fn reaches_by(
     rt: &impl Abort,
     alloc: Global,
@@ -111,7 +112,7 @@ fn is_two_on_waste(graph: &GraphRef<'_, WorthSize>) -> bool {
         && graph.worths().len() == 3
 }
 
-// The same blocks, read from a text.
+// The graph of two blocks of worth that rest on a block of waste, whose pairs are read from a text.
 fn graph_of_text(alloc: Global) -> Result<Graph<WorthSize>, Fail> {
     let listed = read_listed(alloc, b"0 1 2\n1 1 2\n", 3)?;
     let predecessors = listed.into_predecessors(alloc)?;

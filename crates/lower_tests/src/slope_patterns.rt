@@ -35,7 +35,7 @@ const CUBE: &[u8] = b"0 0 0 0
 17 2 2 1
 ";
 
-// The same blocks, with the sign of each height changed.
+// The blocks of CUBE, with the sign of each height changed.
 const MIRRORED_CUBE: &[u8] = b"0 0 0 0
 1 1 0 0
 2 2 0 0

@@ -17,7 +17,7 @@ fn equal<T: PartialEq + Debug + Copy>(rt: &impl Abort, got: T, wanted: T) {
     assert_eq!(rt; got, wanted);
 }
 
-// The same, for a row of a table that begins with this text.
+// Fails the test where they differ, and names the row of a table that begins with this text.
 fn equal_at<T: PartialEq + Debug + Copy>(rt: &impl Abort, text: &str, got: T, wanted: T) {
     assert_eq!(rt; got, wanted, "at {text}");
 }

@@ -20,7 +20,7 @@ IsWithinBy net s b Forward slot x = Unit {0}
 IsWithinBy net s b Backward slot x = Below zero_amount x × AtMost x (capacity_by net s b Backward slot)
 IsWithinBy net s b Source slot x = Below zero_amount x × AtMost x (capacity_by net s b Source slot)
 
--- the same of a port
+-- an amount that was read as the capacity of this port is positive, and at most what it is now; a forward one's isn't read
 abbrev pub IsWithin : NetView → State → ℕ → Port → Amount → Type 0
 IsWithin net s b port x = IsWithinBy net s b port.kind port.slot x
 

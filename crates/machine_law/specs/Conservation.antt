@@ -27,7 +27,7 @@ amount_carried (TakeDue d port) = zero_amount
 amount_carried (GiveDue d port) = d
 amount_carried (RaiseDue have best) = zero_amount
 
--- the same, over the operations of all blocks
+-- what the operations of all blocks have taken out of an excess and not yet given
 unfoldable pub amount_aloft : NetView → (ℕ → Operation Amount) → Amount
 amount_aloft net operation = total (λ b. amount_carried (operation b)) (length net.worths)
 

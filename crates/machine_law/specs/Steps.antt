@@ -25,7 +25,7 @@ read_kind Forward = ReadLabel
 read_kind Backward = ReadCapacity
 read_kind Source = ReadCapacity
 
--- the same at a place of the list of ports
+-- which kind of step reads at a place of the list of ports
 abbrev pub read_kind_at : Option Port → Kind
 read_kind_at None = ReadLabel
 read_kind_at (Some port) = read_kind port.kind
@@ -68,7 +68,7 @@ after_look_by net s b have place best port Forward = after_label (length (ports 
 after_look_by net s b have place best port Backward = after_capacity (length (ports net b)) (s.label b) have place best (capacity net s b port)
 after_look_by net s b have place best port Source = after_capacity (length (ports net b)) (s.label b) have place best (capacity net s b port)
 
--- the same at a place of the list of ports
+-- the operation after a read at a place of the list of ports: none where the list has no such place
 abbrev pub after_look : NetView → State → ℕ → Amount → ℕ → Option (Best Amount) → Option Port → Operation Amount
 after_look net s b have place best None = Idle
 after_look net s b have place best (Some port) = after_look_by net s b have place best port port.kind

@@ -29,7 +29,7 @@ on_way f (TakeDue d port) = f port d
 on_way f (GiveDue d port) = f port d
 on_way f (RaiseDue have best) = zero_amount
 
--- the same, over the operations of all blocks
+-- what counts of all pushes that have made their capacity step and have not arrived, over the operations of all blocks
 unfoldable pub sum_on_way : NetView → (Port → Amount → Amount) → (ℕ → Operation Amount) → Amount
 sum_on_way net f operation = total (λ b. on_way f (operation b)) (length net.worths)
 
@@ -52,7 +52,7 @@ into_source_by Forward d = zero_amount
 into_source_by Backward d = zero_amount
 into_source_by Source d = d
 
--- the same of a port
+-- what of d goes over a port into block x, to the sink, and to the source
 abbrev pub lands : ℕ → Port → Amount → Amount
 lands x port d = lands_by port.kind port.other x d
 
@@ -66,17 +66,19 @@ into_source port d = into_source_by port.kind d
 abbrev pub amount_coming : NetView → State → ℕ → Amount
 amount_coming net s x = sum_on_way net (lands x) s.operation
 
--- those of the pushes to the sink, and back to the source
+-- the amounts of all pushes to the sink that have made their capacity step and have not arrived
 abbrev pub amount_coming_to_sink : NetView → State → Amount
 amount_coming_to_sink net s = sum_on_way net into_sink s.operation
 
+-- the amounts of all pushes back to the source that have made their capacity step and have not arrived
 abbrev pub amount_coming_to_source : NetView → State → Amount
 amount_coming_to_source net s = sum_on_way net into_source s.operation
 
--- what comes into block b over pairs, and what goes out of it
+-- what comes into block b over pairs, from the blocks that rest on it
 unfoldable pub inflow_at : NetView → (ℕ → Amount) → ℕ → Amount
 inflow_at net flow b = at_end (to_at net.pairs) flow (length net.pairs) b
 
+-- what goes out of block b over pairs, to the blocks that it rests on
 unfoldable pub outflow_at : NetView → (ℕ → Amount) → ℕ → Amount
 outflow_at net flow b = at_end (from_at net.pairs) flow (length net.pairs) b
 

@@ -7,13 +7,13 @@ use Rattle.mine_inputs.specs.Mines.{MineTexts, mine_texts, priced_texts}
 
 -- ---- texts
 
--- It holds of the texts of the mine with this precedence and at this factor, where the devices of what its blocks are worth tell
+-- P holds of the texts of the mine with this precedence and at this factor, where the devices of what its blocks are worth tell
 -- their bytes. Of values the factor is none.
 abbrev pub ForWorths : {D : Type 0} → WorthInputs D → (D → Option (List ℕ)) → ℕ → List ℕ → (MineTexts → Type 0) → Type 0
 ForWorths (Values upit) remaining factor precedence P = IfSome (remaining upit) (λ u. P (mine_texts u precedence))
 ForWorths (Prices settings blocks) remaining factor precedence P = IfSome (remaining settings) (λ s. IfSome (remaining blocks) (λ b. P (priced_texts s b precedence factor)))
 
--- it holds of the texts of the mine at this factor, where all its devices tell their bytes
+-- P holds of the texts of the mine at this factor, where all its devices tell their bytes
 abbrev pub ForTexts : {D : Type 0} → MineInputs D → (D → Option (List ℕ)) → ℕ → (MineTexts → Type 0) → Type 0
 ForTexts mine remaining factor P = IfSome (remaining mine.prec) (λ p. ForWorths mine.worths remaining factor p P)
 
@@ -50,7 +50,7 @@ NoWorthsFailed (Prices settings blocks) (Values upit) failed = ⊥
 abbrev pub NoneFailed : {D : Type 0} → MineInputs D → MineInputs D → (D → ℕ) → Type 0
 NoneFailed old new failed = NoWorthsFailed old.worths new.worths failed × (failed new.prec ≡ failed old.prec)
 
--- they have counted one failure more together
+-- the devices of what the blocks are worth have counted one failure more together
 pub record OneWorthsFailed {D : Type 0} (old new : WorthInputs D) (failed : D → ℕ) : Type 0 where
   pub kind : is_priced new ≡ is_priced old
   pub one : worths_failures new failed ≡ worths_failures old failed + 1

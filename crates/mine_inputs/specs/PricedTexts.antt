@@ -46,7 +46,7 @@ charge_list (Mill processing mining) = processing ∷ mining ∷ []
 abbrev pub column_list : PriceColumns → List ℕ
 column_list columns = columns.revenue ∷ charge_list columns.charges
 
--- the same and, where another column is read beside them, that one behind them
+-- the columns of prices that are chosen of the blocks, and last the other column, where one is read beside them
 abbrev pub columns_beside : PriceColumns → Option ℕ → List ℕ
 columns_beside columns None = column_list columns
 columns_beside columns (Some other) = column_list columns ++ (other ∷ [])
@@ -87,11 +87,11 @@ costs_at (Mill processing mining) text = mill_costs (cells text processing) (cel
 abbrev pub table_at : PriceColumns → List ℕ → PricesView
 table_at columns text = record { revenue = cells text columns.revenue; costs = costs_at columns.charges text }
 
--- the same by settings
+-- the prices of the blocks of a text, by the columns that settings name
 abbrev pub table_by : SettingsView → List ℕ → PricesView
 table_by s text = table_at (columns_said s) text
 
--- the same by the text of the settings
+-- the prices of the blocks of a text, by the columns that a text of settings names
 abbrev pub table_of : List ℕ → List ℕ → PricesView
 table_of settings text = table_by (settings_of settings) text
 

@@ -47,6 +47,6 @@ module _ (test : ℕ → Bool) (numbers : ℕ → List ℕ) (none : numbers 0 �
       total-same (λ j. f (get_or (numbers m) j 0)) (λ j. f (get_or (numbers k) j 0)) (length (numbers k)) (λ i h. ap f (passing_first k m l i h).1)
       ∙ over-passing f k
 
--- the same of the pairs that end at b
+-- the sum over the list of the pairs that end at b is the sum over those that end there
 pub over-numbers : (end : ℕ → ℕ) (b : ℕ) (numbers : ℕ → List ℕ) → numbers 0 ≡ [] → ((m : ℕ) → numbers (suc m) ≡ cond (end m == b) (numbers m ++ m ∷ []) (numbers m)) → (f : ℕ → Amount) (m : ℕ) → over f (numbers m) (length (numbers m)) ≡ at_end end f m b
 over-numbers end b numbers none next f m = over-passing (λ k. end k == b) numbers none next f m

@@ -31,7 +31,7 @@ count_sum v e (suc n) =
 pub worth_told : (v : ℕ → ℤ) (e : ℕ → Bool) (n : ℕ) → (group_sum worth_block v e n).w ≡ worth_in v e n
 worth_told v e n = worth_sum (pos 0) v e n
 
--- and where it has one
+-- the sum of a set tells its worth, where a block has a count
 pub counted_told : (v : ℕ → ℤ) (e : ℕ → Bool) (n : ℕ) → (group_sum counted_block v e n).w ≡ worth_in v e n
 counted_told v e n = worth_sum (negsuc 0) v e n
 

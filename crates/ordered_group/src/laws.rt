@@ -33,8 +33,8 @@ pub fn block_amounts_tell_worth<G: OrderedGroup>()
     ensures { BlocksTellWorth G.block_parts G.set_worth }
 {}
 
-/// In a group with sizes one set's sum is below another's exactly where the set is worth less, or
-/// the same with more blocks.
+/// In a group with sizes one set's sum is below another's exactly where the set is worth less, or is
+/// worth as much and has more blocks.
 pub fn set_sums_order_sets<G: SizeGroup>()
     ensures { SumsOrderSets G.block_parts }
 {}

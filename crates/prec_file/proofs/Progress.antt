@@ -55,7 +55,7 @@ goes_on n text seen more pairs others left next line g e f h i w p m =
       seen_so = λ b j. ap (λ (xs : List Bool). get_or xs b false) m ∙ mark (is_skipped (fields_of line)) n seen (blocks_of g.before) (block_of (fields_of line)) e (record_block n _ (length pairs) next.number (fields_of line) w) g.seen_so b j ∙ ap (λ (xs : List ℕ). has xs b) (sym bs);
     }
 
--- The same, where the reader has the line's number apart.
+-- A line without a fault is read, where the reader has the line's number apart.
 pub step_on : (n k : ℕ) (text : List ℕ) (seen more : List Bool) (pairs others : List (ℕ × ℕ)) (left next : Left) (line : List ℕ) → ReadSoFar n text seen pairs left → length seen ≡ n → k ≡ next.number
     → left.lines ≡ line ∷ next.lines → next.number ≡ left.number + 1 → length line ≤ LINE_BYTES
     → record_fault n (λ b. get_or seen b false) (length pairs) k (fields_of line) ≡ None

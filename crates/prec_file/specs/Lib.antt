@@ -1,7 +1,11 @@
+-- the pairs of a mine
 pub mod Rests
-pub mod FaultStands
+-- the text of them: what it says, how it is written, and that it reads back
 pub mod Records
-pub mod FaultText
 pub mod Written
 pub mod ReadBack
+-- faults, and how they print
+pub mod FaultStands
+pub mod FaultText
+-- for this crate alone: the indexes as they are built
 pub mod Indexes

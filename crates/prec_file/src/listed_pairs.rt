@@ -55,7 +55,8 @@ impl ListedPairs {
         predecessors.into_rests(alloc)
     }
 
-    /// The same pairs without the index by predecessor; the list of the pairs is freed.
+    /// The pairs by block alone, in order and each once, without the index by predecessor; the list is
+    /// freed.
     ///
     /// # Errors
     /// Where memory is refused.

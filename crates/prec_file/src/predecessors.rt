@@ -75,7 +75,7 @@ impl Predecessors {
         })
     }
 
-    // The same predecessors, with memory of their own.
+    // A copy of the predecessors, with memory of its own.
     pub(crate) fn copy(&self, alloc: Global) -> Result<Predecessors, AllocError>
         ensures { IfOk result (λ r. r ≡ self.now) }
     {
@@ -95,7 +95,8 @@ impl Predecessors {
         &self.predecessors
     }
 
-    /// The same pairs with both indexes, which take memory of their own.
+    /// These pairs by block and by predecessor: the block of each pair and the index by predecessor
+    /// take further memory.
     ///
     /// # Errors
     /// Where memory is refused.
@@ -113,7 +114,7 @@ impl Predecessors {
         self.blocks
     }
 
-    /// The number of b's first pair, or of the first pair of the blocks behind b where b has none.
+    /// The number of b's first pair, or of the first pair of the blocks after b where b has none.
     pub fn first(&self, b: u32) -> u32
         requires { b < self.now.blocks }
         ensures { result ≡ first_of self.now.pairs b }

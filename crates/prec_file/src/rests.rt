@@ -98,7 +98,7 @@ impl Rests {
         listed.into_rests(alloc).map_err(|_| RestsFault::NoMemory)
     }
 
-    /// The same pairs, with memory of their own.
+    /// A copy of the pairs and of both indexes, with memory of its own.
     ///
     /// # Errors
     /// Where memory is refused.
@@ -117,7 +117,7 @@ impl Rests {
         })
     }
 
-    /// The same pairs by block alone.
+    /// The pairs by block alone, without the index by predecessor.
     pub fn predecessors(&self) -> &Predecessors
         ensures { result.now ≡ self.now }
     {
@@ -152,7 +152,7 @@ impl Rests {
         )
     }
 
-    /// The number of b's first pair, or of the first pair of the blocks behind b where b has none.
+    /// The number of b's first pair, or of the first pair of the blocks after b where b has none.
     pub fn first(&self, b: u32) -> u32
         requires { b < self.now.blocks }
         ensures { result ≡ first_of self.now.pairs b }

@@ -22,7 +22,7 @@ struct Rising {
     listed: u64,
 }
 
-// Reads a line and lists its row, or answers false where its block isn't behind those of the lines before.
+// Reads a line and lists its row, or answers false where its block isn't above those of the lines before.
 fn read_rising_line(
     alloc: Global,
     to: &mut Rising,

@@ -232,7 +232,7 @@ impl<A: Amount> Forest<A> {
         self.nodes[b as usize].unvisited.block(self.nodes.len())
     }
 
-    /// Moves the walk over the children of b behind a child.
+    /// Moves the walk over the children of b past a child.
     pub(crate) fn pass_child(&mut self, b: u32, child: u32)
         requires block { b < self.old }
         requires child { child < self.old }

@@ -8,7 +8,7 @@ use crate::fault::PseudoflowFault;
 use crate::forest::Forest;
 
 impl<A: Amount> Forest<A> {
-    /// The block behind b in its tree, in preorder: each block stands before those that hang under it.
+    /// The block after b in its tree, in preorder: each block stands before those that hang under it.
     pub(crate) fn next_in_preorder(
         &self,
         b: u32,
@@ -24,7 +24,7 @@ impl<A: Amount> Forest<A> {
         }
     }
 
-    /// The block in preorder behind b and all that hang under it.
+    /// The block in preorder after b and all that hang under it.
     pub(crate) fn next_beyond(
         &self,
         b: u32,

@@ -58,7 +58,7 @@ pub record EndsQuiet (net : NetView) (events : List Event) (flow : FlowView) : T
   pub quiet : IsQuiet net state
   pub amounts : IsFlowOf net state flow
 
--- They are a run to a state in which some block has excess or an operation.
+-- The events are a run to a state in which some block has excess or an operation.
 pub record EndsOpen (net : NetView) (events : List Event) : Type 0 where
   pub state : State
   pub run : Run net (opening net) events state

@@ -42,7 +42,7 @@ last_of factors = slice_index_or factors (length factors - 1) 0
 abbrev pub factor_by : SettingsView → ℕ
 factor_by s = unwrap_or s.report (last_of (unwrap_or s.factors []))
 
--- the same for a text of settings
+-- the factor of the report by a text of settings, in thousandths
 abbrev pub report_factor : List ℕ → ℕ
 report_factor settings = factor_by (settings_of settings)
 

@@ -44,15 +44,17 @@ pub record IsSettings (s : SettingsView) : Type 0 where
   pub processing : IfSome s.processing (λ column. column ≤ 65535)
   pub mining : IfSome s.mining (λ column. column ≤ 65535)
 
--- What a table says at a key whose value has to read so: a missing key says nothing, and a value that doesn't read is bad.
+-- What a value at a key reads as; one that doesn't read is bad.
 abbrev pub or_bad : {V : Type 0} → Key → Option V → Result (Option V) SettingsFault
 or_bad key (Some v) = Ok (Some v)
 or_bad key None = Err (BadValue key)
 
+-- What a key says by its value, if any: a missing key says nothing, and a value that doesn't read is bad.
 abbrev pub value_said : {V : Type 0} → Key → (Data → Option V) → Option Data → Result (Option V) SettingsFault
 value_said key reads None = Ok None
 value_said key reads (Some d) = or_bad key (reads d)
 
+-- What a table says at a key whose value has to read so.
 abbrev pub said_at : {V : Type 0} → Key → (Data → Option V) → Members → Result (Option V) SettingsFault
 said_at key reads ms = value_said key reads (get_member (key_name key) ms)
 

@@ -11,6 +11,7 @@ whole_upto most (Some (pos n)) = cond (nat_le n most) (Some n) None
 whole_upto most (Some (negsuc n)) = None
 whole_upto most None = None
 
+-- What a value reads as that has to be a whole number from 0 to the most.
 abbrev pub whole_value_within : ℕ → Data → Option ℕ
 whole_value_within most d = whole_upto most (as_integer d)
 
@@ -20,6 +21,7 @@ whole_in_i32 (Some (pos n)) = cond (nat_le n 2147483647) (Some (pos n)) None
 whole_in_i32 (Some (negsuc n)) = cond (nat_le n 2147483647) (Some (negsuc n)) None
 whole_in_i32 None = None
 
+-- What a value reads as that has to be a number of an offset.
 abbrev pub offset_number : Data → Option ℤ
 offset_number d = whole_in_i32 (as_integer d)
 

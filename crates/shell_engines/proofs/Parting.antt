@@ -178,7 +178,7 @@ whole_part pairs prices factors = record {
   are_kept = passing_is_kept every_block (blocks_of prices);
 }
 
--- the same lists
+-- the best pits lie between two lists where they lie between lists that equal these
 pub same_lists_part : (pairs : List (ℕ × ℕ)) (prices : PricesView) (factors : List ℕ) (from to : ℕ) (low low' kept kept' : List ℕ) → low' ≡ low → kept' ≡ kept → LiesBetweenLists pairs prices factors from to low kept → LiesBetweenLists pairs prices factors from to low' kept'
 same_lists_part pairs prices factors from to low low' kept kept' a b h =
     subst (λ xs. LiesBetweenLists pairs prices factors from to xs kept') (sym a) (subst (λ xs. LiesBetweenLists pairs prices factors from to low xs) (sym b) h)

@@ -6,7 +6,7 @@ use Rattle.shell_engines.specs.declared.series_outputs.SeriesOutputs.{SeriesOutp
 
 -- ---- inputs
 
--- it holds of the texts, where all three devices tell their bytes
+-- P holds of the texts, where all three devices tell their bytes
 abbrev pub ForSeries : {D : Type 0} → SeriesInputs D → (D → Option (List ℕ)) → (List ℕ → List ℕ → List ℕ → Type 0) → Type 0
 ForSeries inputs remaining P = IfSome (remaining inputs.settings) (λ s. IfSome (remaining inputs.blocks) (λ b. IfSome (remaining inputs.prec) (λ p. P s b p)))
 

@@ -32,7 +32,7 @@ pub record LiesBetweenLists (pairs : List (ℕ × ℕ)) (prices : PricesView) (f
   pub ceiling : (i : ℕ) → from ≤ i → i < to → IsCeiling (mine_at pairs prices (slice_index factors i)) high
   pub are_kept : IsKept (difference_of high (holds_of low)) (blocks_of prices) kept
 
--- the same of a part
+-- the best pit at each factor of a part has the part's low blocks, and beside them none except its kept ones
 abbrev pub IsPart : List (ℕ × ℕ) → PricesView → List ℕ → Part → Type 0
 IsPart pairs prices factors part = LiesBetweenLists pairs prices factors part.from part.to part.low.items part.kept.items
 

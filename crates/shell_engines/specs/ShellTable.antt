@@ -19,11 +19,11 @@ pub record AreRowsOf (mine : ℕ → Mine) (factors : List ℕ) (rows : List She
   pub at : map (λ row. row.factor) rows ≡ factors
   pub each : All (λ row. IsRowOf (mine row.factor) row) rows
 
--- a row as it is printed, and its line
+-- a row as it is printed, without its line feed
 abbrev pub row_text : ShellRow → List ℕ
 row_text row = codes "SHELL " ++ (decimal row.factor ++ (codes " " ++ (decimal row.blocks ++ (codes " " ++ amount_text 9 row.worth))))
 
--- the same with its line feed
+-- the line of a row, with its line feed
 abbrev pub shell_row_line : ShellRow → List ℕ
 shell_row_line row = row_text row ++ 10 ∷ []
 

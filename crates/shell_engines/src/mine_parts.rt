@@ -170,7 +170,7 @@ fn quick_best(
 }
 
 impl Part {
-    // The same blocks for the factors at these places.
+    // A part with the blocks of this one, for the factors at these places.
     fn narrowed(&self, alloc: Global, from: usize, to: usize) -> Result<Part, AllocError>
         ensures { IfOk result (λ part. (part.from ≡ from) × (part.to ≡ to) × (part.low.items ≡ self.now.low.items) × (part.kept.items ≡ self.now.kept.items)) }
     {

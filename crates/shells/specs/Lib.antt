@@ -1,5 +1,8 @@
-pub mod FaultText
-pub mod HeldSeries
-pub mod Nesting
+-- prices, and series of nested pits
 pub mod Prices
 pub mod Series
+pub mod Nesting
+-- how faults print
+pub mod FaultText
+-- for this crate alone: what a series holds
+pub mod HeldSeries

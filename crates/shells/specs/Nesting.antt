@@ -12,7 +12,8 @@ abbrev pub BestPitsAreNested : Type 0
 BestPitsAreNested = (above : ℕ → ℕ → Bool) (table : PricesView) (j k : ℕ) (e c : ℕ → Bool) → NoRevenueNegative table → j ≤ k
     → IsBest (mine_of_prices above table j) e → IsBest (mine_of_prices above table k) c → LiesWithin (mine_of_prices above table j) e c
 
--- The same of two pits that were accepted over these pairs and prices, each as amounts of one of these kinds.
+-- Where no revenue is negative, a pit that was accepted at a factor lies within one that was accepted at a higher factor, over the
+-- same pairs and prices, each as amounts of one of these kinds.
 abbrev pub AcceptedPitsAreNested : (ℤ → ℕ → Amount) → (ℤ → ℕ → Amount) → Type 0
 AcceptedPitsAreNested lower higher = (pairs : List (ℕ × ℕ)) (table : PricesView) (j k : ℕ) (a c : AcceptedView) → NoRevenueNegative table → j ≤ k
     → IsAccepted a → IsOver lower pairs table j a.net → IsAccepted c → IsOver higher pairs table k c.net

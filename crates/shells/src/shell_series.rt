@@ -84,6 +84,7 @@ impl Series {
         ensures best { OnOk result (IsBest (mine_at self.old.pairs self.old.prices factor) (holds_of accepted.now.pit)) }
         ensures refused { IfErr result (λ e. (self.new ≡ self.old) × PushFaultStands G.block_parts self.old factor accepted.now.net e) }
     {
+        // proof: a greatest closed set is the best pit
         laws::greatest_set_is_best_pit::<G>();
         if !self.is_higher(factor) {
             return Err(SeriesFault::NotHigher);
@@ -150,6 +151,7 @@ impl Series {
         ensures is { result ≡ shell_at self.now.shells b }
         ensures shell { IsShell self.now b result }
     {
+        // proof: what every series is
         let _factors = self.factors();
         self.shell(b)
     }

@@ -8,7 +8,7 @@ use Rattle.slope.specs.Lists.{AreMoreThan}
 use Rattle.slope.specs.Gathering.{Collects}
 
 module _ {X : Type 0} (P Q : X → Type 0) (xs : List X) (c : Collects P xs) where
-  -- the same elements, by another property
+  -- a list that collects what has a property collects what has another one that holds of just the same elements
   pub collected_same : ((x : X) → P x → Q x) → ((x : X) → Q x → P x) → Collects Q xs
   collected_same f g = record { apart = c.apart; held = λ x q. c.held x (g x q); only = λ x k. f x (c.only x k) }
 

@@ -49,7 +49,7 @@ module _ (m : BlocksView) (os : List Offset) (up : Up) (selection : Selection) (
       let at = above_at rests.pairs s.rising b i l in
       slope_of selection m os up (b, above i) (s.only (b, above i) (first_of rests.pairs b + i, at.0, get_or_default rests.pairs (first_of rests.pairs b + i) (b, above i) (0, 0) at.0 ∙ at.1))
 
-  -- the same offset leads to no two of them
+  -- no offset leads to two of them
   offsets_apart : (i j : ℕ) (l : i < length (above_of rests.pairs b)) (h : j < length (above_of rests.pairs b)) → i < j → (pair_of i l).offset.0 ≢ (pair_of j h).offset.0
   unfolding above
   offsets_apart i j l h r e =

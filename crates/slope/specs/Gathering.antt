@@ -117,7 +117,7 @@ pub record IsEarliestAmong (entries : List Entry) (c : ℕ) (repeat : ℕ × ℕ
   pub again : (entry_at entries (place + 1)).1 ≡ repeat.1
   pub least : (k : ℕ) → k + 1 < c → IsRepeatAt entries k → repeat.1 ≤ (entry_at entries (k + 1)).1
 
--- The same among all.
+-- The blocks of two neighbours that have one key, of which the second is the least that there is among all neighbours.
 abbrev pub IsEarliestRepeat : List Entry → ℕ × ℕ → Type 0
 IsEarliestRepeat entries = IsEarliestAmong entries (length entries)
 

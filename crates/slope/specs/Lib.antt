@@ -1,8 +1,12 @@
-pub mod Lists
-pub mod Offsets
+-- patterns, as offsets from a block
 pub mod Patterns
-pub mod Places
+pub mod Offsets
+-- which block rests on which
 pub mod Slopes
+pub mod Places
 pub mod Closing
+-- how faults print
 pub mod FaultText
+-- for this crate alone: lists as they are gathered
+pub mod Lists
 pub mod Gathering

@@ -8,14 +8,14 @@ ghost use Rattle.slope.specs.Gathering.{AreFirstSteps, AreStepsOfEach, rest_afte
 
 use std::alloc::{AllocError, Global};
 
-// The same number, with room for the difference of two.
+// The number in 64 bits, which have room for the difference of two such numbers.
 fn wide_number(number: i32) -> i64
     ensures { result ≡ number }
 {
     number as i64
 }
 
-// The same offset, in such numbers.
+// The offset in numbers of 64 bits.
 fn wide_offset(offset: (i32, i32, i32)) -> (i64, i64, i64)
     ensures { result ≡ offset }
 {

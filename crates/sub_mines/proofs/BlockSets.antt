@@ -9,7 +9,7 @@ two_counts true false = refl
 two_counts false true = refl
 two_counts false false = refl
 
--- and have together as many blocks
+-- the union and the intersection of two sets have together as many blocks as the two sets
 pub count_of_two : (e c : ℕ → Bool) (n : ℕ) → count_in (union_of e c) n + count_in (intersection_of e c) n ≡ count_in e n + count_in c n
 count_of_two e c zero = refl
 count_of_two e c (suc n) = omega (arith, count_of_two e c n, two_counts (e n) (c n))

@@ -1,5 +1,7 @@
+-- the text of a trace: one line, all lines, and that it reads back
 pub mod Lines
 pub mod Written
-pub mod Faults
 pub mod ReadBack
+-- what is wrong with a text, and how that prints
+pub mod Faults
 pub mod FaultText

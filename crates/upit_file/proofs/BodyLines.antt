@@ -41,6 +41,7 @@ value_first (x ∷ xs) l b h e =
     let p = or_parts (is_record_of b (fields_in x)) (has_record xs b) h in
     rw p.0 (value_first xs l b p.1 e)
 
+-- A block's fault depends only on which of the n blocks had a record.
 block_same : (n : ℕ) (g h : ℕ → Bool) (k block : ℕ) → ((b : ℕ) → b < n → g b ≡ h b) → (t : Bool) → nat_le n block ≡ t → block_fault n g k block ≡ block_fault n h k block
 block_same n g h k block e true f = rw f refl
 block_same n g h k block e false f = grind (arith, common_steps)
@@ -50,6 +51,7 @@ next_fault : (n k : ℕ) (before : List Line) (text : List ℕ) (ls : List Line)
     → first_fault n before (before_end (line k text ∷ ls)) ≡ option_or (record_fault n (has_record before) k (fields_of text)) (first_fault n (before ++ line k text ∷ []) (before_end ls))
 next_fault n k before text ls s e = rw (s, e, s) refl
 
+-- A block's fault by the records before is its fault by the marks.
 known : (n : ℕ) (seen : List Bool) (before : List Line) (k block : ℕ) → ((b : ℕ) → b < n → get_or seen b false ≡ has_record before b) → length seen ≡ n
     → block_fault n (has_record before) k block ≡ block_fault (length seen) (λ b. get_or seen b false) k block
 known n seen before k block m e =
@@ -70,6 +72,7 @@ passes n all seen values left next k text g h e s = grind (arith, common_steps, 
 record_is : (k : ℕ) (text : List ℕ) (b : ℕ) → nat_lt LINE_BYTES (length text) ≡ false → is_skipped (fields_of text) ≡ false → is_record_of b (fields_in (line k text)) ≡ eqb (block_of (fields_of text)) b
 record_is k text b s e = rw (s, e) refl
 
+-- A block without a fault is one of the n, and had no record.
 fault_none : (n : ℕ) (had : ℕ → Bool) (k block : ℕ) → block_fault n had k block ≡ None → (t : Bool) → nat_le n block ≡ t → (u : Bool) → had block ≡ u → (block < n) × (had block ≡ false)
 fault_none n had k block h true e u f = absurd (let q : Some (UnknownBlock k) ≡ None = sym (rw e refl) ∙ h in cc)
 fault_none n had k block h false e true f = absurd (let q : Some (Repeated k) ≡ None = sym (rw (e, f) refl) ∙ h in cc)

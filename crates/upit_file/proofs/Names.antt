@@ -136,7 +136,7 @@ pub read_is_upit : (n : ℕ) (text : List ℕ) (lines : List (List ℕ)) (given 
     → length values ≡ n → n ≤ MOST_BLOCKS → is_upit name values ≡ true
 read_is_upit n text lines given name values e f g h len few = grind (arith, common_steps, no_fault, header_named)
 
--- The same, where the fields were given one after another.
+-- The name begins in its line before it ends there, where the fields were given one after another.
 pub name_bounds : (line : List ℕ) (end : ℕ) (all seconds thirds left : List WordRun) (key r : WordRun) → all ≡ runs_from 0 line → all ≡ key ∷ seconds → seconds ≡ r ∷ thirds → left ≡ [] → last_end end left ≡ last_end (r.place + length r.text) thirds
     → (r.place < end) × (end ≤ length line)
 name_bounds line end all seconds thirds left key r e f g none last = grind (arith, common_steps, name_within)

@@ -64,7 +64,7 @@ stores (RaiseDue have best) k x h = h
 unread : (b : ℕ) (v : View) (k x y : ℕ) → Stores v.operation k → view_after_turn b v x ≡ view_after_turn b v y
 unread b v k x y h = grind (arith, common_steps)
 
--- the same at the words of a table whose key is the seat's net
+-- what a seat's next step may do at its word, among the words of a table whose key is the seat's net
 module _ (key : NetView) (slots id b i : ℕ) (me : Sat) (e : me.0.net ≡ key) (n : IsNextAt me.0 b i) where
   pub allows : (a : ℕ) (f : ℕ → ℕ) → ((x : ℕ) → x < 2 ^ 64 → Fits me.0.operation x → f x ≡ word_after me.0.operation x) → Allows (Ruled key) slots id me i f (TurnsSeat (step slots i a 0 none) me)
   allows a f h = subst (λ (z : NetView × ℕ). Allows (Ruled z.0) slots id me z.1 f (TurnsSeat (step slots z.1 a 0 none) me)) (λ k. (e k, sym n.word k)) (turns slots id a b me f n.may h)

@@ -28,7 +28,7 @@ abbrev pub CloseFaultStands : NetView → List Event → SettleFault → Type 0
 CloseFaultStands cut made unsettled.Unsettled = IsOpenRunOf cut made
 CloseFaultStands cut made unsettled.NoMemory = Unit {0}
 
--- the same where one may have
+-- why there is no flow where a seat may have an operation
 abbrev pub EndFaultStands : NetView → List Event → Type 0 → SettleFault → Type 0
 EndFaultStands cut made busy unsettled.Unsettled = busy ⊎ IsOpenRunOf cut made
 EndFaultStands cut made busy unsettled.NoMemory = Unit {0}

@@ -44,7 +44,7 @@ pub record IsMadeBy (net : NetView) (es : List Event) (v : View) : Type 0 where
   pub own : (b : ℕ) → b < count net → IsSeatsOwn v b → of_block b es ≡ of_block b v.made
   pub other : (b : ℕ) → b < count net → ¬ (IsSeatsOwn v b) → of_block b v.made ≡ []
 
--- and so at each seat
+-- at each seat, the run's steps at its own blocks are those that it made
 abbrev pub IsMade : NetView → List Event → List View → Type 0
 IsMade net es vs = (j : ℕ) (v : View) → get_elem? vs j ≡ some v → IsMadeBy net es v
 

@@ -25,7 +25,7 @@ pub record IsHistory (net : NetView) (limit room : ℕ) (history : List Event) (
   pub within : length history ≤ most_steps limit
   pub few : length history ≤ most_room room
 
--- it leads to some state
+-- the history is such a run, to some state
 abbrev pub IsSomeHistory : NetView → ℕ → ℕ → List Event → Type 0
 IsSomeHistory net limit room history = (state : State) × IsHistory net limit room history state
 
@@ -36,20 +36,20 @@ pub record IsAudit (net : NetView) (limit room : ℕ) (flow : FlowView) (history
   pub replayed : IsReplayedTo net history flow
   pub settles : Settles net limit flow (length history)
 
--- it has exactly as many events as the limit allows, and leads to a state that isn't quiet
+-- the history has exactly as many events as the limit allows, and leads to a state that isn't quiet
 pub record IsCutOffAfter (net : NetView) (limit room : ℕ) (history : List Event) : Type 0 where
   pub state : State
   pub is_history : IsHistory net limit room history state
   pub counted : length history ≡ most_steps limit
   pub unquiet : ¬ (IsQuiet net state)
 
--- it leads to a state in which the next step of some block overflows
+-- the history leads to a state in which the next step of some block overflows
 pub record OverflowsAfter (net : NetView) (limit room : ℕ) (history : List Event) : Type 0 where
   pub state : State
   pub is_history : IsHistory net limit room history state
   pub next : SomeNextOverflows net state
 
--- it has exactly as many events as there is room for, fewer than the limit allows, and leads to a state that isn't quiet
+-- the history has exactly as many events as there is room for, fewer than the limit allows, and leads to a state that isn't quiet
 pub record FillsItsRoom (net : NetView) (limit room : ℕ) (history : List Event) : Type 0 where
   pub state : State
   pub is_history : IsHistory net limit room history state

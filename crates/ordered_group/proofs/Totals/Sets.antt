@@ -8,24 +8,29 @@ use Rattle.ordered_group.proofs.Order.{AtMost-refl}
 use Rattle.ordered_group.proofs.Signs.{NonNeg, NonNeg-zero}
 use Rattle.ordered_group.proofs.Totals.Ranges.{total-same, total-plus, total-zero, total-none, plus-zero_left, plus-zero_right}
 
+-- zero is zero under every test
 pub where_so-zero : (b : Bool) → where_so b zero_amount ≡ zero_amount
 where_so-zero true = refl
 where_so-zero false = refl
 
+-- a sum under a test is the sum of its parts under it
 pub where_so-plus : (b : Bool) (x y : Amount) → where_so b (plus x y) ≡ plus (where_so b x) (where_so b y)
 where_so-plus true x y = refl
 where_so-plus false x y = refl
 
+-- a difference under a test is the difference of its parts under it
 pub where_so-minus : (b : Bool) (x y : Amount) → where_so b (minus x y) ≡ minus (where_so b x) (where_so b y)
 where_so-minus true x y = refl
 where_so-minus false x y = refl
 
+-- under a test that holds an amount is itself, and under one that doesn't it is zero
 pub where_at : (b : Bool) (x : Amount) → b ≡ true → where_so b x ≡ x
 where_at b x h = rw h refl
 
 pub where_not : (b : Bool) (x : Amount) → b ≡ false → where_so b x ≡ zero_amount
 where_not b x h = rw h refl
 
+-- an amount that is not negative is so under every test
 pub where_nonneg : (b : Bool) (x : Amount) → NonNeg x → NonNeg (where_so b x)
 where_nonneg true x h = h
 where_nonneg false x h = NonNeg-zero
@@ -78,7 +83,7 @@ route e end f n (suc m) h =
     ∙ total-plus (λ b. where_so (e b) (at_end end f m b)) (λ b. where_so (e b) (where_so (end m == b) (f m))) n
     ∙ rw (p, q) refl
 
--- the same over all numbers: each pair is counted once
+-- what ends at each number, summed by all numbers, is the sum over all pairs: each is counted once
 pub route_all : (end : ℕ → ℕ) (f : ℕ → Amount) (n m : ℕ) → ((k : ℕ) → k < m → end k < n) → total (at_end end f m) n ≡ total f m
 route_all end f n m h = route (λ b. true) end f n m h
 
