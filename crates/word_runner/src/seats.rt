@@ -52,7 +52,8 @@ fn make_next(
 ) -> u64
     requires seat { IsSeat words.now place.old }
     requires next { IsNextAt place.old.me.0 b at }
-    requires operation { (place.old.me.0.operation ≡ operation.now) × ¬ (RaisesTooFar operation.now) }
+    requires operation { (place.old.me.0.operation ≡ operation.now)
+        × ¬ (RaisesTooFar operation.now) }
     ensures same { IsSame place.old place.new }
     ensures view { HasTurned b place.old.me.0 result place.new.me.0 }
 {
@@ -111,7 +112,8 @@ impl WordSeat {
     /// made. From then on the seat makes no steps and answers the same.
     pub fn turn(&mut self, words: &Words, b: u32) -> WordTurn
         requires words { IsSeat words.now.shared self.old.place }
-        requires block { (b < length words.now.cut.worths) × IsSeatsOwn self.old.place.me.0 b × ((self.old.operation ≡ Idle) ⊎ (self.old.block ≡ b)) }
+        requires block { (b < length words.now.cut.worths) × IsSeatsOwn self.old.place.me.0 b
+            × ((self.old.operation ≡ Idle) ⊎ (self.old.block ≡ b)) }
         ensures seat { IsSeat words.now.shared self.new.place }
         ensures same { IsSame self.old.place self.new.place }
         ensures told { IsTold self.new.place self.new.labels self.new.block self.new.operation self.new.stopped }
@@ -149,7 +151,8 @@ impl WordSeat {
         ensures seat { IsSeat words.now.shared self.new.place }
         ensures told { IsTold self.new.place self.new.labels self.new.block self.new.operation self.new.stopped }
         ensures loaded { HasLoaded at self.old.place.me.0 result self.new.place.me.0 }
-        ensures same { (self.new.operation ≡ self.old.operation) × (self.new.block ≡ self.old.block) × (self.new.stopped ≡ self.old.stopped) }
+        ensures same { (self.new.operation ≡ self.old.operation) × (self.new.block ≡ self.old.block)
+            × (self.new.stopped ≡ self.old.stopped) }
         ensures small { result < 2 ^ 63 }
     {
         look_up(&words.table.shared, &mut self.place, at)
@@ -162,7 +165,8 @@ impl WordSeat {
         ensures seat { IsSeat words.now.shared self.new.place }
         ensures told { IsTold self.new.place self.new.labels self.new.block self.new.operation self.new.stopped }
         ensures answer { HasArrived self.old.place.me.0 self.new.place.me.0 words.now.total result }
-        ensures same { (self.new.operation ≡ self.old.operation) × (self.new.block ≡ self.old.block) × (self.new.stopped ≡ self.old.stopped) }
+        ensures same { (self.new.operation ≡ self.old.operation) × (self.new.block ≡ self.old.block)
+            × (self.new.stopped ≡ self.old.stopped) }
     {
         let source = self.load(words, 0);
         let sink = self.load(words, 1);
