@@ -59,8 +59,9 @@ pub fn compare_engine<
 
     // A device is named exactly where one failed.
     ensures device { IsErrOf result (value.Engine engine.Device)
-        → OneFailed inputs.old inputs.new D.failed (E.failed design.old + C.failed certificate.old
-        + W.failed out.old) (E.failed design.new + C.failed certificate.new + W.failed out.new) }
+        → OneFailed inputs.old inputs.new D.failed
+        (E.failed design.old + C.failed certificate.old + W.failed out.old)
+        (E.failed design.new + C.failed certificate.new + W.failed out.new) }
     ensures kept { ¬ IsErrOf result (value.Engine engine.Device)
         → NoneFailed inputs.old inputs.new D.failed
         × (E.failed design.new ≡ E.failed design.old)

@@ -60,8 +60,8 @@ fn cost_at(table: &Table) -> Result<Option<u32>, SettingsFault>
 // The factors of the table.
 fn factors_at(alloc: Global, table: &Table) -> Result<Option<Vec<u32>>, SettingsFault>
     ensures value { MatchResult result
-        (λ o. said_at Key.Factors factors_of (table_view table.now) ≡ Ok
-        (option_map (λ v. v.items) o))
+        (λ o. said_at Key.Factors factors_of (table_view table.now)
+        ≡ Ok (option_map (λ v. v.items) o))
         (λ e. ¬ (e ≡ SettingsFault.NoMemory)
         → said_at Key.Factors factors_of (table_view table.now) ≡ Err e) }
     ensures form { IfOk result (λ o. IfSome o (λ v. AreFactors v.items)) }
@@ -81,8 +81,8 @@ fn factors_at(alloc: Global, table: &Table) -> Result<Option<Vec<u32>>, Settings
 // The offsets of the table.
 fn offsets_at(alloc: Global, table: &Table) -> Result<Option<Vec<(i32, i32, i32)>>, SettingsFault>
     ensures value { MatchResult result
-        (λ o. said_at Key.Offsets offsets_of (table_view table.now) ≡ Ok
-        (option_map (λ v. v.items) o))
+        (λ o. said_at Key.Offsets offsets_of (table_view table.now)
+        ≡ Ok (option_map (λ v. v.items) o))
         (λ e. ¬ (e ≡ SettingsFault.NoMemory)
         → said_at Key.Offsets offsets_of (table_view table.now) ≡ Err e) }
     ensures fault { IfErr result (λ e. (e ≡ SettingsFault.BadValue Key.Offsets)

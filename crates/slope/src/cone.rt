@@ -64,8 +64,9 @@ fn add_row(offsets: &mut Vec<(i32, i32, i32)>, level: Level, x: i32) -> Result<(
     requires so_far { Collects
         (IsBelowRow level.run level.rise (pos level.number) x) offsets.old.items }
     ensures { MatchResult result
-        (λ _. Collects (IsBelowRow level.run level.rise (pos level.number)
-        (x +ℤ pos 1)) offsets.new.items × (length offsets.new.items ≤ MOST_OFFSETS))
+        (λ _. Collects
+        (IsBelowRow level.run level.rise (pos level.number) (x +ℤ pos 1)) offsets.new.items
+        × (length offsets.new.items ≤ MOST_OFFSETS))
         (ConeFaultStands level.number level.run level.rise) }
 {
     for step in 0..2 * level.reach + 1 {
@@ -85,8 +86,9 @@ fn add_level(offsets: &mut Vec<(i32, i32, i32)>, level: Level) -> Result<(), Pat
     requires so_far { Collects
         (IsBelowLevel level.run level.rise (pos level.number)) offsets.old.items }
     ensures { MatchResult result
-        (λ _. Collects (IsBelowLevel level.run level.rise
-        (pos (level.number + 1))) offsets.new.items × (length offsets.new.items ≤ MOST_OFFSETS))
+        (λ _. Collects
+        (IsBelowLevel level.run level.rise (pos (level.number + 1))) offsets.new.items
+        × (length offsets.new.items ≤ MOST_OFFSETS))
         (ConeFaultStands level.number level.run level.rise) }
 {
     for step in 0..2 * level.reach + 1 {

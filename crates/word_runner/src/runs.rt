@@ -67,8 +67,9 @@ fn solved_by_two(
     requires seats { IsServed words.shared 0 2 left.seat × IsServed words.shared 1 2 right.seat }
     requires steps { left.steps + right.steps < 2 ^ 64 }
     ensures { MatchResult result
-        (λ solved. IsQuietEnd words.cut (left.seat.place.me.0.made
-        ++ right.seat.place.me.0.made) solved.flow × (solved.steps ≡ left.steps + right.steps)
+        (λ solved. IsQuietEnd words.cut
+        (left.seat.place.me.0.made ++ right.seat.place.me.0.made) solved.flow
+        × (solved.steps ≡ left.steps + right.steps)
         × (left.seat.stopped ≡ false) × (right.seat.stopped ≡ false))
         (λ fault. WordRunFaultStands words.cut fault) }
 {
