@@ -178,7 +178,8 @@ impl<G: OrderedGroup> State<G> {
         requires over { IsStateOf net.now self.old }
         requires block { block < length net.now.worths }
         ensures { let s = state_of self.old in Leads net.now self.old
-            (record (becomes s block Idle) { at_sink = plus s.at_sink (G.parts_of amount) }) self.new result }
+            (record (becomes s block Idle) { at_sink = plus s.at_sink (G.parts_of amount) })
+            self.new result }
     {
         let more = self.at_sink().try_add(amount).ok_or(StepRefusal::TooLarge)?;
         self.make_step(net, block, Change::AtSink(more), Operation::Idle)
@@ -189,7 +190,8 @@ impl<G: OrderedGroup> State<G> {
         requires over { IsStateOf net.now self.old }
         requires block { block < length net.now.worths }
         ensures { let s = state_of self.old in Leads net.now self.old
-            (record (becomes s block Idle) { at_source = plus s.at_source (G.parts_of amount) }) self.new result }
+            (record (becomes s block Idle) { at_source = plus s.at_source (G.parts_of amount) })
+            self.new result }
     {
         let more = self
             .at_source()

@@ -50,10 +50,12 @@ impl<G: OrderedGroup> Model for State<G> {
 
     ghost use Rattle.async_step.specs.Views.{view_of, IsState};
 
-    ghost view = { λ s. view_of G.parts_of s.excess.items s.label.items s.source.items s.sink.items s.flow.items s.operation.items s.at_source s.at_sink s.steps };
+    ghost view = { λ s. view_of G.parts_of s.excess.items s.label.items s.source.items s.sink.items
+        s.flow.items s.operation.items s.at_source s.at_sink s.steps };
 
     ghost invariant = { λ s. IsState
-        (view_of G.parts_of s.excess.items s.label.items s.source.items s.sink.items s.flow.items s.operation.items s.at_source s.at_sink s.steps) s.waiting s.busy };
+        (view_of G.parts_of s.excess.items s.label.items s.source.items s.sink.items
+        s.flow.items s.operation.items s.at_source s.at_sink s.steps) s.waiting s.busy };
 }
 
 impl<G: OrderedGroup> State<G> {

@@ -43,7 +43,8 @@ pub fn read_certificate<G: OrderedGroup>(
 ) -> Result<Certificate<G>, CertFault>
     ensures read { MatchResult result
         (λ c. (fault_of G.counts G.name rests.now.blocks rests.now.pairs text.now ≡ None)
-        × IsRead G.counts G.name rests.now.blocks rests.now.pairs text.now c.blocks c.price c.pit c.flow)
+        × IsRead G.counts G.name rests.now.blocks rests.now.pairs text.now
+        c.blocks c.price c.pit c.flow)
         (λ e. UnlessMemory e
         (fault_of G.counts G.name rests.now.blocks rests.now.pairs text.now ≡ Some e)) }
     ensures header { (fault : CertFault)

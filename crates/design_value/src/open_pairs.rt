@@ -62,7 +62,8 @@ fn pass_block(
     requires known { b < predecessors.now.blocks }
     requires all { length marks.now ≡ predecessors.now.blocks }
     requires before { AreOpen (marked_in marks.now)
-        (take (first_of predecessors.now.pairs b) predecessors.now.pairs) leading.old.count leading.old.first.items }
+        (take (first_of predecessors.now.pairs b) predecessors.now.pairs)
+        leading.old.count leading.old.first.items }
     ensures { OnOk result (AreOpen (marked_in marks.now) (take (first_of predecessors.now.pairs
         (b + 1)) predecessors.now.pairs) leading.new.count leading.new.first.items) }
 {

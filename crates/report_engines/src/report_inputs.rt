@@ -152,7 +152,8 @@ pub fn report_mine_from<D: CountedRead>(
 ) -> Result<ReportMine, EngineFault>
     requires { InputsCanCount inputs.old D.failed }
     ensures read { ForSeries inputs.old D.remaining (λ s b p. MatchResult result
-        (λ mine. IsReportRead s b p mine.series.prices mine.series.predecessors mine.series.factors.items mine.model mine.charges mine.factor)
+        (λ mine. IsReportRead s b p mine.series.prices mine.series.predecessors
+        mine.series.factors.items mine.model mine.charges mine.factor)
         (ReportMineFails s b p)) }
     ensures device { IsErrOf result EngineFault.Device
         → input_failures inputs.new D.failed ≡ input_failures inputs.old D.failed + 1 }

@@ -92,7 +92,8 @@ fn answer_of<R: Threads + Wait + Sync, T: Gate + Progress + SeriesProgress>(
     is_asked: bool,
 ) -> Result<Answer, EngineFault>
     ensures answer { (s b p : List ℕ)
-        → IsReportRead s b p mine.series.prices mine.series.predecessors mine.series.factors.items mine.model mine.charges mine.factor
+        → IsReportRead s b p mine.series.prices mine.series.predecessors
+        mine.series.factors.items mine.model mine.charges mine.factor
         → MatchResult result
         (λ a. AnswersReport s b p effort is_asked a.verdict a.table.items a.text.items)
         (λ e. ReportFails s b p e) }

@@ -142,9 +142,11 @@ fn level_of<R: Threads + Sync, T: SeriesProgress + Sync>(
         threads.min(parts.len()),
         &|_thread: usize| -> Result<Level, AllocError>
             requires { ArePriced mine.now.predecessors.pairs mine.now.prices mine.now.factors.items
-                × All (IsLeft mine.now.predecessors.pairs mine.now.prices mine.now.factors.items) parts.now }
+                × All (IsLeft mine.now.predecessors.pairs mine.now.prices mine.now.factors.items)
+                parts.now }
             ensures { IfOk result
-                (IsSearchLevel mine.entry.now.predecessors.pairs mine.entry.now.prices mine.entry.now.factors.items) }
+                (IsSearchLevel mine.entry.now.predecessors.pairs mine.entry.now.prices
+                mine.entry.now.factors.items) }
         { solved_by(alloc, mine, parts, &taken, turns, gate) },
     )?;
     let mut all = Level::new(alloc);

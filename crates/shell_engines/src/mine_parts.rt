@@ -218,7 +218,8 @@ pub fn solved_part(
     turns: u64,
 ) -> Result<Halved, AllocError>
     requires priced { ArePriced mine.now.predecessors.pairs mine.now.prices mine.now.factors.items }
-    requires part { IsPart mine.now.predecessors.pairs mine.now.prices mine.now.factors.items part.now }
+    requires part { IsPart mine.now.predecessors.pairs mine.now.prices mine.now.factors.items
+        part.now }
     requires first { part.now.from ≤ place }
     requires last { place < part.now.to }
     ensures { IfOk result

@@ -42,7 +42,8 @@ impl Shells {
         requires proved { IsProved self.old.series.pairs self.old.series.prices best.now }
         requires room { length self.old.series.factors < MOST_FACTORS }
         ensures { OnOk result
-            (IsAdded self.old.series self.new.series self.old.rows.items self.new.rows.items factor) }
+            (IsAdded self.old.series self.new.series
+            self.old.rows.items self.new.rows.items factor) }
     {
         self.series.push_best(factor, &best.pit);
         self.rows.push(best.row)?;
@@ -104,7 +105,8 @@ impl Shells {
         ensures settled { OnOk result (IsSettled self.old.series.pairs self.old.series.prices
             (take (place + 1) wanted.now.factors.now) self.new.series self.new.rows.items) }
         ensures fault { IfErr result (λ e. NoSeriesStands scaled_block
-            (rests_in self.old.series) self.old.series.prices wanted.now.factors.now wanted.now.effort e) }
+            (rests_in self.old.series) self.old.series.prices
+            wanted.now.factors.now wanted.now.effort e) }
     {
         let factors = wanted.factors;
         let factor = factors[place];
@@ -157,7 +159,8 @@ pub fn settle<R: Threads + Wait + Sync, T: Gate + Progress + SeriesProgress>(
     gate: &T,
 ) -> Result<Shells, NoSeries>
     ensures { MatchResult result
-        (λ shells. IsSettled mine.predecessors.pairs mine.prices mine.factors.items shells.series shells.rows.items)
+        (λ shells. IsSettled mine.predecessors.pairs mine.prices mine.factors.items
+        shells.series shells.rows.items)
         (λ e.
         NoSeriesStands scaled_block mine.predecessors mine.prices mine.factors.items effort e) }
 {

@@ -28,7 +28,8 @@ fn add_reduced(
     requires steps { AreStepsOfEach around.old.offsets (length around.old.offsets) steps.now }
     requires apart { AreApartBelow around.old.model around.old.model.blocks }
     requires known { block < around.old.model.blocks }
-    requires so_far { AreListedBelow around.old.model around.old.offsets around.old.up Selection.Reduced block rows.old }
+    requires so_far { AreListedBelow around.old.model around.old.offsets around.old.up
+        Selection.Reduced block rows.old }
     ensures same { ArePlacesOf around.new around.old.model around.old.offsets around.old.up }
     ensures made { MatchResult result
         (λ _. AreListedBelow around.old.model around.old.offsets around.old.up Selection.Reduced

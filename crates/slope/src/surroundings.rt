@@ -34,7 +34,8 @@ impl<'a> Model for Surroundings<'a> {
         record { model = s.model.now; offsets = s.offsets.now; up = s.up; from = s.from } };
 
     ghost invariant = { λ s. AreSeen
-        (record { model = s.model.now; offsets = s.offsets.now; up = s.up; from = s.from }) s.index.now.keys.items s.index.now.blocks.items s.seen.items };
+        (record { model = s.model.now; offsets = s.offsets.now; up = s.up; from = s.from })
+        s.index.now.keys.items s.index.now.blocks.items s.seen.items };
 }
 
 impl<'a> Surroundings<'a> {

@@ -116,8 +116,10 @@ impl WordSeat {
             × ((self.old.operation ≡ Idle) ⊎ (self.old.block ≡ b)) }
         ensures seat { IsSeat words.now.shared self.new.place }
         ensures same { IsSame self.old.place self.new.place }
-        ensures told { IsTold self.new.place self.new.labels self.new.block self.new.operation self.new.stopped }
-        ensures answer { IsWordTurn b self.old.place.me.0 self.old.operation self.old.stopped self.new.place.me.0 self.new.stopped result }
+        ensures told { IsTold self.new.place self.new.labels self.new.block
+            self.new.operation self.new.stopped }
+        ensures answer { IsWordTurn b self.old.place.me.0 self.old.operation self.old.stopped
+            self.new.place.me.0 self.new.stopped result }
     {
         if self.stopped {
             return WordTurn::TooLarge;
@@ -149,7 +151,8 @@ impl WordSeat {
     pub(crate) fn load(&mut self, words: &Words, at: usize) -> u64
         requires { IsSeat words.now.shared self.old.place × (at < 2) }
         ensures seat { IsSeat words.now.shared self.new.place }
-        ensures told { IsTold self.new.place self.new.labels self.new.block self.new.operation self.new.stopped }
+        ensures told { IsTold self.new.place self.new.labels self.new.block
+            self.new.operation self.new.stopped }
         ensures loaded { HasLoaded at self.old.place.me.0 result self.new.place.me.0 }
         ensures same { (self.new.operation ≡ self.old.operation) × (self.new.block ≡ self.old.block)
             × (self.new.stopped ≡ self.old.stopped) }
@@ -163,7 +166,8 @@ impl WordSeat {
     pub fn arrived(&mut self, words: &Words) -> bool
         requires words { IsSeat words.now.shared self.old.place }
         ensures seat { IsSeat words.now.shared self.new.place }
-        ensures told { IsTold self.new.place self.new.labels self.new.block self.new.operation self.new.stopped }
+        ensures told { IsTold self.new.place self.new.labels self.new.block
+            self.new.operation self.new.stopped }
         ensures answer { HasArrived self.old.place.me.0 self.new.place.me.0 words.now.total result }
         ensures same { (self.new.operation ≡ self.old.operation) × (self.new.block ≡ self.old.block)
             × (self.new.stopped ≡ self.old.stopped) }
@@ -176,7 +180,8 @@ impl WordSeat {
     // Whether it has no operation.
     pub(crate) fn is_free(&self) -> bool
         ensures free { result ≡ is_free self.now.operation }
-        ensures told { IsTold self.now.place self.now.labels self.now.block self.now.operation self.now.stopped }
+        ensures told { IsTold self.now.place self.now.labels self.now.block
+            self.now.operation self.now.stopped }
     {
         is_idle(&self.operation)
     }
