@@ -66,7 +66,9 @@ impl<G: OrderedGroup> State<G> {
         requires over { IsStateOf net.now self.old }
         requires block { b < length net.now.worths }
         requires can { CanChange net.now b (change_as G.parts_of change) }
-        ensures { Leads net.now self.old (after_change (becomes (state_of self.old) b (operation_as G.parts_of operation)) b (change_as G.parts_of change)) self.new result }
+        ensures { Leads net.now self.old
+            (after_change (becomes (state_of self.old) b (operation_as G.parts_of operation)) b
+            (change_as G.parts_of change)) self.new result }
     {
         // proof: the lists of a state are as long as its blocks
         let _sized = self.len();

@@ -34,7 +34,8 @@ impl Model for Marks {
 
     ghost view = { λ m. m.marks.items };
 
-    ghost invariant = { λ m. IsMarks m.marks.items m.small.items m.middle.items m.large.items m.held };
+    ghost invariant = { λ m.
+        IsMarks m.marks.items m.small.items m.middle.items m.large.items m.held };
 }
 
 // A count of one more, or of one fewer.
@@ -106,7 +107,9 @@ impl Marks {
     // The first block of the set from one block up to another.
     fn first_within(&self, from: usize, to: usize) -> Option<u32>
         requires { to ≤ length self.now }
-        ensures { MatchOption result (NoneWithin self.now from to) (λ b. IsFirstWithin self.now from to b) }
+        ensures { MatchOption result
+            (NoneWithin self.now from to)
+            (λ b. IsFirstWithin self.now from to b) }
     {
         let mut at = from;
         while at < to {

@@ -45,7 +45,8 @@ pub fn idle_operations<N: Copy>(alloc: Global, n: u32) -> Result<Vec<Operation<N
 /// The blocks whose excess is positive.
 pub fn waiting_marks<G: OrderedGroup>(alloc: Global, excess: &[G]) -> Result<Marks, AllocError>
     requires { length excess.now ≤ MOST_BLOCKS }
-    ensures { IfOk result (λ m. IsMarked (λ b. is_positive (amount_at (map G.parts_of excess.now) b)) (length excess.now) m) }
+    ensures { IfOk result (λ m. IsMarked
+        (λ b. is_positive (amount_at (map G.parts_of excess.now) b)) (length excess.now) m) }
 {
     let blocks = excess.len() as u32;
     let mut marks = Marks::new(alloc, blocks)?;
@@ -58,7 +59,8 @@ pub fn waiting_marks<G: OrderedGroup>(alloc: Global, excess: &[G]) -> Result<Mar
 /// The blocks whose excess isn't zero.
 pub fn busy_marks<G: OrderedGroup>(alloc: Global, excess: &[G]) -> Result<Marks, AllocError>
     requires { length excess.now ≤ MOST_BLOCKS }
-    ensures { IfOk result (λ m. IsMarked (λ b. not (is_zero (amount_at (map G.parts_of excess.now) b))) (length excess.now) m) }
+    ensures { IfOk result (λ m. IsMarked
+        (λ b. not (is_zero (amount_at (map G.parts_of excess.now) b))) (length excess.now) m) }
 {
     let blocks = excess.len() as u32;
     let mut marks = Marks::new(alloc, blocks)?;

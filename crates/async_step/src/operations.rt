@@ -67,7 +67,8 @@ pub fn push_amount<G: OrderedGroup>(have: G, port: Port, capacity: G) -> G
 /// A block reads this capacity of the port that it looks at.
 pub fn see<G: OrderedGroup>(operation: &mut Operation<G>, ports: u32, label: u64, capacity: G)
     requires { IsScan ports operation.old }
-    ensures { operation_as G.parts_of operation.new ≡ after_capacity_by ports label (G.parts_of capacity) (operation_as G.parts_of operation.old) }
+    ensures { operation_as G.parts_of operation.new ≡ after_capacity_by ports label
+        (G.parts_of capacity) (operation_as G.parts_of operation.old) }
 {
     if !is_positive(capacity) {
         pass(operation, ports, label);
@@ -86,7 +87,8 @@ pub fn see<G: OrderedGroup>(operation: &mut Operation<G>, ports: u32, label: u64
 
 /// The port that a block looks at may be the best so far: the lower, and of two as low the earlier.
 pub fn weigh<G: OrderedGroup>(operation: &mut Operation<G>, port: Port, label: u64)
-    ensures { operation_as G.parts_of operation.new ≡ with_candidate port label (operation_as G.parts_of operation.old) }
+    ensures { operation_as G.parts_of operation.new ≡ with_candidate port label
+        (operation_as G.parts_of operation.old) }
 {
     match operation {
         Operation::Scan {
@@ -119,7 +121,8 @@ pub fn choose<G: OrderedGroup>(
     label: u64,
 )
     requires { IsScan ports operation.old }
-    ensures { operation_as G.parts_of operation.new ≡ after_label_by ports own port label (operation_as G.parts_of operation.old) }
+    ensures { operation_as G.parts_of operation.new ≡ after_label_by ports own port label
+        (operation_as G.parts_of operation.old) }
 {
     weigh(operation, port, label);
     pass(operation, ports, own);

@@ -33,7 +33,8 @@ impl<G: OrderedGroup> State<G> {
     ) -> Result<(), StepRefusal>
         requires over { IsStateOf net.now self.old }
         requires block { block < length net.now.worths }
-        ensures { let s = state_of self.old in Leads net.now self.old (after_push_by s block (G.parts_of amount) port Sink) self.new result }
+        ensures { let s = state_of self.old in Leads net.now self.old
+            (after_push_by s block (G.parts_of amount) port Sink) self.new result }
     {
         let more = self
             .sink(block)
@@ -58,7 +59,8 @@ impl<G: OrderedGroup> State<G> {
         requires over { IsStateOf net.now self.old }
         requires block { block < length net.now.worths }
         requires slot { port.slot < length net.now.pairs }
-        ensures { let s = state_of self.old in Leads net.now self.old (after_push_by s block (G.parts_of amount) port Forward) self.new result }
+        ensures { let s = state_of self.old in Leads net.now self.old
+            (after_push_by s block (G.parts_of amount) port Forward) self.new result }
     {
         let more = self
             .flow(port.slot)
@@ -79,7 +81,8 @@ impl<G: OrderedGroup> State<G> {
         requires over { IsStateOf net.now self.old }
         requires block { block < length net.now.worths }
         requires slot { port.slot < length net.now.pairs }
-        ensures { let s = state_of self.old in Leads net.now self.old (after_push_by s block (G.parts_of amount) port Backward) self.new result }
+        ensures { let s = state_of self.old in Leads net.now self.old
+            (after_push_by s block (G.parts_of amount) port Backward) self.new result }
     {
         let less = self
             .flow(port.slot)
@@ -99,7 +102,8 @@ impl<G: OrderedGroup> State<G> {
     ) -> Result<(), StepRefusal>
         requires over { IsStateOf net.now self.old }
         requires block { block < length net.now.worths }
-        ensures { let s = state_of self.old in Leads net.now self.old (after_push_by s block (G.parts_of amount) port Source) self.new result }
+        ensures { let s = state_of self.old in Leads net.now self.old
+            (after_push_by s block (G.parts_of amount) port Source) self.new result }
     {
         let less = self
             .source(block)
@@ -114,7 +118,8 @@ impl<G: OrderedGroup> State<G> {
         requires over { IsStateOf net.now self.old }
         requires block { block < length net.now.worths }
         requires port { IsPortOf net.now block port }
-        ensures { let s = state_of self.old in Leads net.now self.old (after_push s block (G.parts_of amount) port) self.new result }
+        ensures { let s = state_of self.old in
+            Leads net.now self.old (after_push s block (G.parts_of amount) port) self.new result }
     {
         match port.kind {
             PortKind::Sink => self.move_to_sink(net, block, amount, port),
@@ -135,7 +140,9 @@ impl<G: OrderedGroup> State<G> {
         requires over { IsStateOf net.now self.old }
         requires block { block < length net.now.worths }
         requires port { IsPortOf net.now block best.port }
-        ensures { let s = state_of self.old in let d = push_amount (G.parts_of have) best.port.kind (G.parts_of best.capacity) in LeadsTelling G.parts_of net.now self.old
+        ensures { let s = state_of self.old in
+            let d = push_amount (G.parts_of have) best.port.kind (G.parts_of best.capacity) in
+            LeadsTelling G.parts_of net.now self.old
             (after_push s block d best.port) (Moved d) self.new result }
     {
         let amount = push_amount(have, best.port, best.capacity);
@@ -170,7 +177,9 @@ impl<G: OrderedGroup> State<G> {
     fn arrive_at_sink(&mut self, net: &Net<G>, block: u32, amount: G) -> Result<(), StepRefusal>
         requires over { IsStateOf net.now self.old }
         requires block { block < length net.now.worths }
-        ensures { let s = state_of self.old in Leads net.now self.old (record (becomes s block Idle) { at_sink = plus s.at_sink (G.parts_of amount) }) self.new result }
+        ensures { let s = state_of self.old in Leads net.now self.old
+            (record (becomes s block Idle) { at_sink = plus s.at_sink (G.parts_of amount) })
+            self.new result }
     {
         let more = self.at_sink().try_add(amount).ok_or(StepRefusal::TooLarge)?;
         self.make_step(net, block, Change::AtSink(more), Operation::Idle)
@@ -180,7 +189,9 @@ impl<G: OrderedGroup> State<G> {
     fn arrive_at_source(&mut self, net: &Net<G>, block: u32, amount: G) -> Result<(), StepRefusal>
         requires over { IsStateOf net.now self.old }
         requires block { block < length net.now.worths }
-        ensures { let s = state_of self.old in Leads net.now self.old (record (becomes s block Idle) { at_source = plus s.at_source (G.parts_of amount) }) self.new result }
+        ensures { let s = state_of self.old in Leads net.now self.old
+            (record (becomes s block Idle) { at_source = plus s.at_source (G.parts_of amount) })
+            self.new result }
     {
         let more = self
             .at_source()
@@ -200,7 +211,8 @@ impl<G: OrderedGroup> State<G> {
         requires over { IsStateOf net.now self.old }
         requires block { block < length net.now.worths }
         requires other { other < length net.now.worths }
-        ensures { let s = state_of self.old in Leads net.now self.old (record (becomes s block Idle) { excess = with_value_at s.excess other (plus (s.excess other) (G.parts_of amount)) }) self.new result }
+        ensures { let s = state_of self.old in Leads net.now self.old
+            (record (becomes s block Idle) { excess = with_value_at s.excess other (plus (s.excess other) (G.parts_of amount)) }) self.new result }
     {
         let more = self
             .excess(other)
@@ -214,7 +226,8 @@ impl<G: OrderedGroup> State<G> {
         requires over { IsStateOf net.now self.old }
         requires block { block < length net.now.worths }
         requires port { IsPortOf net.now block port }
-        ensures { let s = state_of self.old in Leads net.now self.old (after_give s block (G.parts_of amount) port) self.new result }
+        ensures { let s = state_of self.old in
+            Leads net.now self.old (after_give s block (G.parts_of amount) port) self.new result }
     {
         let rests = net.rests();
         // proof: there are at most `MOST_BLOCKS` blocks and `MOST_PAIRS` pairs

@@ -61,9 +61,12 @@ impl<G: OrderedGroup> State<G> {
         requires over { IsStateOf net.now self.old }
         requires block { block < length net.now.worths }
         requires port { IsPortOf net.now block port }
-        requires scan { IsScan (length (ports net.now block)) ((state_of self.old).operation block) }
-        ensures { let s = state_of self.old in let c = capacity net.now s block port in LeadsTelling G.parts_of net.now self.old
-            (becomes s block (after_capacity_by (length (ports net.now block)) (s.label block) c (s.operation block)))
+        requires scan { IsScan
+            (length (ports net.now block)) ((state_of self.old).operation block) }
+        ensures { let s = state_of self.old in let c = capacity net.now s block port in
+            LeadsTelling G.parts_of net.now self.old
+            (becomes s block (after_capacity_by (length (ports net.now block)) (s.label block) c
+            (s.operation block)))
             (Capacity c) self.new result }
     {
         // proof: the lists of a state are as long as its blocks
@@ -103,9 +106,12 @@ impl<G: OrderedGroup> State<G> {
         requires over { IsStateOf net.now self.old }
         requires block { block < length net.now.worths }
         requires port { IsPortOf net.now block port }
-        requires scan { IsScan (length (ports net.now block)) ((state_of self.old).operation block) }
-        ensures { let s = state_of self.old in let h = end_label net.now s port in LeadsTelling G.parts_of net.now self.old
-            (becomes s block (after_label_by (length (ports net.now block)) (s.label block) port h (s.operation block)))
+        requires scan { IsScan
+            (length (ports net.now block)) ((state_of self.old).operation block) }
+        ensures { let s = state_of self.old in let h = end_label net.now s port in
+            LeadsTelling G.parts_of net.now self.old
+            (becomes s block (after_label_by (length (ports net.now block)) (s.label block) port h
+            (s.operation block)))
             (Label h) self.new result }
     {
         // proof: the lists of a state are as long as its blocks
@@ -123,7 +129,8 @@ impl<G: OrderedGroup> State<G> {
         requires over { IsStateOf net.now self.old }
         requires block { block < length net.now.worths }
         requires port { IsPortOf net.now block port }
-        requires scan { IsScan (length (ports net.now block)) ((state_of self.old).operation block) }
+        requires scan { IsScan
+            (length (ports net.now block)) ((state_of self.old).operation block) }
         ensures { let s = state_of self.old in LeadsTelling G.parts_of net.now self.old
             (becomes s block
             (operation_after_look net.now s block port port.kind (s.operation block)))

@@ -50,9 +50,12 @@ impl<G: OrderedGroup> Model for State<G> {
 
     ghost use Rattle.async_step.specs.Views.{view_of, IsState};
 
-    ghost view = { λ s. view_of G.parts_of s.excess.items s.label.items s.source.items s.sink.items s.flow.items s.operation.items s.at_source s.at_sink s.steps };
+    ghost view = { λ s. view_of G.parts_of s.excess.items s.label.items s.source.items s.sink.items
+        s.flow.items s.operation.items s.at_source s.at_sink s.steps };
 
-    ghost invariant = { λ s. IsState (view_of G.parts_of s.excess.items s.label.items s.source.items s.sink.items s.flow.items s.operation.items s.at_source s.at_sink s.steps) s.waiting s.busy };
+    ghost invariant = { λ s. IsState
+        (view_of G.parts_of s.excess.items s.label.items s.source.items s.sink.items
+        s.flow.items s.operation.items s.at_source s.at_sink s.steps) s.waiting s.busy };
 }
 
 impl<G: OrderedGroup> State<G> {
@@ -189,7 +192,8 @@ impl<G: OrderedGroup> State<G> {
 
     /// Whether no block has excess or an operation. In constant time.
     pub fn quiet(&self) -> bool
-        ensures { (net : NetView) → length net.worths ≡ length self.now.operation → (IsTrue result ↔ IsQuiet net (state_of self.now)) }
+        ensures { (net : NetView) → length net.worths ≡ length self.now.operation
+            → (IsTrue result ↔ IsQuiet net (state_of self.now)) }
     {
         self.busy.is_empty()
     }
@@ -248,7 +252,8 @@ impl<G: OrderedGroup> State<G> {
 
     pub(crate) fn set_excess(&mut self, b: u32, amount: G)
         requires { b < length self.old.operation }
-        ensures { self.new ≡ record self.old { excess = slice_set self.old.excess b (G.parts_of amount) } }
+        ensures { self.new
+            ≡ record self.old { excess = slice_set self.old.excess b (G.parts_of amount) } }
     {
         let at = b as usize;
         let idle = is_idle(&self.operation[at]);
@@ -267,7 +272,8 @@ impl<G: OrderedGroup> State<G> {
 
     pub(crate) fn set_source(&mut self, b: u32, amount: G)
         requires { b < length self.old.operation }
-        ensures { self.new ≡ record self.old { source = slice_set self.old.source b (G.parts_of amount) } }
+        ensures { self.new
+            ≡ record self.old { source = slice_set self.old.source b (G.parts_of amount) } }
     {
         let at = b as usize;
         self.source[at] = amount;
@@ -275,7 +281,8 @@ impl<G: OrderedGroup> State<G> {
 
     pub(crate) fn set_sink(&mut self, b: u32, amount: G)
         requires { b < length self.old.operation }
-        ensures { self.new ≡ record self.old { sink = slice_set self.old.sink b (G.parts_of amount) } }
+        ensures { self.new
+            ≡ record self.old { sink = slice_set self.old.sink b (G.parts_of amount) } }
     {
         let at = b as usize;
         self.sink[at] = amount;
@@ -283,7 +290,8 @@ impl<G: OrderedGroup> State<G> {
 
     pub(crate) fn set_flow(&mut self, k: u32, amount: G)
         requires { k < length self.old.flow }
-        ensures { self.new ≡ record self.old { flow = slice_set self.old.flow k (G.parts_of amount) } }
+        ensures { self.new
+            ≡ record self.old { flow = slice_set self.old.flow k (G.parts_of amount) } }
     {
         let at = k as usize;
         self.flow[at] = amount;
@@ -326,7 +334,8 @@ impl<G: OrderedGroup> State<G> {
         requires room { self.old.steps < MOST_STEPS }
         requires scan { IsScan ports ((state_of self.old).operation b) }
         ensures { let s = state_of self.old in self.new ≡ record self.old {
-          operation = slice_set self.old.operation b (after_capacity_by ports (s.label b) (G.parts_of capacity) (s.operation b));
+          operation = slice_set self.old.operation b
+              (after_capacity_by ports (s.label b) (G.parts_of capacity) (s.operation b));
           steps = self.old.steps + 1;
         } }
     {
@@ -348,7 +357,8 @@ impl<G: OrderedGroup> State<G> {
         requires room { self.old.steps < MOST_STEPS }
         requires scan { IsScan ports ((state_of self.old).operation b) }
         ensures { let s = state_of self.old in self.new ≡ record self.old {
-          operation = slice_set self.old.operation b (after_label_by ports (s.label b) port label (s.operation b));
+          operation = slice_set self.old.operation b
+              (after_label_by ports (s.label b) port label (s.operation b));
           steps = self.old.steps + 1;
         } }
     {

@@ -98,8 +98,10 @@ impl<G: OrderedGroup> State<G> {
         requires over { IsStateOf net.now self.old }
         requires block { b < length net.now.worths }
         ensures made { MatchResult result
-            (λ saw. Stepped net.now self.old (next_event net.now (state_of self.old) b) self.new (saw_as G.parts_of saw))
-            (λ e. IsStepRefused net.now self.old (next_event net.now (state_of self.old) b) self.new e) }
+            (λ saw. Stepped net.now self.old (next_event net.now (state_of self.old) b) self.new
+            (saw_as G.parts_of saw))
+            (λ e. IsStepRefused net.now self.old
+            (next_event net.now (state_of self.old) b) self.new e) }
         ensures state { IsStateOf net.now self.new }
     {
         self.advance(net, b)

@@ -59,9 +59,15 @@ where
     requires price { IsPrice asked.price }
     requires trace_room { V.failed outputs.old.trace < 2 ^ 64 - 1 }
     requires out_room { W.failed outputs.old.out < 2 ^ 64 - 1 }
-    ensures answer { TracesNet G.counts G.name asked.price net.now asked.effort.steps asked.room (V.contents outputs.old.trace) (V.contents outputs.new.trace) (W.contents outputs.old.out) (W.contents outputs.new.out) result }
-    ensures device { IsErrOf result EngineFault.Device → V.failed outputs.new.trace + W.failed outputs.new.out ≡ V.failed outputs.old.trace + W.failed outputs.old.out + 1 }
-    ensures kept { ¬ IsErrOf result EngineFault.Device → (V.failed outputs.new.trace ≡ V.failed outputs.old.trace) × (W.failed outputs.new.out ≡ W.failed outputs.old.out) }
+    ensures answer { TracesNet G.counts G.name asked.price net.now asked.effort.steps asked.room
+        (V.contents outputs.old.trace) (V.contents outputs.new.trace)
+        (W.contents outputs.old.out) (W.contents outputs.new.out) result }
+    ensures device { IsErrOf result EngineFault.Device
+        → V.failed outputs.new.trace + W.failed outputs.new.out
+        ≡ V.failed outputs.old.trace + W.failed outputs.old.out + 1 }
+    ensures kept { ¬ IsErrOf result EngineFault.Device
+        → (V.failed outputs.new.trace ≡ V.failed outputs.old.trace)
+        × (W.failed outputs.new.out ≡ W.failed outputs.old.out) }
 {
     let RunAsked {
         price,
@@ -83,7 +89,9 @@ where
 
 // The line that says why a run gave no flow.
 fn line_of_end(end: AuditEnd) -> Result<&'static [u8], EngineFault>
-    ensures line { MatchResult result (λ line. end_line end ≡ Ok line.now) (λ fault. end_line end ≡ Err fault) }
+    ensures line { MatchResult result
+        (λ line. end_line end ≡ Ok line.now)
+        (λ fault. end_line end ≡ Err fault) }
     ensures no_device { ¬ IsErrOf result EngineFault.Device }
 {
     match end {
@@ -103,8 +111,10 @@ fn tell_flow<G: OrderedGroup, T: Outcome, W: CountedWrite>(
 ) -> Result<Verdict, EngineFault>
     requires price { IsPrice price }
     requires room { W.failed out.old < 2 ^ 64 - 1 }
-    ensures answer { (limit room : ℕ) → (history : List Event) → IsAudit net.now limit room flow history
-        → TellsRun G.counts G.name price net.now limit room history (W.contents out.old) (W.contents out.new) result }
+    ensures answer { (limit room : ℕ) → (history : List Event)
+        → IsAudit net.now limit room flow history
+        → TellsRun G.counts G.name price net.now limit room history
+        (W.contents out.old) (W.contents out.new) result }
     ensures device { IsErrOf result EngineFault.Device ↔ (W.failed out.new ≡ W.failed out.old + 1) }
     ensures kept { ¬ IsErrOf result EngineFault.Device → W.failed out.new ≡ W.failed out.old }
 {

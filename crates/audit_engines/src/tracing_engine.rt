@@ -61,11 +61,17 @@ pub fn solve_traced_engine<
 
     // What it answers and writes, where the readers tell their bytes.
     ensures answer { ForTexts inputs.old D.remaining asked.factor (λ texts.
-        Traces texts asked.group asked.effort.steps asked.room (V.contents outputs.old.trace) (V.contents outputs.new.trace) (W.contents outputs.old.out) (W.contents outputs.new.out) result) }
+        Traces texts asked.group asked.effort.steps asked.room
+        (V.contents outputs.old.trace) (V.contents outputs.new.trace)
+        (W.contents outputs.old.out) (W.contents outputs.new.out) result) }
 
     // A device is named exactly where one failed.
-    ensures device { IsErrOf result EngineFault.Device → OneFailed inputs.old inputs.new D.failed (V.failed outputs.old.trace + W.failed outputs.old.out) (V.failed outputs.new.trace + W.failed outputs.new.out) }
-    ensures kept { ¬ IsErrOf result EngineFault.Device → NoneFailed inputs.old inputs.new D.failed × (V.failed outputs.new.trace ≡ V.failed outputs.old.trace) × (W.failed outputs.new.out ≡ W.failed outputs.old.out) }
+    ensures device { IsErrOf result EngineFault.Device → OneFailed inputs.old inputs.new D.failed
+        (V.failed outputs.old.trace + W.failed outputs.old.out)
+        (V.failed outputs.new.trace + W.failed outputs.new.out) }
+    ensures kept { ¬ IsErrOf result EngineFault.Device → NoneFailed inputs.old inputs.new D.failed
+        × (V.failed outputs.new.trace ≡ V.failed outputs.old.trace)
+        × (W.failed outputs.new.out ≡ W.failed outputs.old.out) }
 {
     let mine = mine_to_solve(rt, alloc, inputs, asked.factor)?;
     trace_mine(rt, alloc, mine, asked, gate, outputs)
@@ -83,10 +89,17 @@ fn trace_mine<R: Threads + Wait + Sync, T: Gate + Outcome, V: CountedWrite, W: C
     requires price { IsPrice mine.price }
     requires trace_room { V.failed outputs.old.trace < 2 ^ 64 - 1 }
     requires out_room { W.failed outputs.old.out < 2 ^ 64 - 1 }
-    ensures answer { (texts : MineTexts) → AreRead texts mine.nanos.items mine.rests → mine.price ≡ price_wanted texts
-        → Traces texts asked.group asked.effort.steps asked.room (V.contents outputs.old.trace) (V.contents outputs.new.trace) (W.contents outputs.old.out) (W.contents outputs.new.out) result }
-    ensures device { IsErrOf result EngineFault.Device → V.failed outputs.new.trace + W.failed outputs.new.out ≡ V.failed outputs.old.trace + W.failed outputs.old.out + 1 }
-    ensures kept { ¬ IsErrOf result EngineFault.Device → (V.failed outputs.new.trace ≡ V.failed outputs.old.trace) × (W.failed outputs.new.out ≡ W.failed outputs.old.out) }
+    ensures answer { (texts : MineTexts) → AreRead texts mine.nanos.items mine.rests
+        → mine.price ≡ price_wanted texts
+        → Traces texts asked.group asked.effort.steps asked.room
+        (V.contents outputs.old.trace) (V.contents outputs.new.trace)
+        (W.contents outputs.old.out) (W.contents outputs.new.out) result }
+    ensures device { IsErrOf result EngineFault.Device
+        → V.failed outputs.new.trace + W.failed outputs.new.out
+        ≡ V.failed outputs.old.trace + W.failed outputs.old.out + 1 }
+    ensures kept { ¬ IsErrOf result EngineFault.Device
+        → (V.failed outputs.new.trace ≡ V.failed outputs.old.trace)
+        × (W.failed outputs.new.out ≡ W.failed outputs.old.out) }
 {
     // proof: a greatest set of the net is a pit that is worth most, and of amounts with sizes the best one
     laws::greatest_set_is_richest_pit();
@@ -119,10 +132,17 @@ where
     requires price { IsPrice mine.price }
     requires trace_room { V.failed outputs.old.trace < 2 ^ 64 - 1 }
     requires out_room { W.failed outputs.old.out < 2 ^ 64 - 1 }
-    ensures answer { (texts : MineTexts) → AreRead texts mine.nanos.items mine.rests → mine.price ≡ price_wanted texts → IsGroupNamed G.name G.block_parts G.counts
-        → Traces texts G.name asked.effort.steps asked.room (V.contents outputs.old.trace) (V.contents outputs.new.trace) (W.contents outputs.old.out) (W.contents outputs.new.out) result }
-    ensures device { IsErrOf result EngineFault.Device → V.failed outputs.new.trace + W.failed outputs.new.out ≡ V.failed outputs.old.trace + W.failed outputs.old.out + 1 }
-    ensures kept { ¬ IsErrOf result EngineFault.Device → (V.failed outputs.new.trace ≡ V.failed outputs.old.trace) × (W.failed outputs.new.out ≡ W.failed outputs.old.out) }
+    ensures answer { (texts : MineTexts) → AreRead texts mine.nanos.items mine.rests
+        → mine.price ≡ price_wanted texts → IsGroupNamed G.name G.block_parts G.counts
+        → Traces texts G.name asked.effort.steps asked.room
+        (V.contents outputs.old.trace) (V.contents outputs.new.trace)
+        (W.contents outputs.old.out) (W.contents outputs.new.out) result }
+    ensures device { IsErrOf result EngineFault.Device
+        → V.failed outputs.new.trace + W.failed outputs.new.out
+        ≡ V.failed outputs.old.trace + W.failed outputs.old.out + 1 }
+    ensures kept { ¬ IsErrOf result EngineFault.Device
+        → (V.failed outputs.new.trace ≡ V.failed outputs.old.trace)
+        × (W.failed outputs.new.out ≡ W.failed outputs.old.out) }
 {
     let price = mine.price;
     let net = Net::<G>::of_worths(alloc, mine.rests, mine.nanos.as_slice())?;

@@ -106,7 +106,8 @@ pub fn rows(
 ) -> Result<Vec<BenchRow>, ReportFault>
     requires { tonnes < length model.now.columns }
     ensures { let m = reported_blocks model.now series.now tonnes worths.now in MatchResult result
-        (λ rows. SameLengths model.now series.now worths.now × AllSumsFit m × IsBenchTable m rows.items)
+        (λ rows. SameLengths model.now series.now worths.now × AllSumsFit m
+        × IsBenchTable m rows.items)
         (λ e. ReportFaultStands model.now series.now worths.now m e) }
 {
     if !has_lengths(model, series, worths) {

@@ -15,7 +15,8 @@ use std::alloc::{AllocError, Global};
 fn put_held(alloc: Global, wtr: &mut Writer<Vec<u8>>, b: u32, factor: u32) -> Result<(), AllocError>
     requires ready { IsReady wtr.old }
     ensures ready { OnOk result (IsReady wtr.new) }
-    ensures text { OnOk result (written_bytes wtr.new ≡ written_bytes wtr.old ++ block_shell_line b (Some factor)) }
+    ensures text { OnOk result
+        (written_bytes wtr.new ≡ written_bytes wtr.old ++ block_shell_line b (Some factor)) }
 {
     let block = format!(in alloc; "{b}")?;
     let shell = format!(in alloc; "{factor}")?;
@@ -26,7 +27,8 @@ fn put_held(alloc: Global, wtr: &mut Writer<Vec<u8>>, b: u32, factor: u32) -> Re
 fn put_unheld(alloc: Global, wtr: &mut Writer<Vec<u8>>, b: u32) -> Result<(), AllocError>
     requires ready { IsReady wtr.old }
     ensures ready { OnOk result (IsReady wtr.new) }
-    ensures text { OnOk result (written_bytes wtr.new ≡ written_bytes wtr.old ++ block_shell_line b None) }
+    ensures text { OnOk result
+        (written_bytes wtr.new ≡ written_bytes wtr.old ++ block_shell_line b None) }
 {
     let block = format!(in alloc; "{b}")?;
     put_fields(wtr, &[block.as_bytes(), b""])
@@ -41,7 +43,8 @@ fn put_block(
 ) -> Result<(), AllocError>
     requires ready { IsReady wtr.old }
     ensures ready { OnOk result (IsReady wtr.new) }
-    ensures text { OnOk result (written_bytes wtr.new ≡ written_bytes wtr.old ++ block_shell_line b shell) }
+    ensures text { OnOk result
+        (written_bytes wtr.new ≡ written_bytes wtr.old ++ block_shell_line b shell) }
 {
     match shell {
         Some(factor) => put_held(alloc, wtr, b, factor),
@@ -55,7 +58,8 @@ fn put_block(
 /// # Errors
 /// Memory was refused.
 pub fn block_shells_text(alloc: Global, series: &Series) -> Result<Vec<u8>, AllocError>
-    ensures text { IfOk result (λ v. v.items ≡ block_table_text (shell_at series.now.shells) (blocks_of series.now.prices)) }
+    ensures text { IfOk result (λ v. v.items ≡ block_table_text
+        (shell_at series.now.shells) (blocks_of series.now.prices)) }
     ensures series { OnOk result (IsSeries series.now) }
 {
     // proof: what every series is

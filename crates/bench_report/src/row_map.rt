@@ -63,9 +63,11 @@ pub(crate) fn add_block(
     worth: i128,
 ) -> Result<(), ReportFault>
     requires { (row_at (get by_bench rows.old) place).blocks < 2 ^ 24 }
-    ensures added { OnOk result (Updates by_bench rows.old rows.new place (Some (with_block (row_at (get by_bench rows.old) place) tonnes worth))) }
+    ensures added { OnOk result (Updates by_bench rows.old rows.new place
+        (Some (with_block (row_at (get by_bench rows.old) place) tonnes worth))) }
     ensures fits { OnOk result (RowTakesBlock (row_at (get by_bench rows.old) place) tonnes worth) }
-    ensures refused { IfErr result (λ e. AddFaultStands (row_at (get by_bench rows.old) place) tonnes worth e) }
+    ensures refused { IfErr result
+        (λ e. AddFaultStands (row_at (get by_bench rows.old) place) tonnes worth e) }
 {
     let row = with_one_more(row_so_far(rows, place), tonnes, worth)?;
     match rows.insert(place, row) {

@@ -16,7 +16,8 @@ use std::alloc::{AllocError, Global};
 pub(crate) fn put_fields(wtr: &mut Writer<Vec<u8>>, fields: &[&[u8]]) -> Result<(), AllocError>
     requires ready { IsReady wtr.old }
     ensures ready { OnOk result (IsReady wtr.new) }
-    ensures text { OnOk result (written_bytes wtr.new ≡ written_bytes wtr.old ++ row_text default_writer (map (λ f. f.now) fields.now)) }
+    ensures text { OnOk result (written_bytes wtr.new
+        ≡ written_bytes wtr.old ++ row_text default_writer (map (λ f. f.now) fields.now)) }
 {
     match wtr.write_fields(fields) {
         Ok(()) => Ok(()),
@@ -84,10 +85,13 @@ pub fn write_report<W: CountedWrite>(
     out: &mut W,
 ) -> Result<(), ReportWriteFault>
     requires room { W.failed out.old < 2 ^ 64 - 1 }
-    ensures written { OnOk result (Appends (W.contents out.old) (W.contents out.new) (table_text rows.now)) }
+    ensures written { OnOk result
+        (Appends (W.contents out.old) (W.contents out.new) (table_text rows.now)) }
     ensures kept { OnOk result (W.failed out.new ≡ W.failed out.old) }
-    ensures counted { result ≡ Err ReportWriteFault.Device → W.failed out.new ≡ W.failed out.old + 1 }
-    ensures prefix { result ≡ Err ReportWriteFault.Device → ReceivedPrefix (W.contents out.old) (W.contents out.new) (table_text rows.now) }
+    ensures counted { result ≡ Err ReportWriteFault.Device
+        → W.failed out.new ≡ W.failed out.old + 1 }
+    ensures prefix { result ≡ Err ReportWriteFault.Device
+        → ReceivedPrefix (W.contents out.old) (W.contents out.new) (table_text rows.now) }
     ensures untouched { result ≡ Err ReportWriteFault.NoMemory → out.new ≡ out.old }
 {
     let table = report_text(alloc, rows)?;

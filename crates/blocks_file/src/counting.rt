@@ -21,7 +21,8 @@ fn is_record(line: &[u8]) -> bool
 // Counts the records of a text that has no line that is too long, and not too many records.
 pub(crate) fn count_records(text: &[u8]) -> Result<u32, BlocksFault>
     ensures { let all = spec.lines_in text.now in MatchResult result
-        (λ n. (spec.long_fault all ≡ None) × (spec.many_fault all ≡ None) × (n ≡ length (spec.record_lines all)) × (n ≤ MOST_BLOCKS))
+        (λ n. (spec.long_fault all ≡ None) × (spec.many_fault all ≡ None)
+        × (n ≡ length (spec.record_lines all)) × (n ≤ MOST_BLOCKS))
         (λ e. spec.early_fault all ≡ Some e) }
 {
     let mut lines = Lines::new(text);

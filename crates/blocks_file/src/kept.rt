@@ -43,7 +43,8 @@ impl Kept {
     // No block has had a record.
     pub(crate) fn new(alloc: Global, n: u32, width: u32) -> Result<Kept, AllocError>
         requires { (n ≤ MOST_BLOCKS) × (width ≤ MOST_COLUMNS) }
-        ensures { IfOk result (λ kept. (kept.seen.items ≡ replicate n false) × (length kept.places.items ≡ n) × (length kept.values.items ≡ n * width)) }
+        ensures { IfOk result (λ kept. (kept.seen.items ≡ replicate n false)
+            × (length kept.places.items ≡ n) × (length kept.values.items ≡ n * width)) }
     {
         let seen = vec![in alloc; false; n as usize]?;
         let places = vec![in alloc; Place { x: 0, y: 0, z: 0 }; n as usize]?;
@@ -63,10 +64,13 @@ impl Kept {
         row: &[Micros],
         line: u64,
     ) -> Result<(), BlocksFault>
-        requires few { (length self.old.seen.items ≤ MOST_BLOCKS) × (length row.now ≤ MOST_COLUMNS) }
+        requires few { (length self.old.seen.items ≤ MOST_BLOCKS)
+            × (length row.now ≤ MOST_COLUMNS) }
         requires places { length self.old.places.items ≡ length self.old.seen.items }
-        requires values { length self.old.values.items ≡ length self.old.seen.items * length row.now }
-        ensures { let had : ℕ → Bool = λ b. slice_index_or self.old.seen.items b false in MatchResult result
+        requires values { length self.old.values.items
+            ≡ length self.old.seen.items * length row.now }
+        ensures { let had : ℕ → Bool = λ b. slice_index_or self.old.seen.items b false in
+            MatchResult result
             (λ _. (spec.block_fault (length self.old.seen.items) had line block ≡ None)
             × (self.new.seen.items ≡ slice_set self.old.seen.items block true)
             × (self.new.places.items ≡ slice_set self.old.places.items block place)

@@ -19,7 +19,8 @@ fn read_records(alloc: Global, text: &[u8], columns: &[u32], n: u32) -> Result<K
     requires counted { n ≡ length (spec.record_lines (spec.lines_in text.now)) }
     requires bound { n ≤ MOST_BLOCKS }
     ensures { let all = spec.lines_in text.now in MatchResult result
-        (λ kept. (spec.first_fault n columns.now [] all ≡ None) × AreKept n columns.now all kept.places.items kept.values.items)
+        (λ kept. (spec.first_fault n columns.now [] all ≡ None)
+        × AreKept n columns.now all kept.places.items kept.values.items)
         (λ e. spec.UnlessMemory e (spec.first_fault n columns.now [] all ≡ Some e)) }
 {
     let mut kept = Kept::new(alloc, n, columns.len() as u32).map_err(|_| BlocksFault::NoMemory)?;
@@ -57,7 +58,8 @@ pub fn read_blocks(alloc: Global, text: &[u8], columns: &[u32]) -> Result<BlockM
     ensures value { MatchResult result
         (λ m. (spec.fault_of columns.now text.now ≡ None) × Denotes columns.now text.now m)
         (λ e. spec.UnlessMemory e (spec.fault_of columns.now text.now ≡ Some e)) }
-    ensures early { (fault : BlocksFault) → spec.early_fault (spec.lines_in text.now) ≡ Some fault → result ≡ Err fault }
+    ensures early { (fault : BlocksFault) → spec.early_fault (spec.lines_in text.now) ≡ Some fault
+        → result ≡ Err fault }
 {
     let n = count_records(text)?;
     let kept = read_records(alloc, text, columns, n)?;

@@ -53,7 +53,8 @@ pub(crate) fn read_record(
         × (r.block ≡ spec.block_of (fields_of text.now))
         × (r.place ≡ spec.place_of_record (fields_of text.now))
         × HoldsValues columns.now (spec.columns_of (fields_of text.now)) row.new))
-        (λ e. (is_skipped (fields_of text.now) ≡ false) × (spec.shape_fault line columns.now (fields_of text.now) ≡ Some e)) }
+        (λ e. (is_skipped (fields_of text.now) ≡ false)
+        × (spec.shape_fault line columns.now (fields_of text.now) ≡ Some e)) }
 {
     let mut fields = Fields::new(text);
     let Some(block) = fields.next() else {

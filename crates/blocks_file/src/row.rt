@@ -38,7 +38,8 @@ fn take_field(
     requires { length row.old ≡ length columns.now }
     ensures { MatchResult result
         (λ _. AreTaken columns.now column field.now row.old row.new)
-        (λ e. (e ≡ BlocksFault.Number line) × (list_any (λ c. c == column) columns.now ≡ true) × (spec.value_read field.now ≡ None)) }
+        (λ e. (e ≡ BlocksFault.Number line) × (list_any (λ c. c == column) columns.now ≡ true)
+        × (spec.value_read field.now ≡ None)) }
 {
     if !is_chosen(columns, column) {
         return Ok(());
@@ -58,8 +59,10 @@ pub(crate) fn read_row(
     requires size { length row.old ≡ length columns.now }
     requires few { length fields ≤ LINE_BYTES }
     ensures { MatchResult result
-        (λ n. (n ≡ length fields.entry) × IsRow columns.now (map (λ f. f.text) fields.entry) n row.new)
-        (λ e. (e ≡ BlocksFault.Number line) × (list_any (spec.is_bad (map (λ f. f.text) fields.entry)) columns.now ≡ true)) }
+        (λ n. (n ≡ length fields.entry)
+        × IsRow columns.now (map (λ f. f.text) fields.entry) n row.new)
+        (λ e. (e ≡ BlocksFault.Number line)
+        × (list_any (spec.is_bad (map (λ f. f.text) fields.entry)) columns.now ≡ true)) }
 {
     let mut column = 0;
     for field in fields {

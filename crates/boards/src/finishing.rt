@@ -20,7 +20,9 @@ fn end_operation<G: OrderedGroup>(board: &mut Recorded<G>, block: u32, steps: u6
     requires within { (shown_state board.old.board).steps ≤ steps }
     requires idle { AreIdleBelow board.old.board block }
     ensures goes_on { RecordGoesOn board.old board.new steps }
-    ensures end { MatchOption result (AreIdleBelow board.new.board (block + 1)) (λ end. HasEnded board.new.board steps end) }
+    ensures end { MatchOption result
+        (AreIdleBelow board.new.board (block + 1))
+        (λ end. HasEnded board.new.board steps end) }
 {
     // proof: a `Recorded` is made by turns alone
     let _blocks = board.len();
@@ -40,7 +42,9 @@ fn end_operations<G: OrderedGroup>(board: &mut Recorded<G>, steps: u64) -> Optio
     requires room { board.old.records ≡ true → steps ≤ board.old.room }
     requires within { (shown_state board.old.board).steps ≤ steps }
     ensures goes_on { RecordGoesOn board.old board.new steps }
-    ensures end { MatchOption result (AreIdleBelow board.new.board (blocks_of_board board.new.board)) (λ end. HasEnded board.new.board steps end) }
+    ensures end { MatchOption result
+        (AreIdleBelow board.new.board (blocks_of_board board.new.board))
+        (λ end. HasEnded board.new.board steps end) }
 {
     for block in 0..board.len() {
         if let Some(end) = end_operation(board, block, steps) {
@@ -84,7 +88,8 @@ pub(crate) fn finish_recorded<G: OrderedGroup>(board: &mut Recorded<G>, steps: u
     ensures goes_on { RecordGoesOn board.old board.new steps }
     ensures end { HasEnded board.new.board steps result }
     ensures made { IsTurnBoard board.new.board }
-    ensures events { board.new.records ≡ true → AreTurnsTo board.new.board.net board.new.events (shown_state board.new.board) }
+    ensures events { board.new.records ≡ true
+        → AreTurnsTo board.new.board.net board.new.events (shown_state board.new.board) }
 {
     let end = match end_operations(board, steps) {
         Some(end) => end,

@@ -35,7 +35,8 @@ impl<G: OrderedGroup> Model for Recorded<G> {
 
     ghost view = { λ r. record_view r.board r.events.items r.records r.room };
 
-    ghost invariant = { λ r. IsRecordBoard (record_view r.board r.events.items r.records r.room) (vec_capacity r.events) };
+    ghost invariant = { λ r. IsRecordBoard
+        (record_view r.board r.events.items r.records r.room) (vec_capacity r.events) };
 }
 
 impl<G: OrderedGroup> Recorded<G> {
@@ -65,7 +66,8 @@ impl<G: OrderedGroup> Recorded<G> {
     pub(crate) fn len(&self) -> u32
         ensures is { result ≡ blocks_of_board self.now.board }
         ensures made { IsTurnBoard self.now.board }
-        ensures events { self.now.records ≡ true → AreTurnsTo self.now.board.net self.now.events (shown_state self.now.board) }
+        ensures events { self.now.records ≡ true
+            → AreTurnsTo self.now.board.net self.now.events (shown_state self.now.board) }
     {
         self.board.len()
     }
@@ -115,7 +117,8 @@ impl<G: OrderedGroup> Recorded<G> {
         ensures turn { IsTurn self.old.board own from steps self.new.board result }
         ensures writes { Writes self.old result self.new }
         ensures made { IsTurnBoard self.new.board }
-        ensures events { self.new.records ≡ true → AreTurnsTo self.new.board.net self.new.events (shown_state self.new.board) }
+        ensures events { self.new.records ≡ true
+            → AreTurnsTo self.new.board.net self.new.events (shown_state self.new.board) }
     {
         let block = match self.board.due(own, from, steps) {
             Ok(block) => block,

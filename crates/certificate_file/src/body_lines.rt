@@ -200,8 +200,10 @@ pub fn read_in_order(
     previous: Option<BodyLine>,
 ) -> Result<BodyLine, CertFault>
     ensures { MatchResult result
-        (λ line. Passed (spec.line_of counts n) pieces.old pieces.new line × (spec.may_follow previous line ≡ true))
-        (λ e. spec.line_behind counts n previous (pieces.old.number + 1) (piece_at pieces.old.pieces 0) ≡ Err e) }
+        (λ line. Passed (spec.line_of counts n) pieces.old pieces.new line
+        × (spec.may_follow previous line ≡ true))
+        (λ e. spec.line_behind counts n previous
+        (pieces.old.number + 1) (piece_at pieces.old.pieces 0) ≡ Err e) }
 {
     let text = pieces.next_line()?;
     let number = pieces.number();

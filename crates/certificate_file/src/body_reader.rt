@@ -23,7 +23,9 @@ pub fn is_end(kind: LineKind) -> bool
 
 // Nothing may stand behind the last line.
 fn read_end(pieces: &Pieces) -> Result<(), CertFault>
-    ensures { MatchResult result (λ _. spec.end_fault pieces.now.number pieces.now.pieces ≡ None) (λ e. spec.end_fault pieces.now.number pieces.now.pieces ≡ Some e) }
+    ensures { MatchResult result
+        (λ _. spec.end_fault pieces.now.number pieces.now.pieces ≡ None)
+        (λ e. spec.end_fault pieces.now.number pieces.now.pieces ≡ Some e) }
 {
     if pieces.is_done() {
         Ok(())
@@ -40,10 +42,13 @@ pub fn read_body<G: OrderedGroup>(
 ) -> Result<(), CertFault>
     requires { Covers rests.now.blocks (length rests.now.pairs) parts.old.flow }
     ensures { MatchResult result
-        (λ _. (body_fault G.counts rests.now.blocks (has_pair rests.now.pairs) None pieces.old.number pieces.old.pieces ≡ None)
+        (λ _. (body_fault G.counts rests.now.blocks
+        (has_pair rests.now.pairs) None pieces.old.number pieces.old.pieces ≡ None)
         × Covers rests.now.blocks (length rests.now.pairs) parts.new.flow
-        × Adds rests.now.blocks rests.now.pairs (lines_of_pieces G.counts rests.now.blocks pieces.old.pieces) parts.old parts.new)
-        (λ e. UnlessMemory e (body_fault G.counts rests.now.blocks (has_pair rests.now.pairs) None pieces.old.number pieces.old.pieces ≡ Some e)) }
+        × Adds rests.now.blocks rests.now.pairs
+        (lines_of_pieces G.counts rests.now.blocks pieces.old.pieces) parts.old parts.new)
+        (λ e. UnlessMemory e (body_fault G.counts rests.now.blocks
+        (has_pair rests.now.pairs) None pieces.old.number pieces.old.pieces ≡ Some e)) }
 {
     let counts = counts::<G>();
     let n = rests.len();

@@ -43,9 +43,13 @@ pub fn read_certificate<G: OrderedGroup>(
 ) -> Result<Certificate<G>, CertFault>
     ensures read { MatchResult result
         (λ c. (fault_of G.counts G.name rests.now.blocks rests.now.pairs text.now ≡ None)
-        × IsRead G.counts G.name rests.now.blocks rests.now.pairs text.now c.blocks c.price c.pit c.flow)
-        (λ e. UnlessMemory e (fault_of G.counts G.name rests.now.blocks rests.now.pairs text.now ≡ Some e)) }
-    ensures header { (fault : CertFault) → header_for (wanted_for rests.now.blocks G.name) (pieces_of text.now) ≡ Err fault → result ≡ Err fault }
+        × IsRead G.counts G.name rests.now.blocks rests.now.pairs text.now
+        c.blocks c.price c.pit c.flow)
+        (λ e. UnlessMemory e
+        (fault_of G.counts G.name rests.now.blocks rests.now.pairs text.now ≡ Some e)) }
+    ensures header { (fault : CertFault)
+        → header_for (wanted_for rests.now.blocks G.name) (pieces_of text.now) ≡ Err fault
+        → result ≡ Err fault }
 {
     let mut pieces = Pieces::new(text);
     let wanted = Wanted {

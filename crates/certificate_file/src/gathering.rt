@@ -57,7 +57,9 @@ pub fn amount<G: OrderedGroup>(line: &BodyLine) -> G
 // Sets the amount at a place.
 fn set<G: OrderedGroup>(amounts: &mut Carried<G>, place: u32, amount: G) -> Result<(), CertFault>
     requires { place < length amounts.old }
-    ensures { MatchResult result (λ _. amounts.new ≡ slice_set amounts.old place (G.parts_of amount)) (λ e. e ≡ CertFault.NoMemory) }
+    ensures { MatchResult result
+        (λ _. amounts.new ≡ slice_set amounts.old place (G.parts_of amount))
+        (λ e. e ≡ CertFault.NoMemory) }
 {
     amounts.set(place, amount).map_err(|_| CertFault::NoMemory)
 }
@@ -92,7 +94,8 @@ impl<G: OrderedGroup> Parts<G> {
             (λ _. (is_of_model (has_pair rests.now.pairs) line.now.kind line.now ≡ true)
             × Covers rests.now.blocks (length rests.now.pairs) self.new.flow
             × Adds rests.now.blocks rests.now.pairs (line.now ∷ []) self.old self.new)
-            (λ e. UnlessMemory e ((e ≡ CertFault.UnknownPair number) × (is_of_model (has_pair rests.now.pairs) line.now.kind line.now ≡ false))) }
+            (λ e. UnlessMemory e ((e ≡ CertFault.UnknownPair number)
+            × (is_of_model (has_pair rests.now.pairs) line.now.kind line.now ≡ false))) }
     {
         match line.kind {
             LineKind::Pit => self.pit.push(line.block).map_err(|_| CertFault::NoMemory)?,
@@ -111,7 +114,9 @@ impl<G: OrderedGroup> Parts<G> {
 
     /// The pit and the flow: `None` exactly where the blocks are not ascending.
     pub fn finish(self) -> Option<(Pit, Flow<G>)>
-        ensures { MatchOption result (¬ (IsAscending self.pit)) (λ r. (r.0 ≡ self.pit) × (r.1 ≡ self.flow) × IsAscending self.pit) }
+        ensures { MatchOption result
+            (¬ (IsAscending self.pit))
+            (λ r. (r.0 ≡ self.pit) × (r.1 ≡ self.flow) × IsAscending self.pit) }
     {
         let Parts {
             pit,

@@ -40,7 +40,9 @@ pub fn number_below(limit: u32, word: &[u8]) -> Option<u32>
 
 // The second of two words, of which the first is the key.
 fn value_behind<'a>(key: &[u8], text: &'a [u8]) -> Option<&'a [u8]>
-    ensures { MatchOption result (spec.value_behind key.now (words_of text.now) ≡ None) (λ v. spec.value_behind key.now (words_of text.now) ≡ Some v.now) }
+    ensures { MatchOption result
+        (spec.value_behind key.now (words_of text.now) ≡ None)
+        (λ v. spec.value_behind key.now (words_of text.now) ≡ Some v.now) }
 {
     let mut words = Words::new(text);
     let first = words.next()?;
@@ -53,7 +55,9 @@ fn value_behind<'a>(key: &[u8], text: &'a [u8]) -> Option<&'a [u8]>
 
 // The third of three words, of which the first two are the keys.
 fn value_behind_both<'a>(key: &[u8], other: &[u8], text: &'a [u8]) -> Option<&'a [u8]>
-    ensures { MatchOption result (spec.value_behind_both key.now other.now (words_of text.now) ≡ None) (λ v. spec.value_behind_both key.now other.now (words_of text.now) ≡ Some v.now) }
+    ensures { MatchOption result
+        (spec.value_behind_both key.now other.now (words_of text.now) ≡ None)
+        (λ v. spec.value_behind_both key.now other.now (words_of text.now) ≡ Some v.now) }
 {
     let mut words = Words::new(text);
     let first = words.next()?;
@@ -181,28 +185,40 @@ pub fn in_line<T>(number: u64, read: Result<T, LineFault>) -> Result<T, CertFaul
 }
 
 fn read_version(pieces: &mut Pieces) -> Result<Version, CertFault>
-    ensures { MatchResult result (λ x. Passed spec.version_in pieces.old pieces.new x) (λ e. read_line spec.version_in (pieces.old.number + 1) (piece_at pieces.old.pieces 0) ≡ Err e) }
+    ensures { MatchResult result
+        (λ x. Passed spec.version_in pieces.old pieces.new x)
+        (λ e. read_line spec.version_in
+        (pieces.old.number + 1) (piece_at pieces.old.pieces 0) ≡ Err e) }
 {
     let line = pieces.next_line()?;
     in_line(pieces.number(), version_in(line))
 }
 
 fn read_blocks(pieces: &mut Pieces, wanted: Option<Wanted>) -> Result<u32, CertFault>
-    ensures { MatchResult result (λ x. Passed (spec.blocks_in wanted) pieces.old pieces.new x) (λ e. read_line (spec.blocks_in wanted) (pieces.old.number + 1) (piece_at pieces.old.pieces 0) ≡ Err e) }
+    ensures { MatchResult result
+        (λ x. Passed (spec.blocks_in wanted) pieces.old pieces.new x)
+        (λ e. read_line (spec.blocks_in wanted) (pieces.old.number + 1)
+        (piece_at pieces.old.pieces 0) ≡ Err e) }
 {
     let line = pieces.next_line()?;
     in_line(pieces.number(), blocks_in(wanted, line))
 }
 
 fn read_price(pieces: &mut Pieces, version: Version) -> Result<Price, CertFault>
-    ensures { MatchResult result (λ x. Passed (spec.price_in version) pieces.old pieces.new x) (λ e. read_line (spec.price_in version) (pieces.old.number + 1) (piece_at pieces.old.pieces 0) ≡ Err e) }
+    ensures { MatchResult result
+        (λ x. Passed (spec.price_in version) pieces.old pieces.new x)
+        (λ e. read_line (spec.price_in version) (pieces.old.number + 1)
+        (piece_at pieces.old.pieces 0) ≡ Err e) }
 {
     let line = pieces.next_line()?;
     in_line(pieces.number(), price_in(version, line))
 }
 
 fn read_group(pieces: &mut Pieces, wanted: Option<Wanted>) -> Result<Group, CertFault>
-    ensures { MatchResult result (λ x. Passed (spec.group_in wanted) pieces.old pieces.new x) (λ e. read_line (spec.group_in wanted) (pieces.old.number + 1) (piece_at pieces.old.pieces 0) ≡ Err e) }
+    ensures { MatchResult result
+        (λ x. Passed (spec.group_in wanted) pieces.old pieces.new x)
+        (λ e. read_line (spec.group_in wanted) (pieces.old.number + 1)
+        (piece_at pieces.old.pieces 0) ≡ Err e) }
 {
     let line = pieces.next_line()?;
     in_line(pieces.number(), group_in(wanted, line))
@@ -212,7 +228,8 @@ fn read_group(pieces: &mut Pieces, wanted: Option<Wanted>) -> Result<Group, Cert
 pub fn read_header(pieces: &mut Pieces, wanted: Option<Wanted>) -> Result<Header, CertFault>
     requires { pieces.old.number ≡ 0 }
     ensures { MatchResult result
-        (λ h. (spec.header_for wanted pieces.old.pieces ≡ Ok h) × (pieces.new.pieces ≡ drop 4 pieces.old.pieces) × (pieces.new.number ≡ 4))
+        (λ h. (spec.header_for wanted pieces.old.pieces ≡ Ok h)
+        × (pieces.new.pieces ≡ drop 4 pieces.old.pieces) × (pieces.new.number ≡ 4))
         (λ e. spec.header_for wanted pieces.old.pieces ≡ Err e) }
 {
     let version = read_version(pieces)?;

@@ -54,7 +54,9 @@ impl<'a> Pieces<'a> {
     /// The next line without its line feed.
     pub fn next_line(&mut self) -> Result<&'a [u8], CertFault>
         ensures { MatchResult result
-            (λ line. (length line.now ≤ LINE_BYTES) × (self.old.pieces ≡ record { text = line.now; ended = true } ∷ self.new.pieces) × (self.new.number ≡ self.old.number + 1))
+            (λ line. (length line.now ≤ LINE_BYTES)
+            × (self.old.pieces ≡ record { text = line.now; ended = true } ∷ self.new.pieces)
+            × (self.new.number ≡ self.old.number + 1))
             (λ e. no_line (self.old.number + 1) (piece_at self.old.pieces 0) ≡ Some e) }
     {
         match first_line_feed(self.rest) {

@@ -35,7 +35,8 @@ fn push_signed(text: &mut ShortLine, number: i128)
 // Adds a space, a number, a space and a number.
 fn push_amount(text: &mut ShortLine, line: &BodyLine)
     requires { length text.old + 82 ≤ 192 }
-    ensures text { text.new ≡ text.old ++ (32 ∷ (signed_decimal line.now.worth ++ (32 ∷ signed_decimal line.now.count))) }
+    ensures text { text.new ≡ text.old
+        ++ (32 ∷ (signed_decimal line.now.worth ++ (32 ∷ signed_decimal line.now.count))) }
     ensures length { length text.new ≤ length text.old + 82 }
 {
     text.push(b" ");
@@ -172,9 +173,11 @@ fn put_line<W: CountedWrite>(
     line: &BodyLine,
 ) -> Result<(), WriteFault>
     requires { W.failed out.old < 2 ^ 64 - 1 }
-    ensures held { OnOk result (SentOrHeld (W.contents out.old) (W.contents out.new) page.new (page.old ++ (spaced_words (line_words line.now) ++ (10 ∷ [])))) }
+    ensures held { OnOk result (SentOrHeld (W.contents out.old) (W.contents out.new) page.new
+        (page.old ++ (spaced_words (line_words line.now) ++ (10 ∷ [])))) }
     ensures kept { OnOk result (W.failed out.new ≡ W.failed out.old) }
-    ensures prefix { OnErr result (ReceivedPrefix (W.contents out.old) (W.contents out.new) (page.old ++ (spaced_words (line_words line.now) ++ (10 ∷ [])))) }
+    ensures prefix { OnErr result (ReceivedPrefix (W.contents out.old) (W.contents out.new)
+        (page.old ++ (spaced_words (line_words line.now) ++ (10 ∷ [])))) }
     ensures counted { OnErr result (W.failed out.new ≡ W.failed out.old + 1) }
 {
     let text = written(line);
@@ -184,9 +187,11 @@ fn put_line<W: CountedWrite>(
 // The PIT lines.
 fn put_pit<W: CountedWrite>(page: &mut Page, out: &mut W, pit: &Pit) -> Result<(), WriteFault>
     requires { W.failed out.old < 2 ^ 64 - 1 }
-    ensures held { OnOk result (SentOrHeld (W.contents out.old) (W.contents out.new) page.new (page.old ++ body_text (map pit_at pit.now))) }
+    ensures held { OnOk result (SentOrHeld (W.contents out.old) (W.contents out.new) page.new
+        (page.old ++ body_text (map pit_at pit.now))) }
     ensures kept { OnOk result (W.failed out.new ≡ W.failed out.old) }
-    ensures prefix { OnErr result (ReceivedPrefix (W.contents out.old) (W.contents out.new) (page.old ++ body_text (map pit_at pit.now))) }
+    ensures prefix { OnErr result (ReceivedPrefix (W.contents out.old) (W.contents out.new)
+        (page.old ++ body_text (map pit_at pit.now))) }
     ensures counted { OnErr result (W.failed out.new ≡ W.failed out.old + 1) }
 {
     let blocks = pit.blocks();
@@ -214,10 +219,13 @@ fn put_amounts<G: OrderedGroup, W: CountedWrite>(
     requires few { length amounts.now < 2 ^ 32 }
     requires fits { kind ≡ LineKind.Rest → length amounts.now ≡ length rests.now.pairs }
     requires room { W.failed out.old < 2 ^ 64 - 1 }
-    ensures held { OnOk result (SentOrHeld (W.contents out.old) (W.contents out.new) page.new (page.old ++ body_text (amount_lines (line_at kind rests.now.pairs) 0 amounts.now))) }
-    ensures writable { OnOk result ((k : ℕ) → k < length amounts.now → Writable G.counts (amount_at amounts.now k)) }
+    ensures held { OnOk result (SentOrHeld (W.contents out.old) (W.contents out.new) page.new
+        (page.old ++ body_text (amount_lines (line_at kind rests.now.pairs) 0 amounts.now))) }
+    ensures writable { OnOk result ((k : ℕ) → k < length amounts.now
+        → Writable G.counts (amount_at amounts.now k)) }
     ensures kept { OnOk result (W.failed out.new ≡ W.failed out.old) }
-    ensures prefix { OnErr result (ReceivedPrefix (W.contents out.old) (W.contents out.new) (page.old ++ body_text (amount_lines (line_at kind rests.now.pairs) 0 amounts.now))) }
+    ensures prefix { OnErr result (ReceivedPrefix (W.contents out.old) (W.contents out.new)
+        (page.old ++ body_text (amount_lines (line_at kind rests.now.pairs) 0 amounts.now))) }
     ensures counted { OnErr result (W.failed out.new ≡ W.failed out.old + 1) }
 {
     for k in 0..amounts.len() {
@@ -240,10 +248,12 @@ fn put_flow<G: OrderedGroup, W: CountedWrite>(
 ) -> Result<(), WriteFault>
     requires covers { Covers rests.now.blocks (length rests.now.pairs) flow.now }
     requires room { W.failed out.old < 2 ^ 64 - 1 }
-    ensures held { OnOk result (SentOrHeld (W.contents out.old) (W.contents out.new) page.new (page.old ++ body_text (flow_lines rests.now.pairs flow.now))) }
+    ensures held { OnOk result (SentOrHeld (W.contents out.old) (W.contents out.new) page.new
+        (page.old ++ body_text (flow_lines rests.now.pairs flow.now))) }
     ensures writable { OnOk result (AreWritable G.counts flow.now) }
     ensures kept { OnOk result (W.failed out.new ≡ W.failed out.old) }
-    ensures prefix { OnErr result (ReceivedPrefix (W.contents out.old) (W.contents out.new) (page.old ++ body_text (flow_lines rests.now.pairs flow.now))) }
+    ensures prefix { OnErr result (ReceivedPrefix (W.contents out.old) (W.contents out.new)
+        (page.old ++ body_text (flow_lines rests.now.pairs flow.now))) }
     ensures counted { OnErr result (W.failed out.new ≡ W.failed out.old + 1) }
 {
     // proof: a `Rests` is in order, with at most `MOST_PAIRS` pairs
@@ -262,10 +272,14 @@ fn put_body<G: OrderedGroup, W: CountedWrite>(
 ) -> Result<(), WriteFault>
     requires covers { Covers rests.now.blocks (length rests.now.pairs) certificate.now.flow }
     requires room { W.failed out.old < 2 ^ 64 - 1 }
-    ensures held { OnOk result (SentOrHeld (W.contents out.old) (W.contents out.new) page.new (page.old ++ (body_text (value_lines rests.now.pairs certificate.now.pit certificate.now.flow) ++ end_text))) }
+    ensures held { OnOk result
+        (SentOrHeld (W.contents out.old) (W.contents out.new) page.new (page.old ++ (body_text
+        (value_lines rests.now.pairs certificate.now.pit certificate.now.flow) ++ end_text))) }
     ensures writable { OnOk result (AreWritable G.counts certificate.now.flow) }
     ensures kept { OnOk result (W.failed out.new ≡ W.failed out.old) }
-    ensures prefix { OnErr result (ReceivedPrefix (W.contents out.old) (W.contents out.new) (page.old ++ (body_text (value_lines rests.now.pairs certificate.now.pit certificate.now.flow) ++ end_text))) }
+    ensures prefix { OnErr result
+        (ReceivedPrefix (W.contents out.old) (W.contents out.new) (page.old ++ (body_text
+        (value_lines rests.now.pairs certificate.now.pit certificate.now.flow) ++ end_text))) }
     ensures counted { OnErr result (W.failed out.new ≡ W.failed out.old + 1) }
 {
     put_pit(page, out, &certificate.pit)?;
@@ -288,13 +302,16 @@ pub fn write_certificate<G: OrderedGroup, W: CountedWrite>(
 ) -> Result<(), WriteFault>
     requires covers { Covers rests.now.blocks (length rests.now.pairs) certificate.now.flow }
     requires room { W.failed out.old < 2 ^ 64 - 1 }
-    ensures sent { OnOk result (let c = certificate.now in Appends (W.contents out.old) (W.contents out.new)
+    ensures sent { OnOk result (let c = certificate.now in
+        Appends (W.contents out.old) (W.contents out.new)
         (certificate_bytes G.name rests.now.pairs c.blocks c.price c.pit c.flow)) }
     ensures read_back { OnOk result (let c = certificate.now in let r = rests.now in
-        c.blocks ≡ r.blocks → IsPrice c.price → All (λ b. b < r.blocks) c.pit → IsReadBack G.counts G.name r.blocks r.pairs
+        c.blocks ≡ r.blocks → IsPrice c.price → All (λ b. b < r.blocks) c.pit
+        → IsReadBack G.counts G.name r.blocks r.pairs
         (certificate_bytes G.name r.pairs c.blocks c.price c.pit c.flow) c.price c.pit c.flow) }
     ensures kept { OnOk result (W.failed out.new ≡ W.failed out.old) }
-    ensures prefix { OnErr result (let c = certificate.now in ReceivedPrefix (W.contents out.old) (W.contents out.new)
+    ensures prefix { OnErr result (let c = certificate.now in
+        ReceivedPrefix (W.contents out.old) (W.contents out.new)
         (certificate_bytes G.name rests.now.pairs c.blocks c.price c.pit c.flow)) }
     ensures counted { OnErr result (W.failed out.new ≡ W.failed out.old + 1) }
 {

@@ -25,7 +25,8 @@ impl<'a, G: OrderedGroup> Model for AcceptedPit<'a, G> {
 
     ghost view = { λ a. record { net = a.graph; pit = a.pit.now; worth = G.parts_of a.worth } };
 
-    ghost invariant = { λ a. IsAccepted (record { net = a.graph; pit = a.pit.now; worth = G.parts_of a.worth }) };
+    ghost invariant = { λ a. IsAccepted
+        (record { net = a.graph; pit = a.pit.now; worth = G.parts_of a.worth }) };
 }
 
 impl<'a, G: OrderedGroup> AcceptedPit<'a, G> {

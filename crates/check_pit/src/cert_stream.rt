@@ -35,7 +35,8 @@ impl<R> Model for CertStream<R> {
 
     ghost Value = { CertView R };
 
-    ghost view = { λ s. record { lines = s.lines; header = s.header; fault = s.fault; is_done = s.is_done } };
+    ghost view = { λ s.
+        record { lines = s.lines; header = s.header; fault = s.fault; is_done = s.is_done } };
 
     ghost invariant = { λ s. StandsAt s.header s.fault s.is_done s.lines.number };
 }
@@ -98,15 +99,21 @@ impl<R: CountedRead> CertStream<R> {
     /// first faulty line. A fault that the stream has answered before is answered again.
     pub fn header(&mut self) -> Result<Header, StreamFault>
         requires { R.failed self.old.lines.from < 2 ^ 64 - 1 }
-        ensures fault_again { (e : StreamFault) → self.old.fault ≡ Some e → (result ≡ Err e) × (self.new ≡ self.old) }
-        ensures header_again { (h : Header) → self.old.fault ≡ None → self.old.header ≡ Some h → (result ≡ Ok h) × (self.new ≡ self.old) }
+        ensures fault_again { (e : StreamFault) → self.old.fault ≡ Some e
+            → (result ≡ Err e) × (self.new ≡ self.old) }
+        ensures header_again { (h : Header) → self.old.fault ≡ None → self.old.header ≡ Some h
+            → (result ≡ Ok h) × (self.new ≡ self.old) }
         ensures read { self.old.fault ≡ None → self.old.header ≡ None
-            → MatchResult result (λ h. GivesHeader R.remaining self.old.lines self.new.lines h) (λ e. LacksHeader R.remaining self.old.lines self.new.lines e) }
+            → MatchResult result
+            (λ h. GivesHeader R.remaining self.old.lines self.new.lines h)
+            (λ e. LacksHeader R.remaining self.old.lines self.new.lines e) }
         ensures ok { IfOk result (λ h. (self.new.header ≡ Some h) × (self.new.fault ≡ None)) }
         ensures fault { IfErr result (λ e. self.new.fault ≡ Some e) }
         ensures done { self.new.is_done ≡ self.old.is_done }
-        ensures device { self.old.fault ≡ None → IsErrOf result StreamFault.Device → R.failed self.new.lines.from ≡ R.failed self.old.lines.from + 1 }
-        ensures kept { ¬ IsErrOf result StreamFault.Device → R.failed self.new.lines.from ≡ R.failed self.old.lines.from }
+        ensures device { self.old.fault ≡ None → IsErrOf result StreamFault.Device
+            → R.failed self.new.lines.from ≡ R.failed self.old.lines.from + 1 }
+        ensures kept { ¬ IsErrOf result StreamFault.Device
+            → R.failed self.new.lines.from ≡ R.failed self.old.lines.from }
     {
         if let Some(fault) = self.fault {
             return Err(fault);
@@ -157,20 +164,28 @@ pub fn check_graph<'a, R: CountedRead, G: OrderedGroup>(
     requires count { R.failed stream.old.lines.from < 2 ^ 64 - 1 }
     requires header { IsReadFor (length net.worths) G.name stream.old.header stream.old.fault }
     requires room { length room.old.balances ≡ length net.worths }
-    ensures fault_again { (e : StreamFault) → stream.old.fault ≡ Some e → IsErrOf result e × (stream.new ≡ stream.old) }
+    ensures fault_again { (e : StreamFault) → stream.old.fault ≡ Some e
+        → IsErrOf result e × (stream.new ≡ stream.old) }
     ensures done_again { stream.old.fault ≡ None → stream.old.is_done ≡ true
-        → IsErrOf result (StreamFault.Cert CertFault.Truncated) × (stream.new.lines ≡ stream.old.lines) }
+        → IsErrOf result (StreamFault.Cert CertFault.Truncated)
+        × (stream.new.lines ≡ stream.old.lines) }
     ensures checked { stream.old.fault ≡ None → stream.old.is_done ≡ false → (bytes : List ℕ)
         × ReadsOn R.remaining stream.old.lines stream.new.lines bytes × MatchResult result
-        (λ a. (a.net ≡ net.entry) × BodyProves (R.remaining stream.new.lines.from) stream.new.lines.taken G.counts net.entry (stream.old.lines.held ++ bytes) a.pit)
-        (λ e. BodyFails (R.remaining stream.new.lines.from) stream.new.lines.taken G.counts net.entry (stream.old.lines.held ++ bytes) e) }
+        (λ a. (a.net ≡ net.entry)
+        × BodyProves (R.remaining stream.new.lines.from) stream.new.lines.taken G.counts net.entry
+        (stream.old.lines.held ++ bytes) a.pit)
+        (λ e. BodyFails
+        (R.remaining stream.new.lines.from) stream.new.lines.taken G.counts net.entry
+        (stream.old.lines.held ++ bytes) e) }
     ensures ok { IfOk result (λ a. (stream.new.fault ≡ None) × (stream.new.is_done ≡ true)) }
     ensures fault { IfErr result (λ e. stream.new.fault ≡ Some e) }
     ensures header { stream.new.header ≡ stream.old.header }
     ensures device { stream.old.fault ≡ None → IsErrOf result StreamFault.Device
         → R.failed stream.new.lines.from ≡ R.failed stream.old.lines.from + 1 }
-    ensures kept { ¬ IsErrOf result StreamFault.Device → R.failed stream.new.lines.from ≡ R.failed stream.old.lines.from }
-    ensures memory { stream.old.fault ≡ None → room.old.is_pit ≡ false → length net.entry.worths ≤ room.old.space
+    ensures kept { ¬ IsErrOf result StreamFault.Device
+        → R.failed stream.new.lines.from ≡ R.failed stream.old.lines.from }
+    ensures memory { stream.old.fault ≡ None → room.old.is_pit ≡ false
+        → length net.entry.worths ≤ room.old.space
         → ¬ IsErrOf result (StreamFault.Cert CertFault.NoMemory) }
 {
     if let Some(fault) = stream.fault {
@@ -206,20 +221,27 @@ pub fn check_stream<'a, R: CountedRead, G: OrderedGroup>(
     requires count { R.failed stream.old.lines.from < 2 ^ 64 - 1 }
     requires header { IsReadFor (length net.now.worths) G.name stream.old.header stream.old.fault }
     requires room { length room.old.balances ≡ length net.now.worths }
-    ensures fault_again { (e : StreamFault) → stream.old.fault ≡ Some e → IsErrOf result e × (stream.new ≡ stream.old) }
+    ensures fault_again { (e : StreamFault) → stream.old.fault ≡ Some e
+        → IsErrOf result e × (stream.new ≡ stream.old) }
     ensures done_again { stream.old.fault ≡ None → stream.old.is_done ≡ true
-        → IsErrOf result (StreamFault.Cert CertFault.Truncated) × (stream.new.lines ≡ stream.old.lines) }
+        → IsErrOf result (StreamFault.Cert CertFault.Truncated)
+        × (stream.new.lines ≡ stream.old.lines) }
     ensures checked { stream.old.fault ≡ None → stream.old.is_done ≡ false → (bytes : List ℕ)
         × ReadsOn R.remaining stream.old.lines stream.new.lines bytes × MatchResult result
-        (λ a. (a.net ≡ net.now) × BodyProves (R.remaining stream.new.lines.from) stream.new.lines.taken G.counts net.now (stream.old.lines.held ++ bytes) a.pit)
-        (λ e. BodyFails (R.remaining stream.new.lines.from) stream.new.lines.taken G.counts net.now (stream.old.lines.held ++ bytes) e) }
+        (λ a. (a.net ≡ net.now)
+        × BodyProves (R.remaining stream.new.lines.from) stream.new.lines.taken G.counts net.now
+        (stream.old.lines.held ++ bytes) a.pit)
+        (λ e. BodyFails (R.remaining stream.new.lines.from) stream.new.lines.taken G.counts net.now
+        (stream.old.lines.held ++ bytes) e) }
     ensures ok { IfOk result (λ a. (stream.new.fault ≡ None) × (stream.new.is_done ≡ true)) }
     ensures fault { IfErr result (λ e. stream.new.fault ≡ Some e) }
     ensures header { stream.new.header ≡ stream.old.header }
     ensures device { stream.old.fault ≡ None → IsErrOf result StreamFault.Device
         → R.failed stream.new.lines.from ≡ R.failed stream.old.lines.from + 1 }
-    ensures kept { ¬ IsErrOf result StreamFault.Device → R.failed stream.new.lines.from ≡ R.failed stream.old.lines.from }
-    ensures memory { stream.old.fault ≡ None → room.old.is_pit ≡ false → length net.now.worths ≤ room.old.space
+    ensures kept { ¬ IsErrOf result StreamFault.Device
+        → R.failed stream.new.lines.from ≡ R.failed stream.old.lines.from }
+    ensures memory { stream.old.fault ≡ None → room.old.is_pit ≡ false
+        → length net.now.worths ≤ room.old.space
         → ¬ IsErrOf result (StreamFault.Cert CertFault.NoMemory) }
 {
     match check_graph(stream, net.graph(), room) {

@@ -88,7 +88,9 @@ fn first_over<G: OrderedGroup>(net: &Net<G>, flow: &Flow<G>) -> Option<u32>
 // Whether each balance stands, or the first that doesn't.
 fn balances<G: OrderedGroup>(net: &Net<G>, flow: &Flow<G>) -> Result<(), PitFault>
     requires { FlowFits net.now flow.now }
-    ensures { MatchResult result (λ _. AllBalanced net.now flow.now) (λ e. BalanceFault net.now flow.now e) }
+    ensures { MatchResult result
+        (λ _. AllBalanced net.now flow.now)
+        (λ e. BalanceFault net.now flow.now e) }
 {
     let rests = net.rests();
     let source = flow.source();
@@ -124,7 +126,8 @@ pub fn check<'a, G: OrderedGroup>(
     ensures found { MatchResult result
         (λ a. (a.net ≡ net.now) × (a.pit ≡ pit.now) × IsSound net.now flow.now pit.now)
         (λ e. PitFaultStands net.now flow.now pit.now e) }
-    ensures complete { ProvesPit net.now flow.now pit.now → SumsFit net.now flow.now pit.now → IsOk result }
+    ensures complete { ProvesPit net.now flow.now pit.now
+        → SumsFit net.now flow.now pit.now → IsOk result }
 {
     if !sizes_agree(net, pit, flow) {
         return Err(PitFault::WrongSize);

@@ -11,7 +11,8 @@ use prec_file::Predecessors;
 // Marks the blocks of a list, and no other.
 pub(crate) fn mark(marks: &mut [bool], blocks: &[u32])
     ensures size { length marks.new ≡ length marks.old }
-    ensures same { (b : ℕ) → b < length marks.old → slice_index_or marks.new b false ≡ holds_of blocks.now b }
+    ensures same { (b : ℕ) → b < length marks.old
+        → slice_index_or marks.new b false ≡ holds_of blocks.now b }
 {
     marks.fill(false);
     for b in blocks {

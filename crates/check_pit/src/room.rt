@@ -48,7 +48,8 @@ impl<G: OrderedGroup> Model for Room<G> {
 
 // What the source may give in all.
 fn positive_total<G: OrderedGroup>(net: &GraphRef<'_, G>) -> G
-    ensures { G.parts_of result ≡ total (λ b. positive (amount_at net.now.worths b)) (length net.now.worths) }
+    ensures { G.parts_of result ≡ total
+        (λ b. positive (amount_at net.now.worths b)) (length net.now.worths) }
 {
     // proof: each sum of the positive worths of a net fits
     let _worths = net.worths();
@@ -117,7 +118,8 @@ impl<G: OrderedGroup> Room<G> {
 
     fn clear_balances(&mut self)
         ensures size { length self.new.balances ≡ length self.old.balances }
-        ensures zero { (b : ℕ) → b < length self.old.balances → amount_at self.new.balances b ≡ zero_amount }
+        ensures zero { (b : ℕ) → b < length self.old.balances
+            → amount_at self.new.balances b ≡ zero_amount }
         ensures space { self.new.space ≡ self.old.space }
         ensures pit { self.new.is_pit ≡ self.old.is_pit }
     {
@@ -132,7 +134,8 @@ impl<G: OrderedGroup> Room<G> {
         ensures size { length self.new.balances ≡ length self.old.balances }
         ensures sums { IfOk result (λ _. AreSumsOf net.now [] self.new) }
         ensures open { IfOk result (λ _. self.new.is_pit ≡ false) }
-        ensures succeeds { self.old.is_pit ≡ false → length net.now.worths ≤ self.old.space → IsOk result }
+        ensures succeeds { self.old.is_pit ≡ false
+            → length net.now.worths ≤ self.old.space → IsOk result }
     {
         self.clear_balances();
         self.worth = G::zero();
@@ -143,7 +146,8 @@ impl<G: OrderedGroup> Room<G> {
     // Adds to a balance.
     fn add(&mut self, block: u32, amount: G) -> Result<(), PitFault>
         requires { block < length self.old.balances }
-        ensures { let sum = plus (amount_at self.old.balances block) (G.parts_of amount) in MatchResult result
+        ensures { let sum = plus (amount_at self.old.balances block) (G.parts_of amount) in
+            MatchResult result
             (λ _. self.new ≡ with_balance block sum self.old)
             (λ e. (e ≡ PitFault.TooLarge) × (self.new ≡ self.old) × ¬ (FitsPair sum)) }
     {
@@ -155,7 +159,8 @@ impl<G: OrderedGroup> Room<G> {
     // Takes from a balance.
     fn take(&mut self, block: u32, amount: G) -> Result<(), PitFault>
         requires { block < length self.old.balances }
-        ensures { let difference = minus (amount_at self.old.balances block) (G.parts_of amount) in MatchResult result
+        ensures { let difference = minus (amount_at self.old.balances block) (G.parts_of amount) in
+            MatchResult result
             (λ _. self.new ≡ with_balance block difference self.old)
             (λ e. (e ≡ PitFault.TooLarge) × (self.new ≡ self.old) × ¬ (FitsPair difference)) }
     {
@@ -179,7 +184,8 @@ impl<G: OrderedGroup> Room<G> {
         requires may { MayPut net.now self.old line.now }
         ensures size { length self.new.balances ≡ length self.old.balances }
         ensures puts { MatchResult result
-            (λ _. WithLine net.now line.now self.old self.new × keeps_by kind.Pit net.now.worths line.now)
+            (λ _. WithLine net.now line.now self.old self.new
+            × keeps_by kind.Pit net.now.worths line.now)
             (λ e. RefusedWhere net.now line.now (SumOverflowsWith net.now self.old line.now) e) }
     {
         let worth = net.worth(line.block);
@@ -194,7 +200,8 @@ impl<G: OrderedGroup> Room<G> {
         requires counted { (G.counts ≡ true) ⊎ (line.now.count ≡ pos 0) }
         ensures size { length self.new.balances ≡ length self.old.balances }
         ensures puts { MatchResult result
-            (λ _. WithLine net.now line.now self.old self.new × keeps_by kind.Source net.now.worths line.now)
+            (λ _. WithLine net.now line.now self.old self.new
+            × keeps_by kind.Source net.now.worths line.now)
             (λ e. RefusedWhere net.now line.now (SumOverflowsWith net.now self.old line.now) e) }
     {
         let amount: G = not_negative(line)?;
@@ -211,7 +218,8 @@ impl<G: OrderedGroup> Room<G> {
         requires counted { (G.counts ≡ true) ⊎ (line.now.count ≡ pos 0) }
         ensures size { length self.new.balances ≡ length self.old.balances }
         ensures puts { MatchResult result
-            (λ _. WithLine net.now line.now self.old self.new × keeps_by kind.Rest net.now.worths line.now)
+            (λ _. WithLine net.now line.now self.old self.new
+            × keeps_by kind.Rest net.now.worths line.now)
             (λ e. RefusedWhere net.now line.now (SumOverflowsWith net.now self.old line.now) e) }
     {
         let amount: G = not_negative(line)?;
@@ -228,7 +236,8 @@ impl<G: OrderedGroup> Room<G> {
         requires counted { (G.counts ≡ true) ⊎ (line.now.count ≡ pos 0) }
         ensures size { length self.new.balances ≡ length self.old.balances }
         ensures puts { MatchResult result
-            (λ _. WithLine net.now line.now self.old self.new × keeps_by kind.Sink net.now.worths line.now)
+            (λ _. WithLine net.now line.now self.old self.new
+            × keeps_by kind.Sink net.now.worths line.now)
             (λ e. RefusedWhere net.now line.now (SumOverflowsWith net.now self.old line.now) e) }
     {
         let amount: G = not_negative(line)?;
@@ -264,7 +273,8 @@ impl<G: OrderedGroup> Room<G> {
         ensures made { self.new.is_pit ≡ true }
         ensures blocks { self.new.blocks ≡ self.old.blocks }
         ensures balances { self.new.balances ≡ self.old.balances }
-        ensures sums { (net : NetView) (ls : List LineView) → AreSumsOf net ls self.old → AreSumsOf net ls self.new }
+        ensures sums { (net : NetView) (ls : List LineView) → AreSumsOf net ls self.old
+            → AreSumsOf net ls self.new }
     {
         self.pit.make_pit();
     }
@@ -297,7 +307,8 @@ impl<G: OrderedGroup> Room<G> {
         requires { length self.now.balances ≡ length net.now.worths }
         ensures is { MatchOption result
             ((b : ℕ) → b < length net.now.worths → amount_at self.now.balances b ≡ zero_amount)
-            (λ b. IsFirstNot (λ k. amount_at self.now.balances k ≡ zero_amount) (length net.now.worths) b) }
+            (λ b. IsFirstNot
+            (λ k. amount_at self.now.balances k ≡ zero_amount) (length net.now.worths) b) }
         ensures flow { IfSome result (λ b. IsFirstUnbalanced net.now self.now b) }
     {
         for b in 0..net.len() {

@@ -33,7 +33,9 @@ fn line_behind(
     text: &[u8],
 ) -> Result<BodyLine, CertFault>
     requires { length text.now ≤ LINE_BYTES }
-    ensures { result ≡ spec.next_line counts predecessors.now.blocks (has_pair predecessors.now.pairs) previous number (record { text = text.now; ended = true }) }
+    ensures { result ≡ spec.next_line counts predecessors.now.blocks
+        (has_pair predecessors.now.pairs) previous number
+        (record { text = text.now; ended = true }) }
 {
     let line = in_line(number, line_of(counts, predecessors.len(), text))?;
     if !may_follow(previous, &line) {
@@ -58,10 +60,14 @@ pub fn next_line<R: CountedRead>(
 ) -> Result<BodyLine, StreamFault>
     requires { R.failed lines.old.from < 2 ^ 64 - 1 }
     ensures line { MatchResult result
-        (λ line. TakesLine R.remaining (spec.next_line counts predecessors.now.blocks (has_pair predecessors.now.pairs) previous) lines.old lines.new line)
-        (λ e. LacksLine R.remaining (spec.next_line counts predecessors.now.blocks (has_pair predecessors.now.pairs) previous) lines.old lines.new e) }
-    ensures device { IsErrOf result StreamFault.Device → R.failed lines.new.from ≡ R.failed lines.old.from + 1 }
-    ensures kept { ¬ IsErrOf result StreamFault.Device → R.failed lines.new.from ≡ R.failed lines.old.from }
+        (λ line. TakesLine R.remaining (spec.next_line counts predecessors.now.blocks
+        (has_pair predecessors.now.pairs) previous) lines.old lines.new line)
+        (λ e. LacksLine R.remaining (spec.next_line counts predecessors.now.blocks
+        (has_pair predecessors.now.pairs) previous) lines.old lines.new e) }
+    ensures device { IsErrOf result StreamFault.Device
+        → R.failed lines.new.from ≡ R.failed lines.old.from + 1 }
+    ensures kept { ¬ IsErrOf result StreamFault.Device
+        → R.failed lines.new.from ≡ R.failed lines.old.from }
 {
     let count = lines.next_length()?;
     let number = lines.number() + 1;

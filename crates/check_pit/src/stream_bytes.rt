@@ -26,7 +26,8 @@ impl Model for StreamBytes {
 
     ghost view = { λ b. slice_range b.buffer.items b.start b.end };
 
-    ghost invariant = { λ b. (length b.buffer.items ≡ LINE_BYTES + 1) × (b.start ≤ b.end) × (b.end ≤ LINE_BYTES + 1) };
+    ghost invariant = { λ b. (length b.buffer.items ≡ LINE_BYTES + 1) × (b.start ≤ b.end)
+        × (b.end ≤ LINE_BYTES + 1) };
 }
 
 // Moves a part of the buffer to its front.
@@ -53,7 +54,8 @@ fn read_behind<R: CountedRead>(
     ensures length { length buffer.new ≡ length buffer.old }
     ensures moved { take (end - start) buffer.new ≡ slice_range buffer.old start end }
     ensures read { IfSome result (λ n. (end - start + n ≤ length buffer.new)
-        × Consumes (R.remaining from.old) (R.remaining from.new) (take n (drop (end - start) buffer.new))) }
+        × Consumes (R.remaining from.old) (R.remaining from.new)
+        (take n (drop (end - start) buffer.new))) }
     ensures end { IfSome result (λ n. n ≡ 0 → IsAtEnd (R.remaining from.new)) }
     ensures counted { IfSome result (λ _. R.failed from.new ≡ R.failed from.old) }
     ensures failed { IfNone result (R.failed from.new ≡ R.failed from.old + 1) }
@@ -101,7 +103,8 @@ impl StreamBytes {
     pub fn read_from<R: CountedRead>(&mut self, from: &mut R) -> Option<usize>
         requires room { length self.old < LINE_BYTES + 1 }
         requires count { R.failed from.old < 2 ^ 64 - 1 }
-        ensures read { IfSome result (λ n. ReadBehind (R.remaining from.old) (R.remaining from.new) self.old self.new n) }
+        ensures read { IfSome result
+            (λ n. ReadBehind (R.remaining from.old) (R.remaining from.new) self.old self.new n) }
         ensures few { IfSome result (λ n. length self.old + n ≤ LINE_BYTES + 1) }
         ensures end { IfSome result (λ n. n ≡ 0 → IsAtEnd (R.remaining from.new)) }
         ensures kept { IfSome result (λ _. R.failed from.new ≡ R.failed from.old) }

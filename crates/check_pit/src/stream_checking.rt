@@ -49,7 +49,9 @@ fn close_pit<G: OrderedGroup>(
     requires ascending { IsAscending room.old.blocks }
     requires size { length room.old.balances ≡ length net.now.worths }
     ensures size { length room.new.balances ≡ length room.old.balances }
-    ensures closes { MatchResult result (λ _. ClosesPit net.now previous kind room.old room.new) (λ e. IsOpenPit net.now previous kind room.old.blocks e) }
+    ensures closes { MatchResult result
+        (λ _. ClosesPit net.now previous kind room.old room.new)
+        (λ e. IsOpenPit net.now previous kind room.old.blocks e) }
 {
     if is_behind_pits(previous) || is_pit(kind) {
         return Ok(());
@@ -69,10 +71,14 @@ fn line_for<R: CountedRead, G: OrderedGroup>(
 ) -> Result<BodyLine, StreamFault>
     requires { R.failed lines.old.from < 2 ^ 64 - 1 }
     ensures line { MatchResult result
-        (λ l. TakesLine R.remaining (line.next_line G.counts (length net.now.worths) (has_pair net.now.pairs) previous) lines.old lines.new l)
-        (λ e. LacksLine R.remaining (line.next_line G.counts (length net.now.worths) (has_pair net.now.pairs) previous) lines.old lines.new e) }
-    ensures device { IsErrOf result StreamFault.Device → R.failed lines.new.from ≡ R.failed lines.old.from + 1 }
-    ensures kept { ¬ IsErrOf result StreamFault.Device → R.failed lines.new.from ≡ R.failed lines.old.from }
+        (λ l. TakesLine R.remaining (line.next_line G.counts
+        (length net.now.worths) (has_pair net.now.pairs) previous) lines.old lines.new l)
+        (λ e. LacksLine R.remaining (line.next_line G.counts
+        (length net.now.worths) (has_pair net.now.pairs) previous) lines.old lines.new e) }
+    ensures device { IsErrOf result StreamFault.Device
+        → R.failed lines.new.from ≡ R.failed lines.old.from + 1 }
+    ensures kept { ¬ IsErrOf result StreamFault.Device
+        → R.failed lines.new.from ≡ R.failed lines.old.from }
 {
     next_line(lines, net.predecessors(), counts::<G>(), previous)
 }
@@ -80,7 +86,9 @@ fn line_for<R: CountedRead, G: OrderedGroup>(
 // Whether the sums after all lines prove the pit.
 fn settle<G: OrderedGroup>(net: &GraphRef<'_, G>, room: &Room<G>) -> Result<(), PitFault>
     requires { length room.now.balances ≡ length net.now.worths }
-    ensures { MatchResult result (λ _. SumsSettle net.now room.now) (λ e. SumsFail net.now room.now e) }
+    ensures { MatchResult result
+        (λ _. SumsSettle net.now room.now)
+        (λ e. SumsFail net.now room.now e) }
 {
     if let Some(block) = room.first_unbalanced(net) {
         return Err(PitFault::Unbalanced(block));
@@ -101,9 +109,12 @@ fn check_end<R: CountedRead, G: OrderedGroup>(
     requires size { length room.now.balances ≡ length net.now.worths }
     ensures reads { ReadsSome R.remaining lines.old lines.new }
     ensures end { MatchResult result (λ _. spec.IsDone (R.remaining lines.new.from) lines.new
-        × SumsSettle net.now room.now) (λ e. EndFails (R.remaining lines.new.from) net.now room.now lines.new e) }
-    ensures device { IsErrOf result StreamFault.Device → R.failed lines.new.from ≡ R.failed lines.old.from + 1 }
-    ensures kept { ¬ IsErrOf result StreamFault.Device → R.failed lines.new.from ≡ R.failed lines.old.from }
+        × SumsSettle net.now room.now)
+        (λ e. EndFails (R.remaining lines.new.from) net.now room.now lines.new e) }
+    ensures device { IsErrOf result StreamFault.Device
+        → R.failed lines.new.from ≡ R.failed lines.old.from + 1 }
+    ensures kept { ¬ IsErrOf result StreamFault.Device
+        → R.failed lines.new.from ≡ R.failed lines.old.from }
 {
     if !lines.is_done()? {
         return Err(StreamFault::Cert(CertFault::Text(lines.number() + 1)));
@@ -128,15 +139,22 @@ pub fn check_lines<R: CountedRead, G: OrderedGroup>(
     requires behind { lines.old.number ≡ 4 }
     requires size { length room.old.balances ≡ length net.now.worths }
     ensures size { length room.new.balances ≡ length room.old.balances }
-    ensures checked { (bytes : List ℕ) × ReadsOn R.remaining lines.old lines.new bytes × MatchResult result
-        (λ _. BodyProves (R.remaining lines.new.from) lines.new.taken G.counts net.now (lines.old.held ++ bytes) room.new.blocks)
-        (λ e. BodyFails (R.remaining lines.new.from) lines.new.taken G.counts net.now (lines.old.held ++ bytes) e) }
+    ensures checked { (bytes : List ℕ) × ReadsOn R.remaining lines.old lines.new bytes
+        × MatchResult result
+        (λ _. BodyProves (R.remaining lines.new.from) lines.new.taken G.counts net.now
+        (lines.old.held ++ bytes) room.new.blocks)
+        (λ e. BodyFails (R.remaining lines.new.from) lines.new.taken G.counts net.now
+        (lines.old.held ++ bytes) e) }
     ensures pit { IfOk result (λ _. room.new.is_pit ≡ true) }
-    ensures worth { IfOk result (λ _. room.new.worth ≡ group_worth net.now.worths (holds_of room.new.blocks)) }
+    ensures worth { IfOk result
+        (λ _. room.new.worth ≡ group_worth net.now.worths (holds_of room.new.blocks)) }
     ensures greatest { IfOk result (λ _. IsGreatest net.now (holds_of room.new.blocks)) }
-    ensures device { IsErrOf result StreamFault.Device → R.failed lines.new.from ≡ R.failed lines.old.from + 1 }
-    ensures kept { ¬ IsErrOf result StreamFault.Device → R.failed lines.new.from ≡ R.failed lines.old.from }
-    ensures memory { room.old.is_pit ≡ false → length net.now.worths ≤ room.old.space → ¬ IsErrOf result (StreamFault.Cert CertFault.NoMemory) }
+    ensures device { IsErrOf result StreamFault.Device
+        → R.failed lines.new.from ≡ R.failed lines.old.from + 1 }
+    ensures kept { ¬ IsErrOf result StreamFault.Device
+        → R.failed lines.new.from ≡ R.failed lines.old.from }
+    ensures memory { room.old.is_pit ≡ false → length net.now.worths ≤ room.old.space
+        → ¬ IsErrOf result (StreamFault.Cert CertFault.NoMemory) }
 {
     let Ok(()) = room.begin(net) else {
         return Err(StreamFault::Cert(CertFault::NoMemory));

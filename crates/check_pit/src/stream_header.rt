@@ -44,10 +44,14 @@ fn take_line<R: CountedRead, T, F: FnOnce(&[u8]) -> Result<T, LineFault> + Drop>
     requires room { R.failed lines.old.from < 2 ^ 64 - 1 }
     requires callable { F.IsAlwaysCallable read }
     ensures line { MatchResult result
-        (λ x. (f : List ℕ → Result T LineFault) → AlwaysGives (FnOnceReturnsAt F.FnOnce read) f → TakesLine R.remaining (read_line f) lines.old lines.new x)
-        (λ e. (f : List ℕ → Result T LineFault) → AlwaysGives (FnOnceReturnsAt F.FnOnce read) f → LacksLine R.remaining (read_line f) lines.old lines.new e) }
-    ensures device { IsErrOf result StreamFault.Device → R.failed lines.new.from ≡ R.failed lines.old.from + 1 }
-    ensures kept { ¬ IsErrOf result StreamFault.Device → R.failed lines.new.from ≡ R.failed lines.old.from }
+        (λ x. (f : List ℕ → Result T LineFault) → AlwaysGives (FnOnceReturnsAt F.FnOnce read) f
+        → TakesLine R.remaining (read_line f) lines.old lines.new x)
+        (λ e. (f : List ℕ → Result T LineFault) → AlwaysGives (FnOnceReturnsAt F.FnOnce read) f
+        → LacksLine R.remaining (read_line f) lines.old lines.new e) }
+    ensures device { IsErrOf result StreamFault.Device
+        → R.failed lines.new.from ≡ R.failed lines.old.from + 1 }
+    ensures kept { ¬ IsErrOf result StreamFault.Device
+        → R.failed lines.new.from ≡ R.failed lines.old.from }
 {
     let count = lines.next_length()?;
     let value = in_line(lines.number() + 1, read(lines.front(count)));
@@ -62,9 +66,13 @@ fn take_line<R: CountedRead, T, F: FnOnce(&[u8]) -> Result<T, LineFault> + Drop>
 pub fn read_header<R: CountedRead>(lines: &mut StreamLines<R>) -> Result<Header, StreamFault>
     requires count { R.failed lines.old.from < 2 ^ 64 - 1 }
     requires first { lines.old.number ≡ 0 }
-    ensures header { MatchResult result (λ h. GivesHeader R.remaining lines.old lines.new h) (λ e. LacksHeader R.remaining lines.old lines.new e) }
-    ensures device { IsErrOf result StreamFault.Device → R.failed lines.new.from ≡ R.failed lines.old.from + 1 }
-    ensures kept { ¬ IsErrOf result StreamFault.Device → R.failed lines.new.from ≡ R.failed lines.old.from }
+    ensures header { MatchResult result
+        (λ h. GivesHeader R.remaining lines.old lines.new h)
+        (λ e. LacksHeader R.remaining lines.old lines.new e) }
+    ensures device { IsErrOf result StreamFault.Device
+        → R.failed lines.new.from ≡ R.failed lines.old.from + 1 }
+    ensures kept { ¬ IsErrOf result StreamFault.Device
+        → R.failed lines.new.from ≡ R.failed lines.old.from }
 {
     let version = take_line(lines, |line: &[u8]| version_in(line))?;
     let blocks = take_line(lines, |line: &[u8]| blocks_in(None, line))?;

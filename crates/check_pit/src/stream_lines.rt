@@ -30,9 +30,11 @@ impl<R> Model for StreamLines<R> {
 
     ghost Value = { LineView R };
 
-    ghost view = { λ s. record { from = s.from; held = s.held; taken = s.taken; number = s.number } };
+    ghost view = { λ s.
+        record { from = s.from; held = s.held; taken = s.taken; number = s.number } };
 
-    ghost invariant = { λ s. (s.number + length s.held ≤ s.taken) × (s.taken ≤ MOST_BYTES + (LINE_BYTES + 1)) };
+    ghost invariant = { λ s. (s.number + length s.held ≤ s.taken)
+        × (s.taken ≤ MOST_BYTES + (LINE_BYTES + 1)) };
 }
 
 impl<R: Drop> StreamLines<R> {
@@ -113,9 +115,11 @@ impl<R: CountedRead> StreamLines<R> {
         requires few { self.old.taken ≤ MOST_BYTES }
         requires count { R.failed self.old.from < 2 ^ 64 - 1 }
         ensures reads { ReadsSome R.remaining self.old self.new }
-        ensures more { IfOk result (λ more. MoreOrEnd (R.remaining self.new.from) self.old self.new more) }
+        ensures more { IfOk result
+            (λ more. MoreOrEnd (R.remaining self.new.from) self.old self.new more) }
         ensures kept { IfOk result (λ _. R.failed self.new.from ≡ R.failed self.old.from) }
-        ensures fault { IfErr result (λ e. (e ≡ StreamFault.Device) × (R.failed self.new.from ≡ R.failed self.old.from + 1)) }
+        ensures fault { IfErr result (λ e. (e ≡ StreamFault.Device)
+            × (R.failed self.new.from ≡ R.failed self.old.from + 1)) }
     {
         let Some(read) = self.held.read_from(&mut self.from) else {
             return Err(StreamFault::Device);
@@ -130,10 +134,15 @@ impl<R: CountedRead> StreamLines<R> {
     pub fn next_length(&mut self) -> Result<usize, StreamFault>
         requires { R.failed self.old.from < 2 ^ 64 - 1 }
         ensures reads { ReadsSome R.remaining self.old self.new }
-        ensures still { (count : ℕ) → position (λ b. b == 10) self.old.held ≡ Some count → self.new ≡ self.old }
-        ensures line { MatchResult result (λ count. IsLine self.new.held count) (λ e. NoLine (R.remaining self.new.from) self.new e) }
-        ensures device { IsErrOf result StreamFault.Device → R.failed self.new.from ≡ R.failed self.old.from + 1 }
-        ensures kept { ¬ IsErrOf result StreamFault.Device → R.failed self.new.from ≡ R.failed self.old.from }
+        ensures still { (count : ℕ) → position (λ b. b == 10) self.old.held ≡ Some count
+            → self.new ≡ self.old }
+        ensures line { MatchResult result
+            (λ count. IsLine self.new.held count)
+            (λ e. NoLine (R.remaining self.new.from) self.new e) }
+        ensures device { IsErrOf result StreamFault.Device
+            → R.failed self.new.from ≡ R.failed self.old.from + 1 }
+        ensures kept { ¬ IsErrOf result StreamFault.Device
+            → R.failed self.new.from ≡ R.failed self.old.from }
     {
         loop {
             if self.taken > MOST_BYTES {
@@ -158,9 +167,13 @@ impl<R: CountedRead> StreamLines<R> {
         requires { R.failed self.old.from < 2 ^ 64 - 1 }
         ensures reads { ReadsSome R.remaining self.old self.new }
         ensures still { 0 < length self.old.held → self.new ≡ self.old }
-        ensures done { MatchResult result (λ done. DoneOrNot (R.remaining self.new.from) self.new done) (λ e. NotDone self.new e) }
-        ensures device { IsErrOf result StreamFault.Device → R.failed self.new.from ≡ R.failed self.old.from + 1 }
-        ensures kept { ¬ IsErrOf result StreamFault.Device → R.failed self.new.from ≡ R.failed self.old.from }
+        ensures done { MatchResult result
+            (λ done. DoneOrNot (R.remaining self.new.from) self.new done)
+            (λ e. NotDone self.new e) }
+        ensures device { IsErrOf result StreamFault.Device
+            → R.failed self.new.from ≡ R.failed self.old.from + 1 }
+        ensures kept { ¬ IsErrOf result StreamFault.Device
+            → R.failed self.new.from ≡ R.failed self.old.from }
     {
         if self.taken <= MOST_BYTES && self.held.as_slice().is_empty() {
             self.read_more()?;

@@ -23,9 +23,11 @@ pub(crate) fn with_inflow<G: OrderedGroup>(
 ) -> Option<G>
     requires lengths { length carried.now ≡ length rests.now.pairs }
     requires known { b < rests.now.blocks }
-    ensures { let f = amount_at carried.now in let ps = rests.now.pairs in let m = length ps in MatchOption result
+    ensures { let f = amount_at carried.now in let ps = rests.now.pairs in let m = length ps in
+        MatchOption result
         (EndOverflows (G.parts_of start) (to_at ps) f b m)
-        (λ r. (G.parts_of r ≡ plus (G.parts_of start) (inflow ps carried.now m b)) × EndFits (G.parts_of start) (to_at ps) f b m) }
+        (λ r. (G.parts_of r ≡ plus (G.parts_of start) (inflow ps carried.now m b))
+        × EndFits (G.parts_of start) (to_at ps) f b m) }
 {
     let mut sum = start;
     let numbers = rests.below(b);
@@ -44,9 +46,11 @@ pub(crate) fn with_outflow<G: OrderedGroup>(
 ) -> Option<G>
     requires lengths { length carried.now ≡ length rests.now.pairs }
     requires known { b < rests.now.blocks }
-    ensures { let f = amount_at carried.now in let ps = rests.now.pairs in let m = length ps in MatchOption result
+    ensures { let f = amount_at carried.now in let ps = rests.now.pairs in let m = length ps in
+        MatchOption result
         (EndOverflows (G.parts_of start) (from_at ps) f b m)
-        (λ r. (G.parts_of r ≡ plus (G.parts_of start) (outflow ps carried.now m b)) × EndFits (G.parts_of start) (from_at ps) f b m) }
+        (λ r. (G.parts_of r ≡ plus (G.parts_of start) (outflow ps carried.now m b))
+        × EndFits (G.parts_of start) (from_at ps) f b m) }
 {
     let mut sum = start;
     // proof: a `Rests` is in order, so the pairs of b lie side by side
@@ -69,11 +73,14 @@ pub(crate) fn balance_of<G: OrderedGroup>(
 ) -> Option<bool>
     requires lengths { length carried.now ≡ length rests.now.pairs }
     requires known { b < rests.now.blocks }
-    ensures { let fs = carried.now in let ps = rests.now.pairs in let m = length ps in MatchOption result
-        (EndOverflows (G.parts_of source) (to_at ps) (amount_at fs) b m ⊎ EndOverflows (G.parts_of sink) (from_at ps) (amount_at fs) b m)
+    ensures { let fs = carried.now in let ps = rests.now.pairs in let m = length ps in
+        MatchOption result
+        (EndOverflows (G.parts_of source) (to_at ps) (amount_at fs) b m
+        ⊎ EndOverflows (G.parts_of sink) (from_at ps) (amount_at fs) b m)
         (λ r. EndFits (G.parts_of source) (to_at ps) (amount_at fs) b m
         × EndFits (G.parts_of sink) (from_at ps) (amount_at fs) b m
-        × (IsTrue r ↔ (plus (G.parts_of source) (inflow ps fs m b) ≡ plus (G.parts_of sink) (outflow ps fs m b)))) }
+        × (IsTrue r ↔ (plus (G.parts_of source) (inflow ps fs m b) ≡ plus
+        (G.parts_of sink) (outflow ps fs m b)))) }
 {
     let into = with_inflow(source, rests, carried, b)?;
     let out = with_outflow(sink, rests, carried, b)?;
@@ -103,7 +110,8 @@ pub(crate) fn residual_of_source<G: OrderedGroup>(net: &Net<G>, flow: &Flow<G>) 
     requires { FlowFits net.now flow.now }
     ensures { let ws = net.now.worths in let ss = flow.now.source in MatchOption result
         (ResidualOverflows ws ss)
-        (λ r. (G.parts_of r ≡ source_residual net.now flow.now) × ((k : ℕ) → k < length ws → ResidualFits ws ss k)) }
+        (λ r. (G.parts_of r ≡ source_residual net.now flow.now)
+        × ((k : ℕ) → k < length ws → ResidualFits ws ss k)) }
 {
     let mut sum = G::zero();
     for b in 0..net.len() {

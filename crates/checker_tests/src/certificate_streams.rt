@@ -34,7 +34,8 @@ fn with_header(alloc: Global, body: &[u8]) -> Result<Vec<u8>, Fail> {
 fn pass_header(stream: &mut CertStream<Device<'_>>, net: &Net<WorthSize>) -> Result<(), Fail>
     requires { stream.old.lines.from.failures ≡ 0 }
     ensures few { IfOk result (λ _. stream.new.lines.from.failures ≡ 0) }
-    ensures read { IfOk result (λ _. IsReadFor (length net.now.worths) group.Pair stream.new.header stream.new.fault) }
+    ensures read { IfOk result
+        (λ _. IsReadFor (length net.now.worths) group.Pair stream.new.header stream.new.fault) }
 {
     let Ok(header) = stream.header() else {
         return Err(Fail::from("header"));
@@ -56,7 +57,8 @@ fn stream_of<'a>(
     net: &Net<WorthSize>,
 ) -> Result<CertStream<Device<'a>>, Fail>
     ensures few { IfOk result (λ s. s.lines.from.failures ≡ 0) }
-    ensures read { IfOk result (λ s. IsReadFor (length net.now.worths) group.Pair s.header s.fault) }
+    ensures read { IfOk result
+        (λ s. IsReadFor (length net.now.worths) group.Pair s.header s.fault) }
 {
     let device = Failing::new(text, 16, fails_at, Failure::Broken);
     let mut stream = CertStream::new(alloc, Counted::new(device))?;
@@ -96,7 +98,8 @@ fn both_answers(
     other: &mut Room<WorthSize>,
 ) -> [Result<WorthSize, StreamFault>; 2]
     requires few { stream.old.lines.from.failures ≡ 0 }
-    requires read { IsReadFor (length net.now.worths) group.Pair stream.old.header stream.old.fault }
+    requires read { IsReadFor
+        (length net.now.worths) group.Pair stream.old.header stream.old.fault }
     requires room { length room.old.balances ≡ length net.now.worths }
     requires other { length other.old.balances ≡ length net.now.worths }
 {
@@ -112,7 +115,8 @@ fn answers_in_rooms(
     net: &Net<WorthSize>,
 ) -> Result<[Result<WorthSize, StreamFault>; 2], Fail>
     requires few { stream.old.lines.from.failures ≡ 0 }
-    requires read { IsReadFor (length net.now.worths) group.Pair stream.old.header stream.old.fault }
+    requires read { IsReadFor
+        (length net.now.worths) group.Pair stream.old.header stream.old.fault }
 {
     let mut room = Room::new(alloc, net)?;
     let mut other = Room::new(alloc, net)?;

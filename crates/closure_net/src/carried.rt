@@ -89,7 +89,9 @@ impl<G: OrderedGroup> Carried<G> {
     /// Where memory for one more amount is refused. Nothing is changed then, and the arc carries nothing.
     pub fn set(&mut self, arc: u32, amount: G) -> Result<(), AllocError>
         requires { arc < length self.old }
-        ensures is { MatchResult result (λ _. self.new ≡ slice_set self.old arc (G.parts_of amount)) (λ _. self.new ≡ self.old) }
+        ensures is { MatchResult result
+            (λ _. self.new ≡ slice_set self.old arc (G.parts_of amount))
+            (λ _. self.new ≡ self.old) }
         ensures first { IfErr result (λ _. amount_at self.old arc ≡ zero_amount) }
     {
         match &mut self.places {

@@ -46,7 +46,9 @@ impl<G: OrderedGroup> Graph<G> {
         nanos: &[i128],
     ) -> Result<Graph<G>, NetFault>
         ensures { MatchResult result
-            (λ g. (g ≡ net_view predecessors.pairs (map (λ v. G.block_parts v predecessors.blocks) nanos.now)) × (predecessors.blocks ≡ length nanos.now))
+            (λ g. (g ≡ net_view predecessors.pairs
+            (map (λ v. G.block_parts v predecessors.blocks) nanos.now))
+            × (predecessors.blocks ≡ length nanos.now))
             (λ e. WorthsFaultStands G.block_parts predecessors.blocks nanos.now e) }
     {
         match worths_of_blocks(alloc, predecessors.len(), nanos) {

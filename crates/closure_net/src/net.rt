@@ -67,7 +67,8 @@ impl<G: OrderedGroup> Net<G> {
     /// does.
     pub fn build(rests: Rests, worths: Vec<G>) -> Result<Net<G>, NetFault>
         ensures { MatchResult result
-            (λ n. (n ≡ net_view rests.pairs (map G.parts_of worths.items)) × (rests.blocks ≡ length worths.items))
+            (λ n. (n ≡ net_view rests.pairs (map G.parts_of worths.items))
+            × (rests.blocks ≡ length worths.items))
             (λ e. NetFaultStands rests.blocks (map G.parts_of worths.items) e) }
     {
         if rests.len() as usize != worths.len() {
@@ -88,7 +89,8 @@ impl<G: OrderedGroup> Net<G> {
     /// `NoMemory` where memory for the amounts was refused.
     pub fn of_worths(alloc: Global, rests: Rests, nanos: &[i128]) -> Result<Net<G>, NetFault>
         ensures { MatchResult result
-            (λ n. (n ≡ net_view rests.pairs (map (λ v. G.block_parts v rests.blocks) nanos.now)) × (rests.blocks ≡ length nanos.now))
+            (λ n. (n ≡ net_view rests.pairs (map (λ v. G.block_parts v rests.blocks) nanos.now))
+            × (rests.blocks ≡ length nanos.now))
             (λ e. WorthsFaultStands G.block_parts rests.blocks nanos.now e) }
     {
         match worths_of_blocks(alloc, rests.len(), nanos) {

@@ -68,7 +68,9 @@ fn is_ascending(blocks: &[u32]) -> bool
 impl Pit {
     /// The pit of these blocks: `None` exactly where they are not strictly ascending.
     pub fn new(blocks: Vec<u32>) -> Option<Pit>
-        ensures { MatchOption result (¬ (IsAscending blocks.items)) (λ pit. (pit ≡ blocks.items) × IsAscending blocks.items) }
+        ensures { MatchOption result
+            (¬ (IsAscending blocks.items))
+            (λ pit. (pit ≡ blocks.items) × IsAscending blocks.items) }
     {
         if is_ascending(&blocks) {
             Some(Pit { blocks })
@@ -152,7 +154,9 @@ impl Pit {
     /// pit are found in constant time each.
     pub fn holds_near(&self, place: &mut usize, b: u32) -> bool
         ensures is { result ≡ holds_of self.now b }
-        ensures place { MatchBool result ((i : ℕ) × (i < length self.now) × (slice_index self.now i ≡ b) × (place.new ≡ i + 1)) (place.new ≡ place.old) }
+        ensures place { MatchBool result
+            ((i : ℕ) × (i < length self.now) × (slice_index self.now i ≡ b) × (place.new ≡ i + 1))
+            (place.new ≡ place.old) }
     {
         match self.place_near(*place, b) {
             Some(i) => {

@@ -44,7 +44,9 @@ fn is_less<G: OrderedGroup>(a: G, b: G) -> bool
 // The i-th of the ports to blocks that b rests on.
 fn forward_at(rests: &Rests, b: u32, i: u32) -> Option<Port>
     requires { b < rests.now.blocks }
-    ensures { let list = forward_ports (from_at rests.now.pairs) (to_at rests.now.pairs) (length rests.now.pairs) b in MatchOption result (length list ≤ i) (λ p. slice_get list i ≡ Some p) }
+    ensures { let list = forward_ports
+        (from_at rests.now.pairs) (to_at rests.now.pairs) (length rests.now.pairs) b in
+        MatchOption result (length list ≤ i) (λ p. slice_get list i ≡ Some p) }
 {
     // proof: a `Rests` is in order, with at most `MOST_PAIRS` pairs
     let _n = rests.len();
@@ -65,7 +67,9 @@ fn forward_at(rests: &Rests, b: u32, i: u32) -> Option<Port>
 // The i-th of the ports to blocks that rest on b.
 fn backward_at(rests: &Rests, b: u32, i: u32) -> Option<Port>
     requires { b < rests.now.blocks }
-    ensures { let list = backward_ports (from_at rests.now.pairs) (to_at rests.now.pairs) (length rests.now.pairs) b in MatchOption result (length list ≤ i) (λ p. slice_get list i ≡ Some p) }
+    ensures { let list = backward_ports
+        (from_at rests.now.pairs) (to_at rests.now.pairs) (length rests.now.pairs) b in
+        MatchOption result (length list ≤ i) (λ p. slice_get list i ≡ Some p) }
 {
     let numbers = rests.below(b);
     if i as usize >= numbers.len() {
@@ -83,7 +87,8 @@ fn backward_at(rests: &Rests, b: u32, i: u32) -> Option<Port>
 // How many blocks b rests on.
 fn forward_count(rests: &Rests, b: u32) -> u32
     requires { b < rests.now.blocks }
-    ensures is { result ≡ length (forward_ports (from_at rests.now.pairs) (to_at rests.now.pairs) (length rests.now.pairs) b) }
+    ensures is { result ≡ length (forward_ports (from_at rests.now.pairs) (to_at rests.now.pairs)
+        (length rests.now.pairs) b) }
     ensures few { result ≤ MOST_PAIRS }
 {
     // proof: a `Rests` is in order, with at most `MOST_PAIRS` pairs
@@ -94,7 +99,8 @@ fn forward_count(rests: &Rests, b: u32) -> u32
 // How many blocks rest on b.
 fn backward_count(rests: &Rests, b: u32) -> u32
     requires { b < rests.now.blocks }
-    ensures is { result ≡ length (backward_ports (from_at rests.now.pairs) (to_at rests.now.pairs) (length rests.now.pairs) b) }
+    ensures is { result ≡ length (backward_ports (from_at rests.now.pairs) (to_at rests.now.pairs)
+        (length rests.now.pairs) b) }
     ensures few { result ≤ MOST_PAIRS }
 {
     // proof: a `Rests` is in order, with at most `MOST_PAIRS` pairs
@@ -106,7 +112,8 @@ fn backward_count(rests: &Rests, b: u32) -> u32
 #[tactic(auto, unfolding(crate::specs::Ports::port_list))]
 fn port_count<G: OrderedGroup>(rests: &Rests, worth: G, b: u32) -> u32
     requires { b < rests.now.blocks }
-    ensures { result ≡ length (port_list (from_at rests.now.pairs) (to_at rests.now.pairs) (length rests.now.pairs) (G.parts_of worth) b) }
+    ensures { result ≡ length (port_list (from_at rests.now.pairs) (to_at rests.now.pairs)
+        (length rests.now.pairs) (G.parts_of worth) b) }
 {
     let sinks: u32 = if is_less(worth, G::zero()) { 1 } else { 0 };
     let sources: u32 = if is_less(G::zero(), worth) { 1 } else { 0 };
@@ -117,8 +124,10 @@ fn port_count<G: OrderedGroup>(rests: &Rests, worth: G, b: u32) -> u32
 #[tactic(auto, unfolding(crate::specs::Ports::port_list))]
 fn port_at<G: OrderedGroup>(rests: &Rests, worth: G, b: u32, i: u32) -> Port
     requires known { b < rests.now.blocks }
-    requires inside { i < length (port_list (from_at rests.now.pairs) (to_at rests.now.pairs) (length rests.now.pairs) (G.parts_of worth) b) }
-    ensures { slice_get (port_list (from_at rests.now.pairs) (to_at rests.now.pairs) (length rests.now.pairs) (G.parts_of worth) b) i ≡ Some result }
+    requires inside { i < length (port_list (from_at rests.now.pairs) (to_at rests.now.pairs)
+        (length rests.now.pairs) (G.parts_of worth) b) }
+    ensures { slice_get (port_list (from_at rests.now.pairs) (to_at rests.now.pairs)
+        (length rests.now.pairs) (G.parts_of worth) b) i ≡ Some result }
 {
     let mut place = i;
     if is_less(worth, G::zero()) {

@@ -43,7 +43,8 @@ impl Search {
     // Finds b, unless it is found already.
     pub(crate) fn add(&mut self, b: u32)
         requires { b < self.old.blocks }
-        ensures { (self.new.blocks ≡ self.old.blocks) × (self.new.found ≡ list_with self.old.found b) }
+        ensures { (self.new.blocks ≡ self.old.blocks)
+            × (self.new.found ≡ list_with self.old.found b) }
     {
         if !self.marks[b as usize] {
             self.found.push_reserved(b);
@@ -85,7 +86,8 @@ impl Search {
 
     // What is found, ascending.
     pub(crate) fn ascending(&self, alloc: Global) -> Result<Vec<u32>, AllocError>
-        ensures { IfOk result (λ v. v.items ≡ numbers_passing (holds_of self.now.found) self.now.blocks) }
+        ensures { IfOk result
+            (λ v. v.items ≡ numbers_passing (holds_of self.now.found) self.now.blocks) }
     {
         let mut blocks: Vec<u32> = Vec::new(alloc);
         for b in 0..self.blocks() {

@@ -37,7 +37,8 @@ fn begin<G: OrderedGroup>(search: &mut Search, net: &Net<G>, flow: &Flow<G>)
     requires blocks { search.old.blocks ≡ length net.now.worths }
     requires fits { length flow.now.source ≡ length net.now.worths }
     ensures blocks { search.new.blocks ≡ search.old.blocks }
-    ensures found { PassedPlaces (HasSourceResidual net.now.worths flow.now.source) (λ b. b) search.old.found search.new.found (length net.now.worths) }
+    ensures found { PassedPlaces (HasSourceResidual net.now.worths flow.now.source)
+        (λ b. b) search.old.found search.new.found (length net.now.worths) }
 {
     for b in 0..net.len() {
         if has_room(net, flow, b) {
@@ -51,7 +52,9 @@ fn spread_down(search: &mut Search, rests: &Rests, b: u32)
     requires blocks { search.old.blocks ≡ rests.now.blocks }
     requires known { b < rests.now.blocks }
     ensures blocks { search.new.blocks ≡ search.old.blocks }
-    ensures found { PassedPlaces Always (above_at rests.now.pairs b) search.old.found search.new.found (length (above_of rests.now.pairs b)) }
+    ensures found { PassedPlaces Always
+        (above_at rests.now.pairs b) search.old.found search.new.found
+        (length (above_of rests.now.pairs b)) }
 {
     // proof: the pairs are of the blocks of `rests`
     let _blocks = rests.len();
@@ -66,7 +69,9 @@ fn spread_up<G: OrderedGroup>(search: &mut Search, rests: &Rests, flow: &Flow<G>
     requires known { b < rests.now.blocks }
     requires fits { length flow.now.rest ≡ length rests.now.pairs }
     ensures blocks { search.new.blocks ≡ search.old.blocks }
-    ensures found { PassedPlaces (SendsAt rests.now.pairs flow.now.rest b) (sender_at rests.now.pairs b) search.old.found search.new.found (length (below_of rests.now.pairs b)) }
+    ensures found { PassedPlaces (SendsAt rests.now.pairs flow.now.rest b)
+        (sender_at rests.now.pairs b) search.old.found search.new.found
+        (length (below_of rests.now.pairs b)) }
 {
     // proof: the pairs are of the blocks of `rests`
     let _blocks = rests.len();

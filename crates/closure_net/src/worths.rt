@@ -12,7 +12,8 @@ use std::alloc::Global;
 
 // Whether the opposite of each worth fits.
 fn opposites_fit<G: OrderedGroup>(worths: &[G]) -> bool
-    ensures { let ws = map G.parts_of worths.now in MatchBool result (OppositesFit ws) (OppositeOverflows ws) }
+    ensures { let ws = map G.parts_of worths.now in
+        MatchBool result (OppositesFit ws) (OppositeOverflows ws) }
 {
     for w in worths {
         match negative_part(*w) {
@@ -25,7 +26,8 @@ fn opposites_fit<G: OrderedGroup>(worths: &[G]) -> bool
 
 // Whether each sum of the positive worths in their order fits.
 fn positives_fit<G: OrderedGroup>(worths: &[G]) -> bool
-    ensures { let ws = map G.parts_of worths.now in MatchBool result (PositivesFit ws) (PositivesOverflow ws) }
+    ensures { let ws = map G.parts_of worths.now in
+        MatchBool result (PositivesFit ws) (PositivesOverflow ws) }
 {
     let mut sum = G::zero();
     for w in worths {
@@ -39,7 +41,8 @@ fn positives_fit<G: OrderedGroup>(worths: &[G]) -> bool
 
 // Whether these can be the worths of a net.
 pub(crate) fn worths_fit<G: OrderedGroup>(worths: &[G]) -> bool
-    ensures { let ws = map G.parts_of worths.now in MatchBool result (WorthsFit ws) (WorthsOverflow ws) }
+    ensures { let ws = map G.parts_of worths.now in
+        MatchBool result (WorthsFit ws) (WorthsOverflow ws) }
 {
     opposites_fit(worths) && positives_fit(worths)
 }
@@ -51,7 +54,8 @@ pub(crate) fn worths_of_blocks<G: OrderedGroup>(
     nanos: &[i128],
 ) -> Result<Vec<G>, NetFault>
     ensures { MatchResult result
-        (λ v. (map G.parts_of v.items ≡ map (λ x. G.block_parts x n) nanos.now) × (n ≡ length nanos.now) × WorthsFit (map G.parts_of v.items))
+        (λ v. (map G.parts_of v.items ≡ map (λ x. G.block_parts x n) nanos.now)
+        × (n ≡ length nanos.now) × WorthsFit (map G.parts_of v.items))
         (λ e. WorthsFaultStands G.block_parts n nanos.now e) }
 {
     if n as usize != nanos.len() {

@@ -51,11 +51,17 @@ pub(crate) fn judge_beside<R: Threads + Sync, C: CountedRead>(
 ) -> Result<Beside, ValueFault>
     requires room { C.failed certificate.old < 2 ^ 64 - 1 }
     requires marks { length marks.items ≡ mine.predecessors.blocks }
-    ensures judged { IfSome (C.remaining certificate.old) (λ c. (texts : MineTexts) (design : List ℕ)
-        → IsMineRead texts (factor_in c) mine.worths mine.predecessors → ReadsDesign mine.predecessors.blocks design marks.items
-        → MatchResult result (λ b. IsBeside texts design c (design_view b.valued) b.judgement) (BesideFails texts design c)) }
-    ensures device { IsErrOf result (value.Engine engine.Device) → C.failed certificate.new ≡ C.failed certificate.old + 1 }
-    ensures kept { ¬ IsErrOf result (value.Engine engine.Device) → C.failed certificate.new ≡ C.failed certificate.old }
+    ensures judged { IfSome (C.remaining certificate.old)
+        (λ c. (texts : MineTexts) (design : List ℕ)
+        → IsMineRead texts (factor_in c) mine.worths mine.predecessors
+        → ReadsDesign mine.predecessors.blocks design marks.items
+        → MatchResult result
+        (λ b. IsBeside texts design c (design_view b.valued) b.judgement)
+        (BesideFails texts design c)) }
+    ensures device { IsErrOf result (value.Engine engine.Device)
+        → C.failed certificate.new ≡ C.failed certificate.old + 1 }
+    ensures kept { ¬ IsErrOf result (value.Engine engine.Device)
+        → C.failed certificate.new ≡ C.failed certificate.old }
 {
     let held = StreamBytes::new(alloc)?;
     let case = BesideCase {
@@ -90,9 +96,13 @@ fn beside_device<R: Threads + Sync, C: CountedRead>(
     ensures judged { IfSome (C.remaining device) (λ c. (texts : MineTexts) (design : List ℕ)
         → IsMineRead texts (factor_in c) case.entry.mine.worths case.entry.mine.predecessors
         → ReadsDesign case.entry.mine.predecessors.blocks design case.entry.marks.items
-        → MatchResult result.1 (λ b. IsBeside texts design c (design_view b.valued) b.judgement) (BesideFails texts design c)) }
-    ensures device { IsErrOf result.1 (value.Engine engine.Device) → C.failed result.0 ≡ C.failed device + 1 }
-    ensures kept { ¬ IsErrOf result.1 (value.Engine engine.Device) → C.failed result.0 ≡ C.failed device }
+        → MatchResult result.1
+        (λ b. IsBeside texts design c (design_view b.valued) b.judgement)
+        (BesideFails texts design c)) }
+    ensures device { IsErrOf result.1 (value.Engine engine.Device)
+        → C.failed result.0 ≡ C.failed device + 1 }
+    ensures kept { ¬ IsErrOf result.1 (value.Engine engine.Device)
+        → C.failed result.0 ≡ C.failed device }
 {
     let BesideCase {
         rt,
@@ -116,11 +126,17 @@ fn beside_stream<R: Threads + Sync, C: CountedRead>(
     requires count { C.failed stream.old.lines.from < 2 ^ 64 - 1 }
     requires fresh { IsFresh stream.old }
     requires marks { length marks.items ≡ mine.predecessors.blocks }
-    ensures judged { IfSome (C.remaining stream.old.lines.from) (λ c. (texts : MineTexts) (design : List ℕ)
-        → IsMineRead texts (factor_in c) mine.worths mine.predecessors → ReadsDesign mine.predecessors.blocks design marks.items
-        → MatchResult result (λ b. IsBeside texts design c (design_view b.valued) b.judgement) (BesideFails texts design c)) }
-    ensures device { IsErrOf result (value.Engine engine.Device) → C.failed stream.new.lines.from ≡ C.failed stream.old.lines.from + 1 }
-    ensures kept { ¬ IsErrOf result (value.Engine engine.Device) → C.failed stream.new.lines.from ≡ C.failed stream.old.lines.from }
+    ensures judged { IfSome (C.remaining stream.old.lines.from)
+        (λ c. (texts : MineTexts) (design : List ℕ)
+        → IsMineRead texts (factor_in c) mine.worths mine.predecessors
+        → ReadsDesign mine.predecessors.blocks design marks.items
+        → MatchResult result
+        (λ b. IsBeside texts design c (design_view b.valued) b.judgement)
+        (BesideFails texts design c)) }
+    ensures device { IsErrOf result (value.Engine engine.Device)
+        → C.failed stream.new.lines.from ≡ C.failed stream.old.lines.from + 1 }
+    ensures kept { ¬ IsErrOf result (value.Engine engine.Device)
+        → C.failed stream.new.lines.from ≡ C.failed stream.old.lines.from }
 {
     let MineToCheck {
         worths,
@@ -148,12 +164,17 @@ fn judge_priced<C: CountedRead>(
     requires open { IsUndecided stream.old }
     requires header { IsReadFor predecessors.blocks group stream.old.header stream.old.fault }
     requires marks { length marks.items ≡ predecessors.blocks }
-    ensures judged { (texts : MineTexts) (c design : List ℕ) → AreRead texts nanos.items predecessors
+    ensures judged { (texts : MineTexts) (c design : List ℕ)
+        → AreRead texts nanos.items predecessors
         → IsHeader texts c predecessors.blocks group → StandsBehind C.remaining c stream.old.lines
         → ReadsDesign predecessors.blocks design marks.items
-        → MatchResult result (λ b. IsBeside texts design c (design_view b.valued) b.judgement) (BesideFails texts design c) }
-    ensures device { IsErrOf result (value.Engine engine.Device) → C.failed stream.new.lines.from ≡ C.failed stream.old.lines.from + 1 }
-    ensures kept { ¬ IsErrOf result (value.Engine engine.Device) → C.failed stream.new.lines.from ≡ C.failed stream.old.lines.from }
+        → MatchResult result
+        (λ b. IsBeside texts design c (design_view b.valued) b.judgement)
+        (BesideFails texts design c) }
+    ensures device { IsErrOf result (value.Engine engine.Device)
+        → C.failed stream.new.lines.from ≡ C.failed stream.old.lines.from + 1 }
+    ensures kept { ¬ IsErrOf result (value.Engine engine.Device)
+        → C.failed stream.new.lines.from ≡ C.failed stream.old.lines.from }
 {
     let valued = value_of(alloc, nanos.as_slice(), &predecessors, marks.as_slice())?;
     drop(marks);

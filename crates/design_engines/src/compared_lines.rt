@@ -37,10 +37,13 @@ pub(crate) fn tell_beside<W: CountedWrite>(
     out: &mut W,
 ) -> Result<Verdict, ValueFault>
     requires { W.failed out.old < 2 ^ 64 - 1 }
-    ensures answer { (texts : MineTexts) (design c : List ℕ) → IsBeside texts design c (design_view beside.valued) beside.judgement
+    ensures answer { (texts : MineTexts) (design c : List ℕ)
+        → IsBeside texts design c (design_view beside.valued) beside.judgement
         → Compares texts design c (W.contents out.old) (W.contents out.new) result }
-    ensures device { IsErrOf result (value.Engine engine.Device) → W.failed out.new ≡ W.failed out.old + 1 }
-    ensures kept { ¬ IsErrOf result (value.Engine engine.Device) → W.failed out.new ≡ W.failed out.old }
+    ensures device { IsErrOf result (value.Engine engine.Device)
+        → W.failed out.new ≡ W.failed out.old + 1 }
+    ensures kept { ¬ IsErrOf result (value.Engine engine.Device)
+        → W.failed out.new ≡ W.failed out.old }
 {
     let Beside { valued, judgement } = beside;
     match judgement {
@@ -61,10 +64,14 @@ fn tell_gap<W: CountedWrite>(
     out: &mut W,
 ) -> Result<Verdict, ValueFault>
     requires { W.failed out.old < 2 ^ 64 - 1 }
-    ensures answer { (texts : MineTexts) (design c : List ℕ) (name : Group) → IsValued texts design (design_view valued.now)
-        → CertificateAccepted texts c name count worth → Compares texts design c (W.contents out.old) (W.contents out.new) result }
-    ensures device { IsErrOf result (value.Engine engine.Device) → W.failed out.new ≡ W.failed out.old + 1 }
-    ensures kept { ¬ IsErrOf result (value.Engine engine.Device) → W.failed out.new ≡ W.failed out.old }
+    ensures answer { (texts : MineTexts) (design c : List ℕ) (name : Group)
+        → IsValued texts design (design_view valued.now)
+        → CertificateAccepted texts c name count worth
+        → Compares texts design c (W.contents out.old) (W.contents out.new) result }
+    ensures device { IsErrOf result (value.Engine engine.Device)
+        → W.failed out.new ≡ W.failed out.old + 1 }
+    ensures kept { ¬ IsErrOf result (value.Engine engine.Device)
+        → W.failed out.new ≡ W.failed out.old }
 {
     let gap = match gap_of(worth, valued.worth) {
         Some(gap) => gap,
@@ -91,8 +98,10 @@ fn write_compared<W: CountedWrite>(
     out: &mut W,
 ) -> Result<(), EngineFault>
     requires { W.failed out.old < 2 ^ 64 - 1 }
-    ensures lines { OnOk result (Appends (W.contents out.old) (W.contents out.new) (design_text (design_view valued.now) ++ best_line count worth gap)) }
-    ensures fault { IfErr result (LineFails (W.contents out.old) (W.contents out.new) (design_text (design_view valued.now) ++ best_line count worth gap)) }
+    ensures lines { OnOk result (Appends (W.contents out.old) (W.contents out.new)
+        (design_text (design_view valued.now) ++ best_line count worth gap)) }
+    ensures fault { IfErr result (LineFails (W.contents out.old) (W.contents out.new)
+        (design_text (design_view valued.now) ++ best_line count worth gap)) }
     ensures device { IsErrOf result EngineFault.Device ↔ (W.failed out.new ≡ W.failed out.old + 1) }
     ensures kept { ¬ IsErrOf result EngineFault.Device → W.failed out.new ≡ W.failed out.old }
 {
@@ -110,7 +119,8 @@ fn with_best(
     worth: i128,
     gap: i128,
 ) -> Result<String, AllocError>
-    ensures { IfOk result (λ text. string_bytes text ≡ string_bytes design.now ++ best_line count worth gap) }
+    ensures { IfOk result
+        (λ text. string_bytes text ≡ string_bytes design.now ++ best_line count worth gap) }
 {
     let worth = Nanos(worth);
     let gap = Nanos(gap);

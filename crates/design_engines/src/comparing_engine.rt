@@ -53,14 +53,19 @@ pub fn compare_engine<
     requires out_room { W.failed out.old < 2 ^ 64 - 1 }
 
     // What it answers and writes, where the readers tell their bytes.
-    ensures answer { IfSome (E.remaining design.old) (λ d. IfSome (C.remaining certificate.old) (λ c. ForTexts inputs.old D.remaining (factor_in c) (λ texts.
+    ensures answer { IfSome (E.remaining design.old) (λ d. IfSome (C.remaining certificate.old)
+        (λ c. ForTexts inputs.old D.remaining (factor_in c) (λ texts.
         Compares texts d c (W.contents out.old) (W.contents out.new) result))) }
 
     // A device is named exactly where one failed.
     ensures device { IsErrOf result (value.Engine engine.Device)
-        → OneFailed inputs.old inputs.new D.failed (E.failed design.old + C.failed certificate.old + W.failed out.old) (E.failed design.new + C.failed certificate.new + W.failed out.new) }
-    ensures kept { ¬ IsErrOf result (value.Engine engine.Device) → NoneFailed inputs.old inputs.new D.failed
-        × (E.failed design.new ≡ E.failed design.old) × (C.failed certificate.new ≡ C.failed certificate.old)
+        → OneFailed inputs.old inputs.new D.failed
+        (E.failed design.old + C.failed certificate.old + W.failed out.old)
+        (E.failed design.new + C.failed certificate.new + W.failed out.new) }
+    ensures kept { ¬ IsErrOf result (value.Engine engine.Device)
+        → NoneFailed inputs.old inputs.new D.failed
+        × (E.failed design.new ≡ E.failed design.old)
+        × (C.failed certificate.new ≡ C.failed certificate.old)
         × (W.failed out.new ≡ W.failed out.old) }
 {
     let mine = mine_to_check(alloc, inputs)?;

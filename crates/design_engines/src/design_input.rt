@@ -25,10 +25,14 @@ pub(crate) fn marks_from<E: CountedRead>(
 ) -> Result<Vec<bool>, ValueFault>
     requires blocks { n ≤ MOST_BLOCKS }
     requires room { E.failed from.old < 2 ^ 64 - 1 }
-    ensures read { IfSome (E.remaining from.old) (λ text. MatchResult result (λ v. ReadsDesign n text v.items) (DesignReadFails n text)) }
+    ensures read { IfSome (E.remaining from.old) (λ text. MatchResult result
+        (λ v. ReadsDesign n text v.items)
+        (DesignReadFails n text)) }
     ensures size { IfOk result (λ v. length v.items ≡ n) }
-    ensures device { IsErrOf result (value.Engine engine.Device) ↔ (E.failed from.new ≡ E.failed from.old + 1) }
-    ensures kept { ¬ IsErrOf result (value.Engine engine.Device) → E.failed from.new ≡ E.failed from.old }
+    ensures device { IsErrOf result (value.Engine engine.Device)
+        ↔ (E.failed from.new ≡ E.failed from.old + 1) }
+    ensures kept { ¬ IsErrOf result (value.Engine engine.Device)
+        → E.failed from.new ≡ E.failed from.old }
 {
     let text = text_from(alloc, from)?;
     marks_in(alloc, text.as_slice(), n)
@@ -38,10 +42,13 @@ pub(crate) fn marks_from<E: CountedRead>(
 fn text_from<E: CountedRead>(alloc: Global, from: &mut E) -> Result<Vec<u8>, ValueFault>
     requires { E.failed from.old < 2 ^ 64 - 1 }
     ensures read { IfSome (E.remaining from.old) (λ text. MatchResult result (λ v. v.items ≡ text)
-        (λ e. (e ≡ value.Engine engine.Memory) ⊎ (e ≡ value.Engine engine.Device) ⊎ ((e ≡ value.Design problem.InputTooLong) × IsTooLong text))) }
+        (λ e. (e ≡ value.Engine engine.Memory) ⊎ (e ≡ value.Engine engine.Device)
+        ⊎ ((e ≡ value.Design problem.InputTooLong) × IsTooLong text))) }
     ensures within { IfOk result (λ v. IsWithinLimit v.items) }
-    ensures device { IsErrOf result (value.Engine engine.Device) ↔ (E.failed from.new ≡ E.failed from.old + 1) }
-    ensures kept { ¬ IsErrOf result (value.Engine engine.Device) → E.failed from.new ≡ E.failed from.old }
+    ensures device { IsErrOf result (value.Engine engine.Device)
+        ↔ (E.failed from.new ≡ E.failed from.old + 1) }
+    ensures kept { ¬ IsErrOf result (value.Engine engine.Device)
+        → E.failed from.new ≡ E.failed from.old }
 {
     match read_whole(alloc, from, MOST_BYTES) {
         Ok(text) => Ok(text),
@@ -55,7 +62,9 @@ fn text_from<E: CountedRead>(alloc: Global, from: &mut E) -> Result<Vec<u8>, Val
 fn marks_in(alloc: Global, text: &[u8], n: u32) -> Result<Vec<bool>, ValueFault>
     requires blocks { n ≤ MOST_BLOCKS }
     requires within { IsWithinLimit text.now }
-    ensures read { MatchResult result (λ v. ReadsDesign n text.now v.items) (DesignReadFails n text.now) }
+    ensures read { MatchResult result
+        (λ v. ReadsDesign n text.now v.items)
+        (DesignReadFails n text.now) }
     ensures size { IfOk result (λ v. length v.items ≡ n) }
     ensures no_device { ¬ IsErrOf result (value.Engine engine.Device) }
 {

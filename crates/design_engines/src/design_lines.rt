@@ -25,8 +25,10 @@ pub(crate) fn write_design<W: CountedWrite>(
     out: &mut W,
 ) -> Result<(), EngineFault>
     requires { W.failed out.old < 2 ^ 64 - 1 }
-    ensures lines { OnOk result (Appends (W.contents out.old) (W.contents out.new) (design_text (design_view valued.now))) }
-    ensures fault { IfErr result (LineFails (W.contents out.old) (W.contents out.new) (design_text (design_view valued.now))) }
+    ensures lines { OnOk result
+        (Appends (W.contents out.old) (W.contents out.new) (design_text (design_view valued.now))) }
+    ensures fault { IfErr result (LineFails (W.contents out.old) (W.contents out.new)
+        (design_text (design_view valued.now))) }
     ensures device { IsErrOf result EngineFault.Device ↔ (W.failed out.new ≡ W.failed out.old + 1) }
     ensures kept { ¬ IsErrOf result EngineFault.Device → W.failed out.new ≡ W.failed out.old }
 {
@@ -50,7 +52,8 @@ pub(crate) fn text_of(alloc: Global, valued: &Valued) -> Result<String, AllocErr
 
 // Whether the design is closed: the line `CLOSED`, or `OPEN` with how many pairs lead out of it, and the first of these.
 fn text_of_open(alloc: Global, open: &OpenPairs) -> Result<String, AllocError>
-    ensures { IfOk result (λ text. string_bytes text ≡ open_text open.now.count open.now.first.items) }
+    ensures { IfOk result
+        (λ text. string_bytes text ≡ open_text open.now.count open.now.first.items) }
 {
     let count = open.count;
     if count == 0 {

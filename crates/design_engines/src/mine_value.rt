@@ -35,10 +35,14 @@ pub(crate) fn value_mine<W: CountedWrite>(
 ) -> Result<Verdict, ValueFault>
     requires marks { length marks.now ≡ predecessors.now.blocks }
     requires room { W.failed out.old < 2 ^ 64 - 1 }
-    ensures answer { (texts : MineTexts) (design : List ℕ) → AreRead texts nanos.now predecessors.now
-        → ReadsDesign predecessors.now.blocks design marks.now → Values texts design (W.contents out.old) (W.contents out.new) result }
-    ensures device { IsErrOf result (value.Engine engine.Device) ↔ (W.failed out.new ≡ W.failed out.old + 1) }
-    ensures kept { ¬ IsErrOf result (value.Engine engine.Device) → W.failed out.new ≡ W.failed out.old }
+    ensures answer { (texts : MineTexts) (design : List ℕ)
+        → AreRead texts nanos.now predecessors.now
+        → ReadsDesign predecessors.now.blocks design marks.now
+        → Values texts design (W.contents out.old) (W.contents out.new) result }
+    ensures device { IsErrOf result (value.Engine engine.Device)
+        ↔ (W.failed out.new ≡ W.failed out.old + 1) }
+    ensures kept { ¬ IsErrOf result (value.Engine engine.Device)
+        → W.failed out.new ≡ W.failed out.old }
 {
     let valued = value_of(alloc, nanos, predecessors, marks)?;
     write_design(alloc, &valued, out)?;
@@ -56,7 +60,8 @@ pub(crate) fn value_of(
     marks: &[bool],
 ) -> Result<Valued, ValueFault>
     requires marks { length marks.now ≡ predecessors.now.blocks }
-    ensures is { (texts : MineTexts) (design : List ℕ) → AreRead texts nanos.now predecessors.now → ReadsDesign predecessors.now.blocks design marks.now
+    ensures is { (texts : MineTexts) (design : List ℕ) → AreRead texts nanos.now predecessors.now
+        → ReadsDesign predecessors.now.blocks design marks.now
         → MatchResult result (λ v. IsValued texts design (design_view v)) (NoValue texts design) }
     ensures no_device { ¬ IsErrOf result (value.Engine engine.Device) }
 {

@@ -18,9 +18,11 @@ use fixed_worth::{CountedWrite, ShortLine, WriteFault, write_text};
 /// `out` must have counted fewer than 2^64 - 1 failures, so that one more can be counted.
 pub fn write_problem<W: CountedWrite>(problem: DesignProblem, out: &mut W) -> Result<(), WriteFault>
     requires { W.failed out.old < 2 ^ 64 - 1 }
-    ensures line { OnOk result (Appends (W.contents out.old) (W.contents out.new) (design_problem_line problem)) }
+    ensures line { OnOk result
+        (Appends (W.contents out.old) (W.contents out.new) (design_problem_line problem)) }
     ensures kept { OnOk result (W.failed out.new ≡ W.failed out.old) }
-    ensures prefix { OnErr result (ReceivedPrefix (W.contents out.old) (W.contents out.new) (design_problem_line problem)) }
+    ensures prefix { OnErr result
+        (ReceivedPrefix (W.contents out.old) (W.contents out.new) (design_problem_line problem)) }
     ensures counted { OnErr result (W.failed out.new ≡ W.failed out.old + 1) }
 {
     let mut line = ShortLine::new();

@@ -44,13 +44,16 @@ pub fn value_engine<R: Threads + Sync, D: CountedRead, E: CountedRead, W: Counte
     requires out_room { W.failed out.old < 2 ^ 64 - 1 }
 
     // What it answers and writes, where the readers tell their bytes.
-    ensures answer { IfSome (E.remaining design.old) (λ d. ForTexts inputs.old D.remaining factor (λ texts.
+    ensures answer { IfSome (E.remaining design.old)
+        (λ d. ForTexts inputs.old D.remaining factor (λ texts.
         Values texts d (W.contents out.old) (W.contents out.new) result)) }
 
     // A device is named exactly where one failed.
     ensures device { IsErrOf result (value.Engine engine.Device)
-        → OneFailed inputs.old inputs.new D.failed (E.failed design.old + W.failed out.old) (E.failed design.new + W.failed out.new) }
-    ensures kept { ¬ IsErrOf result (value.Engine engine.Device) → NoneFailed inputs.old inputs.new D.failed
+        → OneFailed inputs.old inputs.new D.failed
+        (E.failed design.old + W.failed out.old) (E.failed design.new + W.failed out.new) }
+    ensures kept { ¬ IsErrOf result (value.Engine engine.Device)
+        → NoneFailed inputs.old inputs.new D.failed
         × (E.failed design.new ≡ E.failed design.old) × (W.failed out.new ≡ W.failed out.old) }
 {
     let mine = mine_to_check(alloc, inputs)?;

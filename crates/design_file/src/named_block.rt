@@ -35,7 +35,9 @@ pub(crate) fn is_passed(line: &[u8]) -> bool
 /// The field that names the block of a line `b` or `PIT b`; none of a line of any other form.
 pub(crate) fn block_word(line: &[u8]) -> Option<&[u8]>
     requires { length line.now ≤ LINE_BYTES }
-    ensures { MatchOption result (spec.block_word (fields_of line.now) ≡ None) (λ word. spec.block_word (fields_of line.now) ≡ Some word.now) }
+    ensures { MatchOption result
+        (spec.block_word (fields_of line.now) ≡ None)
+        (λ word. spec.block_word (fields_of line.now) ≡ Some word.now) }
 {
     let mut fields = Fields::new(line);
     let first = fields.next()?;

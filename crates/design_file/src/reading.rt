@@ -15,9 +15,11 @@ fn read_line(marks: &mut [bool], line: &[u8], n: u32, number: u64) -> Result<(),
     requires short { length line.now ≤ LINE_BYTES }
     requires all { length marks.old ≡ n }
     ensures { MatchResult result
-        (λ _. (record_fault n (λ b. slice_index_or marks.old b false) number (fields_of line.now) ≡ None)
+        (λ _. (record_fault n (λ b. slice_index_or marks.old b false) number
+        (fields_of line.now) ≡ None)
         × (marks.new ≡ marks_after (fields_of line.now) marks.old))
-        (λ e. record_fault n (λ b. slice_index_or marks.old b false) number (fields_of line.now) ≡ Some e) }
+        (λ e. record_fault n (λ b. slice_index_or marks.old b false) number
+        (fields_of line.now) ≡ Some e) }
 {
     if is_passed(line) {
         return Ok(());

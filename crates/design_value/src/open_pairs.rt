@@ -28,7 +28,8 @@ const MOST_TOLD: usize = 20;
 // Takes in a pair, which leads out or doesn't.
 fn pass_pair(leading: &mut OpenPairs, pair: (u32, u32), leads: bool) -> Result<(), AllocError>
     requires { leading.old.count < MOST_PAIRS }
-    ensures { OnOk result ((design : ℕ → Bool) (ps : List (ℕ × ℕ)) → leads_out design pair ≡ leads → AreOpen design ps leading.old.count leading.old.first.items
+    ensures { OnOk result ((design : ℕ → Bool) (ps : List (ℕ × ℕ)) → leads_out design pair ≡ leads
+        → AreOpen design ps leading.old.count leading.old.first.items
         → AreOpen design (ps ++ pair ∷ []) leading.new.count leading.new.first.items) }
 {
     if !leads {
@@ -60,8 +61,11 @@ fn pass_block(
 ) -> Result<(), AllocError>
     requires known { b < predecessors.now.blocks }
     requires all { length marks.now ≡ predecessors.now.blocks }
-    requires before { AreOpen (marked_in marks.now) (take (first_of predecessors.now.pairs b) predecessors.now.pairs) leading.old.count leading.old.first.items }
-    ensures { OnOk result (AreOpen (marked_in marks.now) (take (first_of predecessors.now.pairs (b + 1)) predecessors.now.pairs) leading.new.count leading.new.first.items) }
+    requires before { AreOpen (marked_in marks.now)
+        (take (first_of predecessors.now.pairs b) predecessors.now.pairs)
+        leading.old.count leading.old.first.items }
+    ensures { OnOk result (AreOpen (marked_in marks.now) (take (first_of predecessors.now.pairs
+        (b + 1)) predecessors.now.pairs) leading.new.count leading.new.first.items) }
 {
     // proof: what is known of all pairs, that they are in order and of known blocks
     let _blocks = predecessors.len();
@@ -84,7 +88,8 @@ pub fn open_pairs_of(
     predecessors: &Predecessors,
 ) -> Result<OpenPairs, AllocError>
     requires { length marks.now ≡ predecessors.now.blocks }
-    ensures { IfOk result (λ leading. AreOpen (marked_in marks.now) predecessors.now.pairs leading.count leading.first.items) }
+    ensures { IfOk result (λ leading. AreOpen
+        (marked_in marks.now) predecessors.now.pairs leading.count leading.first.items) }
 {
     let mut leading = OpenPairs {
         count: 0,

@@ -47,8 +47,10 @@ pub fn judge<R: Threads + Sync, C: CountedRead>(
     requires { C.failed certificate.old < 2 ^ 64 - 1 }
     ensures judged { IfSome (C.remaining certificate.old) (λ c. (texts : MineTexts)
         → IsMineRead texts (factor_in c) mine.worths mine.predecessors → Judges texts c result) }
-    ensures device { IsErrOf result EngineFault.Device → C.failed certificate.new ≡ C.failed certificate.old + 1 }
-    ensures kept { ¬ IsErrOf result EngineFault.Device → C.failed certificate.new ≡ C.failed certificate.old }
+    ensures device { IsErrOf result EngineFault.Device
+        → C.failed certificate.new ≡ C.failed certificate.old + 1 }
+    ensures kept { ¬ IsErrOf result EngineFault.Device
+        → C.failed certificate.new ≡ C.failed certificate.old }
 {
     let held = StreamBytes::new(alloc)?;
     let case = Case {
@@ -78,7 +80,8 @@ fn judge_device<R: Threads + Sync, C: CountedRead>(
     requires held { case.held ≡ [] }
     requires sync { IsSync R.row }
     ensures judged { IfSome (C.remaining device) (λ c. (texts : MineTexts)
-        → IsMineRead texts (factor_in c) case.entry.mine.worths case.entry.mine.predecessors → Judges texts c result.1) }
+        → IsMineRead texts (factor_in c) case.entry.mine.worths case.entry.mine.predecessors
+        → Judges texts c result.1) }
     ensures device { IsErrOf result.1 EngineFault.Device → C.failed result.0 ≡ C.failed device + 1 }
     ensures kept { ¬ IsErrOf result.1 EngineFault.Device → C.failed result.0 ≡ C.failed device }
 {
@@ -117,12 +120,16 @@ pub fn header_for<C: CountedRead>(stream: &mut CertStream<C>, n: u32) -> Result<
     requires count { C.failed stream.old.lines.from < 2 ^ 64 - 1 }
     requires fresh { IsFresh stream.old }
     ensures read { IfSome (C.remaining stream.old.lines.from) (λ c. MatchResult result
-        (λ header. (header_of (pieces_of c) ≡ Ok header) × StandsBehind C.remaining c stream.new.lines)
+        (λ header. (header_of (pieces_of c) ≡ Ok header)
+        × StandsBehind C.remaining c stream.new.lines)
         (λ fault. (texts : MineTexts) → DenoteMine texts n → Fails texts c fault)) }
-    ensures blocks { IfOk result (λ header. (header.blocks ≡ n) × (stream.new.header ≡ Some header)) }
+    ensures blocks { IfOk result (λ header. (header.blocks ≡ n)
+        × (stream.new.header ≡ Some header)) }
     ensures open { IfOk result (λ _. IsUndecided stream.new) }
-    ensures device { IsErrOf result EngineFault.Device → C.failed stream.new.lines.from ≡ C.failed stream.old.lines.from + 1 }
-    ensures kept { ¬ IsErrOf result EngineFault.Device → C.failed stream.new.lines.from ≡ C.failed stream.old.lines.from }
+    ensures device { IsErrOf result EngineFault.Device
+        → C.failed stream.new.lines.from ≡ C.failed stream.old.lines.from + 1 }
+    ensures kept { ¬ IsErrOf result EngineFault.Device
+        → C.failed stream.new.lines.from ≡ C.failed stream.old.lines.from }
 {
     let header = match stream.header() {
         Ok(header) => header,
@@ -176,10 +183,13 @@ pub fn judge_in<C: CountedRead>(
     requires count { C.failed stream.old.lines.from < 2 ^ 64 - 1 }
     requires open { IsUndecided stream.old }
     requires header { IsReadFor predecessors.blocks group stream.old.header stream.old.fault }
-    ensures judged { (texts : MineTexts) (c : List ℕ) → AreRead texts nanos.items predecessors → IsHeader texts c predecessors.blocks group
+    ensures judged { (texts : MineTexts) (c : List ℕ) → AreRead texts nanos.items predecessors
+        → IsHeader texts c predecessors.blocks group
         → StandsBehind C.remaining c stream.old.lines → Judges texts c result }
-    ensures device { IsErrOf result EngineFault.Device → C.failed stream.new.lines.from ≡ C.failed stream.old.lines.from + 1 }
-    ensures kept { ¬ IsErrOf result EngineFault.Device → C.failed stream.new.lines.from ≡ C.failed stream.old.lines.from }
+    ensures device { IsErrOf result EngineFault.Device
+        → C.failed stream.new.lines.from ≡ C.failed stream.old.lines.from + 1 }
+    ensures kept { ¬ IsErrOf result EngineFault.Device
+        → C.failed stream.new.lines.from ≡ C.failed stream.old.lines.from }
 {
     // proof: a greatest set of the net is a pit that is worth most, and of amounts with sizes the best one
     laws::greatest_set_is_richest_pit();
@@ -202,10 +212,14 @@ fn judge_by<G: OrderedGroup, C: CountedRead>(
     requires count { C.failed stream.old.lines.from < 2 ^ 64 - 1 }
     requires open { IsUndecided stream.old }
     requires header { IsReadFor predecessors.blocks G.name stream.old.header stream.old.fault }
-    ensures judged { (texts : MineTexts) (c : List ℕ) → AreRead texts nanos.items predecessors → IsGroupNamed G.name G.block_parts G.counts
-        → IsHeader texts c predecessors.blocks G.name → StandsBehind C.remaining c stream.old.lines → Judges texts c result }
-    ensures device { IsErrOf result EngineFault.Device → C.failed stream.new.lines.from ≡ C.failed stream.old.lines.from + 1 }
-    ensures kept { ¬ IsErrOf result EngineFault.Device → C.failed stream.new.lines.from ≡ C.failed stream.old.lines.from }
+    ensures judged { (texts : MineTexts) (c : List ℕ) → AreRead texts nanos.items predecessors
+        → IsGroupNamed G.name G.block_parts G.counts
+        → IsHeader texts c predecessors.blocks G.name → StandsBehind C.remaining c stream.old.lines
+        → Judges texts c result }
+    ensures device { IsErrOf result EngineFault.Device
+        → C.failed stream.new.lines.from ≡ C.failed stream.old.lines.from + 1 }
+    ensures kept { ¬ IsErrOf result EngineFault.Device
+        → C.failed stream.new.lines.from ≡ C.failed stream.old.lines.from }
 {
     let graph = Graph::<G>::of_worths(alloc, predecessors, &nanos)?;
     drop(nanos);
@@ -242,7 +256,8 @@ fn size_of_pit<G: OrderedGroup>(accepted: &AcceptedPit<'_, G>) -> u32
 // The worth of an accepted pit of this many blocks, in billionths.
 fn worth_of_pit<G: OrderedGroup>(accepted: &AcceptedPit<'_, G>, count: u32) -> i128
     requires { count ≤ length accepted.now.net.worths }
-    ensures worth { result ≡ G.set_worth (group_worth accepted.now.net.worths (holds_of accepted.now.pit)) (length accepted.now.net.worths) count }
+    ensures worth { result ≡ G.set_worth (group_worth accepted.now.net.worths
+        (holds_of accepted.now.pit)) (length accepted.now.net.worths) count }
     ensures greatest { IsGreatest accepted.now.net (holds_of accepted.now.pit) }
 {
     let size = accepted.graph().len();
@@ -267,7 +282,8 @@ pub fn size_of<G: OrderedGroup>(accepted: &Accepted<'_, G>) -> u32
 /// The worth of an accepted pit of this many blocks, in billionths.
 pub fn worth_of<G: OrderedGroup>(accepted: &Accepted<'_, G>, count: u32) -> i128
     requires { count ≤ length accepted.now.net.worths }
-    ensures worth { result ≡ G.set_worth (group_worth accepted.now.net.worths (holds_of accepted.now.pit)) (length accepted.now.net.worths) count }
+    ensures worth { result ≡ G.set_worth (group_worth accepted.now.net.worths
+        (holds_of accepted.now.pit)) (length accepted.now.net.worths) count }
     ensures greatest { IsGreatest accepted.now.net (holds_of accepted.now.pit) }
 {
     worth_of_pit(accepted.on_graph(), count)

@@ -42,16 +42,20 @@ pub fn check_engine<R: Threads + Sync, D: CountedRead, C: CountedRead, W: Counte
     requires out_room { W.failed out.old < 2 ^ 64 - 1 }
 
     // What it answers and writes, where the readers tell their bytes.
-    ensures answer { IfSome (C.remaining certificate.old) (λ c. ForTexts inputs.old D.remaining (factor_in c) (λ texts.
+    ensures answer { IfSome (C.remaining certificate.old)
+        (λ c. ForTexts inputs.old D.remaining (factor_in c) (λ texts.
         Checks texts c (W.contents out.old) (W.contents out.new) result)) }
-    ensures complete { IfSome (C.remaining certificate.old) (λ c. ForTexts inputs.old D.remaining (factor_in c) (λ texts.
+    ensures complete { IfSome (C.remaining certificate.old)
+        (λ c. ForTexts inputs.old D.remaining (factor_in c) (λ texts.
         SoundIsAccepted texts c result)) }
 
     // A device is named exactly where one failed.
     ensures device { IsErrOf result EngineFault.Device
-        → OneFailed inputs.old inputs.new D.failed (C.failed certificate.old + W.failed out.old) (C.failed certificate.new + W.failed out.new) }
+        → OneFailed inputs.old inputs.new D.failed (C.failed certificate.old + W.failed out.old)
+        (C.failed certificate.new + W.failed out.new) }
     ensures kept { ¬ IsErrOf result EngineFault.Device → NoneFailed inputs.old inputs.new D.failed
-        × (C.failed certificate.new ≡ C.failed certificate.old) × (W.failed out.new ≡ W.failed out.old) }
+        × (C.failed certificate.new ≡ C.failed certificate.old)
+        × (W.failed out.new ≡ W.failed out.old) }
 {
     let mine = mine_to_check(alloc, inputs)?;
     let judgement = judge(rt, alloc, mine, certificate)?;

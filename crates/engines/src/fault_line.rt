@@ -56,9 +56,11 @@ pub fn status(answer: &Result<Verdict, EngineFault>) -> u8
 /// `out` must have counted fewer than 2^64 - 1 failures, so that one more can be counted.
 pub fn write_fault<W: CountedWrite>(fault: &EngineFault, out: &mut W) -> Result<(), WriteFault>
     requires { W.failed out.old < 2 ^ 64 - 1 }
-    ensures line { OnOk result (Appends (W.contents out.old) (W.contents out.new) (fault_line fault.now)) }
+    ensures line { OnOk result
+        (Appends (W.contents out.old) (W.contents out.new) (fault_line fault.now)) }
     ensures kept { OnOk result (W.failed out.new ≡ W.failed out.old) }
-    ensures prefix { OnErr result (ReceivedPrefix (W.contents out.old) (W.contents out.new) (fault_line fault.now)) }
+    ensures prefix { OnErr result
+        (ReceivedPrefix (W.contents out.old) (W.contents out.new) (fault_line fault.now)) }
     ensures counted { OnErr result (W.failed out.new ≡ W.failed out.old + 1) }
 {
     let mut line = ShortLine::new();

@@ -24,8 +24,10 @@ pub fn write_judgement<W: CountedWrite>(
     out: &mut W,
 ) -> Result<(), EngineFault>
     requires { W.failed out.old < 2 ^ 64 - 1 }
-    ensures line { OnOk result (Appends (W.contents out.old) (W.contents out.new) (judgement_line judgement)) }
-    ensures fault { IfErr result (LineFails (W.contents out.old) (W.contents out.new) (judgement_line judgement)) }
+    ensures line { OnOk result
+        (Appends (W.contents out.old) (W.contents out.new) (judgement_line judgement)) }
+    ensures fault { IfErr result
+        (LineFails (W.contents out.old) (W.contents out.new) (judgement_line judgement)) }
     ensures device { IsErrOf result EngineFault.Device ↔ (W.failed out.new ≡ W.failed out.old + 1) }
     ensures kept { ¬ IsErrOf result EngineFault.Device → W.failed out.new ≡ W.failed out.old }
 {
@@ -58,7 +60,8 @@ fn accepted_line(
     count: u32,
     worth: Nanos,
 ) -> Result<String, AllocError>
-    ensures { IfOk result (λ line. string_bytes line ≡ judgement_line (Judgement.Accepted group count worth.0)) }
+    ensures { IfOk result
+        (λ line. string_bytes line ≡ judgement_line (Judgement.Accepted group count worth.0)) }
 {
     let mark = mark_of(group);
     format!(in alloc; "ACCEPTED {count} {worth}{mark}\n")

@@ -40,13 +40,17 @@ pub fn slopes_from_settings_engine<S: CountedRead, B: CountedRead, W: CountedWri
     requires out_room { W.failed out.old < 2 ^ 64 - 1 }
 
     // What it answers and writes, where the readers tell their bytes.
-    ensures answer { IfSome (S.remaining settings.old) (λ s. IfSome (B.remaining blocks.old) (λ text.
-        GivesSlopes (listed s) text up selection (W.contents out.old) (W.contents out.new) result)) }
+    ensures answer { IfSome (S.remaining settings.old)
+        (λ s. IfSome (B.remaining blocks.old) (λ text.
+        GivesSlopes (listed s) text up selection
+        (W.contents out.old) (W.contents out.new) result)) }
 
     // A device is named exactly where one failed.
     ensures device { IsErrOf result EngineFault.Device
-        → S.failed settings.new + B.failed blocks.new + W.failed out.new ≡ S.failed settings.old + B.failed blocks.old + W.failed out.old + 1 }
-    ensures kept { ¬ IsErrOf result EngineFault.Device → (S.failed settings.new ≡ S.failed settings.old)
+        → S.failed settings.new + B.failed blocks.new + W.failed out.new
+        ≡ S.failed settings.old + B.failed blocks.old + W.failed out.old + 1 }
+    ensures kept { ¬ IsErrOf result EngineFault.Device
+        → (S.failed settings.new ≡ S.failed settings.old)
         × (B.failed blocks.new ≡ B.failed blocks.old) × (W.failed out.new ≡ W.failed out.old) }
 {
     let settings = settings_from(alloc, settings)?;
@@ -61,7 +65,8 @@ pub fn slopes_from_settings_engine<S: CountedRead, B: CountedRead, W: CountedWri
 // The offsets that settings list.
 fn offsets_in(settings: &Settings) -> Result<&[(i32, i32, i32)], EngineFault>
     ensures offsets { MatchResult result
-        (λ s. (s.now ≡ listed_offsets settings.now) × (first_missing (offset_keys settings.now) settings.now ≡ None))
+        (λ s. (s.now ≡ listed_offsets settings.now)
+        × (first_missing (offset_keys settings.now) settings.now ≡ None))
         (IsMissing (offset_keys settings.now) settings.now) }
     ensures no_device { ¬ IsErrOf result EngineFault.Device }
 {

@@ -34,7 +34,8 @@ pub fn write_answer<G: OrderedGroup, T: Outcome, W: CountedWrite>(
     requires proved { IfOk found (λ s. IsSound net.now s.flow s.pit) }
     requires room { W.failed out.old < 2 ^ 64 - 1 }
     ensures answer { MatchResult found
-        (λ s. SendsCertificate G.counts G.name price net.now s.pit s.flow (W.contents out.old) (W.contents out.new) result)
+        (λ s. SendsCertificate G.counts G.name price net.now s.pit s.flow
+        (W.contents out.old) (W.contents out.new) result)
         (λ why. SendsNo why (W.contents out.old) (W.contents out.new) result) }
     ensures device { IsErrOf result EngineFault.Device ↔ (W.failed out.new ≡ W.failed out.old + 1) }
     ensures kept { ¬ IsErrOf result EngineFault.Device → W.failed out.new ≡ W.failed out.old }
@@ -61,7 +62,9 @@ pub fn write_answer<G: OrderedGroup, T: Outcome, W: CountedWrite>(
 /// # Errors
 /// `Memory`, `Thread` and `Stranger` where that is why: then there is no line.
 pub fn line_of_no(why: Unsolved) -> Result<&'static [u8], EngineFault>
-    ensures line { MatchResult result (λ line. no_line why ≡ Ok line.now) (λ fault. no_line why ≡ Err fault) }
+    ensures line { MatchResult result
+        (λ line. no_line why ≡ Ok line.now)
+        (λ fault. no_line why ≡ Err fault) }
     ensures no_device { ¬ IsErrOf result EngineFault.Device }
 {
     match why {

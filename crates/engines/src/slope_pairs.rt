@@ -40,7 +40,9 @@ pub fn pattern_for(alloc: Global, choice: PatternChoice) -> Result<Pattern, Engi
 /// In this order: `Slope` with `NotUpward` for the first offset whose third number isn't at least 1, with `TooMany` for
 /// more than 4,096 listed offsets. `Memory` where memory is refused.
 pub fn pattern_listed(alloc: Global, listed: &[(i32, i32, i32)]) -> Result<Pattern, EngineFault>
-    ensures made { MatchResult result (AreOffsets (Contains listed.now)) (PatternMakingFails (ListFails listed.now)) }
+    ensures made { MatchResult result
+        (AreOffsets (Contains listed.now))
+        (PatternMakingFails (ListFails listed.now)) }
     ensures no_device { ¬ IsErrOf result EngineFault.Device }
 {
     Ok(Pattern::custom(alloc, listed)?)
@@ -57,7 +59,9 @@ pub fn slopes_of(
     up: Up,
     selection: Selection,
 ) -> Result<Predecessors, EngineFault>
-    ensures made { MatchResult result (AreSlopes model.now pattern.now up selection) (PairsMakingFail model.now pattern.now up selection) }
+    ensures made { MatchResult result
+        (AreSlopes model.now pattern.now up selection)
+        (PairsMakingFail model.now pattern.now up selection) }
     ensures narrow { IfOk result AreNarrow }
     ensures no_device { ¬ IsErrOf result EngineFault.Device }
 {
@@ -79,10 +83,12 @@ pub fn write_slopes<W: CountedWrite>(
 ) -> Result<(), EngineFault>
     requires narrow { AreNarrow predecessors.now }
     requires room { W.failed out.old < 2 ^ 64 - 1 }
-    ensures sent { OnOk result (Appends (W.contents out.old) (W.contents out.new) (prec_text predecessors.now)) }
+    ensures sent { OnOk result
+        (Appends (W.contents out.old) (W.contents out.new) (prec_text predecessors.now)) }
     ensures kept { OnOk result (W.failed out.new ≡ W.failed out.old) }
     ensures fault { IfErr result (λ e. e ≡ EngineFault.Device) }
-    ensures prefix { IfErr result (λ _. ReceivedPrefix (W.contents out.old) (W.contents out.new) (prec_text predecessors.now)) }
+    ensures prefix { IfErr result (λ _. ReceivedPrefix
+        (W.contents out.old) (W.contents out.new) (prec_text predecessors.now)) }
     ensures counted { IfErr result (λ _. W.failed out.new ≡ W.failed out.old + 1) }
 {
     match write_predecessors(predecessors, out) {

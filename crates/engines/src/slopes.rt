@@ -36,11 +36,14 @@ pub fn slopes_engine<B: CountedRead, W: CountedWrite>(
     requires out_room { W.failed out.old < 2 ^ 64 - 1 }
 
     // What it answers and writes, where the reader tells its bytes.
-    ensures answer { IfSome (B.remaining blocks.old) (λ text. GivesSlopes (named pattern) text up selection (W.contents out.old) (W.contents out.new) result) }
+    ensures answer { IfSome (B.remaining blocks.old) (λ text. GivesSlopes
+        (named pattern) text up selection (W.contents out.old) (W.contents out.new) result) }
 
     // A device is named exactly where one failed.
-    ensures device { IsErrOf result EngineFault.Device → B.failed blocks.new + W.failed out.new ≡ B.failed blocks.old + W.failed out.old + 1 }
-    ensures kept { ¬ IsErrOf result EngineFault.Device → (B.failed blocks.new ≡ B.failed blocks.old) × (W.failed out.new ≡ W.failed out.old) }
+    ensures device { IsErrOf result EngineFault.Device
+        → B.failed blocks.new + W.failed out.new ≡ B.failed blocks.old + W.failed out.old + 1 }
+    ensures kept { ¬ IsErrOf result EngineFault.Device
+        → (B.failed blocks.new ≡ B.failed blocks.old) × (W.failed out.new ≡ W.failed out.old) }
 {
     let model = blocks_from(alloc, blocks, &[])?;
     let pattern = pattern_for(alloc, pattern)?;

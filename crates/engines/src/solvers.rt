@@ -62,7 +62,8 @@ pub fn by_pseudoflow<G: OrderedGroup, P: Progress>(
     turns: u64,
     progress: &P,
 ) -> Result<Option<Solution<G>>, AllocError>
-    ensures { IfOk result (λ found. IfSome found (λ s. IsSolution G.set_worth net.now s.flow s.pit s.count s.worth)) }
+    ensures { IfOk result
+        (λ found. IfSome found (λ s. IsSolution G.set_worth net.now s.flow s.pit s.count s.worth)) }
 {
     let flow = match pseudoflow::solve(alloc, net, turns, progress) {
         Ok(flow) => flow,

@@ -63,11 +63,14 @@ pub fn solve_engine<
 
     // What it answers and writes, where the readers tell their bytes.
     ensures answer { ForTexts inputs.old D.remaining asked.factor (λ texts.
-        Solves texts asked.group asked.effort.method asked.effort.steps (W.contents out.old) (W.contents out.new) result) }
+        Solves texts asked.group asked.effort.method asked.effort.steps
+        (W.contents out.old) (W.contents out.new) result) }
 
     // A device is named exactly where one failed.
-    ensures device { IsErrOf result EngineFault.Device → OneFailed inputs.old inputs.new D.failed (W.failed out.old) (W.failed out.new) }
-    ensures kept { ¬ IsErrOf result EngineFault.Device → NoneFailed inputs.old inputs.new D.failed × (W.failed out.new ≡ W.failed out.old) }
+    ensures device { IsErrOf result EngineFault.Device
+        → OneFailed inputs.old inputs.new D.failed (W.failed out.old) (W.failed out.new) }
+    ensures kept { ¬ IsErrOf result EngineFault.Device
+        → NoneFailed inputs.old inputs.new D.failed × (W.failed out.new ≡ W.failed out.old) }
 {
     let mine = mine_to_solve(rt, alloc, inputs, asked.factor)?;
     solve_mine(rt, alloc, mine, asked, gate, out)
@@ -84,8 +87,10 @@ fn solve_mine<R: Threads + Wait + Sync, T: Gate + Progress + Outcome, W: Counted
 ) -> Result<Verdict, EngineFault>
     requires price { IsPrice mine.price }
     requires room { W.failed out.old < 2 ^ 64 - 1 }
-    ensures answer { (texts : MineTexts) → AreRead texts mine.nanos.items mine.rests → mine.price ≡ price_wanted texts
-        → Solves texts asked.group asked.effort.method asked.effort.steps (W.contents out.old) (W.contents out.new) result }
+    ensures answer { (texts : MineTexts) → AreRead texts mine.nanos.items mine.rests
+        → mine.price ≡ price_wanted texts
+        → Solves texts asked.group asked.effort.method asked.effort.steps
+        (W.contents out.old) (W.contents out.new) result }
     ensures device { IsErrOf result EngineFault.Device ↔ (W.failed out.new ≡ W.failed out.old + 1) }
     ensures kept { ¬ IsErrOf result EngineFault.Device → W.failed out.new ≡ W.failed out.old }
 {
@@ -119,9 +124,11 @@ where
     Locked<TurnBoard<G>>: Shared,
     requires price { IsPrice mine.price }
     requires room { W.failed out.old < 2 ^ 64 - 1 }
-    ensures answer { (texts : MineTexts) → AreRead texts mine.nanos.items mine.rests → mine.price ≡ price_wanted texts
+    ensures answer { (texts : MineTexts) → AreRead texts mine.nanos.items mine.rests
+        → mine.price ≡ price_wanted texts
         → IsGroupNamed G.name G.block_parts G.counts
-        → Solves texts G.name effort.method effort.steps (W.contents out.old) (W.contents out.new) result }
+        → Solves texts G.name effort.method effort.steps
+        (W.contents out.old) (W.contents out.new) result }
     ensures device { IsErrOf result EngineFault.Device ↔ (W.failed out.new ≡ W.failed out.old + 1) }
     ensures kept { ¬ IsErrOf result EngineFault.Device → W.failed out.new ≡ W.failed out.old }
 {

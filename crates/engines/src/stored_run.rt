@@ -61,7 +61,8 @@ pub fn stored_check<R: Threads + Sync, W: CountedWrite>(
     out: &mut W,
 ) -> Result<Verdict, EngineFault>
     requires { W.failed out.old < 2 ^ 64 - 1 }
-    ensures answer { Checks (mine_texts VALUES.now PRECEDENCE.now) CERTIFICATE.now (W.contents out.old) (W.contents out.new) result }
+    ensures answer { Checks (mine_texts VALUES.now PRECEDENCE.now) CERTIFICATE.now
+        (W.contents out.old) (W.contents out.new) result }
     ensures device { IsErrOf result EngineFault.Device → W.failed out.new ≡ W.failed out.old + 1 }
     ensures kept { ¬ IsErrOf result EngineFault.Device → W.failed out.new ≡ W.failed out.old }
 {

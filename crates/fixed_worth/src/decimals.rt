@@ -88,7 +88,8 @@ fn cut(text: &[u8]) -> (Parts<'_>, bool)
 fn mantissa(whole: &[u8], fraction: &[u8]) -> Option<u128>
     requires first { IsTrue (list_all is_digit whole.now) }
     requires second { IsTrue (list_all is_digit fraction.now) }
-    ensures { SomeIff result (value_of (whole.now ++ fraction.now) < 2 ^ 128) (value_of (whole.now ++ fraction.now)) }
+    ensures { SomeIff result
+        (value_of (whole.now ++ fraction.now) < 2 ^ 128) (value_of (whole.now ++ fraction.now)) }
 {
     let mut all = value(whole)?;
     for b in fraction {
@@ -99,7 +100,9 @@ fn mantissa(whole: &[u8], fraction: &[u8]) -> Option<u128>
 
 // Whether the parts are those of a numeral.
 fn are_parts(parts: Parts<'_>, marked: bool) -> bool
-    ensures { result ≡ (is_number (parts.entry.whole.now ++ parts.entry.fraction.now) && (not marked || nat_lt 0 (length parts.entry.exponent.now)) && list_all is_digit parts.entry.exponent.now) }
+    ensures { result ≡ (is_number (parts.entry.whole.now ++ parts.entry.fraction.now)
+        && (not marked || nat_lt 0 (length parts.entry.exponent.now))
+        && list_all is_digit parts.entry.exponent.now) }
 {
     if parts.whole.is_empty() && parts.fraction.is_empty() {
         return false;
@@ -117,10 +120,12 @@ fn are_parts(parts: Parts<'_>, marked: bool) -> bool
 fn magnitude(parts: Parts<'_>) -> Result<u128, NumberFault>
     requires digits { IsTrue (list_all is_digit (parts.whole.now ++ parts.fraction.now)) }
     requires exponent { IsTrue (list_all is_digit parts.exponent.now) }
-    ensures { result ≡ cond (nat_lt 36 (length (parts.entry.whole.now ++ parts.entry.fraction.now)) || nat_lt 40 (value_of parts.entry.exponent.now)) (Err NumberFault.TooLong)
+    ensures { result ≡ cond (nat_lt 36 (length (parts.entry.whole.now ++ parts.entry.fraction.now))
+        || nat_lt 40 (value_of parts.entry.exponent.now)) (Err NumberFault.TooLong)
         (most (10 ^ 18) (rounded_of (value_of (parts.entry.whole.now ++ parts.entry.fraction.now))
         (cond parts.entry.down 6 (6 + value_of parts.entry.exponent.now))
-        (cond parts.entry.down (length parts.entry.fraction.now + value_of parts.entry.exponent.now) (length parts.entry.fraction.now)))) }
+        (cond parts.entry.down (length parts.entry.fraction.now + value_of parts.entry.exponent.now)
+        (length parts.entry.fraction.now)))) }
 {
     if parts.whole.len() > 36 || parts.fraction.len() > 36 - parts.whole.len() {
         return Err(NumberFault::TooLong);

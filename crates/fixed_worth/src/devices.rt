@@ -25,11 +25,14 @@ pub trait CountedRead: Read {
         requires room { failed self.old < 2 ^ 64 - 1 }
         ensures length { length buf.new ≡ length buf.old }
         ensures took { IfSome result (λ n. n ≤ length buf.new) }
-        ensures bytes { IfSome result (λ n. Consumes (Self.remaining self.old) (Self.remaining self.new) (take n buf.new)) }
-        ensures end { IfSome result (λ n. n ≡ 0 → 0 < length buf.new → IsAtEnd (Self.remaining self.new)) }
+        ensures bytes { IfSome result
+            (λ n. Consumes (Self.remaining self.old) (Self.remaining self.new) (take n buf.new)) }
+        ensures end { IfSome result (λ n. n ≡ 0 → 0 < length buf.new
+            → IsAtEnd (Self.remaining self.new)) }
         ensures kept { IfSome result (λ _. failed self.new ≡ failed self.old) }
         ensures counted { IfNone result (failed self.new ≡ failed self.old + 1) }
-        ensures nothing { IfNone result (Keeps (Self.remaining self.old) (Self.remaining self.new)) };
+        ensures nothing { IfNone result
+            (Keeps (Self.remaining self.old) (Self.remaining self.new)) };
 }
 
 /// A writer that counts its failures.
@@ -47,7 +50,8 @@ pub trait CountedWrite: Write {
         requires some { 0 < length piece.now }
         requires room { failed self.old < 2 ^ 64 - 1 }
         ensures took { IfSome result (λ n. (0 < n) × (n ≤ length piece.now)) }
-        ensures bytes { IfSome result (λ n. Appends (Self.contents self.old) (Self.contents self.new) (take n piece.now)) }
+        ensures bytes { IfSome result
+            (λ n. Appends (Self.contents self.old) (Self.contents self.new) (take n piece.now)) }
         ensures kept { IfSome result (λ _. failed self.new ≡ failed self.old) }
         ensures counted { IfNone result (failed self.new ≡ failed self.old + 1) }
         ensures nothing { IfNone result (Keeps (Self.contents self.old) (Self.contents self.new)) };
@@ -108,7 +112,8 @@ impl<T: Read> Read for Counted<T> {
 
     fn read(&mut self, buf: &mut [u8]) -> io::Result<usize>
         ensures bound { ReadsAtMost result buf.new }
-        ensures bytes { ReadConsumes (T.remaining self.old.inner) (T.remaining self.new.inner) result buf.new }
+        ensures bytes { ReadConsumes
+            (T.remaining self.old.inner) (T.remaining self.new.inner) result buf.new }
         ensures counted { self.new.failures ≡ count_after (is_err result) self.old.failures }
     {
         let answer = self.inner.read(buf);
@@ -122,8 +127,10 @@ impl<T: Write> Write for Counted<T> {
 
     fn write(&mut self, buf: &[u8]) -> io::Result<usize>
         ensures bound { WritesAtMost result buf.now }
-        ensures bytes { WriteAppends (T.contents self.old.inner) (T.contents self.new.inner) result buf.now }
-        ensures counted { self.new.failures ≡ count_after (write_fails result buf.now) self.old.failures }
+        ensures bytes { WriteAppends
+            (T.contents self.old.inner) (T.contents self.new.inner) result buf.now }
+        ensures counted { self.new.failures ≡ count_after
+            (write_fails result buf.now) self.old.failures }
     {
         let answer = self.inner.write(buf);
         self.count(match &answer {

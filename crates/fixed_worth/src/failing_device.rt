@@ -111,7 +111,8 @@ impl<T: Write> Write for Failing<T> {
         ensures bound { WritesAtMost result buf.now }
         ensures calls { self.new.calls ≡ min (self.old.calls + 1) (2 ^ 64 - 1) }
         ensures fails_at { self.new.fails_at ≡ self.old.fails_at }
-        ensures fails { 0 < length buf.now → self.new.calls ≡ self.old.fails_at → write_fails result buf.now ≡ true }
+        ensures fails { 0 < length buf.now → self.new.calls ≡ self.old.fails_at
+            → write_fails result buf.now ≡ true }
     {
         if self.fails_now() {
             return match self.failure {

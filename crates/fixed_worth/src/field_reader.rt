@@ -177,7 +177,8 @@ impl<'a> Fields<'a> {
 impl<'a> Iterator for Fields<'a> {
     type Item = Field<'a>;
 
-    ghost next_gives = { YieldsFirstBy (λ f. record { text = f.text.now; place = f.place }) (λ s. s) };
+    ghost next_gives = { YieldsFirstBy
+        (λ f. record { text = f.text.now; place = f.place }) (λ s. s) };
 
     ghost remaining = { item_count (λ s. s) };
 

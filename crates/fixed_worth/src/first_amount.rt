@@ -91,7 +91,8 @@ pub(crate) struct FirstAmount<'a> {
 // behind it, and without an exponent. Of another field, and where the text begins with a separator, there is none.
 #[inline(always)]
 pub(crate) fn first_amount(text: &[u8]) -> Option<FirstAmount<'_>>
-    ensures { IfSome result (λ first. (field : List ℕ) × BeginsWithField text.now field first.rest.now × (decimal_of field ≡ Ok first.amount)) }
+    ensures { IfSome result (λ first. (field : List ℕ)
+        × BeginsWithField text.now field first.rest.now × (decimal_of field ≡ Ok first.amount)) }
 {
     let unsigned = without_sign(text);
     let (whole, width) = leading_digits(unsigned);

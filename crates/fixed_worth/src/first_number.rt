@@ -56,7 +56,8 @@ pub(crate) fn leading_digits(text: &[u8]) -> (u64, usize)
 #[inline(always)]
 pub(crate) fn behind_field(text: &[u8]) -> Option<&[u8]>
     ensures rest { IfSome result (λ rest. rest.now ≡ drop 1 text.now) }
-    ensures ends { IfSome result (λ rest. 0 < length text.now → IsTrue (is_separator (slice_index_or text.now 0 0))) }
+    ensures ends { IfSome result (λ rest. 0 < length text.now
+        → IsTrue (is_separator (slice_index_or text.now 0 0))) }
 {
     if text.is_empty() {
         return Some(text);
@@ -79,7 +80,8 @@ pub(crate) struct FirstNumber<'a> {
 // begins with a separator, there is none.
 #[inline(always)]
 pub(crate) fn first_number(text: &[u8]) -> Option<FirstNumber<'_>>
-    ensures { IfSome result (λ first. (field : List ℕ) × BeginsWithField text.now field first.rest.now × (whole_of field ≡ Ok first.value)) }
+    ensures { IfSome result (λ first. (field : List ℕ)
+        × BeginsWithField text.now field first.rest.now × (whole_of field ≡ Ok first.value)) }
 {
     let (value, width) = leading_digits(text);
     if width == 0 {

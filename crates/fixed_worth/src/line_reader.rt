@@ -86,7 +86,8 @@ impl<'a> Lines<'a> {
         ensures { MatchResult result
             (λ given. MatchOption given
             ((self.old.lines ≡ []) × (self.new ≡ self.old))
-            (λ line. (length line.now ≤ LINE_BYTES) × (self.old.lines ≡ line.now ∷ self.new.lines) × (self.new.number ≡ self.old.number + 1)))
+            (λ line. (length line.now ≤ LINE_BYTES) × (self.old.lines ≡ line.now ∷ self.new.lines)
+            × (self.new.number ≡ self.old.number + 1)))
             (λ _. BeginsTooLong self.old.lines × (self.new ≡ self.old)) }
     {
         if self.rest.is_empty() {

@@ -50,11 +50,14 @@ impl Page {
     /// `out` must have counted fewer than 2^64 - 1 failures, so that one more can be counted.
     pub fn put<W: CountedWrite>(&mut self, out: &mut W, piece: &[u8]) -> Result<(), WriteFault>
         requires { W.failed out.old < 2 ^ 64 - 1 }
-        ensures held { OnOk result (SentOrHeld (W.contents out.old) (W.contents out.new) self.new (self.old ++ piece.now)) }
+        ensures held { OnOk result (SentOrHeld (W.contents out.old) (W.contents out.new) self.new
+            (self.old ++ piece.now)) }
         ensures kept { OnOk result (W.failed out.new ≡ W.failed out.old) }
-        ensures prefix { OnErr result (ReceivedPrefix (W.contents out.old) (W.contents out.new) (self.old ++ piece.now)) }
+        ensures prefix { OnErr result
+            (ReceivedPrefix (W.contents out.old) (W.contents out.new) (self.old ++ piece.now)) }
         ensures counted { OnErr result (W.failed out.new ≡ W.failed out.old + 1) }
-        ensures left { OnErr result (PutFailed (W.contents out.old) (W.contents out.new) self.old self.new piece.now) }
+        ensures left { OnErr result
+            (PutFailed (W.contents out.old) (W.contents out.new) self.old self.new piece.now) }
     {
         if piece.len() > self.room() {
             self.finish(out)?;
@@ -77,7 +80,8 @@ impl Page {
         ensures sent { OnOk result (Appends (W.contents out.old) (W.contents out.new) self.old) }
         ensures empty { OnOk result (self.new ≡ []) }
         ensures kept { OnOk result (W.failed out.new ≡ W.failed out.old) }
-        ensures prefix { OnErr result (ReceivedPrefix (W.contents out.old) (W.contents out.new) self.old) }
+        ensures prefix { OnErr result
+            (ReceivedPrefix (W.contents out.old) (W.contents out.new) self.old) }
         ensures unsent { OnErr result (self.new ≡ self.old) }
         ensures counted { OnErr result (W.failed out.new ≡ W.failed out.old + 1) }
     {

@@ -26,7 +26,8 @@ pub struct MicrosTotal(pub i128);
 pub fn trimmed_fraction(fraction: u64, places: usize) -> (u64, usize)
     requires some { 0 < fraction }
     requires below_one { fraction < 10 ^ places }
-    ensures same { without_trailing_zeros (fixed_width places fraction) ≡ fixed_width result.1 result.0 }
+    ensures same { without_trailing_zeros (fixed_width places fraction)
+        ≡ fixed_width result.1 result.0 }
     ensures shown { (0 < result.1) × (result.1 ≤ places) }
     ensures below_one { result.0 < 10 ^ result.1 }
     ensures at_most { result.0 ≤ fraction }
@@ -46,7 +47,8 @@ fn write_fraction<W: fmt::Write>(
     places: usize,
 ) -> fmt::Result
     requires { fraction < 10 ^ places }
-    ensures { DisplaysOnOk W.write_str_gives f.old result (Some (fraction_text places fraction)) f.new }
+    ensures { DisplaysOnOk W.write_str_gives f.old result
+        (Some (fraction_text places fraction)) f.new }
 {
     if fraction == 0 {
         return Ok(());
@@ -56,7 +58,8 @@ fn write_fraction<W: fmt::Write>(
 }
 
 fn write_sign<W: fmt::Write>(f: &mut fmt::Formatter<W>, amount: i128) -> fmt::Result
-    ensures { DisplaysOnOk W.write_str_gives f.old result (Some (sign_text (is_negative amount))) f.new }
+    ensures { DisplaysOnOk W.write_str_gives f.old result
+        (Some (sign_text (is_negative amount))) f.new }
 {
     if amount < 0 { f.write_str("-") } else { Ok(()) }
 }

@@ -34,7 +34,8 @@ pub fn read_whole<R: CountedRead>(
     limit: u64,
 ) -> Result<Vec<u8>, InputFault>
     requires { R.failed from.old < 2 ^ 64 - 1 }
-    ensures bytes { IfOk result (λ v. Consumes (R.remaining from.old) (R.remaining from.new) v.items) }
+    ensures bytes { IfOk result
+        (λ v. Consumes (R.remaining from.old) (R.remaining from.new) v.items) }
     ensures end { OnOk result (IsAtEnd (R.remaining from.new)) }
     ensures whole { IfOk result (λ v. IfSome (R.remaining from.old) (λ xs. v.items ≡ xs)) }
     ensures within { IfOk result (λ v. length v.items ≤ limit) }
@@ -42,7 +43,8 @@ pub fn read_whole<R: CountedRead>(
         → GaveMoreThan limit (R.remaining from.old) (R.remaining from.new) }
     ensures memory { IsErrOf result InputFault.NoMemory
         → GaveAtMost limit (R.remaining from.old) (R.remaining from.new) }
-    ensures device { IsErrOf result InputFault.Device ↔ (R.failed from.new ≡ R.failed from.old + 1) }
+    ensures device { IsErrOf result InputFault.Device
+        ↔ (R.failed from.new ≡ R.failed from.old + 1) }
     ensures kept { ¬ IsErrOf result InputFault.Device → R.failed from.new ≡ R.failed from.old }
 {
     let mut text = Vec::new(alloc);

@@ -53,11 +53,14 @@ pub fn solve_lock_free_engine<
 
     // What it answers and writes, where the readers tell their bytes.
     ensures answer { ForTexts inputs.old D.remaining asked.factor (λ texts.
-        SolvesWithoutLock texts asked.effort.workers asked.effort.steps (W.contents out.old) (W.contents out.new) result) }
+        SolvesWithoutLock texts asked.effort.workers asked.effort.steps
+        (W.contents out.old) (W.contents out.new) result) }
 
     // A device is named exactly where one failed.
-    ensures device { IsErrOf result EngineFault.Device → OneFailed inputs.old inputs.new D.failed (W.failed out.old) (W.failed out.new) }
-    ensures kept { ¬ IsErrOf result EngineFault.Device → NoneFailed inputs.old inputs.new D.failed × (W.failed out.new ≡ W.failed out.old) }
+    ensures device { IsErrOf result EngineFault.Device
+        → OneFailed inputs.old inputs.new D.failed (W.failed out.old) (W.failed out.new) }
+    ensures kept { ¬ IsErrOf result EngineFault.Device
+        → NoneFailed inputs.old inputs.new D.failed × (W.failed out.new ≡ W.failed out.old) }
 {
     let mine = mine_to_solve(rt, alloc, inputs, asked.factor)?;
     mine_by_lock_free_run(rt, alloc, mine, asked.effort, gate, out)
@@ -74,8 +77,10 @@ fn mine_by_lock_free_run<R: Threads + Wait + Sync, T: Gate + Outcome, W: Counted
 ) -> Result<Verdict, EngineFault>
     requires price { IsPrice mine.price }
     requires room { W.failed out.old < 2 ^ 64 - 1 }
-    ensures answer { (texts : MineTexts) → AreRead texts mine.nanos.items mine.rests → mine.price ≡ price_wanted texts
-        → SolvesWithoutLock texts effort.workers effort.steps (W.contents out.old) (W.contents out.new) result }
+    ensures answer { (texts : MineTexts) → AreRead texts mine.nanos.items mine.rests
+        → mine.price ≡ price_wanted texts
+        → SolvesWithoutLock texts effort.workers effort.steps
+        (W.contents out.old) (W.contents out.new) result }
     ensures device { IsErrOf result EngineFault.Device ↔ (W.failed out.new ≡ W.failed out.old + 1) }
     ensures kept { ¬ IsErrOf result EngineFault.Device → W.failed out.new ≡ W.failed out.old }
 {

@@ -53,7 +53,8 @@ fn turned_in_turns(
 ) -> Option<(WordSeat, WordSeat)>
     requires left { IsFirst words.now 0 2 left }
     requires right { IsFirst words.now 1 2 right }
-    ensures { IfSome result (λ s. IsServed words.now.shared 0 2 s.0 × IsServed words.now.shared 1 2 s.1) }
+    ensures { IfSome result (λ s. IsServed words.now.shared 0 2 s.0
+        × IsServed words.now.shared 1 2 s.1) }
 {
     let mut left = Turning { seat: left, at: 0 };
     let mut right = Turning { seat: right, at: 1 };

@@ -33,9 +33,12 @@ pub fn blocks_from<R: CountedRead>(
 ) -> Result<BlockModel, EngineFault>
     requires few { length columns.now ≤ MOST_COLUMNS }
     requires room { R.failed from.old < 2 ^ 64 - 1 }
-    ensures read { IfSome (R.remaining from.old) (λ text. MatchResult result (ReadsBlocks columns.now text) (BlocksReadFails columns.now text)) }
+    ensures read { IfSome (R.remaining from.old) (λ text. MatchResult result
+        (ReadsBlocks columns.now text)
+        (BlocksReadFails columns.now text)) }
     ensures columns { IfOk result (λ m. length m.columns ≡ length columns.now) }
-    ensures device { IsErrOf result EngineFault.Device ↔ (R.failed from.new ≡ R.failed from.old + 1) }
+    ensures device { IsErrOf result EngineFault.Device
+        ↔ (R.failed from.new ≡ R.failed from.old + 1) }
     ensures kept { ¬ IsErrOf result EngineFault.Device → R.failed from.new ≡ R.failed from.old }
 {
     let too_long = EngineFault::Blocks(Problem::InputTooLong);
@@ -59,9 +62,12 @@ pub fn predecessors_from<R: CountedRead>(
 ) -> Result<Predecessors, EngineFault>
     requires blocks { n ≤ MOST_BLOCKS }
     requires room { R.failed from.old < 2 ^ 64 - 1 }
-    ensures read { IfSome (R.remaining from.old) (λ text. MatchResult result (ReadsPrec n text) (PrecReadFails n text)) }
+    ensures read { IfSome (R.remaining from.old) (λ text. MatchResult result
+        (ReadsPrec n text)
+        (PrecReadFails n text)) }
     ensures size { IfOk result (λ rests. rests.blocks ≡ n) }
-    ensures device { IsErrOf result EngineFault.Device ↔ (R.failed from.new ≡ R.failed from.old + 1) }
+    ensures device { IsErrOf result EngineFault.Device
+        ↔ (R.failed from.new ≡ R.failed from.old + 1) }
     ensures kept { ¬ IsErrOf result EngineFault.Device → R.failed from.new ≡ R.failed from.old }
 {
     let too_long = EngineFault::Prec(Problem::InputTooLong);

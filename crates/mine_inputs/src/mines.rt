@@ -54,11 +54,16 @@ fn worths_by_prices<D: CountedRead>(
 ) -> Result<Worths, EngineFault>
     requires settings_room { D.failed settings.old < 2 ^ 64 - 1 }
     requires blocks_room { D.failed blocks.old < 2 ^ 64 - 1 }
-    ensures read { (factor : ℕ) (precedence : List ℕ) → IfSome (D.remaining settings.old) (λ s. IfSome (D.remaining blocks.old) (λ b.
-        MatchResult result (AreWorthsOf (priced_texts s b precedence factor) factor) (MineFails (priced_texts s b precedence factor)))) }
+    ensures read { (factor : ℕ) (precedence : List ℕ)
+        → IfSome (D.remaining settings.old) (λ s. IfSome (D.remaining blocks.old) (λ b.
+        MatchResult result
+        (AreWorthsOf (priced_texts s b precedence factor) factor)
+        (MineFails (priced_texts s b precedence factor)))) }
     ensures device { IsErrOf result EngineFault.Device
-        → D.failed settings.new + D.failed blocks.new ≡ D.failed settings.old + D.failed blocks.old + 1 }
-    ensures kept { ¬ IsErrOf result EngineFault.Device → (D.failed settings.new ≡ D.failed settings.old)
+        → D.failed settings.new + D.failed blocks.new
+        ≡ D.failed settings.old + D.failed blocks.old + 1 }
+    ensures kept { ¬ IsErrOf result EngineFault.Device
+        → (D.failed settings.new ≡ D.failed settings.old)
         × (D.failed blocks.new ≡ D.failed blocks.old) }
 {
     let settings = settings_from(alloc, settings)?;
@@ -89,8 +94,11 @@ pub fn mine_to_check<D: CountedRead>(
 ) -> Result<MineToCheck, EngineFault>
     requires { CanCount inputs.old D.failed }
     ensures read { (factor : ℕ)
-        → ForTexts inputs.old D.remaining factor (λ texts. MatchResult result (λ mine. IsMineRead texts factor mine.worths mine.predecessors) (MineFails texts)) }
-    ensures device { IsErrOf result EngineFault.Device → OneFailed inputs.old inputs.new D.failed 0 0 }
+        → ForTexts inputs.old D.remaining factor (λ texts. MatchResult result
+        (λ mine. IsMineRead texts factor mine.worths mine.predecessors)
+        (MineFails texts)) }
+    ensures device { IsErrOf result EngineFault.Device
+        → OneFailed inputs.old inputs.new D.failed 0 0 }
     ensures kept { ¬ IsErrOf result EngineFault.Device → NoneFailed inputs.old inputs.new D.failed }
 {
     let worths = match &mut inputs.worths {
@@ -132,10 +140,13 @@ pub fn mine_to_solve<R: Threads + Sync, D: CountedRead>(
     factor: Factor,
 ) -> Result<MineToSolve, EngineFault>
     requires { CanCount inputs.old D.failed }
-    ensures read { ForTexts inputs.old D.remaining factor (λ texts. MatchResult result (λ mine. AreRead texts mine.nanos.items mine.rests
-        × (mine.price ≡ price_wanted texts)) (MineFails texts)) }
+    ensures read { ForTexts inputs.old D.remaining factor (λ texts. MatchResult result
+        (λ mine. AreRead texts mine.nanos.items mine.rests
+        × (mine.price ≡ price_wanted texts))
+        (MineFails texts)) }
     ensures price { IfOk result (λ mine. IsPrice mine.price) }
-    ensures device { IsErrOf result EngineFault.Device → OneFailed inputs.old inputs.new D.failed 0 0 }
+    ensures device { IsErrOf result EngineFault.Device
+        → OneFailed inputs.old inputs.new D.failed 0 0 }
     ensures kept { ¬ IsErrOf result EngineFault.Device → NoneFailed inputs.old inputs.new D.failed }
 {
     let MineToCheck {

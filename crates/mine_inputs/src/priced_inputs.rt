@@ -23,8 +23,11 @@ use std::alloc::{AllocError, Global};
 /// where a read fails.
 pub fn settings_from<R: CountedRead>(alloc: Global, from: &mut R) -> Result<Settings, EngineFault>
     requires { R.failed from.old < 2 ^ 64 - 1 }
-    ensures read { IfSome (R.remaining from.old) (λ text. MatchResult result (ReadsSettingsText text) (SettingsReadFails text)) }
-    ensures device { IsErrOf result EngineFault.Device ↔ (R.failed from.new ≡ R.failed from.old + 1) }
+    ensures read { IfSome (R.remaining from.old) (λ text. MatchResult result
+        (ReadsSettingsText text)
+        (SettingsReadFails text)) }
+    ensures device { IsErrOf result EngineFault.Device
+        ↔ (R.failed from.new ≡ R.failed from.old + 1) }
     ensures kept { ¬ IsErrOf result EngineFault.Device → R.failed from.new ≡ R.failed from.old }
 {
     let too_long = EngineFault::Settings(Problem::InputTooLong);
@@ -66,7 +69,8 @@ pub struct PriceColumns {
 /// others; or, where there is a mill, revenue, the others, processing, mining.
 pub fn price_columns(settings: &Settings, others: &[Key]) -> Result<PriceColumns, EngineFault>
     ensures columns { MatchResult result
-        (λ columns. (columns ≡ columns_said settings.now) × (first_missing (keys_by (names_mill settings.now) others.now) settings.now ≡ None))
+        (λ columns. (columns ≡ columns_said settings.now)
+        × (first_missing (keys_by (names_mill settings.now) others.now) settings.now ≡ None))
         (IsMissing (keys_by (names_mill settings.now) others.now) settings.now) }
     ensures no_device { ¬ IsErrOf result EngineFault.Device }
 {
@@ -84,7 +88,8 @@ pub fn price_columns(settings: &Settings, others: &[Key]) -> Result<PriceColumns
 // The column of costs, where the other keys are there too.
 fn cost_column(settings: &Settings, others: &[Key]) -> Result<ChargeColumns, EngineFault>
     ensures columns { MatchResult result
-        (λ charges. (charges ≡ charges_by false settings.now) × (first_missing (Key.Cost ∷ others.now) settings.now ≡ None))
+        (λ charges. (charges ≡ charges_by false settings.now)
+        × (first_missing (Key.Cost ∷ others.now) settings.now ≡ None))
         (IsMissing (Key.Cost ∷ others.now) settings.now) }
     ensures no_device { ¬ IsErrOf result EngineFault.Device }
 {
@@ -98,7 +103,8 @@ fn cost_column(settings: &Settings, others: &[Key]) -> Result<ChargeColumns, Eng
 // The columns of a mill's charges, where the other keys are there too.
 fn mill_columns(settings: &Settings, others: &[Key]) -> Result<ChargeColumns, EngineFault>
     ensures columns { MatchResult result
-        (λ charges. (charges ≡ charges_by true settings.now) × (first_missing (others.now ++ (Key.Processing ∷ Key.Mining ∷ [])) settings.now ≡ None))
+        (λ charges. (charges ≡ charges_by true settings.now)
+        × (first_missing (others.now ++ (Key.Processing ∷ Key.Mining ∷ [])) settings.now ≡ None))
         (IsMissing (others.now ++ (Key.Processing ∷ Key.Mining ∷ [])) settings.now) }
     ensures no_device { ¬ IsErrOf result EngineFault.Device }
 {
@@ -114,7 +120,9 @@ fn mill_columns(settings: &Settings, others: &[Key]) -> Result<ChargeColumns, En
 
 // That settings say something at each of these keys.
 fn need(settings: &Settings, keys: &[Key]) -> Result<(), EngineFault>
-    ensures keys { MatchResult result (λ _. first_missing keys.now settings.now ≡ None) (IsMissing keys.now settings.now) }
+    ensures keys { MatchResult result
+        (λ _. first_missing keys.now settings.now ≡ None)
+        (IsMissing keys.now settings.now) }
     ensures no_device { ¬ IsErrOf result EngineFault.Device }
 {
     for key in keys {
@@ -143,8 +151,11 @@ pub fn prices_from<R: CountedRead>(
     columns: PriceColumns,
 ) -> Result<Prices, EngineFault>
     requires { R.failed from.old < 2 ^ 64 - 1 }
-    ensures read { IfSome (R.remaining from.old) (λ text. MatchResult result (ReadsPrices columns text) (PricesReadFail columns text)) }
-    ensures device { IsErrOf result EngineFault.Device ↔ (R.failed from.new ≡ R.failed from.old + 1) }
+    ensures read { IfSome (R.remaining from.old) (λ text. MatchResult result
+        (ReadsPrices columns text)
+        (PricesReadFail columns text)) }
+    ensures device { IsErrOf result EngineFault.Device
+        ↔ (R.failed from.new ≡ R.failed from.old + 1) }
     ensures kept { ¬ IsErrOf result EngineFault.Device → R.failed from.new ≡ R.failed from.old }
 {
     let model = priced_blocks_from(alloc, from, columns, None)?;
@@ -163,9 +174,13 @@ pub fn priced_blocks_from<R: CountedRead>(
     beside: Option<u32>,
 ) -> Result<BlockModel, EngineFault>
     requires { R.failed from.old < 2 ^ 64 - 1 }
-    ensures read { IfSome (R.remaining from.old) (λ text. MatchResult result (ReadsBlocks (columns_beside columns beside) text) (BlocksReadFails (columns_beside columns beside) text)) }
-    ensures columns { IfOk result (λ model. length model.columns ≡ length (columns_beside columns beside)) }
-    ensures device { IsErrOf result EngineFault.Device ↔ (R.failed from.new ≡ R.failed from.old + 1) }
+    ensures read { IfSome (R.remaining from.old) (λ text. MatchResult result
+        (ReadsBlocks (columns_beside columns beside) text)
+        (BlocksReadFails (columns_beside columns beside) text)) }
+    ensures columns { IfOk result
+        (λ model. length model.columns ≡ length (columns_beside columns beside)) }
+    ensures device { IsErrOf result EngineFault.Device
+        ↔ (R.failed from.new ≡ R.failed from.old + 1) }
     ensures kept { ¬ IsErrOf result EngineFault.Device → R.failed from.new ≡ R.failed from.old }
 {
     let revenue = columns.revenue;

@@ -141,5 +141,6 @@ pub trait OrderedGroup: Copy + Ord + Send + Sync {
     ghost tells_worth: { SumsTellWorth block_parts set_worth };
 
     // the worth of a set fits where its sum does
-    ghost worth_fits: { (a : Amount) (n count : ℕ) → FitsPair a → count ≤ n → FitsSigned w128 (set_worth a n count) };
+    ghost worth_fits: { (a : Amount) (n count : ℕ) → FitsPair a → count ≤ n
+        → FitsSigned w128 (set_worth a n count) };
 }

@@ -75,7 +75,8 @@ fn make_outputs<'a, R: Files + Print + Eprint + AllocGlobal>(
     SeriesOutputs<Counted<Told<'a, R, Replaced<R::File>>>, Counted<Told<'a, R, Printer<'a, R>>>>,
     EngineFault,
 >
-    ensures { IfOk result (λ outputs. OutputsCanCount outputs (λ device. device.failures) (λ device. device.failures)) }
+    ensures { IfOk result (λ outputs. OutputsCanCount outputs
+        (λ device. device.failures) (λ device. device.failures)) }
 {
     let by_block = make_file_if_named(rt, args.verbose, args.by_block)?;
     let out = Counted::new(output(rt, args.verbose, Some(advice_for_series(args))));

@@ -14,8 +14,10 @@ pub(crate) fn fill(list: &mut Vec<u32>, size: usize, number: u32)
     requires fewer { length list.old.items ≤ size }
     ensures size { length list.new.items ≡ size }
     ensures space { vec_capacity list.new ≡ vec_capacity list.old }
-    ensures kept { (i : ℕ) → i < length list.old.items → slice_index list.new.items i ≡ slice_index list.old.items i }
-    ensures filled { (i : ℕ) → length list.old.items ≤ i → i < size → slice_index list.new.items i ≡ number }
+    ensures kept { (i : ℕ) → i < length list.old.items
+        → slice_index list.new.items i ≡ slice_index list.old.items i }
+    ensures filled { (i : ℕ) → length list.old.items ≤ i → i < size
+        → slice_index list.new.items i ≡ number }
 {
     while list.len() < size {
         list.push_reserved(number);

@@ -30,7 +30,8 @@ impl Model for ListedPairs {
 
     ghost view = { λ l. record { blocks = l.blocks; pairs = l.pairs.items } };
 
-    ghost invariant = { λ l. (l.blocks ≤ MOST_BLOCKS) × (length l.pairs.items ≤ MOST_PAIRS) × All (IsKnown l.blocks) l.pairs.items };
+    ghost invariant = { λ l. (l.blocks ≤ MOST_BLOCKS) × (length l.pairs.items ≤ MOST_PAIRS)
+        × All (IsKnown l.blocks) l.pairs.items };
 }
 
 impl ListedPairs {

@@ -35,16 +35,20 @@ impl Model for Predecessors {
 
     ghost Value = { RestsView };
 
-    ghost view = { λ r. record { blocks = r.blocks; pairs = pairs_by r.firsts.items r.predecessors.items } };
+    ghost view = { λ r.
+        record { blocks = r.blocks; pairs = pairs_by r.firsts.items r.predecessors.items } };
 
-    ghost invariant = { λ r. AreAbove r.blocks (pairs_by r.firsts.items r.predecessors.items) r.firsts.items r.predecessors.items };
+    ghost invariant = { λ r. AreAbove r.blocks
+        (pairs_by r.firsts.items r.predecessors.items) r.firsts.items r.predecessors.items };
 }
 
 impl Predecessors {
     // The blocks by the numbers of their first pairs, and the predecessors of these.
     pub(crate) fn of_lists(blocks: u32, firsts: Vec<u32>, predecessors: Vec<u32>) -> Predecessors
-        requires { AreAbove blocks (pairs_by firsts.items predecessors.items) firsts.items predecessors.items }
-        ensures { result ≡ record { blocks = blocks; pairs = pairs_by firsts.items predecessors.items } }
+        requires { AreAbove blocks
+            (pairs_by firsts.items predecessors.items) firsts.items predecessors.items }
+        ensures { result
+            ≡ record { blocks = blocks; pairs = pairs_by firsts.items predecessors.items } }
     {
         Predecessors {
             blocks,

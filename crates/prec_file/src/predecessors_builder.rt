@@ -33,7 +33,8 @@ impl Model for PredecessorsBuilder {
 
     ghost view = { λ r. record { blocks = r.blocks; next = r.next; pairs = pairs_by r.firsts.items r.predecessors.items } };
 
-    ghost invariant = { λ r. AreRows r.blocks r.next (pairs_by r.firsts.items r.predecessors.items) r.firsts.items r.predecessors.items };
+    ghost invariant = { λ r. AreRows r.blocks r.next
+        (pairs_by r.firsts.items r.predecessors.items) r.firsts.items r.predecessors.items };
 }
 
 // Puts the predecessors of pairs behind others, or nothing where there is no memory.
@@ -102,7 +103,8 @@ impl PredecessorsBuilder {
     pub(crate) fn skip_to(&mut self, block: u32) -> Result<(), AllocError>
         requires behind { self.old.next ≤ block }
         requires within { block ≤ self.old.blocks }
-        ensures { OnOk result (self.new ≡ record { blocks = self.old.blocks; next = block; pairs = self.old.pairs }) }
+        ensures { OnOk result
+            (self.new ≡ record { blocks = self.old.blocks; next = block; pairs = self.old.pairs }) }
     {
         self.firsts.reserve((block - self.next) as usize)?;
         let size = block as usize + 1;
@@ -116,7 +118,8 @@ impl PredecessorsBuilder {
         requires next { self.old.next < self.old.blocks }
         requires known { All (λ p. p < self.old.blocks) row.now }
         requires few { length self.old.pairs + length row.now ≤ MOST_PAIRS }
-        ensures { OnOk result ((added : List (ℕ × ℕ)) × IsRowAdded self.old self.new (map (λ p. (self.old.next, p)) row.now) added) }
+        ensures { OnOk result ((added : List (ℕ × ℕ))
+            × IsRowAdded self.old self.new (map (λ p. (self.old.next, p)) row.now) added) }
     {
         let block = self.next;
         if !row_rises(block, row) {
@@ -141,7 +144,9 @@ impl PredecessorsBuilder {
         requires next { self.old.next < self.old.blocks }
         requires own { All (IsOfBlock self.old.blocks self.old.next) pairs.items }
         requires few { length self.old.pairs + length pairs.items ≤ MOST_PAIRS }
-        ensures { MatchResult result (λ added. IsRowAdded self.old self.new pairs.items added.items) (λ _. self.new ≡ self.old) }
+        ensures { MatchResult result
+            (λ added. IsRowAdded self.old self.new pairs.items added.items)
+            (λ _. self.new ≡ self.old) }
     {
         let added = sorted_apart(pairs);
         self.firsts.reserve(1)?;

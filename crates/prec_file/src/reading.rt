@@ -28,12 +28,14 @@ fn read_line(
     requires few { length pairs.old.items ≤ MOST_PAIRS }
     requires room { LINE_BYTES ≤ vec_capacity row.old }
     ensures { MatchResult result
-        (λ _. (record_fault n (λ b. slice_index_or seen.old b false) (length pairs.old.items) line (fields_of text.now) ≡ None)
+        (λ _. (record_fault n (λ b. slice_index_or seen.old b false) (length pairs.old.items) line
+        (fields_of text.now) ≡ None)
         × (pairs.new.items ≡ pairs.old.items ++ pairs_in (fields_of text.now))
         × (length pairs.new.items ≤ MOST_PAIRS)
         × (seen.new ≡ marks_after (fields_of text.now) seen.old)
         × (LINE_BYTES ≤ vec_capacity row.new))
-        (λ e. TellsFault e (record_fault n (λ b. slice_index_or seen.old b false) (length pairs.old.items) line (fields_of text.now))) }
+        (λ e. TellsFault e (record_fault n (λ b. slice_index_or seen.old b false)
+        (length pairs.old.items) line (fields_of text.now))) }
 {
     let before = pairs.as_slice().len();
     let Some(record) = read_record(row, text, n, line)? else {
@@ -103,7 +105,8 @@ pub fn read_listed(alloc: Global, text: &[u8], n: u32) -> Result<ListedPairs, Pr
 pub fn read_prec(alloc: Global, text: &[u8], n: u32) -> Result<Rests, PrecFault>
     requires { n ≤ MOST_BLOCKS }
     ensures { MatchResult result
-        (λ r. (fault_of n text.now ≡ None) × (r.blocks ≡ n) × ArePairsOf (pairs_of_text text.now) r.pairs)
+        (λ r. (fault_of n text.now ≡ None) × (r.blocks ≡ n)
+        × ArePairsOf (pairs_of_text text.now) r.pairs)
         (λ e. UnlessMemory e (fault_of n text.now ≡ Some e)) }
 {
     if let Some(predecessors) = read_rising(alloc, text, n)? {
@@ -126,7 +129,8 @@ pub fn read_prec(alloc: Global, text: &[u8], n: u32) -> Result<Rests, PrecFault>
 pub fn read_predecessors(alloc: Global, text: Vec<u8>, n: u32) -> Result<Predecessors, PrecFault>
     requires { n ≤ MOST_BLOCKS }
     ensures { MatchResult result
-        (λ r. (fault_of n text.items ≡ None) × (r.blocks ≡ n) × ArePairsOf (pairs_of_text text.items) r.pairs)
+        (λ r. (fault_of n text.items ≡ None) × (r.blocks ≡ n)
+        × ArePairsOf (pairs_of_text text.items) r.pairs)
         (λ e. UnlessMemory e (fault_of n text.items ≡ Some e)) }
 {
     if let Some(predecessors) = read_rising(alloc, text.as_slice(), n)? {

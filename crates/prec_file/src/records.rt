@@ -42,11 +42,13 @@ fn read_row(
     requires room { LINE_BYTES ≤ vec_capacity row.old }
     ensures { MatchResult result
         (λ r. IsTrue (list_all reads (map (λ f. f.text) fields.entry))
-        × (r.unknown ≡ (nat_le n block || list_any (nat_le n) (map number_of (map (λ f. f.text) fields.entry))))
+        × (r.unknown ≡ (nat_le n block
+        || list_any (nat_le n) (map number_of (map (λ f. f.text) fields.entry))))
         × (r.found ≡ length fields.entry)
         × (r.unknown ≡ false → row.new.items ≡ map number_of (map (λ f. f.text) fields.entry))
         × (LINE_BYTES ≤ vec_capacity row.new))
-        (λ e. (e ≡ PrecFault.Number line) × (list_all reads (map (λ f. f.text) fields.entry) ≡ false)) }
+        (λ e. (e ≡ PrecFault.Number line)
+        × (list_all reads (map (λ f. f.text) fields.entry) ≡ false)) }
 {
     let mut unknown = block >= n as u64;
     let mut found: u64 = 0;
@@ -72,7 +74,8 @@ fn fault_before_numbers(text: &[u8], line: u64) -> Option<PrecFault>
     requires unread { list_all reads (take 1 (fields_of text.now)) ≡ false }
     ensures { MatchOption result
         (IsTrue (is_skipped (fields_of text.now)))
-        (λ e. (is_skipped (fields_of text.now) ≡ false) × ((n : ℕ) → shape_fault n line (fields_of text.now) ≡ Some e)) }
+        (λ e. (is_skipped (fields_of text.now) ≡ false)
+        × ((n : ℕ) → shape_fault n line (fields_of text.now) ≡ Some e)) }
 {
     let mut fields = Fields::new(text);
     let first = fields.next()?;
@@ -100,7 +103,8 @@ pub(crate) fn read_record(
         (λ r. IsRecordOf n line (fields_of text.now) r.block r.count r.found
         × (row.new.items ≡ predecessors_of (fields_of text.now))
         × (LINE_BYTES ≤ vec_capacity row.new)))
-        (λ e. (is_skipped (fields_of text.now) ≡ false) × (shape_fault n line (fields_of text.now) ≡ Some e)) }
+        (λ e. (is_skipped (fields_of text.now) ≡ false)
+        × (shape_fault n line (fields_of text.now) ≡ Some e)) }
 {
     let mut fields = Fields::new(text);
     let Some(first) = fields.next_whole() else {
@@ -130,7 +134,9 @@ pub(crate) fn read_record(
 pub(crate) fn counted(read: Record, before: u64, line: u64) -> Result<(), PrecFault>
     requires before { before ≤ MOST_PAIRS }
     requires found { read.found ≤ LINE_BYTES }
-    ensures { (n : ℕ) (fields : List (List ℕ)) (had : ℕ → Bool) → IsRecordOf n line fields read.block read.count read.found → had read.block ≡ false → MatchResult result
+    ensures { (n : ℕ) (fields : List (List ℕ)) (had : ℕ → Bool)
+        → IsRecordOf n line fields read.block read.count read.found → had read.block ≡ false
+        → MatchResult result
         (λ _. (record_fault n had before line fields ≡ None) × (before + read.found ≤ MOST_PAIRS))
         (λ e. TellsFault e (record_fault n had before line fields)) }
 {

@@ -32,7 +32,8 @@ impl Model for Rests {
 
     ghost view = { λ r. r.predecessors };
 
-    ghost invariant = { λ r. IsIndexed r.predecessors r.blocks.items r.starts.items r.filled.items };
+    ghost invariant = { λ r.
+        IsIndexed r.predecessors r.blocks.items r.starts.items r.filled.items };
 }
 
 // The block of each pair.
@@ -67,7 +68,9 @@ pub(crate) fn with_index(alloc: Global, predecessors: Predecessors) -> Result<Re
 
 // The first pair with a block at n or above.
 fn first_unknown(n: u32, listed: &[(u32, u32)]) -> Option<usize>
-    ensures { MatchOption result (All (IsKnown n) listed.now) (λ i. IsFirstNot (KnownAt n listed.now) (length listed.now) i) }
+    ensures { MatchOption result
+        (All (IsKnown n) listed.now)
+        (λ i. IsFirstNot (KnownAt n listed.now) (length listed.now) i) }
 {
     for (i, (b, p)) in listed.iter().enumerate() {
         if *b >= n || *p >= n {
@@ -85,7 +88,9 @@ impl Rests {
     /// more than 2^27 listed pairs, and `NoMemory`.
     pub fn from_pairs(alloc: Global, n: u32, listed: &[(u32, u32)]) -> Result<Rests, RestsFault>
         requires { n ≤ MOST_BLOCKS }
-        ensures { MatchResult result (λ r. (r.blocks ≡ n) × ArePairsOf listed.now r.pairs) (λ e. FaultStands n listed.now e) }
+        ensures { MatchResult result
+            (λ r. (r.blocks ≡ n) × ArePairsOf listed.now r.pairs)
+            (λ e. FaultStands n listed.now e) }
     {
         if let Some(i) = first_unknown(n, listed) {
             return Err(RestsFault::UnknownBlock(i));

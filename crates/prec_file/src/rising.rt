@@ -36,8 +36,11 @@ fn read_rising_line(
     requires kept { length to.old.rows.pairs ≤ to.old.listed }
     requires room { LINE_BYTES ≤ vec_capacity to.old.row }
     ensures { MatchResult result
-        (λ rises. rises ≡ true → IsLineRead n line (fields_of text.now) to.old.rows to.new.rows to.old.listed to.new.listed × (LINE_BYTES ≤ vec_capacity to.new.row))
-        (λ e. (had : ℕ → Bool) → AreNew to.old.rows.next had → TellsFault e (record_fault n had to.old.listed line (fields_of text.now))) }
+        (λ rises. rises ≡ true
+        → IsLineRead n line (fields_of text.now) to.old.rows to.new.rows to.old.listed to.new.listed
+        × (LINE_BYTES ≤ vec_capacity to.new.row))
+        (λ e. (had : ℕ → Bool) → AreNew to.old.rows.next had
+        → TellsFault e (record_fault n had to.old.listed line (fields_of text.now))) }
 {
     let Some(record) = read_record(&mut to.row, text, n, line)? else {
         return Ok(true);
@@ -64,7 +67,10 @@ pub(crate) fn read_rising(
 ) -> Result<Option<Predecessors>, PrecFault>
     requires { n ≤ MOST_BLOCKS }
     ensures { MatchResult result
-        (λ found. MatchOption found (Unit {0}) (λ r. (fault_of n text.now ≡ None) × (r.blocks ≡ n) × ArePairsOf (pairs_of_text text.now) r.pairs))
+        (λ found. MatchOption found
+        (Unit {0})
+        (λ r. (fault_of n text.now ≡ None) × (r.blocks ≡ n)
+        × ArePairsOf (pairs_of_text text.now) r.pairs))
         (λ e. UnlessMemory e (fault_of n text.now ≡ Some e)) }
 {
     let Ok(rows) = PredecessorsBuilder::new(alloc, n) else {

@@ -15,7 +15,9 @@ const WIDEST: usize = 7_000;
 
 // The first block that rests on too many.
 fn first_wide(predecessors: &Predecessors) -> Option<u32>
-    ensures { MatchOption result (AreNarrow predecessors.now) (λ b. IsFirstNot (IsNarrowAt predecessors.now) predecessors.now.blocks b) }
+    ensures { MatchOption result
+        (AreNarrow predecessors.now)
+        (λ b. IsFirstNot (IsNarrowAt predecessors.now) predecessors.now.blocks b) }
 {
     for b in 0..predecessors.len() {
         if predecessors.above(b).len() > WIDEST {
@@ -33,9 +35,11 @@ fn put_spaced<W: CountedWrite>(
     number: u64,
 ) -> Result<(), WriteFault>
     requires { W.failed out.old < 2 ^ 64 - 1 }
-    ensures held { OnOk result (SentOrHeld (W.contents out.old) (W.contents out.new) page.new (page.old ++ (32 ∷ decimal number))) }
+    ensures held { OnOk result (SentOrHeld (W.contents out.old) (W.contents out.new) page.new
+        (page.old ++ (32 ∷ decimal number))) }
     ensures kept { OnOk result (W.failed out.new ≡ W.failed out.old) }
-    ensures prefix { OnErr result (ReceivedPrefix (W.contents out.old) (W.contents out.new) (page.old ++ (32 ∷ decimal number))) }
+    ensures prefix { OnErr result (ReceivedPrefix (W.contents out.old) (W.contents out.new)
+        (page.old ++ (32 ∷ decimal number))) }
     ensures counted { OnErr result (W.failed out.new ≡ W.failed out.old + 1) }
 {
     page.put(out, b" ")?;
@@ -51,9 +55,11 @@ fn put_all_spaced<W: CountedWrite>(
     numbers: &[u32],
 ) -> Result<(), WriteFault>
     requires { W.failed out.old < 2 ^ 64 - 1 }
-    ensures held { OnOk result (SentOrHeld (W.contents out.old) (W.contents out.new) page.new (page.old ++ spaced_numbers numbers.now)) }
+    ensures held { OnOk result (SentOrHeld (W.contents out.old) (W.contents out.new) page.new
+        (page.old ++ spaced_numbers numbers.now)) }
     ensures kept { OnOk result (W.failed out.new ≡ W.failed out.old) }
-    ensures prefix { OnErr result (ReceivedPrefix (W.contents out.old) (W.contents out.new) (page.old ++ spaced_numbers numbers.now)) }
+    ensures prefix { OnErr result (ReceivedPrefix (W.contents out.old) (W.contents out.new)
+        (page.old ++ spaced_numbers numbers.now)) }
     ensures counted { OnErr result (W.failed out.new ≡ W.failed out.old + 1) }
 {
     for number in numbers {
@@ -71,9 +77,11 @@ fn put_head<W: CountedWrite>(
     count: u64,
 ) -> Result<(), WriteFault>
     requires { W.failed out.old < 2 ^ 64 - 1 }
-    ensures held { OnOk result (SentOrHeld (W.contents out.old) (W.contents out.new) page.new (page.old ++ (decimal block ++ (32 ∷ decimal count)))) }
+    ensures held { OnOk result (SentOrHeld (W.contents out.old) (W.contents out.new) page.new
+        (page.old ++ (decimal block ++ (32 ∷ decimal count)))) }
     ensures kept { OnOk result (W.failed out.new ≡ W.failed out.old) }
-    ensures prefix { OnErr result (ReceivedPrefix (W.contents out.old) (W.contents out.new) (page.old ++ (decimal block ++ (32 ∷ decimal count)))) }
+    ensures prefix { OnErr result (ReceivedPrefix (W.contents out.old) (W.contents out.new)
+        (page.old ++ (decimal block ++ (32 ∷ decimal count)))) }
     ensures counted { OnErr result (W.failed out.new ≡ W.failed out.old + 1) }
 {
     digits.set(block as u128);
@@ -89,9 +97,11 @@ fn put_rest<W: CountedWrite>(
     above: &[u32],
 ) -> Result<(), WriteFault>
     requires { W.failed out.old < 2 ^ 64 - 1 }
-    ensures held { OnOk result (SentOrHeld (W.contents out.old) (W.contents out.new) page.new (page.old ++ (spaced_numbers above.now ++ (10 ∷ [])))) }
+    ensures held { OnOk result (SentOrHeld (W.contents out.old) (W.contents out.new) page.new
+        (page.old ++ (spaced_numbers above.now ++ (10 ∷ [])))) }
     ensures kept { OnOk result (W.failed out.new ≡ W.failed out.old) }
-    ensures prefix { OnErr result (ReceivedPrefix (W.contents out.old) (W.contents out.new) (page.old ++ (spaced_numbers above.now ++ (10 ∷ [])))) }
+    ensures prefix { OnErr result (ReceivedPrefix (W.contents out.old) (W.contents out.new)
+        (page.old ++ (spaced_numbers above.now ++ (10 ∷ [])))) }
     ensures counted { OnErr result (W.failed out.new ≡ W.failed out.old + 1) }
 {
     put_all_spaced(page, out, digits, above)?;
@@ -108,9 +118,11 @@ fn put_line<W: CountedWrite>(
 ) -> Result<(), WriteFault>
     requires known { block < predecessors.now.blocks }
     requires room { W.failed out.old < 2 ^ 64 - 1 }
-    ensures held { OnOk result (SentOrHeld (W.contents out.old) (W.contents out.new) page.new (page.old ++ line_of predecessors.now.pairs block)) }
+    ensures held { OnOk result (SentOrHeld (W.contents out.old) (W.contents out.new) page.new
+        (page.old ++ line_of predecessors.now.pairs block)) }
     ensures kept { OnOk result (W.failed out.new ≡ W.failed out.old) }
-    ensures prefix { OnErr result (ReceivedPrefix (W.contents out.old) (W.contents out.new) (page.old ++ line_of predecessors.now.pairs block)) }
+    ensures prefix { OnErr result (ReceivedPrefix (W.contents out.old) (W.contents out.new)
+        (page.old ++ line_of predecessors.now.pairs block)) }
     ensures counted { OnErr result (W.failed out.new ≡ W.failed out.old + 1) }
 {
     let above = predecessors.above(block);
@@ -121,9 +133,11 @@ fn put_line<W: CountedWrite>(
 // Writes the lines of all blocks.
 fn write_lines<W: CountedWrite>(predecessors: &Predecessors, out: &mut W) -> Result<(), WriteFault>
     requires { W.failed out.old < 2 ^ 64 - 1 }
-    ensures sent { OnOk result (Appends (W.contents out.old) (W.contents out.new) (prec_text predecessors.now)) }
+    ensures sent { OnOk result
+        (Appends (W.contents out.old) (W.contents out.new) (prec_text predecessors.now)) }
     ensures kept { OnOk result (W.failed out.new ≡ W.failed out.old) }
-    ensures prefix { OnErr result (ReceivedPrefix (W.contents out.old) (W.contents out.new) (prec_text predecessors.now)) }
+    ensures prefix { OnErr result
+        (ReceivedPrefix (W.contents out.old) (W.contents out.new) (prec_text predecessors.now)) }
     ensures counted { OnErr result (W.failed out.new ≡ W.failed out.old + 1) }
 {
     let mut page = Page::new();
@@ -147,10 +161,12 @@ pub fn write_predecessors<W: CountedWrite>(
     out: &mut W,
 ) -> Result<(), PrecWriteFault>
     requires { W.failed out.old < 2 ^ 64 - 1 }
-    ensures sent { OnOk result (Appends (W.contents out.old) (W.contents out.new) (prec_text predecessors.now)) }
+    ensures sent { OnOk result
+        (Appends (W.contents out.old) (W.contents out.new) (prec_text predecessors.now)) }
     ensures kept { OnOk result (W.failed out.new ≡ W.failed out.old) }
     ensures narrow { OnOk result (AreNarrow predecessors.now) }
-    ensures fault { IfErr result (λ e. WriteFaultStands predecessors.now (W.contents out.old) (W.contents out.new) (W.failed out.old) (W.failed out.new) e) }
+    ensures fault { IfErr result (λ e. WriteFaultStands predecessors.now
+        (W.contents out.old) (W.contents out.new) (W.failed out.old) (W.failed out.new) e) }
 {
     if let Some(block) = first_wide(predecessors) {
         return Err(PrecWriteFault::TooWide(block));
@@ -166,10 +182,12 @@ pub fn write_predecessors<W: CountedWrite>(
 /// `out` must have counted fewer than 2^64 - 1 failures, so that one more can be counted.
 pub fn write_prec<W: CountedWrite>(rests: &Rests, out: &mut W) -> Result<(), PrecWriteFault>
     requires { W.failed out.old < 2 ^ 64 - 1 }
-    ensures sent { OnOk result (Appends (W.contents out.old) (W.contents out.new) (prec_text rests.now)) }
+    ensures sent { OnOk result
+        (Appends (W.contents out.old) (W.contents out.new) (prec_text rests.now)) }
     ensures kept { OnOk result (W.failed out.new ≡ W.failed out.old) }
     ensures narrow { OnOk result (AreNarrow rests.now) }
-    ensures fault { IfErr result (λ e. WriteFaultStands rests.now (W.contents out.old) (W.contents out.new) (W.failed out.old) (W.failed out.new) e) }
+    ensures fault { IfErr result (λ e. WriteFaultStands rests.now
+        (W.contents out.old) (W.contents out.new) (W.failed out.old) (W.failed out.new) e) }
 {
     write_predecessors(rests.predecessors(), out)
 }

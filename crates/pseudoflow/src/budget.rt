@@ -18,7 +18,8 @@ impl Budget {
     /// `Unsettled`, exactly where fewer are left. None is left then.
     pub(crate) fn spend(&mut self, turns: u64) -> Result<(), PseudoflowFault>
         ensures taken { IfOk result (λ _. self.new.left + turns ≡ self.old.left) }
-        ensures short { IfErr result (λ e. (e ≡ PseudoflowFault.Unsettled) × (self.old.left < turns) × (self.new.left ≡ 0)) }
+        ensures short { IfErr result (λ e. (e ≡ PseudoflowFault.Unsettled) × (self.old.left < turns)
+            × (self.new.left ≡ 0)) }
         ensures less { self.new.left ≤ self.old.left }
     {
         if self.left < turns {

@@ -48,7 +48,8 @@ pub(crate) fn first_with_label(
 
 // The block at a place before an end, if the place is one.
 fn block_before(blocks: &[u32], place: usize, end: usize) -> Option<u32>
-    ensures { IfSome result (λ b. (place < length blocks.now) × (b ≡ slice_index blocks.now place)) }
+    ensures { IfSome result (λ b. (place < length blocks.now)
+        × (b ≡ slice_index blocks.now place)) }
 {
     if place < end && place < blocks.len() {
         Some(blocks[place])
@@ -141,7 +142,8 @@ impl<A: Amount> Search<A> {
         requires { root < self.old }
         ensures kept { self.new ≡ self.old }
         ensures less { budget.new.left ≤ budget.old.left }
-        ensures known { IfOk result (λ found. IfSome found (λ arc. (arc.strong < self.old) × (arc.weak < self.old))) }
+        ensures known { IfOk result (λ found. IfSome found (λ arc. (arc.strong < self.old)
+            × (arc.weak < self.old))) }
     {
         let mut at = root;
         let mut found = self.visit(at, budget)?;
@@ -170,7 +172,8 @@ impl<A: Amount> Search<A> {
         requires { strong < self.old }
         ensures kept { self.new ≡ self.old }
         ensures less { budget.new.left ≤ budget.old.left }
-        ensures known { IfOk result (λ found. IfSome found (λ arc. (arc.strong < self.old) × (arc.weak < self.old))) }
+        ensures known { IfOk result (λ found. IfSome found (λ arc. (arc.strong < self.old)
+            × (arc.weak < self.old))) }
     {
         let label = self.highest.checked_sub(1).ok_or(PseudoflowFault::Broken)?;
         self.forest.begin_visits(strong);

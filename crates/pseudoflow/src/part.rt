@@ -35,7 +35,8 @@ impl Model for Part {
 
     ghost view = { λ p. length p.blocks.items };
 
-    ghost invariant = { λ p. (p.arcs ≡ length p.blocks.items) × (p.labels ≡ length p.blocks.items) };
+    ghost invariant = { λ p. (p.arcs ≡ length p.blocks.items)
+        × (p.labels ≡ length p.blocks.items) };
 }
 
 // How many blocks these are, of n.

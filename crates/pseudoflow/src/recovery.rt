@@ -54,7 +54,8 @@ impl<'a, G: OrderedGroup> Model for Draft<'a, G> {
 
     ghost view = { λ d. d.net.now };
 
-    ghost invariant = { λ d. (length d.source ≡ length d.net.now.worths) × (length d.rest ≡ length d.net.now.pairs) × (length d.sink ≡ length d.net.now.worths) };
+    ghost invariant = { λ d. (length d.source ≡ length d.net.now.worths)
+        × (length d.rest ≡ length d.net.now.pairs) × (length d.sink ≡ length d.net.now.worths) };
 }
 
 impl<'a, G: OrderedGroup> Draft<'a, G> {

@@ -22,7 +22,8 @@ pub fn judge_flow<G: OrderedGroup>(
     net: &Net<G>,
     flow: Flow<G>,
 ) -> Result<Judgement, AllocError>
-    ensures { IfOk result (λ judgement. (texts : MineTexts) → IsSolved net.now flow → IsNetBy texts G.name net.now
+    ensures { IfOk result (λ judgement. (texts : MineTexts) → IsSolved net.now flow
+        → IsNetBy texts G.name net.now
         → IsGroupNamed G.name G.block_parts G.counts
         → IsFlowJudged texts G.name net.now flow judgement) }
 {

@@ -59,8 +59,10 @@ pub fn write_outcome<W: CountedWrite>(
     out: &mut W,
 ) -> Result<(), EngineFault>
     requires { W.failed out.old < 2 ^ 64 - 1 }
-    ensures lines { OnOk result (Appends (W.contents out.old) (W.contents out.new) (outcome_text outcome)) }
-    ensures fault { IfErr result (LineFails (W.contents out.old) (W.contents out.new) (outcome_text outcome)) }
+    ensures lines { OnOk result
+        (Appends (W.contents out.old) (W.contents out.new) (outcome_text outcome)) }
+    ensures fault { IfErr result
+        (LineFails (W.contents out.old) (W.contents out.new) (outcome_text outcome)) }
     ensures device { IsErrOf result EngineFault.Device ↔ (W.failed out.new ≡ W.failed out.old + 1) }
     ensures kept { ¬ IsErrOf result EngineFault.Device → W.failed out.new ≡ W.failed out.old }
 {
@@ -80,7 +82,8 @@ fn text_of(alloc: Global, outcome: Outcome) -> Result<String, AllocError>
 }
 
 fn quiet_text(alloc: Global, steps: u64, judgement: Judgement) -> Result<String, AllocError>
-    ensures { IfOk result (λ text. string_bytes text ≡ outcome_text (Outcome.Quiet steps judgement)) }
+    ensures { IfOk result
+        (λ text. string_bytes text ≡ outcome_text (Outcome.Quiet steps judgement)) }
 {
     let line = line_of(alloc, judgement)?;
     format!(in alloc; "REPLAYED {steps} QUIET\n{line}")

@@ -33,8 +33,10 @@ pub fn replay_mine<W: CountedWrite>(
     out: &mut W,
 ) -> Result<Verdict, EngineFault>
     requires { W.failed out.old < 2 ^ 64 - 1 }
-    ensures answer { (texts : MineTexts) (trace : List ℕ) → AreRead texts mine.nanos.items mine.rests
-        → ReadsTrace trace events.now → Replays texts group trace (W.contents out.old) (W.contents out.new) result }
+    ensures answer { (texts : MineTexts) (trace : List ℕ)
+        → AreRead texts mine.nanos.items mine.rests
+        → ReadsTrace trace events.now
+        → Replays texts group trace (W.contents out.old) (W.contents out.new) result }
     ensures device { IsErrOf result EngineFault.Device ↔ (W.failed out.new ≡ W.failed out.old + 1) }
     ensures kept { ¬ IsErrOf result EngineFault.Device → W.failed out.new ≡ W.failed out.old }
 {
@@ -71,7 +73,8 @@ fn outcome_by<G: OrderedGroup>(
     mine: MineToSolve,
     events: &[Event],
 ) -> Result<Outcome, EngineFault>
-    ensures comes { (texts : MineTexts) → AreRead texts mine.nanos.items mine.rests → IsGroupNamed G.name G.block_parts G.counts
+    ensures comes { (texts : MineTexts) → AreRead texts mine.nanos.items mine.rests
+        → IsGroupNamed G.name G.block_parts G.counts
         → MatchResult result (ComesOf texts G.name events.now) (NothingComes texts G.name) }
     ensures no_device { ¬ IsErrOf result EngineFault.Device }
 {
@@ -89,7 +92,8 @@ fn outcome_over<G: OrderedGroup>(
     events: &[Event],
 ) -> Result<Outcome, AllocError>
     ensures comes { IfOk result (λ outcome. (texts : MineTexts) → IsNetBy texts G.name net.now
-        → IsGroupNamed G.name G.block_parts G.counts → IsOutcome texts G.name net.now events.now outcome) }
+        → IsGroupNamed G.name G.block_parts G.counts
+        → IsOutcome texts G.name net.now events.now outcome) }
 {
     // proof: the flow of a quiet state solves the net
     machine_laws::quiet_flow_is_greatest();

@@ -46,12 +46,14 @@ pub fn replay_engine<R: Threads + Sync, D: CountedRead, E: CountedRead, W: Count
     requires out_room { W.failed out.old < 2 ^ 64 - 1 }
 
     // What it answers and writes, where the readers tell their bytes.
-    ensures answer { IfSome (E.remaining trace.old) (λ t. ForTexts inputs.old D.remaining asked.factor (λ texts.
+    ensures answer { IfSome (E.remaining trace.old)
+        (λ t. ForTexts inputs.old D.remaining asked.factor (λ texts.
         Replays texts asked.group t (W.contents out.old) (W.contents out.new) result)) }
 
     // A device is named exactly where one failed.
     ensures device { IsErrOf result EngineFault.Device
-        → OneFailed inputs.old inputs.new D.failed (E.failed trace.old + W.failed out.old) (E.failed trace.new + W.failed out.new) }
+        → OneFailed inputs.old inputs.new D.failed
+        (E.failed trace.old + W.failed out.old) (E.failed trace.new + W.failed out.new) }
     ensures kept { ¬ IsErrOf result EngineFault.Device → NoneFailed inputs.old inputs.new D.failed
         × (E.failed trace.new ≡ E.failed trace.old) × (W.failed out.new ≡ W.failed out.old) }
 {

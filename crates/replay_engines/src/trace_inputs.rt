@@ -18,8 +18,11 @@ use trace_file::read_trace;
 /// where a read fails.
 pub fn events_from<E: CountedRead>(alloc: Global, from: &mut E) -> Result<Vec<Event>, EngineFault>
     requires { E.failed from.old < 2 ^ 64 - 1 }
-    ensures read { IfSome (E.remaining from.old) (λ text. MatchResult result (λ v. ReadsTrace text v.items) (TraceReadFails text)) }
-    ensures device { IsErrOf result EngineFault.Device ↔ (E.failed from.new ≡ E.failed from.old + 1) }
+    ensures read { IfSome (E.remaining from.old) (λ text. MatchResult result
+        (λ v. ReadsTrace text v.items)
+        (TraceReadFails text)) }
+    ensures device { IsErrOf result EngineFault.Device
+        ↔ (E.failed from.new ≡ E.failed from.old + 1) }
     ensures kept { ¬ IsErrOf result EngineFault.Device → E.failed from.new ≡ E.failed from.old }
 {
     let too_long = EngineFault::Trace(Problem::InputTooLong);

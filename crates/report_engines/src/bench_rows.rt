@@ -28,7 +28,8 @@ pub fn rows_at(
     factor: Factor,
 ) -> Result<Vec<BenchRow>, AllocError>
     requires { IsPricedModel charges model.now series.now.prices }
-    ensures rows { IfOk result (λ rows. IsBenchTable (reported_blocks model.now series.now (place_beside charges) (worths_at series.now.prices factor)) rows.items) }
+    ensures rows { IfOk result (λ rows. IsBenchTable (reported_blocks model.now series.now
+        (place_beside charges) (worths_at series.now.prices factor)) rows.items) }
     ensures series { OnOk result (IsSeries series.now) }
 {
     // proof: at each factor the blocks with a shell of at most that factor are the best pit

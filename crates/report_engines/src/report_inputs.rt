@@ -46,7 +46,8 @@ struct ReportColumns {
 // The columns that settings name, where they say all that a report needs.
 fn columns_of(settings: &Settings) -> Result<ReportColumns, EngineFault>
     ensures columns { MatchResult result
-        (λ columns. (columns ≡ columns_by settings.now) × (first_missing (report_keys settings.now) settings.now ≡ None))
+        (λ columns. (columns ≡ columns_by settings.now)
+        × (first_missing (report_keys settings.now) settings.now ≡ None))
         (IsMissing (report_keys settings.now) settings.now) }
     ensures no_device { ¬ IsErrOf result EngineFault.Device }
 {
@@ -87,8 +88,10 @@ fn said_from<S: CountedRead>(alloc: Global, settings: &mut S) -> Result<Said, En
     ensures read { IfSome (S.remaining settings.old) (λ s. MatchResult result
         (λ said. IsSaid s said.columns said.factors.items said.factor)
         (SaidFails s)) }
-    ensures device { IsErrOf result EngineFault.Device ↔ (S.failed settings.new ≡ S.failed settings.old + 1) }
-    ensures kept { ¬ IsErrOf result EngineFault.Device → S.failed settings.new ≡ S.failed settings.old }
+    ensures device { IsErrOf result EngineFault.Device
+        ↔ (S.failed settings.new ≡ S.failed settings.old + 1) }
+    ensures kept { ¬ IsErrOf result EngineFault.Device
+        → S.failed settings.new ≡ S.failed settings.old }
 {
     let settings = settings_from(alloc, settings)?;
     let columns = columns_of(&settings)?;
@@ -121,7 +124,8 @@ fn priced_model_from<B: CountedRead>(
         (λ read. ReadsBlocks (report_list columns) text read.model)
         (PricedModelFails columns text)) }
     ensures charges { IfOk result (λ read. read.charges ≡ columns.prices.charges) }
-    ensures device { IsErrOf result EngineFault.Device ↔ (B.failed blocks.new ≡ B.failed blocks.old + 1) }
+    ensures device { IsErrOf result EngineFault.Device
+        ↔ (B.failed blocks.new ≡ B.failed blocks.old + 1) }
     ensures kept { ¬ IsErrOf result EngineFault.Device → B.failed blocks.new ≡ B.failed blocks.old }
 {
     let model = priced_blocks_from(alloc, blocks, columns.prices, Some(columns.tonnes))?;
@@ -148,9 +152,13 @@ pub fn report_mine_from<D: CountedRead>(
 ) -> Result<ReportMine, EngineFault>
     requires { InputsCanCount inputs.old D.failed }
     ensures read { ForSeries inputs.old D.remaining (λ s b p. MatchResult result
-        (λ mine. IsReportRead s b p mine.series.prices mine.series.predecessors mine.series.factors.items mine.model mine.charges mine.factor) (ReportMineFails s b p)) }
-    ensures device { IsErrOf result EngineFault.Device → input_failures inputs.new D.failed ≡ input_failures inputs.old D.failed + 1 }
-    ensures kept { ¬ IsErrOf result EngineFault.Device → NoInputFailed inputs.old inputs.new D.failed }
+        (λ mine. IsReportRead s b p mine.series.prices mine.series.predecessors
+        mine.series.factors.items mine.model mine.charges mine.factor)
+        (ReportMineFails s b p)) }
+    ensures device { IsErrOf result EngineFault.Device
+        → input_failures inputs.new D.failed ≡ input_failures inputs.old D.failed + 1 }
+    ensures kept { ¬ IsErrOf result EngineFault.Device
+        → NoInputFailed inputs.old inputs.new D.failed }
 {
     let said = said_from(alloc, &mut inputs.settings)?;
     let read = priced_model_from(alloc, &mut inputs.blocks, said.columns)?;

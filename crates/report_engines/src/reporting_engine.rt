@@ -63,13 +63,17 @@ pub fn report_engine<
     requires outputs_room { OutputsCanCount outputs.old V.failed W.failed }
 
     // What it answers and writes, where the readers tell their bytes.
-    ensures answer { ForSeries inputs.old D.remaining (λ s b p. Reports s b p effort (is_asked outputs.old.by_block) (contents_in outputs.old.by_block V.contents) (contents_in outputs.new.by_block V.contents)
+    ensures answer { ForSeries inputs.old D.remaining
+        (λ s b p. Reports s b p effort (is_asked outputs.old.by_block)
+        (contents_in outputs.old.by_block V.contents) (contents_in outputs.new.by_block V.contents)
         (W.contents outputs.old.out) (W.contents outputs.new.out) result) }
 
     // A device is named exactly where one failed.
-    ensures device { IsErrOf result EngineFault.Device → input_failures inputs.new D.failed + output_failures outputs.new V.failed W.failed
+    ensures device { IsErrOf result EngineFault.Device
+        → input_failures inputs.new D.failed + output_failures outputs.new V.failed W.failed
         ≡ input_failures inputs.old D.failed + output_failures outputs.old V.failed W.failed + 1 }
-    ensures kept { ¬ IsErrOf result EngineFault.Device → NoInputFailed inputs.old inputs.new D.failed
+    ensures kept { ¬ IsErrOf result EngineFault.Device
+        → NoInputFailed inputs.old inputs.new D.failed
         × NoOutputFailed outputs.old outputs.new V.failed W.failed }
 {
     let mine = report_mine_from(alloc, inputs)?;
@@ -88,7 +92,8 @@ fn answer_of<R: Threads + Wait + Sync, T: Gate + Progress + SeriesProgress>(
     is_asked: bool,
 ) -> Result<Answer, EngineFault>
     ensures answer { (s b p : List ℕ)
-        → IsReportRead s b p mine.series.prices mine.series.predecessors mine.series.factors.items mine.model mine.charges mine.factor
+        → IsReportRead s b p mine.series.prices mine.series.predecessors
+        mine.series.factors.items mine.model mine.charges mine.factor
         → MatchResult result
         (λ a. AnswersReport s b p effort is_asked a.verdict a.table.items a.text.items)
         (λ e. ReportFails s b p e) }

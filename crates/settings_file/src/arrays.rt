@@ -14,7 +14,8 @@ use toml::value::Array;
 
 // The whole numbers from 0 to `most` that the values are, or `None` where one is something else.
 fn numbers_within(alloc: Global, values: &Array, most: u32) -> Result<Option<Vec<u32>>, AllocError>
-    ensures value { IfOk result (λ o. option_map (λ v. v.items) o ≡ all_read (whole_value_within most) (array_view values.now)) }
+    ensures value { IfOk result (λ o. option_map (λ v. v.items) o
+        ≡ all_read (whole_value_within most) (array_view values.now)) }
     ensures bound { IfOk result (λ o. IfSome o (λ v. All (λ n. n ≤ most) v.items)) }
 {
     let mut numbers = Vec::new(alloc);
@@ -90,7 +91,8 @@ fn offset_in(value: &Value) -> Option<(i32, i32, i32)>
 
 // The offsets that the values are, or `None` where one is something else.
 fn offsets_among(alloc: Global, values: &Array) -> Result<Option<Vec<(i32, i32, i32)>>, AllocError>
-    ensures { IfOk result (λ o. option_map (λ v. v.items) o ≡ all_read offset_of (array_view values.now)) }
+    ensures { IfOk result
+        (λ o. option_map (λ v. v.items) o ≡ all_read offset_of (array_view values.now)) }
 {
     let mut offsets = Vec::new(alloc);
     for value in values {

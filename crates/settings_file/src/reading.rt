@@ -60,10 +60,13 @@ fn cost_at(table: &Table) -> Result<Option<u32>, SettingsFault>
 // The factors of the table.
 fn factors_at(alloc: Global, table: &Table) -> Result<Option<Vec<u32>>, SettingsFault>
     ensures value { MatchResult result
-        (λ o. said_at Key.Factors factors_of (table_view table.now) ≡ Ok (option_map (λ v. v.items) o))
-        (λ e. ¬ (e ≡ SettingsFault.NoMemory) → said_at Key.Factors factors_of (table_view table.now) ≡ Err e) }
+        (λ o. said_at Key.Factors factors_of (table_view table.now)
+        ≡ Ok (option_map (λ v. v.items) o))
+        (λ e. ¬ (e ≡ SettingsFault.NoMemory)
+        → said_at Key.Factors factors_of (table_view table.now) ≡ Err e) }
     ensures form { IfOk result (λ o. IfSome o (λ v. AreFactors v.items)) }
-    ensures fault { IfErr result (λ e. (e ≡ SettingsFault.BadValue Key.Factors) ⊎ (e ≡ SettingsFault.NoMemory)) }
+    ensures fault { IfErr result (λ e. (e ≡ SettingsFault.BadValue Key.Factors)
+        ⊎ (e ≡ SettingsFault.NoMemory)) }
 {
     match table.get(Key::Factors.name()) {
         Some(value) => match factors_in(alloc, value) {
@@ -78,9 +81,12 @@ fn factors_at(alloc: Global, table: &Table) -> Result<Option<Vec<u32>>, Settings
 // The offsets of the table.
 fn offsets_at(alloc: Global, table: &Table) -> Result<Option<Vec<(i32, i32, i32)>>, SettingsFault>
     ensures value { MatchResult result
-        (λ o. said_at Key.Offsets offsets_of (table_view table.now) ≡ Ok (option_map (λ v. v.items) o))
-        (λ e. ¬ (e ≡ SettingsFault.NoMemory) → said_at Key.Offsets offsets_of (table_view table.now) ≡ Err e) }
-    ensures fault { IfErr result (λ e. (e ≡ SettingsFault.BadValue Key.Offsets) ⊎ (e ≡ SettingsFault.NoMemory)) }
+        (λ o. said_at Key.Offsets offsets_of (table_view table.now)
+        ≡ Ok (option_map (λ v. v.items) o))
+        (λ e. ¬ (e ≡ SettingsFault.NoMemory)
+        → said_at Key.Offsets offsets_of (table_view table.now) ≡ Err e) }
+    ensures fault { IfErr result (λ e. (e ≡ SettingsFault.BadValue Key.Offsets)
+        ⊎ (e ≡ SettingsFault.NoMemory)) }
 {
     match table.get(Key::Offsets.name()) {
         Some(value) => match offsets_in(alloc, value) {
@@ -97,7 +103,8 @@ fn settings_of(alloc: Global, table: &Table) -> Result<Settings, SettingsFault>
     ensures value { MatchResult result
         (λ s. settings_in (table_view table.now) ≡ Ok s)
         (λ e. ¬ (e ≡ SettingsFault.NoMemory) → settings_in (table_view table.now) ≡ Err e) }
-    ensures early { IfErr result (λ e. e ≡ SettingsFault.NoMemory → IsGoodUpToFactors (table_view table.now)) }
+    ensures early { IfErr result (λ e. e ≡ SettingsFault.NoMemory
+        → IsGoodUpToFactors (table_view table.now)) }
     ensures kind { IfErr result IsOfTable }
 {
     if !has_only_keys(table) {

@@ -38,9 +38,13 @@ impl Model for Settings {
 
     ghost Value = { SettingsView };
 
-    ghost view = { λ s. settings_view s.revenue s.cost s.tonnes (option_map (λ v. v.items) s.factors) s.report (option_map (λ v. v.items) s.offsets) s.processing s.mining };
+    ghost view = { λ s. settings_view s.revenue s.cost s.tonnes
+        (option_map (λ v. v.items) s.factors) s.report
+        (option_map (λ v. v.items) s.offsets) s.processing s.mining };
 
-    ghost invariant = { λ s. IsSettings (settings_view s.revenue s.cost s.tonnes (option_map (λ v. v.items) s.factors) s.report (option_map (λ v. v.items) s.offsets) s.processing s.mining) };
+    ghost invariant = { λ s. IsSettings
+        (settings_view s.revenue s.cost s.tonnes (option_map (λ v. v.items) s.factors) s.report
+        (option_map (λ v. v.items) s.offsets) s.processing s.mining) };
 }
 
 impl Settings {
@@ -57,7 +61,9 @@ impl Settings {
         requires report { IfSome report (λ factor. factor ≤ MOST_FACTOR) }
         requires processing { IfSome columns.processing (λ column. column ≤ 65535) }
         requires mining { IfSome columns.mining (λ column. column ≤ 65535) }
-        ensures { result ≡ settings_view columns.revenue columns.cost columns.tonnes (option_map (λ v. v.items) factors) report (option_map (λ v. v.items) offsets) columns.processing columns.mining }
+        ensures { result ≡ settings_view columns.revenue columns.cost columns.tonnes
+            (option_map (λ v. v.items) factors) report
+            (option_map (λ v. v.items) offsets) columns.processing columns.mining }
     {
         let Columns {
             revenue,

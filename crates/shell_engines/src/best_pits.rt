@@ -54,7 +54,9 @@ pub fn net_at<R: Threads + Sync>(
 
 /// The best pit at a factor, of a solution of the net at it.
 pub fn best_of<G: SizeGroup>(factor: Factor, solution: Solution<G>) -> BestPit
-    ensures { (net : NetView) → IsSolution G.set_worth net solution.flow solution.pit solution.count solution.worth → IsBestOf G.block_parts net factor result }
+    ensures { (net : NetView)
+        → IsSolution G.set_worth net solution.flow solution.pit solution.count solution.worth
+        → IsBestOf G.block_parts net factor result }
 {
     // proof: a greatest closed set is the best pit, and its amounts tell its worth
     laws::greatest_set_is_best_pit::<G>();

@@ -29,7 +29,8 @@ pub fn at_places(
     kept: &[u32],
     places: &[u32],
 ) -> Result<Option<Vec<u32>>, AllocError>
-    ensures { IfOk result (λ o. IfSome o (λ v. (v.items ≡ map (number_in kept.now) places.now) × All (λ i. i < length kept.now) places.now)) }
+    ensures { IfOk result (λ o. IfSome o (λ v. (v.items ≡ map (number_in kept.now) places.now)
+        × All (λ i. i < length kept.now) places.now)) }
 {
     let mut found = Vec::with_capacity(alloc, places.len())?;
     for i in places {
@@ -48,7 +49,8 @@ pub fn at_places(
 /// Memory was refused.
 pub fn at_others(alloc: Global, kept: &[u32], pit: &Pit) -> Result<Vec<u32>, AllocError>
     requires { length kept.now ≤ MOST_BLOCKS }
-    ensures { IfOk result (λ v. v.items ≡ map (number_in kept.now) (numbers_passing (difference_of every_block (holds_of pit.now)) (length kept.now))) }
+    ensures { IfOk result (λ v. v.items ≡ map (number_in kept.now)
+        (numbers_passing (difference_of every_block (holds_of pit.now)) (length kept.now))) }
 {
     let mut found = Vec::new(alloc);
     let mut near = 0;
@@ -68,7 +70,8 @@ fn put_below(
     bound: u32,
 ) -> Result<usize, AllocError>
     requires { from ≤ length blocks.now }
-    ensures { (e : ℕ → Bool) → AreJoined e blocks.now from found.old.items → IfOk result (λ to. AreJoined e blocks.now to found.new.items) }
+    ensures { (e : ℕ → Bool) → AreJoined e blocks.now from found.old.items
+        → IfOk result (λ to. AreJoined e blocks.now to found.new.items) }
 {
     for k in from..blocks.len() {
         if bound <= blocks[k] {
@@ -84,7 +87,8 @@ fn put_below(
 /// # Errors
 /// Memory was refused.
 pub fn merged(alloc: Global, first: &[u32], second: &[u32]) -> Result<Vec<u32>, AllocError>
-    ensures { IfOk result (λ v. (b : ℕ) → holds_of v.items b ≡ union_of (holds_of first.now) (holds_of second.now) b) }
+    ensures { IfOk result (λ v. (b : ℕ)
+        → holds_of v.items b ≡ union_of (holds_of first.now) (holds_of second.now) b) }
 {
     let mut found: Vec<u32> = Vec::new(alloc);
     let mut next = 0;
@@ -100,7 +104,9 @@ pub fn merged(alloc: Global, first: &[u32], second: &[u32]) -> Result<Vec<u32>, 
 
 // What these blocks are worth together at a factor: none where one of them has no price, or a sum doesn't fit.
 fn worth_of(prices: &Prices, blocks: &[u32], factor: Factor) -> Option<i128>
-    ensures { IfSome result (λ w. (w ≡ worth_in (λ i. worth_at prices.now factor (number_in blocks.now i)) every_block (length blocks.now)) × All (λ b. b < blocks_of prices.now) blocks.now) }
+    ensures { IfSome result (λ w. (w ≡ worth_in
+        (λ i. worth_at prices.now factor (number_in blocks.now i)) every_block (length blocks.now))
+        × All (λ b. b < blocks_of prices.now) blocks.now) }
 {
     let mut sum: i128 = 0;
     for b in blocks {
@@ -115,7 +121,9 @@ fn worth_of(prices: &Prices, blocks: &[u32], factor: Factor) -> Option<i128>
 /// The pit of these blocks at a factor, with what it has: none where they don't ascend, one of them has no price, or a sum of
 /// their worths doesn't fit.
 pub fn best_with(prices: &Prices, blocks: Vec<u32>, factor: Factor) -> Option<BestPit>
-    ensures { IfSome result (λ best. (pairs : List (ℕ × ℕ)) → IsBest (mine_at pairs prices.now factor) (holds_of blocks.items) → IsProved pairs prices.now best) }
+    ensures { IfSome result (λ best. (pairs : List (ℕ × ℕ))
+        → IsBest (mine_at pairs prices.now factor) (holds_of blocks.items)
+        → IsProved pairs prices.now best) }
 {
     // proof: a table has at most so many blocks
     let _ = prices.len();

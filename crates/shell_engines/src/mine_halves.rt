@@ -36,7 +36,8 @@ impl Level {
     // Takes up a part, unless it has no factor.
     fn keep(&mut self, part: Part) -> Result<(), AllocError>
         ensures same { OnOk result (self.new.found.items ≡ self.old.found.items) }
-        ensures parts { OnOk result (self.new.parts.items ≡ self.old.parts.items ++ cond (nat_lt part.from part.to) (part ∷ []) []) }
+        ensures parts { OnOk result (self.new.parts.items ≡ self.old.parts.items ++ cond
+            (nat_lt part.from part.to) (part ∷ []) []) }
     {
         if part.from < part.to {
             self.parts.push(part)?;
@@ -46,7 +47,9 @@ impl Level {
 
     // Takes up what a part gave.
     fn take(&mut self, halves: Halved) -> Result<(), AllocError>
-        ensures { (pairs : List (ℕ × ℕ)) (prices : PricesView) (factors : List ℕ) → IsSearchLevel pairs prices factors self.old → AreHalved pairs prices factors halves → OnOk result (IsSearchLevel pairs prices factors self.new) }
+        ensures { (pairs : List (ℕ × ℕ)) (prices : PricesView) (factors : List ℕ)
+            → IsSearchLevel pairs prices factors self.old → AreHalved pairs prices factors halves
+            → OnOk result (IsSearchLevel pairs prices factors self.new) }
     {
         let Halved {
             best,
@@ -93,8 +96,10 @@ fn solved_by<T: SeriesProgress>(
     gate: &T,
 ) -> Result<Level, AllocError>
     requires priced { ArePriced mine.now.predecessors.pairs mine.now.prices mine.now.factors.items }
-    requires left { All (IsLeft mine.now.predecessors.pairs mine.now.prices mine.now.factors.items) parts.now }
-    ensures { IfOk result (IsSearchLevel mine.now.predecessors.pairs mine.now.prices mine.now.factors.items) }
+    requires left { All
+        (IsLeft mine.now.predecessors.pairs mine.now.prices mine.now.factors.items) parts.now }
+    ensures { IfOk result
+        (IsSearchLevel mine.now.predecessors.pairs mine.now.prices mine.now.factors.items) }
 {
     let factors = mine.factors.as_slice();
     let mut level = Level::new(alloc);
@@ -123,8 +128,10 @@ fn level_of<R: Threads + Sync, T: SeriesProgress + Sync>(
     gate: &T,
 ) -> Result<Level, AllocError>
     requires priced { ArePriced mine.now.predecessors.pairs mine.now.prices mine.now.factors.items }
-    requires left { All (IsLeft mine.now.predecessors.pairs mine.now.prices mine.now.factors.items) parts.now }
-    ensures { IfOk result (IsSearchLevel mine.now.predecessors.pairs mine.now.prices mine.now.factors.items) }
+    requires left { All
+        (IsLeft mine.now.predecessors.pairs mine.now.prices mine.now.factors.items) parts.now }
+    ensures { IfOk result
+        (IsSearchLevel mine.now.predecessors.pairs mine.now.prices mine.now.factors.items) }
 {
     let taken = AtomicU64::new(0);
     let threads = effort.workers as usize;
@@ -134,8 +141,12 @@ fn level_of<R: Threads + Sync, T: SeriesProgress + Sync>(
         alloc,
         threads.min(parts.len()),
         &|_thread: usize| -> Result<Level, AllocError>
-            requires { ArePriced mine.now.predecessors.pairs mine.now.prices mine.now.factors.items × All (IsLeft mine.now.predecessors.pairs mine.now.prices mine.now.factors.items) parts.now }
-            ensures { IfOk result (IsSearchLevel mine.entry.now.predecessors.pairs mine.entry.now.prices mine.entry.now.factors.items) }
+            requires { ArePriced mine.now.predecessors.pairs mine.now.prices mine.now.factors.items
+                × All (IsLeft mine.now.predecessors.pairs mine.now.prices mine.now.factors.items)
+                parts.now }
+            ensures { IfOk result
+                (IsSearchLevel mine.entry.now.predecessors.pairs mine.entry.now.prices
+                mine.entry.now.factors.items) }
         { solved_by(alloc, mine, parts, &taken, turns, gate) },
     )?;
     let mut all = Level::new(alloc);
@@ -159,7 +170,8 @@ pub fn found_beside<R: Threads + Sync, T: SeriesProgress + Sync>(
     effort: Effort,
     gate: &T,
 ) -> Result<Vec<BestPit>, AllocError>
-    ensures { IfOk result (λ v. All (IsProved mine.now.predecessors.pairs mine.now.prices) v.items) }
+    ensures { IfOk result
+        (λ v. All (IsProved mine.now.predecessors.pairs mine.now.prices) v.items) }
 {
     let mut found: Vec<BestPit> = Vec::new(alloc);
     let mut parts: Vec<Part> = Vec::new(alloc);

@@ -52,7 +52,8 @@ pub struct Halved {
 /// # Errors
 /// Memory was refused.
 pub fn whole(alloc: Global, blocks: u32, factors: usize) -> Result<Part, AllocError>
-    ensures { IfOk result (λ part. (part.from ≡ 0) × (part.to ≡ factors) × (part.low.items ≡ []) × (part.kept.items ≡ numbers_passing every_block blocks)) }
+    ensures { IfOk result (λ part. (part.from ≡ 0) × (part.to ≡ factors) × (part.low.items ≡ [])
+        × (part.kept.items ≡ numbers_passing every_block blocks)) }
 {
     let mut kept = Vec::with_capacity(alloc, blocks as usize)?;
     for b in 0..blocks {
@@ -73,7 +74,8 @@ fn worths_among(
     kept: &[u32],
     factor: Factor,
 ) -> Result<Option<Vec<i128>>, AllocError>
-    ensures { IfOk result (λ o. IfSome o (λ v. v.items ≡ map (worth_at prices.now factor) kept.now)) }
+    ensures { IfOk result
+        (λ o. IfSome o (λ v. v.items ≡ map (worth_at prices.now factor) kept.now)) }
 {
     let mut worths = Vec::with_capacity(alloc, kept.len())?;
     for b in kept {
@@ -96,7 +98,8 @@ fn net_among(
     requires ascending { IsAscending kept.now }
     requires below { All (λ b. b < predecessors.now.blocks) kept.now }
     requires size { length kept.now ≤ predecessors.now.blocks }
-    ensures { IfOk result (λ o. IfSome o (IsNetAmong scaled_block predecessors.now.pairs prices.now kept.now factor)) }
+    ensures { IfOk result (λ o. IfSome o
+        (IsNetAmong scaled_block predecessors.now.pairs prices.now kept.now factor)) }
 {
     let small = rests_among(alloc, predecessors, kept)?;
     let Some(worths) = worths_among(alloc, prices, kept, factor)? else {
@@ -122,8 +125,11 @@ fn by_pit(
     requires first { part.now.from ≤ place }
     requires last { place < part.now.to }
     requires few { length part.now.kept.items ≤ MOST_BLOCKS }
-    ensures { (pairs : List (ℕ × ℕ)) → ArePriced pairs mine.now.prices mine.now.factors.items → IsPart pairs mine.now.prices mine.now.factors.items part.now
-        → IsBestAmong pairs mine.now.prices part.now.kept.items (slice_index mine.now.factors.items place) small.now → IfOk result (λ o. IfSome o (AreHalved pairs mine.now.prices mine.now.factors.items)) }
+    ensures { (pairs : List (ℕ × ℕ)) → ArePriced pairs mine.now.prices mine.now.factors.items
+        → IsPart pairs mine.now.prices mine.now.factors.items part.now
+        → IsBestAmong pairs mine.now.prices part.now.kept.items
+        (slice_index mine.now.factors.items place) small.now
+        → IfOk result (λ o. IfSome o (AreHalved pairs mine.now.prices mine.now.factors.items)) }
 {
     let kept = part.kept.as_slice();
     let Some(inside) = at_places(alloc, kept, small.blocks())? else {
@@ -172,7 +178,8 @@ fn quick_best(
 impl Part {
     // A part with the blocks of this one, for the factors at these places.
     fn narrowed(&self, alloc: Global, from: usize, to: usize) -> Result<Part, AllocError>
-        ensures { IfOk result (λ part. (part.from ≡ from) × (part.to ≡ to) × (part.low.items ≡ self.now.low.items) × (part.kept.items ≡ self.now.kept.items)) }
+        ensures { IfOk result (λ part. (part.from ≡ from) × (part.to ≡ to)
+            × (part.low.items ≡ self.now.low.items) × (part.kept.items ≡ self.now.kept.items)) }
     {
         Ok(Part {
             from,
@@ -186,7 +193,8 @@ impl Part {
     fn unsolved(&self, alloc: Global, place: usize, next: usize) -> Result<Halved, AllocError>
         requires first { self.now.from ≤ next }
         requires last { place ≤ self.now.to }
-        ensures { (pairs : List (ℕ × ℕ)) (prices : PricesView) (factors : List ℕ) → IsPart pairs prices factors self.now → IfOk result (AreHalved pairs prices factors) }
+        ensures { (pairs : List (ℕ × ℕ)) (prices : PricesView) (factors : List ℕ)
+            → IsPart pairs prices factors self.now → IfOk result (AreHalved pairs prices factors) }
     {
         let lower = self.narrowed(alloc, self.from, place)?;
         let higher = self.narrowed(alloc, next, self.to)?;
@@ -210,10 +218,12 @@ pub fn solved_part(
     turns: u64,
 ) -> Result<Halved, AllocError>
     requires priced { ArePriced mine.now.predecessors.pairs mine.now.prices mine.now.factors.items }
-    requires part { IsPart mine.now.predecessors.pairs mine.now.prices mine.now.factors.items part.now }
+    requires part { IsPart mine.now.predecessors.pairs mine.now.prices mine.now.factors.items
+        part.now }
     requires first { part.now.from ≤ place }
     requires last { place < part.now.to }
-    ensures { IfOk result (AreHalved mine.now.predecessors.pairs mine.now.prices mine.now.factors.items) }
+    ensures { IfOk result
+        (AreHalved mine.now.predecessors.pairs mine.now.prices mine.now.factors.items) }
 {
     let factor = mine.factors[place];
     let next = place + 1;

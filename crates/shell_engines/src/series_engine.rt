@@ -62,13 +62,18 @@ pub fn shells_engine<
     requires outputs_room { OutputsCanCount outputs.old V.failed W.failed }
 
     // What it answers and writes, where the readers tell their bytes.
-    ensures answer { ForSeries inputs.old D.remaining (λ s b p. Shells s b p effort (is_asked outputs.old.by_block) (contents_in outputs.old.by_block V.contents) (contents_in outputs.new.by_block V.contents)
+    ensures answer { ForSeries inputs.old D.remaining
+        (λ s b p. Shells s b p effort (is_asked outputs.old.by_block)
+        (contents_in outputs.old.by_block V.contents) (contents_in outputs.new.by_block V.contents)
         (W.contents outputs.old.out) (W.contents outputs.new.out) result) }
 
     // A device is named exactly where one failed.
-    ensures device { IsErrOf result EngineFault.Device → input_failures inputs.new D.failed + output_failures outputs.new V.failed W.failed
+    ensures device { IsErrOf result EngineFault.Device
+        → input_failures inputs.new D.failed + output_failures outputs.new V.failed W.failed
         ≡ input_failures inputs.old D.failed + output_failures outputs.old V.failed W.failed + 1 }
-    ensures kept { ¬ IsErrOf result EngineFault.Device → NoInputFailed inputs.old inputs.new D.failed × NoOutputFailed outputs.old outputs.new V.failed W.failed }
+    ensures kept { ¬ IsErrOf result EngineFault.Device
+        → NoInputFailed inputs.old inputs.new D.failed
+        × NoOutputFailed outputs.old outputs.new V.failed W.failed }
 {
     let mine = series_mine_from(alloc, inputs)?;
     let is_asked = outputs.has_table();
@@ -85,7 +90,8 @@ fn answer_of<R: Threads + Wait + Sync, T: Gate + Progress + SeriesProgress>(
     gate: &T,
     is_asked: bool,
 ) -> Result<Answer, EngineFault>
-    ensures answer { (s b p : List ℕ) → IsSeriesRead s b p mine.prices mine.predecessors mine.factors.items → MatchResult result
+    ensures answer { (s b p : List ℕ)
+        → IsSeriesRead s b p mine.prices mine.predecessors mine.factors.items → MatchResult result
         (λ a. AnswersShells s b p effort is_asked a.verdict a.table.items a.text.items)
         (λ e. ShellsFail s b p e) }
     ensures no_device { ¬ IsErrOf result EngineFault.Device }
@@ -109,7 +115,9 @@ fn answer_of<R: Threads + Wait + Sync, T: Gate + Progress + SeriesProgress>(
 /// # Errors
 /// `Model`, `Memory`, `Thread` and `Stranger`, where that is the reason; `Memory` too where it is refused here.
 pub fn no_series(alloc: Global, none: NoSeries) -> Result<Answer, EngineFault>
-    ensures { MatchResult result (λ a. (a.verdict ≡ Verdict.No) × (a.table.items ≡ []) × TellsWhy none a.text.items) (IsFaultOf none) }
+    ensures { MatchResult result
+        (λ a. (a.verdict ≡ Verdict.No) × (a.table.items ≡ []) × TellsWhy none a.text.items)
+        (IsFaultOf none) }
 {
     match none {
         NoSeries::Unsolved(factor, why) => Ok(Answer {

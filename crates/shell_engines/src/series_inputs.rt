@@ -62,10 +62,13 @@ fn factors_from(alloc: Global, thousandths: &[u32]) -> Result<Vec<Factor>, Alloc
 /// # Errors
 /// `Settings` where the settings name none, before all else. `Memory` where memory is refused.
 pub fn factors_of(alloc: Global, settings: &Settings) -> Result<Vec<Factor>, EngineFault>
-    ensures factors { IfOk result (λ v. (v.items ≡ unwrap_or settings.now.factors []) × (first_missing (Key.Factors ∷ []) settings.now ≡ None)) }
+    ensures factors { IfOk result (λ v. (v.items ≡ unwrap_or settings.now.factors [])
+        × (first_missing (Key.Factors ∷ []) settings.now ≡ None)) }
     ensures form { IfOk result (λ v. AreFactors v.items) }
-    ensures fault { IfErr result (λ e. (e ≡ EngineFault.Memory) ⊎ IsMissing (Key.Factors ∷ []) settings.now e) }
-    ensures named { IsErrOf result EngineFault.Memory → first_missing (Key.Factors ∷ []) settings.now ≡ None }
+    ensures fault { IfErr result (λ e. (e ≡ EngineFault.Memory)
+        ⊎ IsMissing (Key.Factors ∷ []) settings.now e) }
+    ensures named { IsErrOf result EngineFault.Memory
+        → first_missing (Key.Factors ∷ []) settings.now ≡ None }
 {
     match settings.factors() {
         Some(thousandths) => Ok(factors_from(alloc, thousandths)?),
@@ -84,9 +87,13 @@ pub fn series_mine_from<D: CountedRead>(
     inputs: &mut SeriesInputs<D>,
 ) -> Result<SeriesMine, EngineFault>
     requires { InputsCanCount inputs.old D.failed }
-    ensures read { ForSeries inputs.old D.remaining (λ s b p. MatchResult result (λ mine. IsSeriesRead s b p mine.prices mine.predecessors mine.factors.items) (SeriesMineFails s b p)) }
-    ensures device { IsErrOf result EngineFault.Device → input_failures inputs.new D.failed ≡ input_failures inputs.old D.failed + 1 }
-    ensures kept { ¬ IsErrOf result EngineFault.Device → NoInputFailed inputs.old inputs.new D.failed }
+    ensures read { ForSeries inputs.old D.remaining (λ s b p. MatchResult result
+        (λ mine. IsSeriesRead s b p mine.prices mine.predecessors mine.factors.items)
+        (SeriesMineFails s b p)) }
+    ensures device { IsErrOf result EngineFault.Device
+        → input_failures inputs.new D.failed ≡ input_failures inputs.old D.failed + 1 }
+    ensures kept { ¬ IsErrOf result EngineFault.Device
+        → NoInputFailed inputs.old inputs.new D.failed }
 {
     let settings = settings_from(alloc, &mut inputs.settings)?;
     let columns = price_columns(&settings, &[Key::Factors])?;

@@ -45,10 +45,14 @@ pub struct Answer {
 // Writes the table, where it is asked for.
 fn send_table<V: CountedWrite>(by_block: &mut Option<V>, table: &[u8]) -> Result<(), WriteFault>
     requires { failures_in by_block.old V.failed < 2 ^ 64 - 1 }
-    ensures sent { OnOk result (Appends (contents_in by_block.old V.contents) (contents_in by_block.new V.contents) table.now) }
-    ensures kept { OnOk result (failures_in by_block.new V.failed ≡ failures_in by_block.old V.failed) }
-    ensures prefix { OnErr result (ReceivedPrefix (contents_in by_block.old V.contents) (contents_in by_block.new V.contents) table.now) }
-    ensures counted { OnErr result (failures_in by_block.new V.failed ≡ failures_in by_block.old V.failed + 1) }
+    ensures sent { OnOk result (Appends
+        (contents_in by_block.old V.contents) (contents_in by_block.new V.contents) table.now) }
+    ensures kept { OnOk result
+        (failures_in by_block.new V.failed ≡ failures_in by_block.old V.failed) }
+    ensures prefix { OnErr result (ReceivedPrefix
+        (contents_in by_block.old V.contents) (contents_in by_block.new V.contents) table.now) }
+    ensures counted { OnErr result
+        (failures_in by_block.new V.failed ≡ failures_in by_block.old V.failed + 1) }
 {
     match by_block {
         Some(device) => write_text(device, table),
@@ -65,12 +69,19 @@ pub fn send<V: CountedWrite, W: CountedWrite>(
     outputs: &mut SeriesOutputs<V, W>,
 ) -> Result<Verdict, EngineFault>
     requires { OutputsCanCount outputs.old V.failed W.failed }
-    ensures sent { IfOk result (λ v. (v ≡ answer.now.verdict) × Appends (contents_in outputs.old.by_block V.contents) (contents_in outputs.new.by_block V.contents) answer.now.table.items
+    ensures sent { IfOk result (λ v. (v ≡ answer.now.verdict)
+        × Appends (contents_in outputs.old.by_block V.contents)
+        (contents_in outputs.new.by_block V.contents) answer.now.table.items
         × Appends (W.contents outputs.old.out) (W.contents outputs.new.out) answer.now.text.items) }
-    ensures cut { IfErr result (λ e. (e ≡ EngineFault.Device) × IsCutShort answer.now.table.items answer.now.text.items (contents_in outputs.old.by_block V.contents) (contents_in outputs.new.by_block V.contents)
+    ensures cut { IfErr result (λ e. (e ≡ EngineFault.Device)
+        × IsCutShort answer.now.table.items answer.now.text.items
+        (contents_in outputs.old.by_block V.contents) (contents_in outputs.new.by_block V.contents)
         (W.contents outputs.old.out) (W.contents outputs.new.out)) }
-    ensures device { IsErrOf result EngineFault.Device → output_failures outputs.new V.failed W.failed ≡ output_failures outputs.old V.failed W.failed + 1 }
-    ensures kept { ¬ IsErrOf result EngineFault.Device → NoOutputFailed outputs.old outputs.new V.failed W.failed }
+    ensures device { IsErrOf result EngineFault.Device
+        → output_failures outputs.new V.failed W.failed
+        ≡ output_failures outputs.old V.failed W.failed + 1 }
+    ensures kept { ¬ IsErrOf result EngineFault.Device
+        → NoOutputFailed outputs.old outputs.new V.failed W.failed }
 {
     send_table(&mut outputs.by_block, answer.table.as_slice())?;
     write_text(&mut outputs.out, answer.text.as_slice())?;

@@ -41,7 +41,9 @@ impl Shells {
         requires at { best.now.row.factor ≡ factor }
         requires proved { IsProved self.old.series.pairs self.old.series.prices best.now }
         requires room { length self.old.series.factors < MOST_FACTORS }
-        ensures { OnOk result (IsAdded self.old.series self.new.series self.old.rows.items self.new.rows.items factor) }
+        ensures { OnOk result
+            (IsAdded self.old.series self.new.series
+            self.old.rows.items self.new.rows.items factor) }
     {
         self.series.push_best(factor, &best.pit);
         self.rows.push(best.row)?;
@@ -58,8 +60,10 @@ fn best_at<R: Threads + Wait + Sync, T: Gate + Progress>(
     effort: Effort,
     gate: &T,
 ) -> Result<BestPit, NoSeries>
-    ensures best { IfOk result (λ best. (best.row.factor ≡ factor) × IsProved series.now.pairs series.now.prices best) }
-    ensures fault { IfErr result (λ e. (factors : List ℕ) → Contains factors factor → NoSeriesStands scaled_block (rests_in series.now) series.now.prices factors effort e) }
+    ensures best { IfOk result (λ best. (best.row.factor ≡ factor)
+        × IsProved series.now.pairs series.now.prices best) }
+    ensures fault { IfErr result (λ e. (factors : List ℕ) → Contains factors factor
+        → NoSeriesStands scaled_block (rests_in series.now) series.now.prices factors effort e) }
 {
     let rests = series.rests().copy(alloc)?;
     let net = net_at(rt, alloc, series.prices(), rests, factor)?;
@@ -94,10 +98,15 @@ impl Shells {
     ) -> Result<(), NoSeries>
         requires inside { place < length wanted.now.factors.now }
         requires form { AreFactors wanted.now.factors.now }
-        requires found { All (IsProved self.old.series.pairs self.old.series.prices) wanted.now.found.now }
-        requires done { IsSettled self.old.series.pairs self.old.series.prices (take place wanted.now.factors.now) self.old.series self.old.rows.items }
-        ensures settled { OnOk result (IsSettled self.old.series.pairs self.old.series.prices (take (place + 1) wanted.now.factors.now) self.new.series self.new.rows.items) }
-        ensures fault { IfErr result (λ e. NoSeriesStands scaled_block (rests_in self.old.series) self.old.series.prices wanted.now.factors.now wanted.now.effort e) }
+        requires found { All
+            (IsProved self.old.series.pairs self.old.series.prices) wanted.now.found.now }
+        requires done { IsSettled self.old.series.pairs self.old.series.prices
+            (take place wanted.now.factors.now) self.old.series self.old.rows.items }
+        ensures settled { OnOk result (IsSettled self.old.series.pairs self.old.series.prices
+            (take (place + 1) wanted.now.factors.now) self.new.series self.new.rows.items) }
+        ensures fault { IfErr result (λ e. NoSeriesStands scaled_block
+            (rests_in self.old.series) self.old.series.prices
+            wanted.now.factors.now wanted.now.effort e) }
     {
         let factors = wanted.factors;
         let factor = factors[place];
@@ -121,7 +130,8 @@ fn found_first<R: Threads + Sync, T: SeriesProgress + Sync>(
     effort: Effort,
     gate: &T,
 ) -> Result<Vec<BestPit>, AllocError>
-    ensures { IfOk result (λ v. All (IsProved mine.now.predecessors.pairs mine.now.prices) v.items) }
+    ensures { IfOk result
+        (λ v. All (IsProved mine.now.predecessors.pairs mine.now.prices) v.items) }
 {
     if !effort.method.begins_with_pseudoflow(mine.prices.len()) {
         return Ok(Vec::new(alloc));
@@ -149,8 +159,10 @@ pub fn settle<R: Threads + Wait + Sync, T: Gate + Progress + SeriesProgress>(
     gate: &T,
 ) -> Result<Shells, NoSeries>
     ensures { MatchResult result
-        (λ shells. IsSettled mine.predecessors.pairs mine.prices mine.factors.items shells.series shells.rows.items)
-        (λ e. NoSeriesStands scaled_block mine.predecessors mine.prices mine.factors.items effort e) }
+        (λ shells. IsSettled mine.predecessors.pairs mine.prices mine.factors.items
+        shells.series shells.rows.items)
+        (λ e.
+        NoSeriesStands scaled_block mine.predecessors mine.prices mine.factors.items effort e) }
 {
     let found = found_first(rt, alloc, &mine, effort, gate)?;
     let SeriesMine {

@@ -31,7 +31,8 @@ pub(crate) fn is_above_all(factors: &[u32], k: u32) -> bool
 pub(crate) fn give_shells(shells: &mut [Option<u32>], pit: &Pit, k: u32)
     requires { length shells.old ≤ MOST_BLOCKS }
     ensures size { length shells.new ≡ length shells.old }
-    ensures each { (b : ℕ) → b < length shells.old → shell_at shells.new b ≡ with_shell (shell_at shells.old b) (holds_of pit.now b) k }
+    ensures each { (b : ℕ) → b < length shells.old
+        → shell_at shells.new b ≡ with_shell (shell_at shells.old b) (holds_of pit.now b) k }
 {
     let mut place = 0;
     for b in 0..shells.len() {

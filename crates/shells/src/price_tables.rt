@@ -32,13 +32,16 @@ impl Model for Prices {
 
     ghost view = { λ p. record { revenue = p.revenue.items; costs = shown_costs p.costs } };
 
-    ghost invariant = { λ p. IsTable (record { revenue = p.revenue.items; costs = shown_costs p.costs }) };
+    ghost invariant = { λ p. IsTable
+        (record { revenue = p.revenue.items; costs = shown_costs p.costs }) };
 }
 
 // The first block with a negative revenue.
 fn first_negative(revenue: &[Micros]) -> Option<u32>
     requires { length revenue.now ≤ MOST_BLOCKS }
-    ensures { MatchOption result ((b : ℕ) → b < length revenue.now → pos 0 ≤ℤ number_at revenue.now b) (IsFirstNegative revenue.now) }
+    ensures { MatchOption result
+        ((b : ℕ) → b < length revenue.now → pos 0 ≤ℤ number_at revenue.now b)
+        (IsFirstNegative revenue.now) }
 {
     for b in 0..revenue.len() {
         if revenue[b].get() < 0 {
@@ -72,7 +75,8 @@ impl Prices {
     pub fn new(revenue: Vec<Micros>, cost: Vec<Micros>) -> Result<Prices, PricesFault>
         ensures { MatchResult result
             (λ p. p ≡ record { revenue = revenue.items; costs = plain_costs cost.items })
-            (PricesFaultStands (record { revenue = revenue.items; costs = plain_costs cost.items })) }
+            (PricesFaultStands
+            (record { revenue = revenue.items; costs = plain_costs cost.items })) }
     {
         table_of(revenue, Costs::Plain(cost))
     }
@@ -88,7 +92,8 @@ impl Prices {
         mining: Vec<Micros>,
     ) -> Result<Prices, PricesFault>
         ensures { MatchResult result
-            (λ p. p ≡ record { revenue = revenue.items; costs = mill_costs processing.items mining.items })
+            (λ p. p
+            ≡ record { revenue = revenue.items; costs = mill_costs processing.items mining.items })
             (PricesFaultStands (record { revenue = revenue.items; costs = mill_costs processing.items mining.items })) }
     {
         table_of(revenue, Costs::Mill { processing, mining })
@@ -113,7 +118,8 @@ impl Prices {
     /// The factor that a certificate's price names over this table: none where it is a price of another kind of model.
     pub fn factor_of(&self, price: Price) -> Option<Factor>
         ensures { MatchOption result ((k : ℕ) → k ≤ MOST_FACTOR
-            → price ≢ price_of self.now.costs k) (λ factor. price ≡ price_of self.now.costs factor) }
+            → price ≢ price_of self.now.costs k)
+            (λ factor. price ≡ price_of self.now.costs factor) }
     {
         match (&self.costs, price) {
             (Costs::Plain(_), Price::Factor(thousandths)) => Factor::new(thousandths),

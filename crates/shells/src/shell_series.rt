@@ -41,7 +41,9 @@ impl Model for Series {
 
     ghost view = { λ s. record { pairs = s.rests.pairs; prices = s.prices; factors = s.factors.items; shells = s.shells.items } };
 
-    ghost invariant = { λ s. IsHeldSeries (record { pairs = s.rests.pairs; prices = s.prices; factors = s.factors.items; shells = s.shells.items }) (vec_capacity s.factors) s.rests.blocks };
+    ghost invariant = { λ s. IsHeldSeries
+        (record { pairs = s.rests.pairs; prices = s.prices; factors = s.factors.items; shells = s.shells.items })
+        (vec_capacity s.factors) s.rests.blocks };
 }
 
 impl Series {
@@ -80,9 +82,12 @@ impl Series {
         factor: Factor,
         accepted: &Accepted<'_, G>,
     ) -> Result<(), SeriesFault>
-        ensures pushed { OnOk result (IsPushed self.old self.new factor (holds_of accepted.now.pit)) }
-        ensures best { OnOk result (IsBest (mine_at self.old.pairs self.old.prices factor) (holds_of accepted.now.pit)) }
-        ensures refused { IfErr result (λ e. (self.new ≡ self.old) × PushFaultStands G.block_parts self.old factor accepted.now.net e) }
+        ensures pushed { OnOk result
+            (IsPushed self.old self.new factor (holds_of accepted.now.pit)) }
+        ensures best { OnOk result
+            (IsBest (mine_at self.old.pairs self.old.prices factor) (holds_of accepted.now.pit)) }
+        ensures refused { IfErr result (λ e. (self.new ≡ self.old)
+            × PushFaultStands G.block_parts self.old factor accepted.now.net e) }
     {
         // proof: a greatest closed set is the best pit
         laws::greatest_set_is_best_pit::<G>();
@@ -120,7 +125,8 @@ impl Series {
 
     // Whether the pit was accepted over the pairs of the series, and its prices at the factor.
     fn is_model_of<G: OrderedGroup>(&self, factor: Factor, accepted: &Accepted<'_, G>) -> bool
-        ensures { IsTrue result ↔ IsOver G.block_parts self.now.pairs self.now.prices factor accepted.now.net }
+        ensures { IsTrue result
+            ↔ IsOver G.block_parts self.now.pairs self.now.prices factor accepted.now.net }
     {
         is_over(&self.rests, &self.prices, factor, accepted.net())
     }

@@ -45,7 +45,8 @@ fn coordinate(reach: u32, step: u32) -> i32
 // Adds an offset, if there is room for it.
 fn add(offsets: &mut Vec<(i32, i32, i32)>, offset: (i32, i32, i32)) -> Result<(), PatternFault>
     ensures { MatchResult result
-        (λ _. (offsets.new.items ≡ offsets.old.items ++ offset ∷ []) × (length offsets.new.items ≤ MOST_OFFSETS))
+        (λ _. (offsets.new.items ≡ offsets.old.items ++ offset ∷ [])
+        × (length offsets.new.items ≤ MOST_OFFSETS))
         (OffsetRefusalStands offsets.old.items) }
 {
     if offsets.len() >= MOST_OFFSETS {
@@ -60,9 +61,12 @@ fn add_row(offsets: &mut Vec<(i32, i32, i32)>, level: Level, x: i32) -> Result<(
     requires some { 1 ≤ level.number }
     requires first { unsigned_abs x ≤ 1000000 }
     requires few { length offsets.old.items ≤ MOST_OFFSETS }
-    requires so_far { Collects (IsBelowRow level.run level.rise (pos level.number) x) offsets.old.items }
+    requires so_far { Collects
+        (IsBelowRow level.run level.rise (pos level.number) x) offsets.old.items }
     ensures { MatchResult result
-        (λ _. Collects (IsBelowRow level.run level.rise (pos level.number) (x +ℤ pos 1)) offsets.new.items × (length offsets.new.items ≤ MOST_OFFSETS))
+        (λ _. Collects
+        (IsBelowRow level.run level.rise (pos level.number) (x +ℤ pos 1)) offsets.new.items
+        × (length offsets.new.items ≤ MOST_OFFSETS))
         (ConeFaultStands level.number level.run level.rise) }
 {
     for step in 0..2 * level.reach + 1 {
@@ -79,9 +83,12 @@ fn add_level(offsets: &mut Vec<(i32, i32, i32)>, level: Level) -> Result<(), Pat
     requires level { IsLevel level.number level.reach level.run level.rise }
     requires some { 1 ≤ level.number }
     requires few { length offsets.old.items ≤ MOST_OFFSETS }
-    requires so_far { Collects (IsBelowLevel level.run level.rise (pos level.number)) offsets.old.items }
+    requires so_far { Collects
+        (IsBelowLevel level.run level.rise (pos level.number)) offsets.old.items }
     ensures { MatchResult result
-        (λ _. Collects (IsBelowLevel level.run level.rise (pos (level.number + 1))) offsets.new.items × (length offsets.new.items ≤ MOST_OFFSETS))
+        (λ _. Collects
+        (IsBelowLevel level.run level.rise (pos (level.number + 1))) offsets.new.items
+        × (length offsets.new.items ≤ MOST_OFFSETS))
         (ConeFaultStands level.number level.run level.rise) }
 {
     for step in 0..2 * level.reach + 1 {
@@ -102,7 +109,8 @@ pub(crate) fn cone_offsets(
     requires run { run ≤ MOST_CONE_NUMBER }
     requires rise { (1 ≤ rise) × (rise ≤ MOST_CONE_NUMBER) }
     ensures { MatchResult result
-        (λ offsets. Collects (IsInCone levels run rise) offsets.items × (length offsets.items ≤ MOST_OFFSETS))
+        (λ offsets. Collects (IsInCone levels run rise) offsets.items
+        × (length offsets.items ≤ MOST_OFFSETS))
         (ConeFaultStands levels run rise) }
 {
     let mut offsets = Vec::new(alloc);

@@ -17,8 +17,11 @@ use crate::Pattern;
 
 /// A block rests on at most as many blocks as the pattern has offsets, so that the pairs can be written as a file.
 pub fn slopes_are_narrow(pattern: &Pattern)
-    ensures each { (m : BlocksView) (up : declared.Up) (selection : selected.Selection) (rests : RestsView) → AreSlopes m pattern.now up selection rests → (b : ℕ) → length (above_of rests.pairs b) ≤ length pattern.now }
-    ensures narrow { (m : BlocksView) (up : declared.Up) (selection : selected.Selection) (rests : RestsView) → AreSlopes m pattern.now up selection rests → AreNarrow rests }
+    ensures each { (m : BlocksView) (up : declared.Up) (selection : selected.Selection)
+        (rests : RestsView) → AreSlopes m pattern.now up selection rests → (b : ℕ)
+        → length (above_of rests.pairs b) ≤ length pattern.now }
+    ensures narrow { (m : BlocksView) (up : declared.Up) (selection : selected.Selection)
+        (rests : RestsView) → AreSlopes m pattern.now up selection rests → AreNarrow rests }
 {
     // proof: the offsets are few, each once and in order
     let _ = pattern.offsets();
@@ -26,7 +29,9 @@ pub fn slopes_are_narrow(pattern: &Pattern)
 
 /// The reduced pairs mean the same as every pair: a set of blocks is closed by those exactly where it is closed by these.
 pub fn reduced_pairs_close(pattern: &Pattern)
-    ensures { (m : BlocksView) (up : declared.Up) (rests : RestsView) (e : ℕ → Bool) → AreSlopes m pattern.now up Reduced rests → IsClosedBy (Contains rests.pairs) e ↔ IsClosedBy (IsSlopePair m pattern.now up) e }
+    ensures { (m : BlocksView) (up : declared.Up) (rests : RestsView) (e : ℕ → Bool)
+        → AreSlopes m pattern.now up Reduced rests
+        → IsClosedBy (Contains rests.pairs) e ↔ IsClosedBy (IsSlopePair m pattern.now up) e }
 {
     // proof: each offset leads up
     let _ = pattern.offsets();

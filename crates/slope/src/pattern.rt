@@ -42,7 +42,9 @@ fn numbers()
 
 // The first offset that doesn't lead up.
 fn first_not_upward(listed: &[(i32, i32, i32)]) -> Option<usize>
-    ensures { MatchOption result (All IsUpward listed.now) (λ i. IsFirstNot (UpwardAt listed.now) (length listed.now) i) }
+    ensures { MatchOption result
+        (All IsUpward listed.now)
+        (λ i. IsFirstNot (UpwardAt listed.now) (length listed.now) i) }
 {
     for (i, offset) in listed.iter().enumerate() {
         if offset.2 < 1 {
@@ -68,7 +70,9 @@ impl Pattern {
     /// # Errors
     /// `NoMemory`.
     pub fn five(alloc: Global) -> Result<Pattern, PatternFault>
-        ensures { MatchResult result (AreOffsets (Contains five_offsets)) (λ e. e ≡ PatternFault.NoMemory) }
+        ensures { MatchResult result
+            (AreOffsets (Contains five_offsets))
+            (λ e. e ≡ PatternFault.NoMemory) }
     {
         let listed = [(0, 0, 1), (1, 0, 1), (-1, 0, 1), (0, 1, 1), (0, -1, 1)];
         Pattern::gathered(alloc, &listed).map_err(|_| PatternFault::NoMemory)
@@ -79,7 +83,9 @@ impl Pattern {
     /// # Errors
     /// `NoMemory`.
     pub fn nine(alloc: Global) -> Result<Pattern, PatternFault>
-        ensures { MatchResult result (AreOffsets (Contains nine_offsets)) (λ e. e ≡ PatternFault.NoMemory) }
+        ensures { MatchResult result
+            (AreOffsets (Contains nine_offsets))
+            (λ e. e ≡ PatternFault.NoMemory) }
     {
         let listed = [
             (-1, -1, 1),
@@ -104,7 +110,9 @@ impl Pattern {
         requires levels { (1 ≤ levels) × (levels ≤ MOST_CONE_NUMBER) }
         requires run { (1 ≤ run) × (run ≤ MOST_CONE_NUMBER) }
         requires rise { (1 ≤ rise) × (rise ≤ MOST_CONE_NUMBER) }
-        ensures { MatchResult result (AreOffsets (IsInCone levels run rise)) (ConeFaultStands levels run rise) }
+        ensures { MatchResult result
+            (AreOffsets (IsInCone levels run rise))
+            (ConeFaultStands levels run rise) }
     {
         let listed = cone_offsets(alloc, levels, run, rise)?;
         Ok(Pattern {
@@ -119,9 +127,11 @@ impl Pattern {
     /// more than 4,096 listed offsets, and `NoMemory`.
     pub fn custom(alloc: Global, listed: &[(i32, i32, i32)]) -> Result<Pattern, PatternFault>
         ensures value { MatchResult result
-            (λ p. All IsUpward listed.now × (length listed.now ≤ MOST_OFFSETS) × AreOffsets (Contains listed.now) p)
+            (λ p. All IsUpward listed.now × (length listed.now ≤ MOST_OFFSETS)
+            × AreOffsets (Contains listed.now) p)
             (ListFaultStands listed.now) }
-        ensures memory { result ≡ Err PatternFault.NoMemory → All IsUpward listed.now × (length listed.now ≤ MOST_OFFSETS) }
+        ensures memory { result ≡ Err PatternFault.NoMemory
+            → All IsUpward listed.now × (length listed.now ≤ MOST_OFFSETS) }
     {
         if let Some(place) = first_not_upward(listed) {
             return Err(PatternFault::NotUpward(place));

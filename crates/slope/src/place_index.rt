@@ -53,7 +53,8 @@ fn entries_of(alloc: Global, model: &BlockModel) -> Result<Vec<(PlaceKey, u32)>,
 // The entries by their keys, and by their blocks where keys are equal.
 fn in_order(mut entries: Vec<(PlaceKey, u32)>) -> Vec<(PlaceKey, u32)>
     ensures order { AreEntriesInOrder result.items }
-    ensures same { (m : BlocksView) → AreEntries m m.blocks entries.items → AreEntriesOf m result.items }
+    ensures same { (m : BlocksView) → AreEntries m m.blocks entries.items
+        → AreEntriesOf m result.items }
 {
     entries.sort_unstable();
     // proof: no entry comes twice
@@ -115,7 +116,8 @@ fn ranks_of(alloc: Global, blocks: &[u32]) -> Result<Vec<u32>, AllocError> {
 
 // The keys and the blocks of entries, apart.
 fn parted(alloc: Global, entries: &[(PlaceKey, u32)]) -> Result<PlaceIndex, AllocError>
-    ensures { IfOk result (λ index. (index.keys.items ≡ map (λ e. e.0) entries.now) × (index.blocks.items ≡ map (λ e. e.1) entries.now)) }
+    ensures { IfOk result (λ index. (index.keys.items ≡ map (λ e. e.0) entries.now)
+        × (index.blocks.items ≡ map (λ e. e.1) entries.now)) }
 {
     let keys = keys_in(alloc, entries)?;
     let blocks = blocks_in(alloc, entries)?;
@@ -129,7 +131,9 @@ fn parted(alloc: Global, entries: &[(PlaceKey, u32)]) -> Result<PlaceIndex, Allo
 
 // The index of a model's places. Two blocks that have one place are a fault.
 pub(crate) fn index_of(alloc: Global, model: &BlockModel) -> Result<PlaceIndex, SlopeFault>
-    ensures { MatchResult result (λ index. IsIndex model.now index.keys.items index.blocks.items) (IndexFaultStands model.now) }
+    ensures { MatchResult result
+        (λ index. IsIndex model.now index.keys.items index.blocks.items)
+        (IndexFaultStands model.now) }
 {
     let Ok(listed) = entries_of(alloc, model) else {
         return Err(SlopeFault::NoMemory);

@@ -28,10 +28,12 @@ fn add_reduced(
     requires steps { AreStepsOfEach around.old.offsets (length around.old.offsets) steps.now }
     requires apart { AreApartBelow around.old.model around.old.model.blocks }
     requires known { block < around.old.model.blocks }
-    requires so_far { AreListedBelow around.old.model around.old.offsets around.old.up Selection.Reduced block rows.old }
+    requires so_far { AreListedBelow around.old.model around.old.offsets around.old.up
+        Selection.Reduced block rows.old }
     ensures same { ArePlacesOf around.new around.old.model around.old.offsets around.old.up }
     ensures made { MatchResult result
-        (λ _. AreListedBelow around.old.model around.old.offsets around.old.up Selection.Reduced (block + 1) rows.new)
+        (λ _. AreListedBelow around.old.model around.old.offsets around.old.up Selection.Reduced
+        (block + 1) rows.new)
         (PairFaultStands around.old.model around.old.offsets around.old.up Selection.Reduced) }
 {
     let before = rows.pairs();
@@ -59,7 +61,8 @@ pub(crate) fn reduced_pairs(
     requires pattern { IsPattern offsets.now }
     requires index { IsIndex model.now index.now.keys.items index.now.blocks.items }
     ensures { MatchResult result
-        (λ r. (r.blocks ≡ model.now.blocks) × Collects (IsSelected Selection.Reduced model.now offsets.now up) r.pairs)
+        (λ r. (r.blocks ≡ model.now.blocks)
+        × Collects (IsSelected Selection.Reduced model.now offsets.now up) r.pairs)
         (PairFaultStands model.now offsets.now up Selection.Reduced) }
 {
     let Ok(steps) = first_steps(alloc, offsets) else {

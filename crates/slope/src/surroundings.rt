@@ -30,9 +30,12 @@ impl<'a> Model for Surroundings<'a> {
 
     ghost Value = { SurroundingsView };
 
-    ghost view = { λ s. record { model = s.model.now; offsets = s.offsets.now; up = s.up; from = s.from } };
+    ghost view = { λ s.
+        record { model = s.model.now; offsets = s.offsets.now; up = s.up; from = s.from } };
 
-    ghost invariant = { λ s. AreSeen (record { model = s.model.now; offsets = s.offsets.now; up = s.up; from = s.from }) s.index.now.keys.items s.index.now.blocks.items s.seen.items };
+    ghost invariant = { λ s. AreSeen
+        (record { model = s.model.now; offsets = s.offsets.now; up = s.up; from = s.from })
+        s.index.now.keys.items s.index.now.blocks.items s.seen.items };
 }
 
 impl<'a> Surroundings<'a> {
@@ -45,7 +48,9 @@ impl<'a> Surroundings<'a> {
         up: Up,
     ) -> Result<Surroundings<'a>, SlopeFault>
         requires { IsIndex model.now index.now.keys.items index.now.blocks.items }
-        ensures { MatchResult result (λ s. ArePlacesOf s model.now offsets.now up) (λ e. e ≡ SlopeFault.NoMemory) }
+        ensures { MatchResult result
+            (λ s. ArePlacesOf s model.now offsets.now up)
+            (λ e. e ≡ SlopeFault.NoMemory) }
     {
         let from = Place { x: 0, y: 0, z: 0 };
         let Ok(seen) = vec![in alloc; Sight::Unasked; offsets.len()] else {
@@ -120,9 +125,11 @@ impl<'a> Surroundings<'a> {
     // The block at offset i, where none stands at a first step to it.
     pub(crate) fn direct(&mut self, i: usize, steps: &[u32]) -> Option<u32>
         requires known { i < length self.old.offsets }
-        requires steps { AreFirstSteps self.old.offsets (offset_at self.old.offsets i) (length self.old.offsets) steps.now }
+        requires steps { AreFirstSteps self.old.offsets
+            (offset_at self.old.offsets i) (length self.old.offsets) steps.now }
         ensures same { self.new ≡ self.old }
-        ensures first { AreFirstSteps self.old.offsets (offset_at self.old.offsets i) (length self.old.offsets) steps.now }
+        ensures first { AreFirstSteps self.old.offsets
+            (offset_at self.old.offsets i) (length self.old.offsets) steps.now }
         ensures stands { MatchOption result
             (StandsAtSome self.old steps.now ⊎ StandsNone self.old i)
             (λ p. StandsAtOffset self.old i p × StandsAtNone self.old steps.now) }

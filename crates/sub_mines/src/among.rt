@@ -34,7 +34,8 @@ fn add_row(
     requires inside { row < length kept.now }
     requires few { length pairs.old.items ≤ MOST_PAIRS }
     requires so_far { AreRowsAmong predecessors.now.pairs kept.now row pairs.old.items }
-    ensures rows { OnOk result (AreRowsAmong predecessors.now.pairs kept.now (row + 1) pairs.new.items) }
+    ensures rows { OnOk result
+        (AreRowsAmong predecessors.now.pairs kept.now (row + 1) pairs.new.items) }
     ensures few { OnOk result (length pairs.new.items ≤ MOST_PAIRS) }
 {
     // proof: what is known of the pairs
@@ -61,7 +62,8 @@ fn rows_of(
     requires below { All (λ b. b < predecessors.now.blocks) kept.now }
     requires places { ArePlacesAmong predecessors.now.blocks kept.now (length kept.now) places.now }
     requires size { length kept.now ≤ predecessors.now.blocks }
-    ensures { IfOk result (λ v. AreRowsAmong predecessors.now.pairs kept.now (length kept.now) v.items × (length v.items ≤ MOST_PAIRS)) }
+    ensures { IfOk result (λ v. AreRowsAmong predecessors.now.pairs kept.now
+        (length kept.now) v.items × (length v.items ≤ MOST_PAIRS)) }
 {
     let _ = predecessors.len();
     let mut pairs = Vec::new(alloc);
@@ -84,7 +86,8 @@ pub fn rests_among(
     requires ascending { IsAscending kept.now }
     requires below { All (λ b. b < predecessors.now.blocks) kept.now }
     requires size { length kept.now ≤ predecessors.now.blocks }
-    ensures { IfOk result (λ r. (r.blocks ≡ length kept.now) × IsPartPairs kept.now predecessors.now.pairs r.pairs) }
+    ensures { IfOk result (λ r. (r.blocks ≡ length kept.now)
+        × IsPartPairs kept.now predecessors.now.pairs r.pairs) }
 {
     let places = places_of(alloc, predecessors.len(), kept)?;
     let pairs = rows_of(alloc, predecessors, kept, &places)?;

@@ -43,7 +43,8 @@ fn end_fault(number: u64, behind: &[u8]) -> Option<TraceFault>
 // What stands behind the first line.
 fn behind_head<'a>(text: &'a [u8]) -> Result<&'a [u8], TraceFault>
     ensures { MatchResult result
-        (λ behind. (fault_of text.now ≡ fault_behind 1 (parts 10 behind.now)) × (events_of text.now ≡ events_of behind.now))
+        (λ behind. (fault_of text.now ≡ fault_behind 1 (parts 10 behind.now))
+        × (events_of text.now ≡ events_of behind.now))
         (λ e. fault_of text.now ≡ Some e) }
 {
     match cut_at(LINE_FEED, text) {
@@ -67,8 +68,10 @@ fn behind_head<'a>(text: &'a [u8]) -> Result<&'a [u8], TraceFault>
 /// refused, and not where no line says an event.
 pub fn read_trace(alloc: Global, text: &[u8]) -> Result<Vec<Event>, TraceFault>
     ensures { MatchResult result
-        (λ events. (fault_of text.now ≡ None) × (events.items ≡ events_of text.now) × IsWritten text.now events.items)
-        (λ e. UnlessMemory e (fault_of text.now ≡ Some e) × (events_of text.now ≡ [] → fault_of text.now ≡ Some e)) }
+        (λ events. (fault_of text.now ≡ None) × (events.items ≡ events_of text.now)
+        × IsWritten text.now events.items)
+        (λ e. UnlessMemory e (fault_of text.now ≡ Some e)
+        × (events_of text.now ≡ [] → fault_of text.now ≡ Some e)) }
 {
     let mut left = behind_head(text)?;
     let mut events = Vec::new(alloc);

@@ -20,10 +20,12 @@ use machine_law::{Event, MOST_EVENTS};
 pub fn write_trace<W: CountedWrite>(events: &[Event], out: &mut W) -> Result<(), WriteFault>
     requires few { length events.now ≤ MOST_EVENTS }
     requires room { W.failed out.old < 2 ^ 64 - 1 }
-    ensures sent { OnOk result (Appends (W.contents out.old) (W.contents out.new) (trace_text events.now)) }
+    ensures sent { OnOk result
+        (Appends (W.contents out.old) (W.contents out.new) (trace_text events.now)) }
     ensures read_back { OnOk result (IsReadBack (trace_text events.now) events.now) }
     ensures kept { OnOk result (W.failed out.new ≡ W.failed out.old) }
-    ensures prefix { OnErr result (ReceivedPrefix (W.contents out.old) (W.contents out.new) (trace_text events.now)) }
+    ensures prefix { OnErr result
+        (ReceivedPrefix (W.contents out.old) (W.contents out.new) (trace_text events.now)) }
     ensures counted { OnErr result (W.failed out.new ≡ W.failed out.old + 1) }
 {
     let mut page = Page::new();

@@ -24,7 +24,8 @@ fn zeros(alloc: Global, n: u32) -> Result<Vec<Micros>, AllocError>
 
 // Reads the records to the end of the text: the value of each of n blocks.
 pub(crate) fn read_body(alloc: Global, lines: &mut Lines, n: u32) -> Result<Vec<Micros>, UpitFault>
-    ensures { let body = spec.before_end (numbered_lines lines.old.number lines.old.lines) in MatchResult result
+    ensures { let body = spec.before_end (numbered_lines lines.old.number lines.old.lines) in
+        MatchResult result
         (λ values. (spec.first_fault n [] body ≡ None) × (length values.items ≡ n)
         × ((b : ℕ) → b < n → slice_index_or values.items b (pos 0) ≡ spec.value_among body b))
         (λ e. UnlessMemory e (spec.first_fault n [] body ≡ Some e)) }

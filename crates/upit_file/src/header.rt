@@ -16,9 +16,11 @@ use fixed_worth::{Fields, LINE_BYTES, Lines, MOST_BLOCKS, whole};
 fn read_count(text: &[u8], wanted: Option<u32>, line: u64) -> Result<u32, UpitFault>
     requires { length text.now ≤ LINE_BYTES }
     ensures { MatchResult result
-        (λ n. (spec.count_fault (unwrap_or wanted (spec.count_of (fields_of text.now))) line (fields_of text.now) ≡ None)
+        (λ n. (spec.count_fault (unwrap_or wanted (spec.count_of (fields_of text.now))) line
+        (fields_of text.now) ≡ None)
         × (n ≡ unwrap_or wanted (spec.count_of (fields_of text.now))) × (n ≤ MOST_BLOCKS))
-        (λ e. spec.count_fault (unwrap_or wanted (spec.count_of (fields_of text.now))) line (fields_of text.now) ≡ Some e) }
+        (λ e. spec.count_fault (unwrap_or wanted (spec.count_of (fields_of text.now))) line
+        (fields_of text.now) ≡ Some e) }
 {
     let mut fields = Fields::new(text);
     fields.next().ok_or(UpitFault::Text(line))?;
@@ -61,8 +63,10 @@ pub(crate) fn read_header<'a>(
     wanted: Option<u32>,
 ) -> Result<Header<'a>, UpitFault>
     requires { lines.old.number ≡ 0 }
-    ensures { let all = numbered_lines 0 lines.old.lines in let n = unwrap_or wanted (records.blocks_declared all) in MatchResult result
-        (λ header. (header.blocks ≡ n) × (header.blocks ≤ MOST_BLOCKS) × (spec.header_fault n all ≡ None)
+    ensures { let all = numbered_lines 0 lines.old.lines in
+        let n = unwrap_or wanted (records.blocks_declared all) in MatchResult result
+        (λ header. (header.blocks ≡ n) × (header.blocks ≤ MOST_BLOCKS)
+        × (spec.header_fault n all ≡ None)
         × (header.name.now ≡ spec.last_name [] (spec.header all))
         × (drop 1 (spec.after_header all) ≡ numbered_lines lines.new.number lines.new.lines))
         (λ e. spec.header_fault n all ≡ Some e) }

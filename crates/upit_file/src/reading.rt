@@ -18,7 +18,8 @@ use std::alloc::Global;
 /// Where this answers `n`, [`read_upit`] with that `n` finds no fault up to the line OBJECTIVE_FUNCTION.
 pub fn declared_blocks(text: &[u8]) -> Result<u32, UpitFault>
     ensures value { result ≡ spec.declared_of text.now }
-    ensures header { IfOk result (λ n. (n ≤ MOST_BLOCKS) × (header_fault n (spec.lines_in text.now) ≡ None)) }
+    ensures header { IfOk result (λ n. (n ≤ MOST_BLOCKS)
+        × (header_fault n (spec.lines_in text.now) ≡ None)) }
 {
     let mut lines = Lines::new(text);
     let header = read_header(&mut lines, None)?;
@@ -33,7 +34,8 @@ pub fn read_upit(alloc: Global, text: &[u8], n: u32) -> Result<Upit, UpitFault>
     ensures value { MatchResult result
         (λ upit. (spec.fault_of n text.now ≡ None) × spec.Denotes n text.now upit)
         (λ e. spec.UnlessMemory e (spec.fault_of n text.now ≡ Some e)) }
-    ensures header { (fault : UpitFault) → header_fault n (spec.lines_in text.now) ≡ Some fault → result ≡ Err fault }
+    ensures header { (fault : UpitFault) → header_fault n (spec.lines_in text.now) ≡ Some fault
+        → result ≡ Err fault }
 {
     read_values(alloc, text, Some(n))
 }
@@ -41,10 +43,12 @@ pub fn read_upit(alloc: Global, text: &[u8], n: u32) -> Result<Upit, UpitFault>
 /// The name and the values of a text, as [`read_upit`] gives them for the wanted number of blocks, and where none is
 /// wanted for the number that the text itself declares.
 pub fn read_values(alloc: Global, text: &[u8], wanted: Option<u32>) -> Result<Upit, UpitFault>
-    ensures value { let n = unwrap_or wanted (spec.blocks_declared (spec.lines_in text.now)) in MatchResult result
+    ensures value { let n = unwrap_or wanted (spec.blocks_declared (spec.lines_in text.now)) in
+        MatchResult result
         (λ upit. (spec.fault_of n text.now ≡ None) × spec.Denotes n text.now upit)
         (λ e. spec.UnlessMemory e (spec.fault_of n text.now ≡ Some e)) }
-    ensures header { (fault : UpitFault) → header_fault (unwrap_or wanted (spec.blocks_declared (spec.lines_in text.now))) (spec.lines_in text.now) ≡ Some fault
+    ensures header { (fault : UpitFault) → header_fault (unwrap_or wanted
+        (spec.blocks_declared (spec.lines_in text.now))) (spec.lines_in text.now) ≡ Some fault
         → result ≡ Err fault }
 {
     let mut lines = Lines::new(text);

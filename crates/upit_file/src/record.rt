@@ -27,7 +27,8 @@ pub(crate) fn read_record(text: &[u8], line: u64) -> Result<Record, UpitFault>
     requires { length text.now ≤ LINE_BYTES }
     ensures { MatchResult result
         (λ read. IsRecord line (fields_of text.now) read)
-        (λ e. (is_skipped (fields_of text.now) ≡ false) × (header.is_end (fields_of text.now) ≡ false)
+        (λ e. (is_skipped (fields_of text.now) ≡ false)
+        × (header.is_end (fields_of text.now) ≡ false)
         × (spec.shape_fault line (fields_of text.now) ≡ Some e)) }
 {
     let mut fields = Fields::new(text);
@@ -50,7 +51,8 @@ fn read_any_record(text: &[u8], line: u64) -> Result<Record, UpitFault>
     requires { length text.now ≤ LINE_BYTES }
     ensures { MatchResult result
         (λ read. IsRecord line (fields_of text.now) read)
-        (λ e. (is_skipped (fields_of text.now) ≡ false) × (header.is_end (fields_of text.now) ≡ false)
+        (λ e. (is_skipped (fields_of text.now) ≡ false)
+        × (header.is_end (fields_of text.now) ≡ false)
         × (spec.shape_fault line (fields_of text.now) ≡ Some e)) }
 {
     let mut fields = Fields::new(text);

@@ -49,7 +49,8 @@ impl Upit {
     /// each one of at most 60,000 bytes, none of them a line feed, of which the first and the last are no space, tab, colon
     /// or carriage return.
     pub fn new(name: Vec<u8>, values: Vec<Micros>) -> Option<Upit>
-        ensures { SomeIff result (IsTrue (spec.is_upit name.items values.items)) (record { name = name.items; values = values.items }) }
+        ensures { SomeIff result (IsTrue (spec.is_upit name.items values.items))
+            (record { name = name.items; values = values.items }) }
     {
         if is_name(name.as_slice()) && values.len() <= MOST_BLOCKS as usize {
             Some(Upit { name, values })

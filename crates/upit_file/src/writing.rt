@@ -18,9 +18,11 @@ fn put_two<W: CountedWrite>(
     second: &[u8],
 ) -> Result<(), WriteFault>
     requires { W.failed out.old < 2 ^ 64 - 1 }
-    ensures held { OnOk result (SentOrHeld (W.contents out.old) (W.contents out.new) page.new (page.old ++ (first.now ++ second.now))) }
+    ensures held { OnOk result (SentOrHeld (W.contents out.old) (W.contents out.new) page.new
+        (page.old ++ (first.now ++ second.now))) }
     ensures kept { OnOk result (W.failed out.new ≡ W.failed out.old) }
-    ensures prefix { OnErr result (ReceivedPrefix (W.contents out.old) (W.contents out.new) (page.old ++ (first.now ++ second.now))) }
+    ensures prefix { OnErr result (ReceivedPrefix (W.contents out.old) (W.contents out.new)
+        (page.old ++ (first.now ++ second.now))) }
     ensures counted { OnErr result (W.failed out.new ≡ W.failed out.old + 1) }
 {
     page.put(out, first)?;
@@ -35,9 +37,11 @@ fn put_line<W: CountedWrite>(
     second: &[u8],
 ) -> Result<(), WriteFault>
     requires { W.failed out.old < 2 ^ 64 - 1 }
-    ensures held { OnOk result (SentOrHeld (W.contents out.old) (W.contents out.new) page.new (page.old ++ with_line_feeds ((first.now ++ second.now) ∷ []))) }
+    ensures held { OnOk result (SentOrHeld (W.contents out.old) (W.contents out.new) page.new
+        (page.old ++ with_line_feeds ((first.now ++ second.now) ∷ []))) }
     ensures kept { OnOk result (W.failed out.new ≡ W.failed out.old) }
-    ensures prefix { OnErr result (ReceivedPrefix (W.contents out.old) (W.contents out.new) (page.old ++ with_line_feeds ((first.now ++ second.now) ∷ []))) }
+    ensures prefix { OnErr result (ReceivedPrefix (W.contents out.old) (W.contents out.new)
+        (page.old ++ with_line_feeds ((first.now ++ second.now) ∷ []))) }
     ensures counted { OnErr result (W.failed out.new ≡ W.failed out.old + 1) }
 {
     put_two(page, out, first, second)?;
@@ -51,9 +55,11 @@ fn put_header<W: CountedWrite>(
     n: u32,
 ) -> Result<(), WriteFault>
     requires { W.failed out.old < 2 ^ 64 - 1 }
-    ensures held { OnOk result (SentOrHeld (W.contents out.old) (W.contents out.new) page.new (page.old ++ with_line_feeds (spec.header_lines name.now n))) }
+    ensures held { OnOk result (SentOrHeld (W.contents out.old) (W.contents out.new) page.new
+        (page.old ++ with_line_feeds (spec.header_lines name.now n))) }
     ensures kept { OnOk result (W.failed out.new ≡ W.failed out.old) }
-    ensures prefix { OnErr result (ReceivedPrefix (W.contents out.old) (W.contents out.new) (page.old ++ with_line_feeds (spec.header_lines name.now n))) }
+    ensures prefix { OnErr result (ReceivedPrefix (W.contents out.old) (W.contents out.new)
+        (page.old ++ with_line_feeds (spec.header_lines name.now n))) }
     ensures counted { OnErr result (W.failed out.new ≡ W.failed out.old + 1) }
 {
     put_line(page, out, b"NAME: ", name)?;
@@ -70,9 +76,11 @@ fn put_records<W: CountedWrite>(
 ) -> Result<(), WriteFault>
     requires room { W.failed out.old < 2 ^ 64 - 1 }
     requires count { length values.now ≤ MOST_BLOCKS }
-    ensures held { OnOk result (SentOrHeld (W.contents out.old) (W.contents out.new) page.new (page.old ++ with_line_feeds (spec.record_lines 0 values.now))) }
+    ensures held { OnOk result (SentOrHeld (W.contents out.old) (W.contents out.new) page.new
+        (page.old ++ with_line_feeds (spec.record_lines 0 values.now))) }
     ensures kept { OnOk result (W.failed out.new ≡ W.failed out.old) }
-    ensures prefix { OnErr result (ReceivedPrefix (W.contents out.old) (W.contents out.new) (page.old ++ with_line_feeds (spec.record_lines 0 values.now))) }
+    ensures prefix { OnErr result (ReceivedPrefix (W.contents out.old) (W.contents out.new)
+        (page.old ++ with_line_feeds (spec.record_lines 0 values.now))) }
     ensures counted { OnErr result (W.failed out.new ≡ W.failed out.old + 1) }
 {
     let mut block: u32 = 0;
@@ -92,9 +100,11 @@ fn put_records<W: CountedWrite>(
 /// `out` must have counted fewer than 2^64 - 1 failures, so that one more can be counted.
 pub fn write_upit<W: CountedWrite>(upit: &Upit, out: &mut W) -> Result<(), WriteFault>
     requires { W.failed out.old < 2 ^ 64 - 1 }
-    ensures sent { OnOk result (Appends (W.contents out.old) (W.contents out.new) (spec.upit_text upit.now)) }
+    ensures sent { OnOk result
+        (Appends (W.contents out.old) (W.contents out.new) (spec.upit_text upit.now)) }
     ensures kept { OnOk result (W.failed out.new ≡ W.failed out.old) }
-    ensures prefix { OnErr result (ReceivedPrefix (W.contents out.old) (W.contents out.new) (spec.upit_text upit.now)) }
+    ensures prefix { OnErr result
+        (ReceivedPrefix (W.contents out.old) (W.contents out.new) (spec.upit_text upit.now)) }
     ensures counted { OnErr result (W.failed out.new ≡ W.failed out.old + 1) }
 {
     let mut page = Page::new();

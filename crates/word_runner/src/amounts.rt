@@ -13,7 +13,9 @@ use std::alloc::{AllocError, Global};
 
 // The units of an amount, where there are fewer than 2^63 and not fewer than none.
 fn units_of(amount: Scaled) -> Option<u64>
-    ensures { MatchOption result ((amount.units <ℤ pos 0) ⊎ (pos 9223372036854775808 ≤ℤ amount.units)) (λ k. (amount.units ≡ pos k) × (k < 2 ^ 63)) }
+    ensures { MatchOption result
+        ((amount.units <ℤ pos 0) ⊎ (pos 9223372036854775808 ≤ℤ amount.units))
+        (λ k. (amount.units ≡ pos k) × (k < 2 ^ 63)) }
 {
     if amount.units >= 0 && amount.units <= 9_223_372_036_854_775_807 {
         Some(amount.units as u64)
@@ -27,7 +29,9 @@ fn units_of(amount: Scaled) -> Option<u64>
 /// # Errors
 /// `TooLarge` where the sum is 2^63 or more, `NoMemory` where memory was refused.
 pub fn gains(alloc: Global, net: &Net<Scaled>) -> Result<(Vec<u64>, u64), WordsFault>
-    ensures { MatchResult result (λ r. AreGains net.now r.0.items r.1) (λ e. OpeningFaultStands net.now e) }
+    ensures { MatchResult result
+        (λ r. AreGains net.now r.0.items r.1)
+        (λ e. OpeningFaultStands net.now e) }
 {
     let blocks = net.len();
     let mut gain = Vec::new(alloc);

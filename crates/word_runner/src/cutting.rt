@@ -45,7 +45,8 @@ fn cut_worths(alloc: Global, net: &Net<Scaled>, most: u64) -> Result<Vec<Scaled>
 /// The net with its negative worths cut at what the source gives in all.
 pub fn cut_net(alloc: Global, net: &Net<Scaled>, most: u64) -> Result<Net<Scaled>, AllocError>
     requires { (all_given net.now ≡ units most) × (most < 2 ^ 63) }
-    ensures { IfOk result (λ n. IsCutNet net.now n × AreWithin n most × (all_given n ≡ units most)) }
+    ensures { IfOk result (λ n. IsCutNet net.now n × AreWithin n most
+        × (all_given n ≡ units most)) }
 {
     // proof: what is known of every net, that its pairs are of its blocks and in order
     let _net = net.worths();

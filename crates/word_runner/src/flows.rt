@@ -28,7 +28,8 @@ fn amounts_of(
     size: u32,
 ) -> Result<Vec<Scaled>, AllocError>
     requires { IsFull closed.now.words × (from + size ≤ slots_len closed.now.words) }
-    ensures { IfOk result (λ v. AreUnits (slots_items closed.now.words) from size (map scaled_parts v.items)) }
+    ensures { IfOk result
+        (λ v. AreUnits (slots_items closed.now.words) from size (map scaled_parts v.items)) }
 {
     let mut amounts = Vec::new(alloc);
     let mut k = 0;
@@ -61,7 +62,8 @@ fn sinks_of(
     requires full { IsFull closed.now.words × (width net.now ≤ slots_len closed.now.words) }
     requires from { from ≡ room_at net.now 0 }
     requires rooms { AreRooms net.now (slots_items closed.now.words) }
-    ensures { IfOk result (λ v. AreSinks net.now (slots_items closed.now.words) (map scaled_parts v.items)) }
+    ensures { IfOk result
+        (λ v. AreSinks net.now (slots_items closed.now.words) (map scaled_parts v.items)) }
 {
     let blocks = net.len();
     let mut amounts = Vec::new(alloc);

@@ -24,7 +24,8 @@ impl Model for Words {
 
     ghost Value = { WordsView };
 
-    ghost view = { λ w. record { shared = w.table.shared; cut = w.net; total = w.total; workers = w.workers } };
+    ghost view = { λ w.
+        record { shared = w.table.shared; cut = w.net; total = w.total; workers = w.workers } };
 
     ghost invariant = { λ w. IsWords w.table.shared w.net w.total w.workers };
 }

@@ -84,7 +84,9 @@ pub fn words_of(
     workers: u32,
 ) -> Result<(Words, WordSeat), WordsFault>
     requires { (0 < workers) × (workers < 3) }
-    ensures { MatchResult result (λ r. IsBegun net.now workers r.0 r.1) (λ e. OpeningFaultStands net.now e) }
+    ensures { MatchResult result
+        (λ r. IsBegun net.now workers r.0 r.1)
+        (λ e. OpeningFaultStands net.now e) }
 {
     let (gain, total) = gains(alloc, net)?;
     match words_with(alloc, net, &gain, total, workers) {

@@ -43,7 +43,8 @@ fn of_settle_fault(fault: SettleFault) -> SolveFault
 fn solved_by_one(alloc: Global, words: Words, ran: Served) -> Result<Solved<Scaled>, SolveFault>
     requires { IsServed words.shared 0 1 ran.seat }
     ensures { MatchResult result
-        (λ solved. IsQuietEnd words.cut ran.seat.place.me.0.made solved.flow × (solved.steps ≡ ran.steps) × (ran.seat.stopped ≡ false))
+        (λ solved. IsQuietEnd words.cut ran.seat.place.me.0.made solved.flow
+        × (solved.steps ≡ ran.steps) × (ran.seat.stopped ≡ false))
         (λ fault. WordRunFaultStands words.cut fault) }
 {
     let Served { seat, steps } = ran;
@@ -66,7 +67,10 @@ fn solved_by_two(
     requires seats { IsServed words.shared 0 2 left.seat × IsServed words.shared 1 2 right.seat }
     requires steps { left.steps + right.steps < 2 ^ 64 }
     ensures { MatchResult result
-        (λ solved. IsQuietEnd words.cut (left.seat.place.me.0.made ++ right.seat.place.me.0.made) solved.flow × (solved.steps ≡ left.steps + right.steps) × (left.seat.stopped ≡ false) × (right.seat.stopped ≡ false))
+        (λ solved. IsQuietEnd words.cut
+        (left.seat.place.me.0.made ++ right.seat.place.me.0.made) solved.flow
+        × (solved.steps ≡ left.steps + right.steps)
+        × (left.seat.stopped ≡ false) × (right.seat.stopped ≡ false))
         (λ fault. WordRunFaultStands words.cut fault) }
 {
     let steps = left.steps + right.steps;

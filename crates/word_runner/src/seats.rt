@@ -52,7 +52,8 @@ fn make_next(
 ) -> u64
     requires seat { IsSeat words.now place.old }
     requires next { IsNextAt place.old.me.0 b at }
-    requires operation { (place.old.me.0.operation ≡ operation.now) × ¬ (RaisesTooFar operation.now) }
+    requires operation { (place.old.me.0.operation ≡ operation.now)
+        × ¬ (RaisesTooFar operation.now) }
     ensures same { IsSame place.old place.new }
     ensures view { HasTurned b place.old.me.0 result place.new.me.0 }
 {
@@ -111,11 +112,14 @@ impl WordSeat {
     /// made. From then on the seat makes no steps and answers the same.
     pub fn turn(&mut self, words: &Words, b: u32) -> WordTurn
         requires words { IsSeat words.now.shared self.old.place }
-        requires block { (b < length words.now.cut.worths) × IsSeatsOwn self.old.place.me.0 b × ((self.old.operation ≡ Idle) ⊎ (self.old.block ≡ b)) }
+        requires block { (b < length words.now.cut.worths) × IsSeatsOwn self.old.place.me.0 b
+            × ((self.old.operation ≡ Idle) ⊎ (self.old.block ≡ b)) }
         ensures seat { IsSeat words.now.shared self.new.place }
         ensures same { IsSame self.old.place self.new.place }
-        ensures told { IsTold self.new.place self.new.labels self.new.block self.new.operation self.new.stopped }
-        ensures answer { IsWordTurn b self.old.place.me.0 self.old.operation self.old.stopped self.new.place.me.0 self.new.stopped result }
+        ensures told { IsTold self.new.place self.new.labels self.new.block
+            self.new.operation self.new.stopped }
+        ensures answer { IsWordTurn b self.old.place.me.0 self.old.operation self.old.stopped
+            self.new.place.me.0 self.new.stopped result }
     {
         if self.stopped {
             return WordTurn::TooLarge;
@@ -147,9 +151,11 @@ impl WordSeat {
     pub(crate) fn load(&mut self, words: &Words, at: usize) -> u64
         requires { IsSeat words.now.shared self.old.place × (at < 2) }
         ensures seat { IsSeat words.now.shared self.new.place }
-        ensures told { IsTold self.new.place self.new.labels self.new.block self.new.operation self.new.stopped }
+        ensures told { IsTold self.new.place self.new.labels self.new.block
+            self.new.operation self.new.stopped }
         ensures loaded { HasLoaded at self.old.place.me.0 result self.new.place.me.0 }
-        ensures same { (self.new.operation ≡ self.old.operation) × (self.new.block ≡ self.old.block) × (self.new.stopped ≡ self.old.stopped) }
+        ensures same { (self.new.operation ≡ self.old.operation) × (self.new.block ≡ self.old.block)
+            × (self.new.stopped ≡ self.old.stopped) }
         ensures small { result < 2 ^ 63 }
     {
         look_up(&words.table.shared, &mut self.place, at)
@@ -160,9 +166,11 @@ impl WordSeat {
     pub fn arrived(&mut self, words: &Words) -> bool
         requires words { IsSeat words.now.shared self.old.place }
         ensures seat { IsSeat words.now.shared self.new.place }
-        ensures told { IsTold self.new.place self.new.labels self.new.block self.new.operation self.new.stopped }
+        ensures told { IsTold self.new.place self.new.labels self.new.block
+            self.new.operation self.new.stopped }
         ensures answer { HasArrived self.old.place.me.0 self.new.place.me.0 words.now.total result }
-        ensures same { (self.new.operation ≡ self.old.operation) × (self.new.block ≡ self.old.block) × (self.new.stopped ≡ self.old.stopped) }
+        ensures same { (self.new.operation ≡ self.old.operation) × (self.new.block ≡ self.old.block)
+            × (self.new.stopped ≡ self.old.stopped) }
     {
         let source = self.load(words, 0);
         let sink = self.load(words, 1);
@@ -172,7 +180,8 @@ impl WordSeat {
     // Whether it has no operation.
     pub(crate) fn is_free(&self) -> bool
         ensures free { result ≡ is_free self.now.operation }
-        ensures told { IsTold self.now.place self.now.labels self.now.block self.now.operation self.now.stopped }
+        ensures told { IsTold self.now.place self.now.labels self.now.block
+            self.now.operation self.now.stopped }
     {
         is_idle(&self.operation)
     }

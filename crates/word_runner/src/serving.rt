@@ -58,10 +58,12 @@ fn pause_within(at: u32, found: bool) {
 // The step that is next at the block of the round.
 fn step_at(words: &Words, round: Round, _number: u32, _turn: u64) -> Result<Round, Served>
     requires round { IsRound words.now _number round.seat round.at round.steps _turn }
-    requires block { (round.at < length words.now.cut.worths) × (_number < words.now.workers) × (_turn + 1 < 2 ^ 64) }
+    requires block { (round.at < length words.now.cut.worths) × (_number < words.now.workers)
+        × (_turn + 1 < 2 ^ 64) }
     ensures { MatchResult result
         (λ next. IsRound words.now _number next.seat next.at next.steps (_turn + 1))
-        (λ served. SeatHasServed words.now _number words.now.workers (_turn + 1) served.seat served.steps) }
+        (λ served. SeatHasServed words.now _number words.now.workers
+        (_turn + 1) served.seat served.steps) }
 {
     // proof: a net has at most `MOST_BLOCKS` blocks
     let _few = words.net.rests().len();
@@ -111,7 +113,8 @@ fn look_at(words: &Words, round: Round, number: u32, _turn: u64) -> Result<Round
     requires over { (length words.now.cut.worths ≤ round.at) × (number < words.now.workers) }
     ensures { MatchResult result
         (λ next. IsRound words.now number next.seat next.at next.steps (_turn + 1))
-        (λ served. SeatHasServed words.now number words.now.workers (_turn + 1) served.seat served.steps) }
+        (λ served. SeatHasServed words.now number words.now.workers
+        (_turn + 1) served.seat served.steps) }
 {
     let Round {
         seat,
@@ -161,7 +164,8 @@ pub(crate) fn take_turn(
     requires few { (number < words.now.workers) × (turn + 1 < 2 ^ 64) }
     ensures { MatchResult result
         (λ next. IsRound words.now number next.seat next.at next.steps (turn + 1))
-        (λ served. SeatHasServed words.now number words.now.workers (turn + 1) served.seat served.steps) }
+        (λ served. SeatHasServed words.now number words.now.workers
+        (turn + 1) served.seat served.steps) }
 {
     let blocks = words.net.rests().len();
     if round.at < blocks {

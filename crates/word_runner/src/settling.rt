@@ -22,7 +22,8 @@ use std::alloc::Global;
 // Whether what has arrived at the source and at the sink is the total.
 fn has_arrived(closed: &Closed<(), Global>, total: u64) -> bool
     requires { IsFull closed.now.words × (2 ≤ slots_len closed.now.words) }
-    ensures { IsTrue result ↔ (slice_index (slots_items closed.now.words) 0 + slice_index (slots_items closed.now.words) 1 ≡ total) }
+    ensures { IsTrue result ↔ (slice_index (slots_items closed.now.words) 0 + slice_index
+        (slots_items closed.now.words) 1 ≡ total) }
 {
     match closed.word(0).checked_add(closed.word(1)) {
         Some(sum) => sum == total,
@@ -82,7 +83,8 @@ fn join(words: &Words, left: WordSeat, right: WordSeat) -> Option<TableSeat>
     requires { IsServed words.now.shared 0 2 left × IsServed words.now.shared 1 2 right }
     ensures { MatchOption result
         (¬ (left.operation ≡ Idle) ⊎ ¬ (right.operation ≡ Idle))
-        (λ p. IsSeat words.now.shared p × IsWorker 0 1 p.me.0 × (p.me.0.made ≡ left.place.me.0.made ++ right.place.me.0.made)) }
+        (λ p. IsSeat words.now.shared p × IsWorker 0 1 p.me.0
+        × (p.me.0.made ≡ left.place.me.0.made ++ right.place.me.0.made)) }
 {
     if !left.is_free() || !right.is_free() {
         return None;
@@ -115,7 +117,8 @@ pub fn settle_two(
     requires { IsServed words.shared 0 2 left × IsServed words.shared 1 2 right }
     ensures { MatchResult result
         (λ flow. IsQuietEnd words.cut (left.place.me.0.made ++ right.place.me.0.made) flow)
-        (λ fault. EndFaultStands words.cut (left.place.me.0.made ++ right.place.me.0.made) (¬ (left.operation ≡ Idle) ⊎ ¬ (right.operation ≡ Idle)) fault) }
+        (λ fault. EndFaultStands words.cut (left.place.me.0.made ++ right.place.me.0.made)
+        (¬ (left.operation ≡ Idle) ⊎ ¬ (right.operation ≡ Idle)) fault) }
 {
     match join(&words, left, right) {
         Some(place) => close(alloc, words, place),

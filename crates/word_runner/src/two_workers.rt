@@ -40,7 +40,8 @@ pub fn serve_both<R: Threads + Wait + Sync, T: Gate>(
     requires two { words.now.workers ≡ 2 }
     requires left { IsFirst words.now 0 2 left }
     requires right { IsFirst words.now 1 2 right }
-    ensures { IfSome result (λ s. SeatHasServed words.now 0 2 turns s.0.seat s.0.steps × SeatHasServed words.now 1 2 turns s.1.seat s.1.steps) }
+    ensures { IfSome result (λ s. SeatHasServed words.now 0 2 turns s.0.seat s.0.steps
+        × SeatHasServed words.now 1 2 turns s.1.seat s.1.steps) }
 {
     let flag = AtomicBool::new(false);
     let stop = &flag;
@@ -51,7 +52,8 @@ pub fn serve_both<R: Threads + Wait + Sync, T: Gate>(
             requires two { words.now.workers ≡ 2 }
             requires left { IsFirst words.now 0 2 left }
             requires right { IsFirst words.now 1 2 right }
-            ensures { IfSome result (λ s. SeatHasServed words.entry.now 0 2 turns s.0.seat s.0.steps × SeatHasServed words.entry.now 1 2 turns s.1.seat s.1.steps) }
+            ensures { IfSome result (λ s. SeatHasServed words.entry.now 0 2 turns s.0.seat s.0.steps
+                × SeatHasServed words.entry.now 1 2 turns s.1.seat s.1.steps) }
         {
             let first = scope.spawn_with(
                 Worker {

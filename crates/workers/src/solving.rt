@@ -144,7 +144,9 @@ fn board_after<G: OrderedGroup, R: Threads + Wait + Sync, T: Gate>(
 ) -> Result<TurnBoard<G>, SolveFault>
 where
     Locked<TurnBoard<G>>: Shared,
-    ensures { MatchResult result (λ board. IsBoardLeft net.now limit board) (λ fault. IsLoss fault) }
+    ensures { MatchResult result
+        (λ board. IsBoardLeft net.now limit board)
+        (λ fault. IsLoss fault) }
 {
     let board = TurnBoard::open(alloc, net).map_err(|_| SolveFault::NoMemory)?;
     let shared = Locked::new(board);
