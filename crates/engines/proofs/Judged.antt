@@ -5,7 +5,6 @@ use Rattle.ordered_group.specs.Amount.{Amount}
 use Rattle.ordered_group.specs.Laws.{SumsTellWorth}
 use Rattle.ordered_group.specs.declared.groups.Group.{Group}
 use Rattle.prec_file.specs.Rests.{RestsView}
-use Rattle.prec_file.specs.Records as prec
 use Rattle.closure_net.specs.Network.{NetView, FlowView, net_view, IsNet, holds_of}
 use Rattle.closure_net.specs.Closure.{IsGreatest, group_worth}
 use Rattle.closure_net.specs.Mine.{IsNetOf}

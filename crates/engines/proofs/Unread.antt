@@ -10,7 +10,6 @@ use Rattle.settings_file.specs.Settings.{settings_of}
 use Rattle.blocks_file.specs.Records as blocks
 use Rattle.blocks_file.specs.declared.blocks_fault.BlocksFault.TheVariants as blocks_fault
 use Rattle.ordered_group.specs.declared.groups.Group.{Group}
-use Rattle.prec_file.specs.Records as prec
 use Rattle.prec_file.specs.declared.prec_fault.PrecFault.{PrecFault}
 use Rattle.upit_file.specs.Records as upit
 use Rattle.upit_file.specs.declared.upit_fault.UpitFault.{UpitFault}
