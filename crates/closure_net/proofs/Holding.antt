@@ -1,5 +1,5 @@
 -- What a list of blocks holds.
-use Rattle.std.proofs.Common.{◌≡◌, ℕ, ◌<◌, ◌==◌, ◌||◌, Bool, true, false, List, length, get_or, refl, arith}
+use Rattle.std.proofs.Common.{◌≡◌, ℕ, ◌<◌, ◌==◌, Bool, true, false, List, length, get_or, refl, arith}
 use Rattle.std.proofs.lemmas.List.Folds.{Any-from_list_any, list_any_at}
 use Rattle.std.proofs.lemmas.Bool.{eq-eqb}
 use Rattle.closure_net.specs.Network.{holds_of}
@@ -17,7 +17,3 @@ holds_at xs i h = list_any_at (λ x. x == get_or xs i 0) xs i 0 h (eq-eqb (get_o
 -- what it holds stands at a place of it
 pub place_of : (xs : List ℕ) (x : ℕ) → holds_of xs x ≡ true → (i : ℕ) × (i < length xs) × (get_or xs i 0 ≡ x)
 place_of xs x h = grind (arith, common_steps, Any-from_list_any)
-
-or_none : (s t : Bool) → t ≡ false → (s || t) ≡ s
-or_none true t h = refl
-or_none false t h = h

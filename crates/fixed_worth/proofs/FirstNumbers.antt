@@ -53,10 +53,6 @@ passed p (x ∷ xs) ys h =
     let ih = passed p xs ys both.1 in
     rw both.0 (omega (arith, ih))
 
-ends_at : (rest : List ℕ) → (0 < length rest → is_separator (get_or rest 0 0) ≡ true) → position_or_len is_separator rest ≡ 0
-ends_at [] h = refl
-ends_at (b ∷ bs) h = let e : is_separator b ≡ true = h (omega arith) in rw e refl
-
 -- Bytes without a separator that a separator or the end follows are the first field.
 pub begins_with : (text field behind rest : List ℕ) → text ≡ field ++ behind → 0 < length field → list_all (λ b. not (is_separator b)) field ≡ true → (0 < length behind → is_separator (get_or behind 0 0) ≡ true) → rest ≡ drop 1 behind → BeginsWithField text field rest
 begins_with text field behind rest e some inside ends f = grind (arith, common_steps, passed, field_passed)

@@ -1,17 +1,11 @@
 -- A block is marked where it had a record.
-use Rattle.std.proofs.Common.{◌≡◌, ℕ, zero, suc, ◌<◌, Bool, true, false, cond, eqb, List, [], ◌∷◌, ◌++◌, length, get_or, set, replicate, refl, sym, ap, ◌∙◌, arith, append-nil}
-use Rattle.std.specs.Prelude.{◌||◌}
+use Rattle.std.proofs.Common.{◌≡◌, ℕ, zero, suc, ◌<◌, Bool, true, false, cond, List, [], ◌∷◌, ◌++◌, length, get_or, set, replicate, refl, sym, ap, ◌∙◌, arith, append-nil}
 use Rattle.fixed_worth.specs.Record.{is_skipped}
 use Rattle.prec_file.specs.Records.{block_of, has}
 use Rattle.prec_file.specs.Indexes.{marks_after}
 use Rattle.std.proofs.lemmas.Grind.{common_steps}
 
 -- A block is seen where it had a record.
-
-mark_at : (seen : List Bool) (bs : List ℕ) (b k : ℕ) → b < length seen → get_or seen k false ≡ has bs k → (t : Bool) → eqb b k ≡ t → get_or (set seen b true) k false ≡ (has bs k || (t || false))
-mark_at seen bs b k i h true e = grind (arith, common_steps)
-mark_at seen bs b k i h false e = grind (arith, common_steps)
-
 pub mark : (s : Bool) (n : ℕ) (seen : List Bool) (bs : List ℕ) (b : ℕ) → length seen ≡ n → (s ≡ false → b < n) → ((k : ℕ) → k < n → get_or seen k false ≡ has bs k)
     → (k : ℕ) → k < n → get_or (cond s seen (set seen b true)) k false ≡ has (bs ++ cond s [] (b ∷ [])) k
 mark true n seen bs b e i h k j = h k j ∙ ap (λ (xs : List ℕ). has xs k) (sym (append-nil bs))
