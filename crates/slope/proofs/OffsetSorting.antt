@@ -25,9 +25,9 @@ offset_ties x y = grind (arith, common_steps)
 pub offset_same : (x y : Offset) → offset_eq x y ≡ true → x ≡ y
 offset_same x y h = grind (arith, common_steps)
 
-pub clash : (b : Bool) → b ≡ true → b ≡ false → ⊥
-clash true k e = absurd cc
-clash false k e = absurd cc
+pub not_both : (b : Bool) → b ≡ true → b ≡ false → ⊥
+not_both true k e = absurd cc
+not_both false k e = absurd cc
 
 pub offset_differs : (x y : Offset) → offset_eq x y ≡ false → x ≡ y → ⊥
 offset_differs x y h e = grind (arith, common_steps)
