@@ -1,6 +1,6 @@
 //! Makes the line that a `.upit` text has for a block and its value.
 
-ghost use Rattle.std.specs.Prelude.{◌≡◌, ◌+◌, ◌-◌, ◌/◌, ◌%◌, ◌<◌, ◌≤◌, ◌^◌, ◌++◌, length, unsigned_abs};
+ghost use Rattle.std.specs.Prelude.{◌≡◌, ◌+◌, ◌<◌, ◌≤◌, ◌^◌, ◌++◌, length};
 ghost use Rattle.fixed_worth.specs.Printed.{fraction_text};
 ghost use Rattle.upit_file.specs.Writing as spec;
 

@@ -2,7 +2,6 @@
 //! private data.
 
 ghost use Rattle.std.specs.Prelude.{◌≡◌, ◌<◌, IfOk, MatchResult};
-ghost use Rattle.machine_law.specs.declared.operations.Operation.TheVariants.{Idle};
 ghost use Rattle.word_runner.specs.Views.{start_words};
 ghost use Rattle.word_runner.specs.CutNets.{AreGains};
 ghost use Rattle.word_runner.specs.Openings.{IsFirst, AreFirst, IsBegun, AreOpenedSeats, OpeningFaultStands, WordsFaultStands};
