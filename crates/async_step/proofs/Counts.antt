@@ -6,6 +6,7 @@ use Rattle.std.proofs.lemmas.Bool.{cases_eq}
 use Rattle.std.proofs.lemmas.List.{get_or_default}
 use Rattle.ordered_group.specs.Sets.{count_in}
 use Rattle.ordered_group.proofs.BlockSets.{count_in-same, count_in-most}
+use Rattle.prec_file.proofs.Starts.{read_at}
 use Rattle.async_step.specs.declared.marks.TheConstants.{SMALL, MIDDLE, LARGE}
 use Rattle.async_step.specs.Marks.{mark_at, run_count, IsCounted, IsMarks, count_after_shift, CanShift}
 use Rattle.std.proofs.lemmas.Grind.{common_steps}
@@ -117,10 +118,6 @@ module _ (marks : List Bool) (b : ℕ) (inside : b < length marks) where
       }
 
 -- ---- the marks with one block's mark changed, by what was read
-
--- a count that was read
-read_at : (counts : List ℕ) (i x : ℕ) → i < length counts → x ≡ get_or counts i x → get_or counts i 0 ≡ x
-read_at counts i x h e = get_or_default counts i 0 x h ∙ sym e
 
 -- a mark that was read, and differs
 read_off : (marks : List Bool) (b : ℕ) (t v : Bool) → b < length marks → t ≡ get_or marks b t → (t ≡ v → ⊥) → mark_at marks b ≡ v → ⊥

@@ -1,7 +1,7 @@
 //! Makes the steps of a push, which change an arc's flow and the excess at its two ends, and the step that raises a
 //! block's label. A step after which a number wouldn't fit is refused.
 
-ghost use Rattle.std.specs.Prelude.{◌≡◌, ◌+◌, ◌<◌, length};
+ghost use Rattle.std.specs.Prelude.{◌+◌, ◌<◌, length};
 ghost use Rattle.ordered_group.specs.Amount.{plus};
 ghost use Rattle.closure_net.specs.declared.port.PortKind.TheVariants.{Sink, Forward, Backward, Source};
 ghost use Rattle.machine_law.specs.declared.operations.Operation.TheVariants.{Idle};

@@ -15,6 +15,7 @@ use Rattle.std.proofs.lemmas.Cmp.{int_cmp_total, nat_cmp_total, on_total, then_t
 use Rattle.std.proofs.lemmas.List.Elements.{All-map, All-weaker, recursion_from_All}
 use Rattle.std.proofs.lemmas.Map.Lookups.{exact_signed, exact_unsigned, exact_pairs}
 use Rattle.std.proofs.lemmas.Map.Views.{All-found, Contains-keys_from_lookup}
+use Rattle.std.proofs.lemmas.Option.{same_Some}
 use Rattle.ordered_group.specs.Sets.{count_in}
 use Rattle.bench_report.specs.declared.bench_row.BenchRow.{BenchRow}
 use Rattle.bench_report.specs.Benches.{ReportedBlocks, blocks_at, by_bench, bench_and_shell, IsBenchRow, IsBenchTable}
@@ -40,11 +41,8 @@ IsRowAt m e = IsBenchRow m e.1 × (bench_and_shell e.1 ≡ e.0)
 
 row_by : (m : ReportedBlocks) (z : ℤ) (k : ℕ) (r : BenchRow) (t : Bool) → (count_in (blocks_at m z k) m.blocks == 0) ≡ t → cond t None (Some (row_below m z k m.blocks)) ≡ Some r → IsRowAt m ((z, k), r)
 row_by m z k r true h e = absurd cc
-row_by m z k r false h e = subst (λ (r : BenchRow). IsRowAt m ((z, k), r)) (some_is e) (record { some = positive (count_in (blocks_at m z k) m.blocks) h; number = refl; tonnage = refl; value = refl }, refl)
+row_by m z k r false h e = subst (λ (r : BenchRow). IsRowAt m ((z, k), r)) (same_Some _ _ e) (record { some = positive (count_in (blocks_at m z k) m.blocks) h; number = refl; tonnage = refl; value = refl }, refl)
   where
-    some_is : {X : Type 0} {x y : X} → Some x ≡ Some y → x ≡ y
-    some_is h = cc
-
     positive : (n : ℕ) → (n == 0) ≡ false → 0 < n
     positive n h = grind (arith, nat_tests)
 

@@ -1,5 +1,5 @@
 -- There is one table.
-use Rattle.std.proofs.Common.{◌≡◌, ℕ, ◌<◌, ℤ, Bool, true, false, Option, Some, None, List, [], ◌∷◌, map, refl, sym, ap, subst, ◌∙◌, arith}
+use Rattle.std.proofs.Common.{◌≡◌, ℕ, ◌<◌, ℤ, true, Option, Some, None, List, [], ◌∷◌, map, refl, sym, ap, subst, ◌∙◌, arith}
 use Rattle.std.specs.BTreeMap.{is_at}
 use Rattle.std.specs.List.{All, Contains, list_any}
 use Rattle.std.specs.Ordering.{int_cmp, nat_cmp, eq_by_cmp}
@@ -9,6 +9,7 @@ use Rattle.std.proofs.lemmas.Cmp.{eq_by_cmp_equiv}
 use Rattle.std.proofs.lemmas.List.Elements.{All-map, All-weaker, All-contains, All-head, All-tail}
 use Rattle.std.proofs.lemmas.Map.Lookups.{exact_signed, exact_unsigned, exact_pairs, btree_set_from_contains}
 use Rattle.std.proofs.lemmas.Map.Views.{Contains-from_any, list_any-from_Contains}
+use Rattle.closure_net.proofs.Holding.{same_tests}
 use Rattle.bench_report.specs.declared.bench_row.BenchRow.{BenchRow}
 use Rattle.bench_report.specs.Benches.{ReportedBlocks, is_shell, by_bench, bench_and_shell, IsBenchRow, IsBenchTable}
 use Rattle.bench_report.specs.GrowingRows.{row_below}
@@ -34,11 +35,6 @@ also_there m rows others h k q t =
     let places : All (HasBlock m) (map bench_and_shell rows) = All-map (HasBlock m) bench_and_shell rows (All-weaker (IsBenchRow m) (λ r. HasBlock m (bench_and_shell r)) (has_block m) rows h.each) in
     let b : HasBlock m q = All-contains (HasBlock m) (map bench_and_shell rows) q places (Contains-from_any {eq = eq_by_cmp by_bench} same_places q (map bench_and_shell rows) t) in
     list_any-from_Contains (eq_by_cmp_equiv by_bench_total) q (map bench_and_shell others) (subst (Contains (map bench_and_shell others)) b.2 (k.every b.0 q.1 b.1 b.3))
-
-same_tests : (s t : Bool) → (s ≡ true → t ≡ true) → (t ≡ true → s ≡ true) → s ≡ t
-same_tests true t h k = sym (h refl)
-same_tests false true h k = k refl
-same_tests false false h k = refl
 
 places_are_one : (m : ReportedBlocks) (rows others : List BenchRow) → IsBenchTable m rows → IsBenchTable m others → map bench_and_shell rows ≡ map bench_and_shell others
 places_are_one m rows others h k =

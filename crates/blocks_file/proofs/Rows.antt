@@ -6,13 +6,12 @@ use Rattle.std.specs.List.{list_any}
 use Rattle.std.proofs.lemmas.Bool.{cases_eq}
 use Rattle.std.proofs.lemmas.Bool.Decides.{nat_tests}
 use Rattle.std.proofs.lemmas.List.{drop_more}
-use Rattle.std.proofs.lemmas.List.Folds.{list_all_at}
 use Rattle.std.proofs.lemmas.Int.{ints}
 use Rattle.fixed_worth.specs.declared.numerals.NumberFault.TheVariants.{NotANumber, TooLong, TooLarge}
 use Rattle.fixed_worth.specs.Numeral.{is_minus, with_sign}
 use Rattle.fixed_worth.specs.Decimal.{is_decimal, is_too_long, millionths_of, most}
-use Rattle.blocks_file.specs.Records.{value_read, value_in, is_bad, are_there}
-use Rattle.blocks_file.specs.RowReading.{IsRow, AreTaken, HoldsValues}
+use Rattle.blocks_file.specs.Records.{value_read, value_in, is_bad}
+use Rattle.blocks_file.specs.RowReading.{IsRow, AreTaken}
 use Rattle.std.proofs.lemmas.Grind.{common_steps}
 
 -- The next field is column k.
@@ -34,9 +33,6 @@ row_more chosen all k field old new r t e = record {
 
 bad_at : (columns : List (List ℕ)) (c : ℕ) → c < length columns → value_read (get_or columns c []) ≡ None → is_bad columns c ≡ true
 bad_at columns c h e = let t : nat_lt c (length columns) ≡ true = grind (arith, nat_tests) in rw (t, e) refl
-
-or_left : (a b : Bool) → a ≡ true → (a || b) ≡ true
-or_left a b h = rw h refl
 
 or_right : (a b : Bool) → b ≡ true → (a || b) ≡ true
 or_right true b h = refl
@@ -64,13 +60,6 @@ none_bad columns (c ∷ cs) f = rw (not_bad columns c (nat_lt c (length columns)
 
 pub row_good : (chosen : List ℕ) (columns : List (List ℕ)) (row : List ℤ) → IsRow chosen columns (length columns) row → list_any (is_bad columns) chosen ≡ false
 row_good chosen columns row r = none_bad columns chosen (λ i h l. ap is_some (r.each i h l))
-
-there_at : (n : ℕ) (chosen : List ℕ) (i : ℕ) → are_there chosen n ≡ true → i < length chosen → (t : Bool) → nat_lt (get_or chosen i 0) n ≡ t → get_or chosen i 0 < n
-there_at n chosen i h l true e = grind arith
-there_at n chosen i h l false e = absurd (true≢false (sym h ∙ list_all_at (λ c. nat_lt c n) chosen i 0 l e))
-
-pub row_values : (chosen : List ℕ) (columns : List (List ℕ)) (row : List ℤ) → IsRow chosen columns (length columns) row → are_there chosen (length columns) ≡ true → HoldsValues chosen columns row
-row_values chosen columns row r h = grind (arith, common_steps)
 
 -- no value is above 10 ^ 18 millionths either way
 sign_small : (minus : Bool) (n limit : ℕ) (t : Bool) → nat_le n limit ≡ t → unsigned_abs (unwrap_or (result_ok (with_sign minus (cond t (Ok n) (Err TooLarge)))) (pos 0)) ≤ limit

@@ -1,15 +1,10 @@
 -- The values of blocks that stand one block after another.
 use Rattle.std.proofs.Common.{◌≡◌, ℕ, ℤ, pos, ◌+◌, ◌*◌, ◌<◌, ◌≤◌, List, [], length, map, get_or, ap, ◌∙◌, subst, arith}
 use Rattle.std.specs.List.{range_with_len}
-use Rattle.std.proofs.Math.Nat.{add-mul, one-mul}
 use Rattle.std.proofs.lemmas.List.FromFn.{get_or-map-range_with_len, length-map-range_with_len}
 use Rattle.blocks_file.specs.declared.place.Place.{Place}
 use Rattle.blocks_file.specs.Denotes.{BlocksView, IsModel, IsSmall, columns_from}
 use Rattle.std.proofs.lemmas.Grind.{common_steps}
-
--- A block's values end where the next block's begin.
-pub next_block : (b w : ℕ) → (b + 1) * w ≡ b * w + w
-next_block b w = add-mul b 1 w ∙ ap (λ (x : ℕ). b * w + x) (one-mul w)
 
 pub blocks_apart : (b c w : ℕ) → b < c → b * w + w ≤ c * w
 blocks_apart b c w h = grind (arith, common_steps)

@@ -1,7 +1,7 @@
 //! A model as a `.blocks` text gives it: how many blocks there are, where each is, and its values of the chosen
 //! columns.
 
-ghost use Rattle.std.specs.Prelude.{◌≡◌, ◌+◌, ◌*◌, ◌<◌, ◌≤◌, ℕ, [], pos, length, slice_index_or};
+ghost use Rattle.std.specs.Prelude.{◌≡◌, ◌<◌, ◌≤◌, ℕ, [], pos, length, slice_index_or};
 ghost use Rattle.blocks_file.specs.Denotes as spec;
 
 use crate::Place;

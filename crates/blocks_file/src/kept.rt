@@ -1,7 +1,7 @@
 //! Gathers the places and the chosen values of blocks, record by record, and refuses an unknown block and a second
 //! record of one.
 
-ghost use Rattle.std.specs.Prelude.{◌≡◌, ℕ, ◌+◌, ◌*◌, ◌<◌, ◌≤◌, Bool, true, false, pos, Some, None, length, replicate, slice_set, slice_index_or, IfOk, MatchResult};
+ghost use Rattle.std.specs.Prelude.{◌≡◌, ℕ, ◌+◌, ◌*◌, ◌≤◌, Bool, true, false, pos, Some, None, length, replicate, slice_set, slice_index_or, IfOk, MatchResult};
 ghost use Rattle.blocks_file.specs.Records as spec;
 ghost use Rattle.blocks_file.specs.RowReading.{ArePut};
 

@@ -1,7 +1,7 @@
 //! Reads the chosen columns among the fields of a record, and counts its columns, so that a missing column is
 //! noticed.
 
-ghost use Rattle.std.specs.Prelude.{◌≡◌, ◌==◌, ◌<◌, ◌≤◌, true, None, Some, length, map, MatchResult};
+ghost use Rattle.std.specs.Prelude.{◌≡◌, ◌==◌, ◌≤◌, true, None, length, map, MatchResult};
 ghost use Rattle.std.specs.List.{list_any};
 ghost use Rattle.blocks_file.specs.Records as spec;
 ghost use Rattle.blocks_file.specs.RowReading.{AreFilled, AreTaken, IsRow};

@@ -8,6 +8,7 @@ use Rattle.ordered_group.specs.Amount.{Amount}
 use Rattle.ordered_group.specs.Sums.{amount_at}
 use Rattle.prec_file.specs.Rests.{IsRising}
 use Rattle.prec_file.proofs.Pairs.{is_pair, pair_told}
+use Rattle.prec_file.proofs.OneListing.{tail_holds}
 use Rattle.certificate_file.specs.declared.body_lines.LineKind.TheVariants.{Rest}
 use Rattle.certificate_file.specs.declared.body_lines.BodyLine.{BodyLine}
 use Rattle.certificate_file.specs.BodyLines.{is_of_model}
@@ -16,9 +17,6 @@ use Rattle.certificate_file.specs.Gathered.{Gathered, with_rest, Adds}
 use Rattle.std.proofs.lemmas.Grind.{common_steps}
 
 -- Whether a pair is among the model's.
-tail_holds : (q : ℕ × ℕ) (qs : List (ℕ × ℕ)) (x : ℕ × ℕ) → Contains qs x → Contains (q ∷ qs) x
-tail_holds q qs x h = (suc h.0, omega (arith, h.1), h.2)
-
 absent_at : (b p : ℕ) (q : ℕ × ℕ) (qs : List (ℕ × ℕ)) (t : Bool) → is_pair b p q ≡ t → (Contains (q ∷ qs) (b, p) → ⊥) → has_pair qs b p ≡ false → has_pair (q ∷ qs) b p ≡ false
 absent_at b p q qs true e out ih = absurd (out (zero, omega arith, pair_told b p q e))
 absent_at b p q qs false e out ih = rw e ih

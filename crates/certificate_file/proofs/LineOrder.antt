@@ -88,9 +88,6 @@ pub record Found (gives : BodyLine → Bool) (a : Amount) (ls : List BodyLine) :
   pub so : gives line ≡ true
   pub amount : amount_of line ≡ a
 
-later : (gives : BodyLine → Bool) (a : Amount) (m : BodyLine) (ms : List BodyLine) → Found gives a ms → Found gives a (m ∷ ms)
-later gives a m ms f = record { line = f.line; held = inr f.held; so = f.so; amount = f.amount }
-
 found_at : (gives : BodyLine → Bool) (x : Amount) (m : BodyLine) (ms : List BodyLine) (t : Bool) → gives m ≡ t → ((y : Amount) → (given_amount gives y ms ≡ y) ⊎ Found gives (given_amount gives y ms) ms) → (given_amount gives (cond t (amount_of m) x) ms ≡ x) ⊎ Found gives (given_amount gives (cond t (amount_of m) x) ms) (m ∷ ms)
 found_at gives x m ms true e ih = grind (arith, common_steps)
 found_at gives x m ms false e ih = grind (arith, common_steps)

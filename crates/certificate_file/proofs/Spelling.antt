@@ -131,17 +131,6 @@ pub piece_text : (p : Piece) (ps : List Piece) (line : List ℕ) → p.ended ≡
 piece_text p ps line e f = rw (e, f) refl
 
 -- The body.
-is_last : (k : LineKind) → is_end k ≡ true → k ≡ End
-is_last Pit h = absurd (let z : false ≡ true = h in cc)
-is_last Source h = absurd (let z : false ≡ true = h in cc)
-is_last Rest h = absurd (let z : false ≡ true = h in cc)
-is_last Sink h = absurd (let z : false ≡ true = h in cc)
-is_last End h = refl
-
-nothing_left : (k : ℕ) (ps : List Piece) → end_fault k ps ≡ None → ps ≡ []
-nothing_left k [] h = refl
-nothing_left k (p ∷ ps) h = absurd cc
-
 on : (counts : Bool) (n : ℕ) (has : ℕ → ℕ → Bool) (k : ℕ) (p : Piece) (ps : List Piece) (line : BodyLine) (t : Bool) → is_end line.kind ≡ t → p.ended ≡ true → p.text ≡ spaced_words (line_words line)
     → cond t (end_fault (k + 1) ps) (body_fault counts n has (Some line) (k + 1) ps) ≡ None → (body_fault counts n has (Some line) (k + 1) ps ≡ None → pieces_text ps ≡ body_text (lines_of_pieces counts n ps) ++ end_text)
     → pieces_text (p ∷ ps) ≡ body_text (cond t [] (line ∷ lines_of_pieces counts n ps)) ++ end_text

@@ -13,6 +13,7 @@ use Rattle.ordered_group.proofs.Order.{is_eq_tells}
 use Rattle.prec_file.proofs.Pairs.{tells_pair, pair_told}
 use Rattle.prec_file.specs.Rests.{IsRising, IsKnown}
 use Rattle.closure_net.specs.Network.{FlowView, IsAscending}
+use Rattle.closure_net.proofs.Ascending.{tail_ascends}
 use Rattle.certificate_file.specs.declared.body_lines.LineKind.{LineKind}
 use Rattle.certificate_file.specs.declared.body_lines.LineKind.TheVariants.{Pit, Source, Rest, Sink, End}
 use Rattle.certificate_file.specs.declared.body_lines.BodyLine.{BodyLine}
@@ -57,9 +58,6 @@ abbrev FirstFollows : Option BodyLine → List ℕ → Type 0
 FirstFollows p [] = Unit {0}
 FirstFollows p (b ∷ bs) = may_follow p (pit_at b) ≡ true
 
-tail_ascends : (b : ℕ) (bs : List ℕ) → IsAscending (b ∷ bs) → IsAscending bs
-tail_ascends b bs h i j e f = h (suc i) (suc j) (omega arith) (omega arith)
-
 next_follows : (b : ℕ) (bs : List ℕ) → IsAscending (b ∷ bs) → FirstFollows (Some (pit_at b)) bs
 next_follows b [] h = tt
 next_follows b (c ∷ cs) h = pit_step b c (h 0 1 (omega arith) (omega arith))
@@ -86,9 +84,6 @@ amounts : (P : BodyLine → Type 0) (line : ℕ → Amount → BodyLine) (top r 
 amounts P line top r s [] k p rest l f e u c = c p u
 amounts P line top r s (x ∷ xs) k p rest l f e u c = grind (arith, common_steps, (amounts P line top r s xs (k + 1) p rest (omega arith) (λ j y g h. f j y (omega arith) h) e.1 u c), (amounts P line top r s xs (k + 1) (Some (line k x)) rest (omega arith) (λ j y g h. s.step k j x y (omega arith) h) e.1 (s.rank_is k x) c))
 
-no_more : (ls : List BodyLine) → ls ++ [] ≡ ls
-no_more ls = append-nil ls
-
 -- The lines of a value, where P holds of each.
 pub record EachLine (P : BodyLine → Type 0) (pairs : List (ℕ × ℕ)) (blocks : List ℕ) (flow : FlowView) : Type 0 where
   pub pit : (i : ℕ) → i < length blocks → P (pit_at (get_or blocks i 0))
@@ -102,7 +97,7 @@ value_in_order P n pairs pit flow a r c e =
     let rests : Rises (pair_at pairs) (length pairs) 2 = record { step = λ i j x y h l. pair_step pairs i j x y r h l; rank_is = λ i x. omega arith } in
     let sinks : Rises (line_of_block Sink) n 3 = record { step = λ i j x y h l. block_step Sink i j x y h; rank_is = λ i x. omega arith } in
     let last : (q : Option BodyLine) → UpTo 2 q → InOrder P q (amount_lines (line_of_block Sink) 0 flow.sink) = λ q u.
-    subst (InOrder P q) (no_more (amount_lines (line_of_block Sink) 0 flow.sink)) (amounts P (line_of_block Sink) n 3 sinks flow.sink 0 q [] (omega (arith, c.sinks)) (λ j x g h. higher 2 q (line_of_block Sink j x) u (omega arith)) e.sink (wider 2 3 q (omega arith) u) (λ p v. tt)) in
+    subst (InOrder P q) (append-nil (amount_lines (line_of_block Sink) 0 flow.sink)) (amounts P (line_of_block Sink) n 3 sinks flow.sink 0 q [] (omega (arith, c.sinks)) (λ j x g h. higher 2 q (line_of_block Sink j x) u (omega arith)) e.sink (wider 2 3 q (omega arith) u) (λ p v. tt)) in
     let middle : (q : Option BodyLine) → UpTo 1 q → InOrder P q (amount_lines (pair_at pairs) 0 flow.rest ++ amount_lines (line_of_block Sink) 0 flow.sink) = λ q u.
     amounts P (pair_at pairs) (length pairs) 2 rests flow.rest 0 q (amount_lines (line_of_block Sink) 0 flow.sink) (omega (arith, c.rests)) (λ j x g h. higher 1 q (pair_at pairs j x) u (omega arith)) e.rest (wider 1 2 q (omega arith) u) last in
     let first : (q : Option BodyLine) → UpTo 0 q → InOrder P q (flow_lines pairs flow) = λ q u.
@@ -156,7 +151,7 @@ joins Rest b xs ys = refl
 joins Sink b xs ys = refl
 joins End b xs ys = refl
 
-pit_append : (ls ms : List BodyLine) → pit_of (ls ++ ms) ≡ pit_of ls ++ pit_of ms
+pub pit_append : (ls ms : List BodyLine) → pit_of (ls ++ ms) ≡ pit_of ls ++ pit_of ms
 pit_append [] ms = refl
 pit_append (l ∷ ls) ms = ap (block_if_pit l.kind l.block) (pit_append ls ms) ∙ joins l.kind l.block (pit_of ls) (pit_of ms)
 

@@ -1,7 +1,7 @@
 //! Reads one line behind a certificate's header: its kind, blocks and amount, or what is wrong with it. Decides which
 //! lines may follow one another.
 
-ghost use Rattle.std.specs.Prelude.{◌≡◌, ◌+◌, true, Some, None, Ok, Err, MatchResult};
+ghost use Rattle.std.specs.Prelude.{◌≡◌, ◌+◌, true, Err, MatchResult};
 ghost use Rattle.certificate_file.specs.Pieces.{Passed, piece_at};
 ghost use Rattle.certificate_file.specs.BodyLines as spec;
 

@@ -1,7 +1,7 @@
 //! Reads the lines behind a certificate's header up to `END`, and adds each to the pit and the flow, or gives the
 //! first fault.
 
-ghost use Rattle.std.specs.Prelude.{◌≡◌, ◌∷◌, length, Some, None, Ok, Err, MatchResult};
+ghost use Rattle.std.specs.Prelude.{◌≡◌, length, Some, None, MatchResult};
 ghost use Rattle.certificate_file.specs.BodyLines as spec;
 ghost use Rattle.certificate_file.specs.BodyLines.{body_fault, lines_of_pieces};
 ghost use Rattle.certificate_file.specs.Certificate.{Covers, UnlessMemory, has_pair};

@@ -1,7 +1,5 @@
 //! Why a text is no certificate, with the number of its first faulty line, and how each fault is printed.
 
-ghost use Rattle.std.specs.Prelude.{◌≡◌};
-
 use std::fmt;
 
 /// Why a text is no certificate. Lines are numbered from 1, and the fault is that of the first faulty line.

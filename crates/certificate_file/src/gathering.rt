@@ -1,7 +1,7 @@
 //! Gathers the pit and the flow of a certificate line by line, and refuses an amount over a pair that the mine
 //! doesn't have.
 
-ghost use Rattle.std.specs.Prelude.{◌≡◌, ◌≢◌, ℕ, ◌<◌, true, false, ◌⊎◌, pos, [], ◌∷◌, length, slice_set, IfOk, MatchOption, MatchResult};
+ghost use Rattle.std.specs.Prelude.{◌≡◌, ℕ, ◌<◌, true, false, ◌⊎◌, pos, [], ◌∷◌, length, slice_set, IfOk, MatchOption, MatchResult};
 ghost use Rattle.ordered_group.specs.Amount.{zero_amount};
 ghost use Rattle.ordered_group.specs.Sums.{amount_at};
 ghost use Rattle.prec_file.specs.Rests.{IsRests};

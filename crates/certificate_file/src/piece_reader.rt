@@ -1,7 +1,7 @@
 //! Gives the lines of a certificate's text one after another, with their numbers, and the words of a line, which
 //! single spaces divide.
 
-ghost use Rattle.std.specs.Prelude.{◌≡◌, ℕ, ◌+◌, ◌<◌, ◌≤◌, ◌^◌, ◌==◌, true, cond, List, [], ◌∷◌, length, MatchResult, Some, None};
+ghost use Rattle.std.specs.Prelude.{◌≡◌, ℕ, ◌+◌, ◌<◌, ◌≤◌, ◌^◌, ◌==◌, true, cond, List, [], ◌∷◌, length, MatchResult, Some};
 ghost use Rattle.std.specs.Iterator.{item_count, YieldsFirstBy};
 ghost use Rattle.certificate_file.specs.Pieces.{Unread, pieces_of, piece_at, no_line, words_of};
 

@@ -1,5 +1,5 @@
 -- What is summed line by line is what is summed over the flow and the pit that lines in order say.
-use Rattle.std.proofs.Common.{◌≡◌, ℕ, zero, suc, get_or, ◌<◌, Bool, true, false, cond, eqb, ltb, inl, inr, List, [], ◌∷◌, length, Option, Some, refl, sym, ap, ◌∙◌, arith}
+use Rattle.std.proofs.Common.{◌≡◌, ℕ, get_or, ◌<◌, Bool, true, false, cond, eqb, ltb, inl, inr, List, [], ◌∷◌, length, Option, Some, refl, sym, ap, ◌∙◌, arith}
 use Rattle.std.specs.Prelude.{◌&&◌}
 use Rattle.std.proofs.lemmas.Int.{ints}
 use Rattle.std.proofs.lemmas.Bool.{eqb-true, eq-eqb}
@@ -17,6 +17,7 @@ use Rattle.check_pit.specs.LineSums.{brings_by, balance_of, source_by, source_su
 use Rattle.certificate_file.proofs.Additions.{one_place}
 use Rattle.certificate_file.proofs.Order.{InOrder}
 use Rattle.certificate_file.proofs.LineOrder.{Has, has_good, all_above, Tells, none_gives}
+use Rattle.certificate_file.proofs.SameLines.{pair_place}
 use Rattle.std.proofs.lemmas.Grind.{common_steps}
 
 -- the amounts of the lines that give
@@ -64,15 +65,6 @@ source_line End c n x h = total-zero n
 -- what the SOURCE lines give, summed over the blocks
 pub sources_of_lines : (n : ℕ) (ls : List BodyLine) → ((l : BodyLine) → Has l ls → l.block < n) → total (λ b. sum_giving (gives_source b) ls) n ≡ source_sum ls
 sources_of_lines n ls f = exchanged gives_source (λ b. true) (λ l. source_by l.kind (amount_of l)) n ls (λ l h. source_line l.kind l.block n (amount_of l) (f l h)) source_sum refl (λ l ks. refl)
-
--- the place of a pair that is there
-pair_at_head : (b p : ℕ) (q : ℕ × ℕ) (qs : List (ℕ × ℕ)) (t : Bool) → is_pair b p q ≡ t → has_pair (q ∷ qs) b p ≡ true → (has_pair qs b p ≡ true → (j : ℕ) × (j < length qs) × (get_or qs j (0, 0) ≡ (b, p))) → (j : ℕ) × (j < length (q ∷ qs)) × (get_or (q ∷ qs) j (0, 0) ≡ (b, p))
-pair_at_head b p q qs true e h ih = (zero, omega arith, pair_told b p q e)
-pair_at_head b p q qs false e h ih = let r = ih (rw e at h) in (suc r.0, omega (arith, r.1), r.2)
-
-pub pair_place : (b p : ℕ) (qs : List (ℕ × ℕ)) → has_pair qs b p ≡ true → (j : ℕ) × (j < length qs) × (get_or qs j (0, 0) ≡ (b, p))
-pair_place b p [] h = absurd (let z : false ≡ true = h in cc)
-pair_place b p (q ∷ qs) h = pair_at_head b p q qs (is_pair b p q) refl h (pair_place b p qs)
 
 -- a pair that stands at j is told from the others by its place
 told_by_place : (b p : ℕ) (ps : List (ℕ × ℕ)) (j k : ℕ) → IsRising ps → j < length ps → get_or ps j (0, 0) ≡ (b, p) → k < length ps → (t u : Bool) → eqb j k ≡ t → is_pair b p (get_or ps k (0, 0)) ≡ u → is_pair b p (get_or ps k (0, 0)) ≡ eqb j k

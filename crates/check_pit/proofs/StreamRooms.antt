@@ -33,14 +33,14 @@ use Rattle.check_pit.specs.TakenLines.{TakesLine}
 use Rattle.check_pit.specs.StreamChecks.{is_pit, is_behind_pits, ReadsOn, fault_of_body, lines_of_body, flow_by, first_pits, LinesBegin, IsWholeBody, HasPit, BodyRefused, BodyFails, BodyProves, ClosesPit, IsOpenPit, SumsSettle, SumsFail, IsDone, EndFails}
 use Rattle.certificate_file.proofs.Going.{Sound, sound, text_read}
 use Rattle.certificate_file.proofs.Order.{InOrder, Good, stands_in_order, later_pits, ascending, known}
-use Rattle.check_pit.proofs.LineSums.{pair_place}
 use Rattle.check_pit.proofs.LineFlows.{worth_is, sums_tell}
 use Rattle.check_pit.proofs.RoomSums.{pit_more}
 use Rattle.check_pit.proofs.Beginnings.{ends_more}
 use Rattle.check_pit.proofs.FirstPits.{AllPits, first_behind, first_all, all_pits}
 use Rattle.check_pit.proofs.StreamReadings.{Reading, Ended, MetNext, next_of, Fails, line_met, reading_on, reading_ends, lines_begin, ended_stops, ended_whole}
 use Rattle.fixed_worth.proofs.Bits.{not_true}
-use Rattle.certificate_file.proofs.ValueLines.{joins}
+use Rattle.certificate_file.proofs.ValueLines.{pit_append}
+use Rattle.certificate_file.proofs.SameLines.{pair_place}
 
 -- What the room has of the lines so far.
 pub record Summed (net : NetView) (previous : Option BodyLine) (room : RoomView) (ls : List BodyLine) : Type 0 where
@@ -167,10 +167,6 @@ line_refused remaining counts net start now later previous bytes ls line before 
     )
 
 -- The pit isn't closed: behind a line that is none of its own, no other names a block.
-pit_append : (xs ys : List BodyLine) → pit_of (xs ++ ys) ≡ pit_of xs ++ pit_of ys
-pit_append [] ys = refl
-pit_append (x ∷ xs) ys = ap (block_if_pit x.kind x.block) (pit_append xs ys) ∙ joins x.kind x.block (pit_of xs) (pit_of ys)
-
 no_pits : (bs : List ℕ) → ((i : ℕ) → i < length bs → ⊥) → bs ≡ []
 no_pits [] h = refl
 no_pits (b ∷ bs) h = absurd (h 0 (omega arith))

@@ -1,7 +1,7 @@
 //! A graph with a pit that a check has accepted: it is closed, no closed set sums to more, and its worth is
 //! known. Nothing but a check makes one.
 
-ghost use Rattle.std.specs.Prelude.{◌≡◌, ◌<◌};
+ghost use Rattle.std.specs.Prelude.{◌≡◌};
 ghost use Rattle.closure_net.specs.Network.{holds_of};
 ghost use Rattle.closure_net.specs.Closure.{IsClosed, IsGreatest, group_worth};
 ghost use Rattle.check_pit.specs.Checks.{IsOfNet};

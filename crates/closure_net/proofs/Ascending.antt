@@ -1,5 +1,5 @@
 -- Ascending lists, and what a binary search among one finds.
-use Rattle.std.proofs.Common.{◌≡◌, ℕ, zero, suc, ◌+◌, ◌-◌, ◌<◌, ◌≤◌, false, List, length, get_or, take, drop, slice_range, arith, inl, inr, Result, Ok, Err, MatchResult, subst, sym, ap, ◌∙◌}
+use Rattle.std.proofs.Common.{◌≡◌, ℕ, zero, suc, ◌+◌, ◌-◌, ◌<◌, ◌≤◌, false, List, ◌∷◌, length, get_or, take, drop, slice_range, arith, inl, inr, Result, Ok, Err, MatchResult, subst, sym, ap, ◌∙◌}
 use Rattle.std.specs.List.Sorted.{IsBinarySearchResult}
 use Rattle.std.specs.Ordering.{nat_cmp}
 use Rattle.std.specs.Result.{is_ok}
@@ -37,6 +37,10 @@ not_falling xs a i j h l = elim (cases_eq i j) [
 pub apart_by_places : (xs : List ℕ) → IsAscending xs → (i k : ℕ) → i + k < length xs → get_or xs i 0 + k ≤ get_or xs (i + k) 0
 apart_by_places xs a i zero l = let e : i + zero ≡ i = omega arith in let P : ℕ → Type 0 = λ q. get_or xs i 0 + zero ≤ get_or xs q 0 in subst P (sym e) (omega arith)
 apart_by_places xs a i (suc k) l = grind (arith, common_steps, (apart_by_places xs a i k (omega arith)))
+
+-- an ascending list without its first ascends
+pub tail_ascends : (x : ℕ) (xs : List ℕ) → IsAscending (x ∷ xs) → IsAscending xs
+tail_ascends x xs h i j l k = h (suc i) (suc j) (omega (arith, l)) (omega (arith, k))
 
 -- a part of an ascending list ascends
 part_ascends : (xs : List ℕ) (i k : ℕ) → IsAscending xs → i + k ≤ length xs → IsAscending (take k (drop i xs))

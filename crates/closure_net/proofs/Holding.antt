@@ -1,5 +1,5 @@
 -- What a list of blocks holds.
-use Rattle.std.proofs.Common.{◌≡◌, ℕ, ◌<◌, ◌==◌, ◌||◌, Bool, true, false, List, length, get_or, refl, arith}
+use Rattle.std.proofs.Common.{◌≡◌, ℕ, ◌<◌, ◌==◌, Bool, true, false, List, length, get_or, refl, sym, arith}
 use Rattle.std.proofs.lemmas.List.Folds.{Any-from_list_any, list_any_at}
 use Rattle.std.proofs.lemmas.Bool.{eq-eqb}
 use Rattle.closure_net.specs.Network.{holds_of}
@@ -10,6 +10,12 @@ pub apart : (t : Bool) → t ≡ false → t ≡ true → ⊥
 apart true h e = cc
 apart false h e = cc
 
+-- tests that follow from each other are equal
+pub same_tests : (x y : Bool) → (x ≡ true → y ≡ true) → (y ≡ true → x ≡ true) → x ≡ y
+same_tests true y h k = sym (h refl)
+same_tests false true h k = absurd (let e = k refl in cc)
+same_tests false false h k = refl
+
 -- it holds what stands in it
 pub holds_at : (xs : List ℕ) (i : ℕ) → i < length xs → holds_of xs (get_or xs i 0) ≡ true
 holds_at xs i h = list_any_at (λ x. x == get_or xs i 0) xs i 0 h (eq-eqb (get_or xs i 0) (get_or xs i 0) refl)
@@ -17,7 +23,3 @@ holds_at xs i h = list_any_at (λ x. x == get_or xs i 0) xs i 0 h (eq-eqb (get_o
 -- what it holds stands at a place of it
 pub place_of : (xs : List ℕ) (x : ℕ) → holds_of xs x ≡ true → (i : ℕ) × (i < length xs) × (get_or xs i 0 ≡ x)
 place_of xs x h = grind (arith, common_steps, Any-from_list_any)
-
-or_none : (s t : Bool) → t ≡ false → (s || t) ≡ s
-or_none true t h = refl
-or_none false t h = h

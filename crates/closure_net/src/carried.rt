@@ -1,7 +1,7 @@
 //! What flows over each of several arcs, read and set by the arc's number. Where few arcs carry a flow it takes little
 //! memory.
 
-ghost use Rattle.std.specs.Prelude.{◌≡◌, ℕ, ◌<◌, ◌≤◌, List, length, map, replicate, slice_set, IfOk, IfErr, MatchResult};
+ghost use Rattle.std.specs.Prelude.{◌≡◌, ◌<◌, ◌≤◌, List, length, map, replicate, slice_set, IfOk, IfErr, MatchResult};
 ghost use Rattle.ordered_group.specs.Amount.{zero_amount};
 ghost use Rattle.ordered_group.specs.Sums.{amount_at};
 ghost use Rattle.closure_net.specs.Carrying as spec;

@@ -1,8 +1,7 @@
 //! The residual arcs at a block in a fixed order: to the sink, to its predecessors, to the blocks whose predecessor
 //! it is, and to the source.
 
-ghost use Rattle.std.specs.Prelude.{◌≡◌, ◌+◌, ◌<◌, ◌≤◌, Some, length, MatchOption, slice_get};
-ghost use Rattle.ordered_group.specs.Sums.{amount_at};
+ghost use Rattle.std.specs.Prelude.{◌≡◌, ◌<◌, ◌≤◌, Some, length, MatchOption, slice_get};
 ghost use Rattle.prec_file.specs.Rests.{from_at, to_at};
 ghost use Rattle.closure_net.specs.Ports.{is_below, forward_ports, backward_ports, port_list, ports};
 

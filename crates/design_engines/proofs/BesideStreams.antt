@@ -2,12 +2,9 @@
 use Rattle.std.proofs.Common.{ℕ, Bool, List, Option, Err, IfSome}
 use Rattle.prec_file.specs.Rests.{RestsView}
 use Rattle.mine_inputs.specs.declared.engine_fault.EngineFault.{EngineFault}
-use Rattle.mine_inputs.specs.declared.engine_fault.EngineFault.TheVariants as engine
 use Rattle.mine_inputs.specs.declared.worths.Worths.{Worths}
 use Rattle.engines.proofs.Answered.{JudgedBy}
 use Rattle.mine_inputs.proofs.MineDevices.{under}
-use Rattle.design_engines.specs.declared.value_fault.DesignProblem.TheVariants as problem
-use Rattle.design_engines.specs.declared.value_fault.ValueFault.{ValueFault}
 use Rattle.design_engines.specs.declared.value_fault.ValueFault.TheVariants as value
 use Rattle.design_engines.specs.Compares.{BesideFails}
 use Rattle.design_engines.proofs.ComparedAnswers.{ReadBeside}

@@ -7,7 +7,7 @@ use Rattle.fixed_worth.specs.declared.limits.TheConstants.{LINE_BYTES}
 use Rattle.fixed_worth.specs.Record.{Line, numbered_lines, lines_in}
 use Rattle.design_file.specs.declared.design_fault.DesignFault.{DesignFault}
 use Rattle.design_file.specs.declared.design_fault.DesignFault.TheVariants.{Text, Number, UnknownBlock, Repeated, NoMemory}
-use Rattle.design_file.specs.Records.{record_fault, line_fault, blocks_of, has, first_fault, fault_of, AreMarks, marks_after, UnlessMemory}
+use Rattle.design_file.specs.Records.{record_fault, line_fault, blocks_of, has, first_fault, fault_of, marks_after, UnlessMemory}
 use Rattle.design_file.proofs.Marks.{mark}
 use Rattle.std.proofs.lemmas.Grind.{common_steps}
 
@@ -62,7 +62,3 @@ pub step_wrong : (n k : ℕ) (text : List ℕ) (marks : List Bool) (left next : 
     → record_fault n (λ b. get_or marks b false) k (fields_of line) ≡ Some x → fault_of n text ≡ Some x
 step_wrong n k text marks left next line x g j f h i w =
     goes_wrong n text marks left next line x g f h i (subst (λ (y : ℕ). record_fault n (λ b. get_or marks b false) y (fields_of line) ≡ Some x) j w)
-
--- Where no line is left, the marks are those of the text.
-pub all_read : (n : ℕ) (text : List ℕ) (marks : List Bool) (left : Left) → ReadSoFar n text marks left → length marks ≡ n → left.lines ≡ [] → (fault_of n text ≡ None) × AreMarks n text marks
-all_read n text marks left g e none = grind (arith, common_steps)

@@ -1,7 +1,7 @@
 //! Reads the text of a design: gives a mark for each block of the model, set where a line names the block, or the
 //! first fault of the text.
 
-ghost use Rattle.std.specs.Prelude.{◌≡◌, ℕ, ◌<◌, ◌≤◌, false, length, slice_index_or, None, Some, MatchResult};
+ghost use Rattle.std.specs.Prelude.{◌≡◌, ◌≤◌, false, length, slice_index_or, None, Some, MatchResult};
 ghost use Rattle.fixed_worth.specs.Text.{fields_of};
 ghost use Rattle.design_file.specs.Records.{AreMarks, UnlessMemory, fault_of, marks_after, record_fault};
 

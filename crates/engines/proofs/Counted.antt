@@ -6,6 +6,7 @@ use Rattle.std.proofs.lemmas.List.{get_or_default}
 use Rattle.ordered_group.specs.Sets.{count_in}
 use Rattle.ordered_group.proofs.BlockSets.{count_in-most}
 use Rattle.closure_net.specs.Network.{IsAscending, holds_of}
+use Rattle.closure_net.proofs.Ascending.{tail_ascends}
 use Rattle.std.proofs.lemmas.Grind.{common_steps}
 
 -- the set with one block more
@@ -32,9 +33,6 @@ count_with x e (suc n) h off =
       | inl q ↦ one_more x n e (e n) (count_in e n) q off (count_apart x e n (omega (arith, q))) refl refl
       | inr ne ↦ one_later x n e ne (count_with x e n (omega (arith, h)) off)
     ]
-
-tail_ascends : (x : ℕ) (xs : List ℕ) → IsAscending (x ∷ xs) → IsAscending xs
-tail_ascends x xs h i j l k = h (suc i) (suc j) (omega (arith, l)) (omega (arith, k))
 
 count_none : (n : ℕ) → count_in (λ b. false) n ≡ 0
 count_none zero = refl

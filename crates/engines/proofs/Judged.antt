@@ -1,22 +1,18 @@
 -- From what was read to the judgement.
-use Rattle.std.proofs.Common.{◌≡◌, ℕ, ℤ, pos, Bool, List, length, map, refl, sym, ap, ◌∙◌, subst, arith, None, Some, Ok, inr}
+use Rattle.std.proofs.Common.{◌≡◌, ℕ, ℤ, pos, Bool, List, length, map, refl, sym, ap, ◌∙◌, subst, arith, None, Some, inr}
 use Rattle.std.proofs.lemmas.List.{length-map, get_or-map}
 use Rattle.ordered_group.specs.Amount.{Amount}
 use Rattle.ordered_group.specs.Laws.{SumsTellWorth}
 use Rattle.ordered_group.specs.declared.groups.Group.{Group}
 use Rattle.prec_file.specs.Rests.{RestsView}
-use Rattle.prec_file.specs.Records as prec
 use Rattle.closure_net.specs.Network.{NetView, FlowView, net_view, IsNet, holds_of}
 use Rattle.closure_net.specs.Closure.{IsGreatest, group_worth}
 use Rattle.closure_net.specs.Mine.{IsNetOf}
 use Rattle.check_pit.specs.Checks.{ProvesPit}
 use Rattle.certificate_file.specs.Certificate.{fault_of, lines_of_text, IsRead, Denotes, UnlessMemory}
 use Rattle.certificate_file.specs.declared.header.Price.{Price}
-use Rattle.certificate_file.specs.declared.header.Header.{Header}
-use Rattle.certificate_file.specs.Pieces.{pieces_of}
-use Rattle.certificate_file.specs.Header.{header_of}
 use Rattle.mine_inputs.specs.Limits.{IsWithinLimit}
-use Rattle.mine_inputs.specs.Mines.{MineTexts, price_wanted, mine_of, DenoteMine}
+use Rattle.mine_inputs.specs.Mines.{MineTexts, mine_of, DenoteMine}
 use Rattle.engines.specs.Readings.{IsHeader, Reads, IsGroupNamed}
 use Rattle.engines.specs.Judgements.{CertificateAccepted}
 use Rattle.mine_inputs.specs.FaultStands.{AreWorths}
@@ -128,6 +124,3 @@ known_at block texts certificate name n m net e f mine header of_mine = grind (a
 
 pub net_known : (block : ℤ → ℕ → Amount) (texts : MineTexts) (certificate : List ℕ) (name : Group) (rests : RestsView) (worths : List ℤ) (net : NetView) → AreRead texts worths rests → IsHeader texts certificate rests.blocks name → net ≡ net_view rests.pairs (map (λ v. block v rests.blocks) worths) → rests.blocks ≡ length worths → NetKnown block texts certificate name net
 net_known block texts certificate name rests worths net a header is l = grind (arith, common_steps, net_made, length-map, known_at)
-
-pub header_is : (texts : MineTexts) (certificate : List ℕ) (header : Header) (n : ℕ) (group : Group) → header_of (pieces_of certificate) ≡ Ok header → header.blocks ≡ n → header.price ≡ price_wanted texts → header.group ≡ group → IsHeader texts certificate n group
-header_is texts certificate header n group e p q r = e ∙ ap Ok (λ i. record { blocks = p i; price = q i; group = r i })

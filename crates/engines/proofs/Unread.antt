@@ -10,8 +10,8 @@ use Rattle.settings_file.specs.Settings.{settings_of}
 use Rattle.blocks_file.specs.Records as blocks
 use Rattle.blocks_file.specs.declared.blocks_fault.BlocksFault.TheVariants as blocks_fault
 use Rattle.ordered_group.specs.declared.groups.Group.{Group}
-use Rattle.prec_file.specs.Records as prec
 use Rattle.prec_file.specs.declared.prec_fault.PrecFault.{PrecFault}
+use Rattle.prec_file.proofs.History.{or_none}
 use Rattle.upit_file.specs.Records as upit
 use Rattle.upit_file.specs.declared.upit_fault.UpitFault.{UpitFault}
 use Rattle.closure_net.specs.Network.{NetView}
@@ -78,10 +78,6 @@ blocks_stand (priced_texts s b p k) n (problem.Fault f) r h = never _ _ r.read h
 pub blocks_read : (texts : MineTexts) (certificate : List ℕ) (q : Problem BlocksFault) → Reads texts certificate → BlocksFail texts q → ⊥
 blocks_read texts certificate q r h = blocks_stand texts r.blocks q r.mine.worths_read h
 
-or_first : {F : Type 0} (a b : Option F) → option_or a b ≡ None → a ≡ None
-or_first None b h = refl
-or_first (Some x) b h = absurd cc
-
 or_second : {F : Type 0} (a b : Option F) → option_or a b ≡ None → b ≡ None
 or_second None b h = h
 or_second (Some x) b h = absurd cc
@@ -94,7 +90,7 @@ few_records records false e h = grind (arith, nat_tests)
 few_blocks : (text chosen : List ℕ) → blocks.fault_of chosen text ≡ None → blocks.count_of text ≤ MOST_BLOCKS
 few_blocks text chosen h =
     let records = blocks.record_lines (blocks.lines_in text) in
-    few_records records (nat_lt MOST_BLOCKS (length records)) refl (or_second (blocks.long_fault (blocks.lines_in text)) (blocks.many_fault (blocks.lines_in text)) (or_first _ _ h))
+    few_records records (nat_lt MOST_BLOCKS (length records)) refl (or_second (blocks.long_fault (blocks.lines_in text)) (blocks.many_fault (blocks.lines_in text)) (or_none _ _ h))
 
 -- the columns of a text of blocks have one length, and no revenue is negative
 are_charged : (charges : ChargeColumns) (text : List ℕ) (n : ℕ) → n ≡ blocks.count_of text → AreCharged (costs_at charges text) n

@@ -7,7 +7,7 @@ ghost use Rattle.engines.specs.Judging.{factor_in};
 ghost use Rattle.mine_inputs.specs.MineInputs.{ForTexts, CanCount, NoneFailed, OneFailed};
 
 use crate::certificate_judge::judge;
-use crate::judgement::{Judgement, Verdict};
+use crate::judgement::Verdict;
 use crate::judgement_line::write_judgement;
 use fixed_worth::{CountedRead, CountedWrite};
 use mine_inputs::{EngineFault, MineInputs, mine_to_check};

@@ -1,6 +1,6 @@
 //! What a caller allows for solving a mine: the method, the number of threads, and the most steps and turns.
 
-ghost use Rattle.std.specs.Prelude.{◌≡◌, ◌≤◌, ◌^◌};
+ghost use Rattle.std.specs.Prelude.{◌≡◌, ◌≤◌};
 ghost use Rattle.workers.specs.declared.solving.TheConstants.{MOST_WORKERS};
 
 use crate::method::Method;

@@ -7,7 +7,7 @@ ghost use Rattle.engines.specs.OutputLines.{judgement_line, group_mark};
 ghost use Rattle.engines.specs.Checking.{LineFails};
 
 use crate::judgement::Judgement;
-use fixed_worth::{CountedWrite, Nanos, WriteFault, write_text};
+use fixed_worth::{CountedWrite, Nanos, write_text};
 use mine_inputs::EngineFault;
 use ordered_group::Group;
 use std::alloc::{AllocError, Global};

@@ -56,9 +56,6 @@ alone : (b p : ℕ) (rs : List WordRun) → BeginsFrom (p + 1 + 1) rs → run_be
 alone b p [] h = refl
 alone b p (r ∷ rs) h = let e : eqb r.place (p + 1) ≡ false = grind (arith, nat_tests) in rw e refl
 
-joined : (b p : ℕ) (text : List ℕ) (rs : List WordRun) → run_before b p (record { text = text; place = p + 1 } ∷ rs) ≡ record { text = b ∷ text; place = p } ∷ rs
-joined b p text rs = let e : eqb (p + 1) (p + 1) ≡ true = grind (arith, nat_tests) in rw e refl
-
 -- The first w bytes are the first run.
 abbrev pub Runs : ℕ → List ℕ → ℕ → Type 0
 Runs p bs w = runs_from p bs ≡ record { text = take w bs; place = p } ∷ runs_from (p + w) (drop w bs)

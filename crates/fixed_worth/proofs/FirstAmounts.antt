@@ -2,7 +2,7 @@
 use Rattle.std.proofs.Common.{◌≡◌, ℕ, suc, ◌+◌, ◌-◌, ◌*◌, ◌^◌, ◌<◌, ◌≤◌, Bool, true, false, cond, not, eqb, List, [], ◌∷◌, ◌++◌, length, take, drop, get_or, pos, refl, sym, ap, ◌∙◌, arith, lit<, length-append, append-nil, append_assoc, pow-add}
 use Rattle.std.specs.Prelude.{ℤ, ◌||◌, nat_lt, nat_le, neg_ℤ, Ok, unwrap_or, Some, Result}
 use Rattle.std.specs.List.{list_all, position_or_len, before_first, after_first}
-use Rattle.std.proofs.lemmas.Bool.{and_parts, and_from}
+use Rattle.std.proofs.lemmas.Bool.{and_from}
 use Rattle.std.proofs.lemmas.Bool.Decides.{nat_tests}
 use Rattle.std.proofs.lemmas.List.{drop_all, take-append-drop, length-take-le}
 use Rattle.std.proofs.lemmas.List.Folds.{list_all-append}
@@ -18,6 +18,7 @@ use Rattle.std.proofs.lemmas.Option.{none-some}
 use Rattle.fixed_worth.proofs.Digits.{value_of-append, value_below}
 use Rattle.fixed_worth.proofs.FirstNumbers.{passed, begins_with}
 use Rattle.fixed_worth.proofs.Powers.{rounds_up, ten_positive}
+use Rattle.fixed_worth.proofs.Joined.{all_pass_weaker}
 use Rattle.std.proofs.lemmas.Grind.{common_steps}
 
 -- The bytes of a decimal without an exponent.
@@ -42,13 +43,7 @@ digit_plain b h = grind arith
 sign_plain : (b : ℕ) → (eqb b 43 || eqb b 45) ≡ true → is_plain_byte b ≡ true
 sign_plain b h = grind arith
 
-every : (p q : ℕ → Bool) → ((b : ℕ) → p b ≡ true → q b ≡ true) → (xs : List ℕ) → list_all p xs ≡ true → list_all q xs ≡ true
-every p q f [] h = refl
-every p q f (x ∷ xs) h =
-    let both = and_parts (p x) (list_all p xs) h in
-    and_from (q x) (list_all q xs) (f x both.0) (every p q f xs both.1)
-
-passed_all : (p : ℕ → Bool) (xs : List ℕ) → list_all (λ b. not (p b)) xs ≡ true → position_or_len p xs ≡ length xs
+pub passed_all : (p : ℕ → Bool) (xs : List ℕ) → list_all (λ b. not (p b)) xs ≡ true → position_or_len p xs ≡ length xs
 passed_all p xs h =
     let e = passed p xs [] h in
     ap (position_or_len p) (sym (append-nil xs)) ∙ e ∙ omega arith
@@ -91,15 +86,15 @@ front (b ∷ bs) unsigned rest h some = front_at b bs unsigned rest (eqb b 43 ||
 -- The parts of such a field.
 whole_is : (field whole point fraction : List ℕ) → unsigned_of field ≡ whole ++ (point ++ fraction) → before_first is_mark field ≡ field → list_all is_digit whole ≡ true → MayFollow fraction point → whole_part field ≡ whole
 unfolding whole_part is_point
-whole_is field whole [] fraction e m h f = grind (arith, common_steps, every, passed_all)
-whole_is field whole (b ∷ bs) fraction e m h f = grind (arith, common_steps, every, passed)
+whole_is field whole [] fraction e m h f = grind (arith, common_steps, all_pass_weaker, passed_all)
+whole_is field whole (b ∷ bs) fraction e m h f = grind (arith, common_steps, all_pass_weaker, passed)
 
 fraction_is : (field whole point fraction : List ℕ) → unsigned_of field ≡ whole ++ (point ++ fraction) → before_first is_mark field ≡ field → list_all is_digit whole ≡ true → MayFollow fraction point → fraction_part field ≡ fraction
 unfolding fraction_part is_point
-fraction_is field whole [] fraction e m h f = grind (arith, common_steps, every, passed_all)
+fraction_is field whole [] fraction e m h f = grind (arith, common_steps, all_pass_weaker, passed_all)
 fraction_is field whole (b ∷ bs) fraction e m h f =
     let joined : whole ++ (b ∷ bs ++ fraction) ≡ (whole ++ b ∷ []) ++ fraction = ap (λ xs. whole ++ (b ∷ xs ++ fraction)) f.1 ∙ sym (append_assoc whole (b ∷ []) fraction) in
-    grind (arith, common_steps, drop-append_seam, every, no_point, eqb, append_assoc, length-append, passed)
+    grind (arith, common_steps, drop-append_seam, all_pass_weaker, no_point, eqb, append_assoc, length-append, passed)
 
 -- Its value.
 scaled : (v f a b : ℕ) → (v * a + f) * b ≡ v * (a * b) + f * b
@@ -140,7 +135,7 @@ decimal_is : (field whole point fraction : List ℕ) → unsigned_of field ≡ w
     → decimal_of field ≡ Ok (cond (is_minus field) (neg_ℤ (pos (value_of whole * 10 ^ 6 + value_of fraction * 10 ^ (6 - length fraction)))) (pos (value_of whole * 10 ^ 6 + value_of fraction * 10 ^ (6 - length fraction))))
 unfolding exponent_of has_mark
 decimal_is field whole point fraction e plain h j f few small some =
-    let at : position_or_len is_mark field ≡ length field = passed_all is_mark field (every is_plain_byte (λ b. not (is_mark b)) no_mark field plain) in
+    let at : position_or_len is_mark field ≡ length field = passed_all is_mark field (all_pass_weaker is_plain_byte (λ b. not (is_mark b)) no_mark field plain) in
     let m : before_first is_mark field ≡ field = ap (λ n. take n field) at ∙ take-length field in
     let none : after_first is_mark field ≡ [] = drop_all (position_or_len is_mark field + 1) field (omega (arith, at)) in
     let unmarked : nat_lt (position_or_len is_mark field) (length field) ≡ false = grind (arith, nat_tests) in
@@ -167,9 +162,9 @@ amount_read text whole behind left rest value places e g h few small some r ends
     let size = length-append whole (g.point ++ g.digits) in
     let more = length-append g.point g.digits in
     let f = front text unsigned left (e ∙ joined) (omega (arith, size, more, g.places_are)) in
-    let all = every is_digit is_plain_byte digit_plain in
+    let all = all_pass_weaker is_digit is_plain_byte digit_plain in
     let plain = f.plain (list_all-append is_plain_byte whole (g.point ++ g.digits) ∙ and_from _ _ (all whole h) (plain_point g.digits g.point g.form (all g.digits g.are_digits))) in
-    let inside = every is_plain_byte (λ b. not (is_separator b)) no_separator f.field plain in
+    let inside = all_pass_weaker is_plain_byte (λ b. not (is_separator b)) no_separator f.field plain in
     let read = decimal_is f.field whole g.point g.digits f.without plain h g.are_digits g.form few (omega (arith, g.places_are)) (omega (arith, g.places_are)) in
     let number : value_of whole * 10 ^ 6 + value_of g.digits * 10 ^ (6 - length g.digits) ≡ value_of whole * 10 ^ 6 + value * 10 ^ (6 - places) =
     ap (λ n. value_of whole * 10 ^ 6 + value_of g.digits * 10 ^ (6 - n)) g.places_are ∙ ap (λ v. value_of whole * 10 ^ 6 + v * 10 ^ (6 - places)) (sym g.value_is) in (

@@ -1,12 +1,12 @@
 -- A number that stands first in a line, and what is left behind it.
 use Rattle.std.proofs.Common.{◌≡◌, ℕ, ◌+◌, ◌-◌, ◌*◌, ◌<◌, ◌≤◌, Bool, true, false, not, List, [], ◌∷◌, ◌++◌, length, take, drop, get_or, refl, sym, ap, ◌∙◌, arith}
-use Rattle.std.specs.Prelude.{unwrap_or, Some, None, Result, Ok}
+use Rattle.std.specs.Prelude.{Some, None, Result, Ok}
 use Rattle.std.specs.List.{list_all, position_or_len}
 use Rattle.std.proofs.lemmas.List.{take_more, length-drop, take-append-drop, length-take-le}
 use Rattle.std.proofs.lemmas.List.Folds.{list_all_more}
 use Rattle.std.proofs.lemmas.List.Sums.{prefix_len_stops}
 use Rattle.std.proofs.lemmas.Bool.{and_parts, and_from}
-use Rattle.std.proofs.lemmas.Option.{none-some}
+use Rattle.std.proofs.lemmas.Option.{none-some, same_Some}
 use Rattle.fixed_worth.specs.declared.numerals.NumberFault.{NumberFault}
 use Rattle.fixed_worth.specs.Front.{BeginsWithField}
 use Rattle.fixed_worth.specs.Numeral.{is_digit, value_of, whole_of}
@@ -53,10 +53,6 @@ passed p (x ∷ xs) ys h =
     let ih = passed p xs ys both.1 in
     rw both.0 (omega (arith, ih))
 
-ends_at : (rest : List ℕ) → (0 < length rest → is_separator (get_or rest 0 0) ≡ true) → position_or_len is_separator rest ≡ 0
-ends_at [] h = refl
-ends_at (b ∷ bs) h = let e : is_separator b ≡ true = h (omega arith) in rw e refl
-
 -- Bytes without a separator that a separator or the end follows are the first field.
 pub begins_with : (text field behind rest : List ℕ) → text ≡ field ++ behind → 0 < length field → list_all (λ b. not (is_separator b)) field ≡ true → (0 < length behind → is_separator (get_or behind 0 0) ≡ true) → rest ≡ drop 1 behind → BeginsWithField text field rest
 begins_with text field behind rest e some inside ends f = grind (arith, common_steps, passed, field_passed)
@@ -78,13 +74,10 @@ short_number text behind rest w v some within few digits value e f ends =
       reads_as (take w text) w v size some few digits value,
     )
 
-some_before : {X : Type 0} (x y d : X) → Some x ≡ Some y → x ≡ y
-some_before x y d e = ap (λ o. unwrap_or o d) e
-
 -- What was read is the first of the fields.
 pub first_is : (fields : List WordRun) (read : Result ℕ NumberFault) → Some read ≡ first_whole fields → (field : WordRun) × (fields ≡ field ∷ drop 1 fields) × (read ≡ whole_of field.text)
 first_is [] read e = absurd (none-some read (sym e))
-first_is (field ∷ fields) read e = (field, refl, some_before read (whole_of field.text) read e)
+first_is (field ∷ fields) read e = (field, refl, same_Some read (whole_of field.text) e)
 
 pub no_field : (fields : List WordRun) → None ≡ first_whole fields → fields ≡ []
 no_field [] e = refl

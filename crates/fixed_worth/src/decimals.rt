@@ -1,7 +1,7 @@
 //! Reads a decimal, with or without a point and an exponent, as a whole number of millionths, rounded to the nearest,
 //! or says why the text is none.
 
-ghost use Rattle.std.specs.Prelude.{◌≡◌, ◌+◌, ◌-◌, ◌<◌, ◌^◌, ◌&&◌, ◌||◌, ◌++◌, false, not, cond, nat_lt, length, SomeIff, IsTrue, position, Ok, Err};
+ghost use Rattle.std.specs.Prelude.{◌≡◌, ◌+◌, ◌<◌, ◌^◌, ◌&&◌, ◌||◌, ◌++◌, not, cond, nat_lt, length, SomeIff, IsTrue, position, Err};
 ghost use Rattle.std.specs.List.{list_all, position_or_len};
 ghost use Rattle.fixed_worth.specs.Numeral.{is_digit, is_number, value_of, is_minus};
 ghost use Rattle.fixed_worth.specs.Decimal.{is_mark, is_point, whole_part, fraction_part, exponent_of, exponent_digits, has_mark, decimal_of, most};

@@ -1,7 +1,7 @@
 //! Gives the fields of a line one after another: each with its place in the line, or read as a whole number or an
 //! amount.
 
-ghost use Rattle.std.specs.Prelude.{◌≡◌, ◌+◌, ◌<◌, ◌≤◌, ◌^◌, ◌==◌, List, length, drop, not, position};
+ghost use Rattle.std.specs.Prelude.{◌≡◌, ◌+◌, ◌<◌, ◌≤◌, ◌^◌, List, length, drop, not, position};
 ghost use Rattle.std.specs.List.{position_or_len};
 ghost use Rattle.std.specs.Iterator.{item_count, YieldsFirstBy};
 ghost use Rattle.fixed_worth.specs.Text.{WordRun, is_separator, runs_from};

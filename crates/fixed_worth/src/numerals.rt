@@ -1,7 +1,7 @@
 //! Reads whole numbers: without a sign, with an optional sign, or in their one plain spelling. Otherwise says why a
 //! text is no such number.
 
-ghost use Rattle.std.specs.Prelude.{◌≡◌, ◌+◌, ◌-◌, ◌*◌, ◌<◌, ◌≤◌, ◌^◌, SomeIff, IsTrue, length, pos, neg_ℤ};
+ghost use Rattle.std.specs.Prelude.{◌≡◌, ◌+◌, ◌*◌, ◌<◌, ◌≤◌, ◌^◌, SomeIff, IsTrue, length, pos, neg_ℤ};
 ghost use Rattle.std.specs.List.{list_all};
 ghost use Rattle.fixed_worth.specs.Numeral.{is_digit, value_of, digits_of, below, whole_of, is_minus, unsigned_of, signed_of, begins_above_zero, is_plain, plain_of};
 

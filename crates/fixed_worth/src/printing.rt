@@ -1,8 +1,8 @@
 //! Prints amounts in billionths or millionths as decimals: a minus where it is needed, the whole part, and the
 //! fraction without trailing zeros.
 
-ghost use Rattle.std.specs.Prelude.{◌≡◌, ◌<◌, ◌≤◌, ◌/◌, ◌%◌, ◌^◌, Some, unsigned_abs};
-ghost use Rattle.std.specs.Fmt.{DisplaysOnOk, decimal, sign_text};
+ghost use Rattle.std.specs.Prelude.{◌≡◌, ◌<◌, ◌≤◌, ◌^◌, Some};
+ghost use Rattle.std.specs.Fmt.{DisplaysOnOk, sign_text};
 ghost use Rattle.std.specs.Int.{is_negative};
 ghost use Rattle.fixed_worth.specs.Printed.{fixed_width, without_trailing_zeros, fraction_text, amount_text};
 

@@ -1,7 +1,7 @@
 //! Multiplies a number by one power of ten and divides it by another, rounded to the nearest whole
 //! number, without overflow; nothing where the result is above 10^18.
 
-ghost use Rattle.std.specs.Prelude.{◌≡◌, ◌+◌, ◌-◌, ◌*◌, ◌/◌, ◌<◌, ◌≤◌, ◌^◌, SomeIff};
+ghost use Rattle.std.specs.Prelude.{◌≡◌, ◌+◌, ◌*◌, ◌/◌, ◌<◌, ◌≤◌, ◌^◌, SomeIff};
 ghost use Rattle.fixed_worth.specs.Rounding.{rounded_of};
 
 // The largest amount of millionths that a numeral may stand for.

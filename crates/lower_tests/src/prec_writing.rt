@@ -4,7 +4,7 @@
 // Devices of the tests' own claim nothing of their bytes, so what they received is asserted as the tests run.
 ghost use Rattle.std.specs.Prelude.{◌≤◌};
 
-use crate::prec_reading::{has_pairs, prints};
+use crate::prec_reading::prints;
 use fixed_worth::{Counted, CountedWrite};
 use prec_file::{PrecWriteFault, Rests, read_listed, read_prec, write_prec, write_predecessors};
 use std::alloc::Global;

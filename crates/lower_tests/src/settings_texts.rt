@@ -1,6 +1,6 @@
 //! Tries what is read from settings with every key and with none, and with what faults other texts are refused.
 
-use settings_file::{Key, Settings, SettingsFault, read_settings};
+use settings_file::{Key, SettingsFault, read_settings};
 use std::alloc::Global;
 use std::process::Abort;
 use std::test::Fail;

@@ -1,5 +1,5 @@
 -- Runs step by step: a step leads to one state only and adds one to their number, and a run goes on by one step, or by another run.
-use Rattle.std.proofs.Common.{◌≡◌, ℕ, ◌+◌, ◌<◌, Some, None, List, [], ◌∷◌, ◌++◌, length, refl, ap, sym, ◌∙◌, subst, arith}
+use Rattle.std.proofs.Common.{◌≡◌, ℕ, ◌+◌, Some, None, List, [], ◌∷◌, ◌++◌, length, refl, ap, sym, ◌∙◌, subst, arith}
 use Rattle.ordered_group.specs.Amount.{Amount}
 use Rattle.closure_net.specs.Network.{NetView}
 use Rattle.closure_net.specs.declared.port.Port.{Port}

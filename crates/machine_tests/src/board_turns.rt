@@ -1,8 +1,6 @@
 //! Tries which block a turn takes next, and how runs end: with a flow and the net, at their limit, or
 //! where a number is too large.
 
-ghost use Rattle.std.specs.Prelude.{◌<◌};
-
 use crate::small_nets::{
     each_on_the_other, sizes_too_large, two_on_dear_waste, two_on_waste, worth_what_it_costs,
 };

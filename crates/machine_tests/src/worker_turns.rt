@@ -1,8 +1,6 @@
 //! Tries which block a worker asks for next, when its turns are over, and that turns under the lock make
 //! steps.
 
-ghost use Rattle.std.specs.Prelude.{◌<◌};
-
 use crate::board_turns::{holds, same};
 use crate::small_nets::two_on_dear_waste;
 use closure_net::Net;

@@ -23,12 +23,9 @@ stayed r f h k n = k (λ d. n (answered r f engine.Device h cc))
 pub went : {T P : Type 0} (v : T) → (¬ IsErrOf {T = T} {E = EngineFault} (Ok v) engine.Device → P) → P
 went v k = k (λ d. cc)
 
--- no device fails where all goes well, and where memory is wanted
+-- no device fails where all goes well
 pub well : {V : Type 0} (v : V) → ¬ IsErrOf {T = V} {E = EngineFault} (Ok v) engine.Device
 well v d = cc
-
-pub memory_alone : {V : Type 0} (r : Result V EngineFault) → IsErrAnd r (λ y. y ≡ engine.Memory) → ¬ IsErrOf r engine.Device
-memory_alone r h d = let e = handed r engine.Memory engine.Device h d in cc
 
 -- one device more failed than before
 pub first_of_two : (a b a' b' : ℕ) → a' ≡ a + 1 → b' ≡ b → a' + b' ≡ a + b + 1

@@ -20,7 +20,7 @@ use Rattle.mine_inputs.specs.Limits.{IsTooLong, IsWithinLimit}
 use Rattle.mine_inputs.specs.PricedTexts.{price_keys, column_list, first_columns, table_at, PricesRead, SettingsFaultStands, SettingsFails, PricedBlocksFail, PricesFail}
 use Rattle.mine_inputs.specs.BlockTexts.{BlocksFails}
 use Rattle.mine_inputs.specs.Mines.{ValuesRead}
-use Rattle.mine_inputs.specs.FaultStands.{UpitFails, PrecFails}
+use Rattle.mine_inputs.specs.FaultStands.{PrecFails}
 
 -- what is answered where an input can't be read to its end: this fault where it is too long
 abbrev pub unread_fault : InputFault → EngineFault → EngineFault
@@ -31,13 +31,6 @@ unread_fault input.NoMemory too_long = engine.Memory
 -- the values are those of the text, for the blocks that it declares
 abbrev pub ReadsUpit : List ℕ → upit.UpitView → Type 0
 ReadsUpit text values = ValuesRead text (length values.values) × upit.Denotes (length values.values) text values
-
--- a fault of the values, want of memory or a failing device
-abbrev pub UpitReadFails : List ℕ → EngineFault → Type 0
-UpitReadFails text (engine.Upit p) = UpitFails text p
-UpitReadFails text engine.Memory = Unit {0}
-UpitReadFails text engine.Device = Unit {0}
-UpitReadFails text _ = ⊥
 
 -- the pairs are those of the text
 abbrev pub ReadsPrec : ℕ → List ℕ → RestsView → Type 0

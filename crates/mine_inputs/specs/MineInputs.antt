@@ -50,11 +50,6 @@ NoWorthsFailed (Prices settings blocks) (Values upit) failed = ⊥
 abbrev pub NoneFailed : {D : Type 0} → MineInputs D → MineInputs D → (D → ℕ) → Type 0
 NoneFailed old new failed = NoWorthsFailed old.worths new.worths failed × (failed new.prec ≡ failed old.prec)
 
--- the devices of what the blocks are worth have counted one failure more together
-pub record OneWorthsFailed {D : Type 0} (old new : WorthInputs D) (failed : D → ℕ) : Type 0 where
-  pub kind : is_priced new ≡ is_priced old
-  pub one : worths_failures new failed ≡ worths_failures old failed + 1
-
 -- the devices of a mine and those beside them, which had counted so many, have counted one failure more together
 pub record OneFailed {D : Type 0} (old new : MineInputs D) (failed : D → ℕ) (others others' : ℕ) : Type 0 where
   pub kind : is_priced new.worths ≡ is_priced old.worths

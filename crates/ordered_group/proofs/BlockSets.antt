@@ -72,15 +72,6 @@ blocks_from_sums block worth told v n h =
     let one = one_block v 0 n h in
     ap₂ (λ a k. worth a n k) (sym sum) (sym one.1) ∙ told (λ b. v) (λ b. 0 == b) n ∙ one.0
 
-abbrev number : Bool → ℕ
-number t = cond t 1 0
-
-count_term : (u v : Bool) → (u ≡ true → v ≡ true) → (cond u 1 0 ≤ cond v 1 0) × (number u ≡ number v → u ≡ v)
-count_term true true s = (omega arith, λ e. refl)
-count_term true false s = absurd (let i = s refl in cc)
-count_term false true s = (omega arith, λ e. absurd (omega (arith, e)))
-count_term false false s = (omega arith, λ e. refl)
-
 -- a set within another has no more blocks, and as many only where it is that set
 pub count_in-within : (a e : ℕ → Bool) (n : ℕ) → ((b : ℕ) → b < n → a b ≡ true → e b ≡ true) → (count_in a n ≤ count_in e n) × (count_in a n ≡ count_in e n → (b : ℕ) → b < n → a b ≡ e b)
 count_in-within a e zero s = (omega arith, λ p b l. absurd (omega (arith, l)))

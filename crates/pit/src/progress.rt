@@ -1,8 +1,6 @@
 //! Tells the user on standard error, at most once a second, how far a run is, and at its end how many blocks the
 //! proved pit has and what it is worth.
 
-ghost use Rattle.std.specs.Prelude.{◌≡◌};
-
 use engines::Outcome;
 use fixed_worth::Nanos;
 use pseudoflow::Progress;

@@ -37,9 +37,9 @@ same_at n g h k line fs e None f = rw f (history_same g h k line fs (e (block_of
 pub record_same : (n : ℕ) (g h : ℕ → Bool) (k line : ℕ) (fs : List (List ℕ)) → ((b : ℕ) → b < n → g b ≡ h b) → record_fault n g k line fs ≡ record_fault n h k line fs
 record_same n g h k line fs e = ap (cond (is_skipped fs) None) (same_at n g h k line fs e (shape_fault n line fs) refl)
 
-pub or_none : (o p : Option PrecFault) → option_or o p ≡ None → o ≡ None
-or_none (Some e) p h = h
-or_none None p h = refl
+pub or_none : {F : Type 0} (a b : Option F) → option_or a b ≡ None → a ≡ None
+or_none None b h = refl
+or_none (Some x) b h = absurd cc
 
 pub none_behind : (s : Bool) (o : Option PrecFault) → cond s None o ≡ None → s ≡ false → o ≡ None
 none_behind true o h f = cc

@@ -1,15 +1,9 @@
 -- A block is marked where it had a record.
-use Rattle.std.proofs.Common.{◌≡◌, ℕ, zero, suc, ◌<◌, Bool, true, false, cond, eqb, List, [], ◌∷◌, ◌++◌, length, get_or, set, replicate, refl, sym, ap, ◌∙◌, arith, append-nil}
-use Rattle.std.specs.Prelude.{◌||◌}
+use Rattle.std.proofs.Common.{◌≡◌, ℕ, zero, suc, ◌<◌, Bool, true, false, cond, List, [], ◌∷◌, ◌++◌, length, get_or, set, replicate, refl, sym, ap, ◌∙◌, arith, append-nil}
 use Rattle.fixed_worth.specs.Record.{is_skipped}
 use Rattle.prec_file.specs.Records.{block_of, has}
 use Rattle.prec_file.specs.Indexes.{marks_after}
 use Rattle.std.proofs.lemmas.Grind.{common_steps}
-
--- Once b is marked, those blocks are marked that were so before, and b.
-mark_at : (seen : List Bool) (bs : List ℕ) (b k : ℕ) → b < length seen → get_or seen k false ≡ has bs k → (t : Bool) → eqb b k ≡ t → get_or (set seen b true) k false ≡ (has bs k || (t || false))
-mark_at seen bs b k i h true e = grind (arith, common_steps)
-mark_at seen bs b k i h false e = grind (arith, common_steps)
 
 -- After a line that is skipped the marks stay as they are, and after a record of b it is marked, too.
 pub mark : (s : Bool) (n : ℕ) (seen : List Bool) (bs : List ℕ) (b : ℕ) → length seen ≡ n → (s ≡ false → b < n) → ((k : ℕ) → k < n → get_or seen k false ≡ has bs k)

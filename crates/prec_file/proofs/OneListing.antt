@@ -22,8 +22,8 @@ rest_rises p ps r = record { rises = λ i j h l. r.rises (suc i) (suc j) (omega 
 first : (p : ℕ × ℕ) (ps : List (ℕ × ℕ)) → Contains (p ∷ ps) p
 first p ps = (0, omega arith, refl)
 
-later : (p : ℕ × ℕ) (ps : List (ℕ × ℕ)) (x : ℕ × ℕ) → Contains ps x → Contains (p ∷ ps) x
-later p ps x c = (suc c.0, omega (arith, c.1), c.2)
+pub tail_holds : (p : ℕ × ℕ) (ps : List (ℕ × ℕ)) (x : ℕ × ℕ) → Contains ps x → Contains (p ∷ ps) x
+tail_holds p ps x c = (suc c.0, omega (arith, c.1), c.2)
 
 first_or_later : (p : ℕ × ℕ) (ps : List (ℕ × ℕ)) (x : ℕ × ℕ) → Contains (p ∷ ps) x → (p ≡ x) ⊎ Contains ps x
 first_or_later p ps x (zero, l, e) = inl e
@@ -45,8 +45,8 @@ one_order (p ∷ ps) [] r s f g = let c = f p (first p ps) in absurd (omega (ari
 one_order (p ∷ ps) (q ∷ qs) r s f g =
     let e = same_first p q ps qs r s (f p (first p ps)) (g q (first q qs)) in
     let rest = one_order ps qs (rest_rises p ps r) (rest_rises q qs s)
-    (λ x c. among_later p q ps qs x e r c (f x (later p ps x c)))
-    (λ x c. among_later q p qs ps x (sym e) s c (g x (later q qs x c))) in
+    (λ x c. among_later p q ps qs x e r c (f x (tail_holds p ps x c)))
+    (λ x c. among_later q p qs ps x (sym e) s c (g x (tail_holds q qs x c))) in
     ap (λ x. x ∷ ps) e ∙ ap (λ l. q ∷ l) rest
 
 -- The pairs that are listed are one list.

@@ -1,7 +1,6 @@
 -- The next block's pairs behind those of the blocks before it.
-use Rattle.std.proofs.Common.{◌≡◌, ℕ, zero, suc, ◌+◌, ◌-◌, ◌<◌, ◌≤◌, Bool, false, nat_lt, inl, inr, List, [], ◌∷◌, ◌++◌, length, get_or, map, sym, refl, ap, subst, ◌∙◌, arith, length-append, All, Contains}
+use Rattle.std.proofs.Common.{◌≡◌, ℕ, zero, suc, ◌+◌, ◌-◌, ◌<◌, ◌≤◌, Bool, nat_lt, inl, inr, List, [], ◌∷◌, ◌++◌, length, get_or, map, sym, refl, ap, subst, ◌∙◌, arith, length-append, All, Contains}
 use Rattle.std.proofs.lemmas.Bool.{cases_lt}
-use Rattle.std.proofs.lemmas.Bool.Decides.{nat_tests}
 use Rattle.std.proofs.lemmas.List.{get_or_append_left, get_or-append_right, get_or_push, length-map, map-append}
 use Rattle.std.proofs.lemmas.List.Elements.{All-append, All-weaker, All-contains, All-contains_itself, Contains-append_cases}
 use Rattle.prec_file.specs.declared.limits.TheConstants.{MOST_PAIRS}
@@ -11,14 +10,12 @@ use Rattle.prec_file.specs.Indexes.{IsStarts, AreRows, pairs_by}
 use Rattle.prec_file.proofs.Passing.{passing_between}
 use Rattle.prec_file.proofs.Slots.{ending_all}
 use Rattle.prec_file.proofs.Rows.{pairs_are}
+use Rattle.prec_file.proofs.Order.{lt_false}
 use Rattle.std.proofs.lemmas.Grind.{common_steps}
 
 passing_same : (test other : ℕ → Bool) (m : ℕ) → ((k : ℕ) → k < m → test k ≡ other k) → numbers_passing test m ≡ numbers_passing other m
 passing_same test other zero h = refl
 passing_same test other (suc m) h = grind (arith, common_steps, (passing_same test other m (λ k l. h k (omega arith))))
-
-not_below : (x b : ℕ) → b ≤ x → nat_lt x b ≡ false
-not_below x b h = grind (arith, nat_tests)
 
 -- what rows tell
 pub rows_told : (n next : ℕ) (ps : List (ℕ × ℕ)) (firsts predecessors : List ℕ) → AreRows n next ps firsts predecessors → pairs_by firsts predecessors ≡ ps
@@ -71,7 +68,7 @@ module _ (n next : ℕ) (ps row : List (ℕ × ℕ)) (firsts predecessors : List
   below_same : (b : ℕ) → b ≤ next → count_ending_below (from_at ps) b (length ps) ≡ count_ending_below (from_at (ps ++ row)) b (length (ps ++ row))
   below_same b l =
       let old = passing_same (λ k. nat_lt (from_at ps k) b) (λ k. nat_lt (from_at (ps ++ row) k) b) (length ps) (λ k m. ap (λ (p : ℕ × ℕ). nat_lt p.0 b) (sym (old_at k m))) in
-      let none = passing_between (λ k. nat_lt (from_at (ps ++ row) k) b) (length ps) (length (ps ++ row)) (omega (arith, size)) (λ k m i. let e = new_from k m i in not_below (from_at (ps ++ row) k) b (omega arith)) in
+      let none = passing_between (λ k. nat_lt (from_at (ps ++ row) k) b) (length ps) (length (ps ++ row)) (omega (arith, size)) (λ k m i. let e = new_from k m i in lt_false (from_at (ps ++ row) k) b (omega arith)) in
       ap length old ∙ sym none
 
   listed_more : (k : ℕ) → k < length (ps ++ row) → from_at (ps ++ row) k < next + 1

@@ -10,6 +10,7 @@ use Rattle.prec_file.proofs.Passing.{passing_all, passing_between, passing_most,
 use Rattle.prec_file.proofs.Slots.{ending_all, ending_next, ending_none}
 use Rattle.prec_file.proofs.Finding.{above_length, found_pair}
 use Rattle.prec_file.proofs.Firsts.{later}
+use Rattle.prec_file.proofs.Order.{lt_false}
 use Rattle.std.proofs.lemmas.Grind.{common_steps}
 
 le_true : (x y : ℕ) → x ≤ y → nat_le x y ≡ true
@@ -17,9 +18,6 @@ le_true x y h = grind (arith, nat_tests)
 
 le_false : (x y : ℕ) → y < x → nat_le x y ≡ false
 le_false x y h = grind (arith, nat_tests)
-
-lt_false : (x y : ℕ) → y ≤ x → nat_lt x y ≡ false
-lt_false x y h = grind (arith, nat_tests)
 
 module _ (ps : List (ℕ × ℕ)) (r : IsRising ps) (n : ℕ) (firsts : List ℕ) (h : IsStarts (from_at ps) (length ps) n firsts) (k : ℕ) (l : k < length ps) (known : from_at ps k < n) where
   begins : ℕ → Bool

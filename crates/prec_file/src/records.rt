@@ -1,6 +1,6 @@
 //! The records of a precedence file: `b k p1 .. pk`, a block, how many predecessors it has, and these.
 
-ghost use Rattle.std.specs.Prelude.{◌≡◌, ℕ, ◌<◌, ◌≤◌, ◌+◌, ◌||◌, Bool, List, false, length, map, take, nat_le, MatchResult, MatchOption, IsTrue, vec_capacity};
+ghost use Rattle.std.specs.Prelude.{◌≡◌, ℕ, ◌≤◌, ◌+◌, ◌||◌, Bool, List, false, length, map, take, nat_le, MatchResult, MatchOption, IsTrue, vec_capacity};
 ghost use Rattle.std.specs.List.{list_all, list_any};
 ghost use Rattle.fixed_worth.specs.Text.{fields_of};
 ghost use Rattle.fixed_worth.specs.Record.{reads, number_of, is_skipped};

@@ -1,6 +1,6 @@
 //! Amounts as the search has them: what the blocks have left, and what the arcs of the trees carry.
 
-ghost use Rattle.std.specs.Prelude.{◌≡◌, ◌<◌, length, IfOk};
+ghost use Rattle.std.specs.Prelude.{◌≡◌, length, IfOk};
 
 use crate::fault::PseudoflowFault;
 use crate::links::Link;

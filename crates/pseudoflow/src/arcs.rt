@@ -1,6 +1,6 @@
 //! The pairs of a search, by its numbers.
 
-ghost use Rattle.std.specs.Prelude.{◌≡◌, ◌<◌, ◌≤◌, All, IfOk, IfSome, length};
+ghost use Rattle.std.specs.Prelude.{◌≡◌, ◌<◌, All, IfOk, IfSome};
 
 use crate::fault::PseudoflowFault;
 use crate::links::Link;
@@ -19,7 +19,7 @@ pub(crate) struct Arcs {
 }
 
 impl Model for Arcs {
-    ghost use Rattle.std.specs.Prelude.{ℕ, ◌≡◌, ◌<◌, All, length};
+    ghost use Rattle.std.specs.Prelude.{ℕ, ◌≡◌, ◌<◌, All};
 
     ghost Value = { ℕ };
 

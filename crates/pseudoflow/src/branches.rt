@@ -1,6 +1,6 @@
 //! The forest that a search leaves, as a list.
 
-ghost use Rattle.std.specs.Prelude.{◌≡◌, ◌<◌, ◌≤◌, length};
+ghost use Rattle.std.specs.Prelude.{◌≡◌, ◌<◌, length};
 
 use crate::amounts::Amount;
 use crate::budget::Budget;

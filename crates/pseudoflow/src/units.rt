@@ -1,6 +1,6 @@
 //! Units: worths as single numbers, in the order of the net's amounts.
 
-ghost use Rattle.std.specs.Prelude.{◌≡◌, ◌<◌, length, IfOk, IfSome};
+ghost use Rattle.std.specs.Prelude.{◌≡◌, length, IfOk, IfSome};
 
 use crate::fault::PseudoflowFault;
 use crate::links::Link;

@@ -7,15 +7,12 @@ use Rattle.fixed_worth.specs.Record.{Line, is_skipped}
 use Rattle.blocks_file.specs.declared.blocks_fault.BlocksFault.{BlocksFault}
 use Rattle.blocks_file.specs.declared.blocks_fault.BlocksFault.TheVariants.{Number, NoColumn}
 use Rattle.blocks_file.specs.Records.{head_reads, is_bad, are_there, shape_fault, block_fault, block_of, record_fault, has_record, first_fault, early_fault, lines_in, count_of, fault_of}
+use Rattle.upit_file.proofs.Names.{none_parts}
 
 -- columns are as good as others, of which they are some: none of them is bad, and all are there, where so it is of the others
 pub record AreSomeOf (fewer chosen : List ℕ) : Type 0 where
   pub good : (columns : List (List ℕ)) → list_any (is_bad columns) chosen ≡ false → list_any (is_bad columns) fewer ≡ false
   pub there : (count : ℕ) → are_there chosen count ≡ true → are_there fewer count ≡ true
-
-none_parts : {X : Type 0} → (a b : Option X) → option_or a b ≡ None → (a ≡ None) × (b ≡ None)
-none_parts None b h = (refl, h)
-none_parts (Some x) b h = absurd cc
 
 none_of : {X : Type 0} → (a b : Option X) → a ≡ None → b ≡ None → option_or a b ≡ None
 none_of None b h k = k

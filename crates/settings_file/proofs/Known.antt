@@ -15,9 +15,6 @@ settings_are text s h = ap settings_by h.1.parsed ∙ ap said_or_nothing h.2
 pub settings_read : (text : List ℕ) (s : SettingsView) → ReadsSettings text (Ok s) → AreSettings text
 settings_read text s h = let P : SettingsView → Type 0 = λ v. ReadsSettings text (Ok v) in subst P (sym (settings_are text s h)) h
 
-never : {A E : Type 0} (r : Result A E) (a : A) (e : E) → r ≡ Ok a → r ≡ Err e → ⊥
-never r a e p q = let g : Ok a ≡ Err e = sym p ∙ q in cc
-
 no_fault : (text : List ℕ) (s : SettingsView) (fault : SettingsFault) → ReadsSettings text (Ok s) → Says text (λ ms. settings_in ms ≡ Err fault) → ⊥
 no_fault text s fault h k = grind (arith, common_steps)
 

@@ -4,14 +4,12 @@ use Rattle.std.specs.List.{find, Contains}
 use Rattle.std.proofs.lemmas.Bool.{cases_eq, le-leb, lt-leb}
 use Rattle.std.proofs.lemmas.List.{get_or_default}
 use Rattle.closure_net.specs.Network.{IsAscending}
+use Rattle.closure_net.proofs.Ascending.{tail_ascends}
 use Rattle.shells.specs.Series.{is_upto}
 
 none_holds : (factors : List ℕ) → find (λ k. is_upto None k) factors ≡ None
 none_holds [] = refl
 none_holds (f ∷ factors) = none_holds factors
-
-tail_ascends : (f : ℕ) (factors : List ℕ) → IsAscending (f ∷ factors) → IsAscending factors
-tail_ascends f factors h i j l k = h (suc i) (suc j) (omega (arith, l)) (omega (arith, k))
 
 -- what is held and isn't the first is above it, and among the others
 behind : (f x : ℕ) (factors : List ℕ) (i : ℕ) → IsAscending (f ∷ factors) → (f ≡ x → ⊥) → i < length (f ∷ factors) → get_or (f ∷ factors) i x ≡ x → (f < x) × Contains factors x

@@ -4,6 +4,7 @@ use Rattle.std.proofs.lemmas.List.{get_or-map, length-map}
 use Rattle.prec_file.specs.Rests.{has_pair, numbers_passing}
 use Rattle.closure_net.specs.Network.{holds_of, IsAscending}
 use Rattle.closure_net.specs.Mine.{IsBest, RestsWithin}
+use Rattle.closure_net.proofs.Holding.{same_tests}
 use Rattle.shells.specs.Prices.{PricesView, blocks_of}
 use Rattle.shells.specs.Series.{mine_at}
 use Rattle.shells.proofs.Rising.{mines_rise}
@@ -12,7 +13,7 @@ use Rattle.sub_mines.specs.Parts.{union_of, difference_of, every_block}
 use Rattle.sub_mines.specs.Renumbered.{IsListed, IsRenumbered, IsImage, number_in}
 use Rattle.sub_mines.specs.Kept.{IsKept}
 use Rattle.sub_mines.proofs.Bounds.{between_by_bounds, best_is_floor, best_is_ceiling, none_is_floor, all_is_ceiling}
-use Rattle.sub_mines.proofs.Kept.{listed, list_image, same_rests, same_tests, passing_is_kept}
+use Rattle.sub_mines.proofs.Kept.{listed, list_image, same_rests, passing_is_kept}
 use Rattle.sub_mines.proofs.Together.{best_by_small_mine}
 use Rattle.shell_engines.specs.declared.mine_parts.Part.{Part}
 use Rattle.shell_engines.specs.Parting.{ArePriced, LiesBetweenLists, IsPart, mine_among, IsBestAmong}

@@ -1,6 +1,6 @@
 //! Makes the net of a mine at a factor, and gives the best pit that its solution proves, with its count and worth.
 
-ghost use Rattle.std.specs.Prelude.{◌≡◌, ◌<◌, Contains, IfSome, MatchResult};
+ghost use Rattle.std.specs.Prelude.{◌≡◌, Contains, IfSome, MatchResult};
 ghost use Rattle.ordered_group.specs.Block.{scaled_block};
 ghost use Rattle.closure_net.specs.Network.{NetView};
 ghost use Rattle.engines.specs.Certification.{IsSolution};

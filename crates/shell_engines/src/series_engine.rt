@@ -19,7 +19,6 @@ use engines::net_answer::line_of_no;
 use engines::solvers::Unsolved;
 use engines::{Effort, EngineFault, Verdict};
 use fixed_worth::{CountedRead, CountedWrite};
-use ordered_group::Scaled;
 use pseudoflow::Progress;
 use shells::laws;
 use std::alloc::Global;

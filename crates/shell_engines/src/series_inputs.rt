@@ -1,7 +1,7 @@
 //! Reads settings, blocks and predecessors: gives a mine with prices and the factors at which its shells are drawn,
 //! or the first fault of an input.
 
-ghost use Rattle.std.specs.Prelude.{◌≡◌, ◌≤◌, ◌+◌, ◌-◌, ◌^◌, ◌<◌, ◌⊎◌, ◌∷◌, [], None, unwrap_or, All, IfOk, IfErr, MatchResult, IsErrOf};
+ghost use Rattle.std.specs.Prelude.{◌≡◌, ◌≤◌, ◌+◌, ◌⊎◌, ◌∷◌, [], None, unwrap_or, All, IfOk, IfErr, MatchResult, IsErrOf};
 ghost use Rattle.settings_file.specs.Settings.{first_missing};
 ghost use Rattle.settings_file.specs.Values.{AreFactors};
 ghost use Rattle.shells.specs.Prices.{blocks_of};

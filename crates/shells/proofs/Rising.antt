@@ -1,5 +1,5 @@
 -- Worths rise with the factor, and the best pits with them.
-use Rattle.std.proofs.Common.{ℕ, Bool, ◌*◌, ◌≤◌, ◌≤ℤ◌, ◌*ℤ◌, ℤ, pos, negsuc, arith}
+use Rattle.std.proofs.Common.{ℕ, Bool, ◌≤◌, ◌≤ℤ◌, ◌*ℤ◌, ℤ, pos, negsuc, arith}
 use Rattle.std.proofs.lemmas.Int.{ints, clamps}
 use Rattle.closure_net.specs.Mine.{RisesTo}
 use Rattle.closure_net.proofs.BestPits.{best_is_within}

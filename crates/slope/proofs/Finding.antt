@@ -1,5 +1,5 @@
 -- Finding blocks by their places.
-use Rattle.std.proofs.Common.{◌≡◌, ◌≢◌, ℕ, ◌<◌, inl, inr, ℤ, ◌+ℤ◌, ◌-ℤ◌, List, length, get_or, Ok, Err, sym, ap, subst, ◌∙◌, arith}
+use Rattle.std.proofs.Common.{◌≡◌, ◌≢◌, ℕ, ◌<◌, inl, inr, ℤ, ◌+ℤ◌, ◌-ℤ◌, List, length, get_or, Err, sym, ap, subst, ◌∙◌, arith}
 use Rattle.std.proofs.lemmas.Bool.{cases_order}
 use Rattle.std.proofs.lemmas.List.{get_or_default}
 use Rattle.std.proofs.lemmas.Int.{ints}
@@ -54,11 +54,6 @@ one_place up from p q e =
     let b : p.y ≡ q.y = omega (arith, ints, ey) in
     let d : p.z ≡ q.z = omega (arith, ints, ez) in
     λ i. record { x = a i; y = b i; z = d i }
-
--- the block at the place of a key that was found
-pub found_at : (m : BlocksView) (keys : List Offset) (blocks : List ℕ) (up : Up) (from to : Place) (offset : Offset) → IsIndex m keys blocks → offset_between up from to ≡ offset → (i d : ℕ) → IsFinding keys (place_key to) (Ok i) →
-    (get_or blocks i d < m.blocks) × (offset_between up from (place_of m (get_or blocks i d)) ≡ offset)
-found_at m keys blocks up from to offset h at i d f = grind (arith, common_steps)
 
 -- no block is at the place of a key that isn't there
 pub none_at : (m : BlocksView) (keys : List Offset) (blocks : List ℕ) (up : Up) (from to : Place) (offset : Offset) → IsIndex m keys blocks → offset_between up from to ≡ offset → (i : ℕ) → IsFinding keys (place_key to) (Err i) →

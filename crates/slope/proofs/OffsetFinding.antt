@@ -9,7 +9,7 @@ use Rattle.std.proofs.lemmas.Int.{ints}
 use Rattle.std.proofs.lemmas.Bool.{cases_lt}
 use Rattle.std.proofs.lemmas.List.Sorted.{IsNonDecreasingBy-from_default}
 use Rattle.slope.specs.Offsets.{Offset, OffsetBefore, AreOffsetsRising}
-use Rattle.slope.proofs.OffsetSorting.{offset_cmp, offset_ties, offset_same, offsets_total, clash}
+use Rattle.slope.proofs.OffsetSorting.{offset_cmp, offset_ties, offset_same, offsets_total, not_both}
 use Rattle.std.proofs.lemmas.Grind.{common_steps}
 
 -- the order of two offsets by that of their numbers
@@ -68,4 +68,4 @@ offset_found os t (Err i) within h rising = λ c.
 -- whether one was found says whether it is among them
 pub found_decides : (os : List Offset) (t : Offset) (r : Result ℕ ℕ) (b : Bool) → IsSearchInRange r (length os) → IsBinarySearchResult (λ y. offset_cmp y t) os r → AreOffsetsRising os → b ≡ is_ok r → IsTrue b ↔ Contains os t
 found_decides os t (Ok i) b within h rising e = (λ k. offset_found os t (Ok i) within h rising, λ k. e)
-found_decides os t (Err i) b within h rising e = (λ k. absurd (clash b k e), λ k. absurd (offset_found os t (Err i) within h rising k))
+found_decides os t (Err i) b within h rising e = (λ k. absurd (not_both b k e), λ k. absurd (offset_found os t (Err i) within h rising k))

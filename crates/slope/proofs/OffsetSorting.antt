@@ -1,7 +1,7 @@
 -- Sorting offsets, and dropping repeats.
 use Rattle.std.proofs.Common.{◌≡◌, ℕ, zero, suc, ◌<◌, ℤ, ◌<ℤ◌, ◌&&◌, Bool, true, false, inl, inr, List, [], ◌∷◌, length, get_or, sym, refl, subst, ◌∙◌, arith, Ordering}
 use Rattle.std.specs.declared.cmp.Ordering.TheVariants.{Less, Equal, Greater}
-use Rattle.std.specs.Ordering.{MatchOrdering, is_eq, ordering_then, int_cmp, int_eq, eq_by_cmp}
+use Rattle.std.specs.Ordering.{MatchOrdering, ordering_then, int_cmp, int_eq, eq_by_cmp}
 use Rattle.std.specs.Cmp.{IsTotalOrder, IsEquivalence}
 use Rattle.std.specs.List.Sorted.{IsStrictlySortedBy}
 use Rattle.std.proofs.lemmas.Cmp.{int_ranked, then_total, on_total, int_cmp_total, eq_by_cmp_equiv}
@@ -22,20 +22,12 @@ offsets_total = then_total (then_total (on_total (λ (o : Offset). o.0) int_cmp_
 pub offset_ties : (x y : Offset) → offset_eq x y ≡ eq_by_cmp offset_cmp x y
 offset_ties x y = grind (arith, common_steps)
 
-tied : (x y : ℤ) (o : Ordering) → MatchOrdering o (x <ℤ y) (x ≡ y) (y <ℤ x) → is_eq o ≡ true → x ≡ y
-tied x y Less h e = absurd cc
-tied x y Equal h e = h
-tied x y Greater h e = absurd cc
-
-pub same_number : (x y : ℤ) → int_eq x y ≡ true → x ≡ y
-same_number x y e = tied x y (int_cmp x y) (int_ranked x y _ refl) e
-
 pub offset_same : (x y : Offset) → offset_eq x y ≡ true → x ≡ y
 offset_same x y h = grind (arith, common_steps)
 
-pub clash : (b : Bool) → b ≡ true → b ≡ false → ⊥
-clash true k e = absurd cc
-clash false k e = absurd cc
+pub not_both : (b : Bool) → b ≡ true → b ≡ false → ⊥
+not_both true k e = absurd cc
+not_both false k e = absurd cc
 
 pub offset_differs : (x y : Offset) → offset_eq x y ≡ false → x ≡ y → ⊥
 offset_differs x y h e = grind (arith, common_steps)

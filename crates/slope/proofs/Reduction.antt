@@ -11,6 +11,7 @@ use Rattle.slope.specs.Closing.{IsClosedBy}
 use Rattle.slope.specs.declared.selection.Selection.TheVariants.{Reduced}
 use Rattle.slope.specs.declared.up.Up.{Up}
 use Rattle.slope.specs.declared.up.Up.TheVariants.{PlusZ, MinusZ}
+use Rattle.slope.proofs.OffsetSorting.{not_both}
 
 -- some natural number is no less
 above : ℤ → ℕ
@@ -30,10 +31,6 @@ climbs MinusZ x y h = omega (arith, ints, h)
 stable : (t : Bool) → (t ≡ false → ⊥) → t ≡ true
 stable true never = refl
 stable false never = absurd (never refl)
-
-not_both : (t : Bool) → t ≡ true → t ≡ false → ⊥
-not_both true on off = absurd cc
-not_both false on off = absurd cc
 
 module _ (m : BlocksView) (offsets : List Offset) (up : Up) (rests : RestsView) (pattern : IsPattern offsets) (slopes : AreSlopes m offsets up Reduced rests) where
   -- how high a block is

@@ -1,7 +1,7 @@
 //! The offsets from a block to its predecessors: 1:5, 1:9, a cone of a slope, or those of a list, which is refused
 //! where an offset doesn't lead up.
 
-ghost use Rattle.std.specs.Prelude.{◌≡◌, ◌<◌, ◌≤◌, Err, All, IfOk, List, MatchOption, MatchResult, Contains, length};
+ghost use Rattle.std.specs.Prelude.{◌≡◌, ◌≤◌, Err, All, IfOk, List, MatchOption, MatchResult, Contains, length};
 ghost use Rattle.prec_file.specs.Rests.{IsFirstNot};
 ghost use Rattle.slope.specs.Offsets.{Offset, IsUpward, IsPattern, AreOffsets};
 ghost use Rattle.slope.specs.Patterns.{five_offsets, nine_offsets, IsInCone, UpwardAt, ListFaultStands, ConeFaultStands};

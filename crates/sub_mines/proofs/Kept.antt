@@ -1,8 +1,8 @@
 -- The blocks of a set as a list, their pairs, and lists of them.
-use Rattle.std.proofs.Common.{◌≡◌, ℕ, ◌<◌, All, Bool, true, false, List, length, map, get_or, refl, sym, subst, ap, ◌∙◌, arith}
+use Rattle.std.proofs.Common.{◌≡◌, ℕ, ◌<◌, All, Bool, true, List, length, map, get_or, refl, sym, subst, ap, ◌∙◌, arith}
 use Rattle.std.proofs.lemmas.List.{get_or-map, length-map}
 use Rattle.closure_net.specs.Network.{holds_of, IsAscending}
-use Rattle.closure_net.proofs.Holding.{holds_at, place_of}
+use Rattle.closure_net.proofs.Holding.{holds_at, place_of, same_tests}
 use Rattle.prec_file.specs.Rests.{has_pair, numbers_passing}
 use Rattle.prec_file.proofs.Passing.{passing_at, passing_here, passing_after}
 use Rattle.closure_net.proofs.Reach.{ascends, passing_known}
@@ -15,11 +15,6 @@ use Rattle.std.proofs.lemmas.Grind.{common_steps}
 
 pub listed : (set : ℕ → Bool) (n : ℕ) (kept : List ℕ) → IsKept set n kept → IsListed set n (length kept) (number_in kept)
 listed set n kept h = grind (arith, common_steps, holds_at, place_of)
-
-pub same_tests : (x y : Bool) → (x ≡ true → y ≡ true) → (y ≡ true → x ≡ true) → x ≡ y
-same_tests true y h k = sym (h refl)
-same_tests false true h k = absurd (let e = k refl in cc)
-same_tests false false h k = refl
 
 pub same_rests : (kept : List ℕ) (pairs less : List (ℕ × ℕ)) → IsPartPairs kept pairs less → (i j : ℕ) → i < length kept → j < length kept
     → has_pair less i j ≡ has_pair pairs (number_in kept i) (number_in kept j)

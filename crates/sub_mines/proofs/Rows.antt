@@ -1,7 +1,7 @@
 -- The steps in which the pairs among some blocks are gathered.
-use Rattle.std.proofs.Common.{◌≡◌, ◌≢◌, ℕ, zero, suc, ◌+◌, ◌-◌, ◌<◌, ◌≤◌, All, List, [], ◌∷◌, ◌++◌, length, get_or, set, inl, inr, sym, subst, ap, ◌∙◌, arith, length-set, get_or-set_same, get_or-set_other}
+use Rattle.std.proofs.Common.{◌≡◌, ◌≢◌, ℕ, zero, suc, ◌+◌, ◌-◌, ◌<◌, ◌≤◌, All, List, [], ◌∷◌, ◌++◌, length, get_or, inl, inr, sym, subst, ap, ◌∙◌, arith}
 use Rattle.std.specs.List.{Contains}
-use Rattle.std.proofs.lemmas.Bool.{cases_eq, cases_lt}
+use Rattle.std.proofs.lemmas.Bool.{cases_lt}
 use Rattle.std.proofs.lemmas.List.{get_or_default}
 use Rattle.std.proofs.lemmas.List.Elements.{Contains-append_left, Contains-push, Contains-push_cases, All-contains_itself, All-weaker}
 use Rattle.prec_file.specs.Rests.{above_of, from_at, to_at, first_of, numbers, IsRising, IsRests, RestsView, ArePairsOf, AreApart, IsKnown}
@@ -17,33 +17,6 @@ use Rattle.std.proofs.lemmas.Grind.{common_steps}
 pub place_below : (kept : List ℕ) → IsAscending kept → (i : ℕ) → i < length kept → i ≤ get_or kept i 0
 place_below kept h zero l = omega arith
 place_below kept h (suc i) l = grind (arith, common_steps, (place_below kept h i (omega (arith, l))))
-
-pub place_more : (n : ℕ) (kept : List ℕ) (i v : ℕ) (places : List ℕ) → IsAscending kept → i < length kept → get_or kept i 0 < n → v ≡ i + 1 → ArePlacesAmong n kept i places → ArePlacesAmong n kept (i + 1) (set places (get_or kept i 0) v)
-place_more n kept i v places rising l low e h =
-    let k = get_or kept i 0 in
-    let inside : k < length places = rw h.size low in
-    let here = get_or-set_same places k v 0 inside in
-    record {
-      size = length-set places k v ∙ h.size;
-      at = λ j m. elim (cases_lt j i) [
-        | inl below ↦
-            let up = rising j i below l in
-            get_or-set_other places k (get_or kept j 0) v 0 (λ e. omega (arith, up, e)) ∙ h.at j below
-        | inr past ↦
-            let same : j ≡ i = omega (arith, m, past) in
-            subst (λ x. get_or (set places k v) (get_or kept x 0) 0 ≡ x + 1) (sym same) (here ∙ e)
-      ];
-      only = λ b m some. elim (cases_eq b k) [
-        | inl same ↦
-            let P : ℕ → Type 0 = λ x. (get_or (set places k v) x 0 ≤ i + 1) × (get_or kept (get_or (set places k v) x 0 - 1) 0 ≡ x) in
-            let back : get_or kept (get_or (set places k v) k 0 - 1) 0 ≡ k = ap (λ x. get_or kept x 0) (omega (arith, here, e)) in
-            subst P (sym same) (omega (arith, here, e), back)
-        | inr other ↦
-            let old = get_or-set_other places k b v 0 other in
-            let x = h.only b m (λ z. some (old ∙ z)) in
-            (omega (arith, x.0, old), ap (λ y. get_or kept (y - 1) 0) old ∙ x.1)
-      ];
-    }
 
 -- ---- rows
 

@@ -1,7 +1,6 @@
 -- Reading the records line after line.
 use Rattle.std.proofs.Common.{◌≡◌, ℕ, ◌<◌, Bool, true, false, cond, eqb, List, [], ◌∷◌, ◌++◌, length, get_or, set, Some, None, ℤ, pos, refl, sym, ap, ◌∙◌, arith, get_or-set_same, get_or-set_other}
 use Rattle.std.specs.Prelude.{◌||◌, nat_lt, nat_le}
-use Rattle.std.specs.Option.{option_or}
 use Rattle.std.proofs.lemmas.Bool.{or_parts}
 use Rattle.std.proofs.lemmas.Bool.Decides.{nat_tests}
 use Rattle.std.proofs.lemmas.List.Folds.{list_any-append}
@@ -45,11 +44,6 @@ value_first (x ∷ xs) l b h e =
 block_same : (n : ℕ) (g h : ℕ → Bool) (k block : ℕ) → ((b : ℕ) → b < n → g b ≡ h b) → (t : Bool) → nat_le n block ≡ t → block_fault n g k block ≡ block_fault n h k block
 block_same n g h k block e true f = rw f refl
 block_same n g h k block e false f = grind (arith, common_steps)
-
--- The next line's fault, and what is left behind it.
-next_fault : (n k : ℕ) (before : List Line) (text : List ℕ) (ls : List Line) → nat_lt LINE_BYTES (length text) ≡ false → is_end (fields_of text) ≡ false
-    → first_fault n before (before_end (line k text ∷ ls)) ≡ option_or (record_fault n (has_record before) k (fields_of text)) (first_fault n (before ++ line k text ∷ []) (before_end ls))
-next_fault n k before text ls s e = rw (s, e, s) refl
 
 -- A block's fault by the records before is its fault by the marks.
 known : (n : ℕ) (seen : List Bool) (before : List Line) (k block : ℕ) → ((b : ℕ) → b < n → get_or seen b false ≡ has_record before b) → length seen ≡ n

@@ -1,7 +1,6 @@
 -- The header's lines are read back.
-use Rattle.std.proofs.Common.{◌≡◌, ℕ, ◌+◌, ◌-◌, ◌^◌, ◌<◌, ◌≤◌, true, false, cond, eqb, List, [], ◌∷◌, ◌++◌, length, take, drop, get_or, Some, None, refl, sym, ap, ◌∙◌, arith, length-append}
-use Rattle.std.specs.Prelude.{is_some, codes, map}
-use Rattle.std.specs.Option.{option_or}
+use Rattle.std.proofs.Common.{◌≡◌, ℕ, ◌+◌, ◌^◌, ◌<◌, ◌≤◌, true, false, cond, eqb, List, [], ◌∷◌, ◌++◌, length, take, drop, get_or, Some, None, refl, sym, ap, ◌∙◌, arith, length-append}
+use Rattle.std.specs.Prelude.{codes, map}
 use Rattle.std.specs.List.{list_any, position_or_len}
 use Rattle.std.specs.Fmt.{decimal}
 use Rattle.std.proofs.lemmas.Bool.{not-true, and_parts}
@@ -10,12 +9,12 @@ use Rattle.std.proofs.lemmas.List.{take_all}
 use Rattle.fixed_worth.specs.declared.limits.TheConstants.{MOST_BLOCKS}
 use Rattle.upit_file.specs.declared.limits.TheConstants.{NAME_BYTES}
 use Rattle.fixed_worth.specs.Record.{Line}
-use Rattle.fixed_worth.specs.Text.{WordRun, is_separator, run_before, runs_from}
+use Rattle.fixed_worth.specs.Text.{WordRun, is_separator, runs_from}
 use Rattle.fixed_worth.proofs.Cuts.{first_run}
 use Rattle.upit_file.specs.declared.key.Key.{Key}
 use Rattle.upit_file.specs.declared.key.Key.TheVariants.{Name, FileType, Blocks, Objective}
 use Rattle.upit_file.specs.declared.upit_fault.UpitFault.TheVariants.{Text}
-use Rattle.upit_file.specs.Header.{is_long, fields_in, key_in, header, after_header, first_count, count_fault, key_fault, last_end, from_second, name_in, last_name, header_line_fault, header_lines_fault, header_fault}
+use Rattle.upit_file.specs.Header.{is_long, fields_in, key_in, header, after_header, count_fault, key_fault, last_end, from_second, name_in, last_name, header_line_fault, header_fault}
 use Rattle.upit_file.specs.Records.{is_name}
 use Rattle.fixed_worth.proofs.Joined.{word_run, gap_run, word_alone}
 use Rattle.fixed_worth.proofs.NextLine.{line, short}
@@ -28,10 +27,6 @@ use Rattle.std.proofs.lemmas.Grind.{common_steps}
 abbrev last_of : ℕ → List ℕ → ℕ
 last_of b [] = b
 last_of b (c ∷ cs) = last_of c cs
-
-some_before : (b p : ℕ) (rs : List WordRun) → 0 < length (run_before b p rs)
-some_before b p [] = omega arith
-some_before b p (r ∷ rs) = elim (eqb r.place (p + 1)) as (λ t. 0 < length (cond t (record { text = b ∷ r.text; place = p } ∷ rs) (record { text = b ∷ []; place = p } ∷ r ∷ rs))) [ true ↦ omega arith | false ↦ omega arith ]
 
 abbrev EndsAt : ℕ → List WordRun → ℕ → Type 0
 EndsAt e rs n = (0 < length rs) × (last_end e rs ≡ n)
@@ -133,13 +128,6 @@ count_sound n h =
 
 split_at_end : (n : ℕ) (a b c d : Line) (rest : List Line) → IsSound n Name a → IsSound n FileType b → IsSound n Blocks c → key_in (fields_in d) ≡ Objective → (header (a ∷ b ∷ c ∷ d ∷ rest) ≡ a ∷ b ∷ c ∷ []) × (after_header (a ∷ b ∷ c ∷ d ∷ rest) ≡ d ∷ rest)
 split_at_end n a b c d rest x y z e = (rw (x.key, y.key, z.key, e) refl, rw (x.key, y.key, z.key, e) refl)
-
-lines_sound : (n : ℕ) (a b c : Line) → IsSound n Name a → IsSound n FileType b → IsSound n Blocks c → header_lines_fault n (a ∷ b ∷ c ∷ []) ≡ None
-lines_sound n a b c x y z =
-    ap (λ o. option_or o (header_lines_fault n (b ∷ c ∷ []))) x.sound ∙ ap (λ o. option_or o (header_lines_fault n (c ∷ []))) y.sound ∙ ap (λ o. option_or o None) z.sound
-
-counted : (n : ℕ) (a b c : Line) → IsSound n Name a → IsSound n FileType b → IsSound n Blocks c → is_some (first_count (a ∷ b ∷ c ∷ [])) ≡ true
-counted n a b c x y z = rw (x.key, y.key, z.key) refl
 
 name_of_lines : (n : ℕ) (a b c : Line) → IsSound n Name a → IsSound n FileType b → IsSound n Blocks c → last_name [] (a ∷ b ∷ c ∷ []) ≡ name_in a.text
 name_of_lines n a b c x y z = rw (x.key, y.key, z.key) refl

@@ -14,7 +14,6 @@ use Rattle.fixed_worth.proofs.FieldLaws.{fields_are}
 use Rattle.fixed_worth.proofs.LineLaws.{lines_are}
 use Rattle.upit_file.specs.declared.key.Key.{Key}
 use Rattle.upit_file.specs.declared.key.Key.TheVariants.{Name, FileType, Blocks, Objective, End, Other}
-use Rattle.upit_file.specs.declared.upit_fault.UpitFault.{UpitFault}
 use Rattle.upit_file.specs.Header.{fields_in, key_in, ends_header, header, last_end, from_second, name_in, name_behind, last_name, header_line_fault, header_lines_fault, header_fault}
 use Rattle.upit_file.specs.Records.{is_name, is_upit}
 use Rattle.std.proofs.lemmas.Grind.{common_steps}
@@ -105,9 +104,9 @@ whole_header : (ls : List Line) → Whole ls → Whole (header ls)
 whole_header [] w = tt
 whole_header (l ∷ ls) w = elim (ends_header (key_in (fields_in l))) as (λ t. Whole (cond t [] (l ∷ header ls))) [ true ↦ tt | false ↦ (w.0, whole_header ls w.1) ]
 
-no_fault : (o p : Option UpitFault) → option_or o p ≡ None → (o ≡ None) × (p ≡ None)
-no_fault None p e = (refl, e)
-no_fault (Some x) p e = cc
+pub none_parts : {X : Type 0} → (a b : Option X) → option_or a b ≡ None → (a ≡ None) × (b ≡ None)
+none_parts None b h = (refl, h)
+none_parts (Some x) b h = absurd cc
 
 few_bytes : (n : ℕ) (l : Line) → key_in (fields_in l) ≡ Name → header_line_fault n l ≡ None → (t : Bool) → nat_lt NAME_BYTES (length (name_in l.text)) ≡ t → length (name_in l.text) ≤ NAME_BYTES
 few_bytes n l k f true e = grind (arith, common_steps)
@@ -124,7 +123,7 @@ named_behind n name l h w f Other e = h
 named : (n : ℕ) (name : List ℕ) (ls : List Line) → is_name name ≡ true → Whole ls → header_lines_fault n ls ≡ None → is_name (last_name name ls) ≡ true
 named n name [] h w f = h
 named n name (l ∷ ls) h w f =
-    let p = no_fault (header_line_fault n l) (header_lines_fault n ls) f in
+    let p = none_parts (header_line_fault n l) (header_lines_fault n ls) f in
     named n (name_behind name (key_in (fields_in l)) l.text) ls (named_behind n name l h w.0 p.0 (key_in (fields_in l)) refl) w.1 p.1
 
 -- A header with no fault gives a name.
@@ -134,7 +133,7 @@ header_named n text f = named n [] (header (numbered_lines 0 (lines_of text))) r
 -- What a text gives is what the type can hold.
 pub read_is_upit : (n : ℕ) (text : List ℕ) (lines : List (List ℕ)) (given name : List ℕ) (values : List ℤ) → lines ≡ lines_of text → header_fault n (numbered_lines 0 lines) ≡ None → given ≡ last_name [] (header (numbered_lines 0 lines)) → name ≡ given
     → length values ≡ n → n ≤ MOST_BLOCKS → is_upit name values ≡ true
-read_is_upit n text lines given name values e f g h len few = grind (arith, common_steps, no_fault, header_named)
+read_is_upit n text lines given name values e f g h len few = grind (arith, common_steps, none_parts, header_named)
 
 -- The name begins in its line before it ends there, where the fields were given one after another.
 pub name_bounds : (line : List ℕ) (end : ℕ) (all seconds thirds left : List WordRun) (key r : WordRun) → all ≡ runs_from 0 line → all ≡ key ∷ seconds → seconds ≡ r ∷ thirds → left ≡ [] → last_end end left ≡ last_end (r.place + length r.text) thirds

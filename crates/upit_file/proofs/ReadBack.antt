@@ -21,7 +21,7 @@ use Rattle.fixed_worth.proofs.Powers.{rounds_up}
 use Rattle.fixed_worth.proofs.Joined.{all_pass_weaker, Breaks, place_of_break}
 use Rattle.fixed_worth.proofs.PrintedDigits.{trimmed_digits, zeros_digits}
 use Rattle.fixed_worth.proofs.WrittenNumbers.{decimal_digits, value_of-decimal}
-use Rattle.fixed_worth.proofs.FirstAmounts.{no_point}
+use Rattle.fixed_worth.proofs.FirstAmounts.{no_point, passed_all}
 use Rattle.std.proofs.lemmas.Grind.{common_steps}
 
 -- ---- a fraction
@@ -121,9 +121,6 @@ digit_no_mark : (b : ℕ) → is_digit b ≡ true → not (is_mark b) ≡ true
 unfolding is_mark
 digit_no_mark b h = grind (arith, nat_tests)
 
-no_place : (p : ℕ → Bool) (w : List ℕ) → list_all (λ b. not (p b)) w ≡ true → position_or_len p w ≡ length w
-no_place p w h = ap (position_or_len p) (sym (append-nil w)) ∙ place_of_break p w [] h tt
-
 abbrev pointed : Bool → List ℕ → List ℕ
 pointed none g = cond none [] (46 ∷ g)
 
@@ -161,7 +158,7 @@ parts_are s t d ds g h k =
     let w = d ∷ ds in
     let text = sign_text s ++ ((d ∷ ds) ++ pointed t g) in
     let first : is_digit d ≡ true = (and_parts (is_digit d) (list_all is_digit ds) h).0 in
-    let at : position_or_len is_mark (sign_text s ++ ((d ∷ ds) ++ pointed t g)) ≡ length (sign_text s ++ ((d ∷ ds) ++ pointed t g)) = no_place is_mark text (no_marks s t (d ∷ ds) g h k) in
+    let at : position_or_len is_mark (sign_text s ++ ((d ∷ ds) ++ pointed t g)) ≡ length (sign_text s ++ ((d ∷ ds) ++ pointed t g)) = passed_all is_mark text (no_marks s t (d ∷ ds) g h k) in
     let all : before_first is_mark text ≡ text = ap (λ n. take n text) at ∙ take-length text in
     let mantissa : mantissa_of text ≡ (d ∷ ds) ++ pointed t g = ap unsigned_of all ∙ unsigned_so s d (ds ++ pointed t g) first in
     let point : position_or_len is_point ((d ∷ ds) ++ pointed t g) ≡ length (d ∷ ds) = place_of_break is_point (d ∷ ds) (pointed t g) (all_pass_weaker is_digit (λ b. not (is_point b)) no_point (d ∷ ds) h) (breaks_at_point t g) in
@@ -185,14 +182,11 @@ behind_few false g h = h
 worth_none : (w : ℕ) (whole : List ℕ) → value_of whole ≡ w → value_of (whole ++ []) * 10 ^ 6 ≡ w * 10 ^ 6
 worth_none w whole e = ap (λ ds. value_of ds * 10 ^ 6) (append-nil whole) ∙ ap (λ n. n * 10 ^ 6) e
 
-shift : (w p q v f : ℕ) → v * q ≡ f → (w * p + v) * q ≡ w * (p * q) + f
-shift w p q v f e = omega (arith, e)
-
 worth_some : (w f : ℕ) (whole g : List ℕ) → value_of whole ≡ w → Fraction f g → value_of (whole ++ g) * 10 ^ (6 - length g) ≡ w * 10 ^ 6 + f
 worth_some w f whole g e p =
     let six : 10 ^ length g * 10 ^ (6 - length g) ≡ 10 ^ 6 = sym (pow-add 10 (length g) (6 - length g)) ∙ ap (λ n. 10 ^ n) (let k : length g + (6 - length g) ≡ 6 = omega (arith, p.few) in k) in
     ap (λ n. n * 10 ^ (6 - length g)) (value_of-append whole g ∙ ap (λ n. n * 10 ^ length g + value_of g) e)
-    ∙ shift w (10 ^ length g) (10 ^ (6 - length g)) (value_of g) f p.value ∙ ap (λ n. w * n + f) six
+    ∙ spread w (10 ^ length g) (10 ^ (6 - length g)) (value_of g) f p.value ∙ ap (λ n. w * n + f) six
 
 worth : (w f : ℕ) (t : Bool) (whole : List ℕ) → eqb f 0 ≡ t → value_of whole ≡ w → Fraction f (places f) → value_of (whole ++ behind_point t (places f)) * 10 ^ (6 - length (behind_point t (places f))) ≡ w * 10 ^ 6 + f
 worth w f true whole e v p = let z : f ≡ 0 = grind (arith, nat_tests) in worth_none w whole v ∙ omega (arith, z)

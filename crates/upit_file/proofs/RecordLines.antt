@@ -24,9 +24,6 @@ fraction_pushed n w d zeros old number line some same e z six f =
     f ∙ ap (λ k. ((old ++ (46 ∷ [])) ++ k) ++ number) (take-replicate zeros 6 48 (omega arith)) ∙ regrouped old (replicate zeros 48) number
     ∙ ap (λ k. old ++ (46 ∷ (replicate k 48 ++ number))) z ∙ ap (λ ds. old ++ (46 ∷ (replicate (w - length ds) 48 ++ ds))) e ∙ ap (λ t. old ++ t) (point_and_digits 6 n w d some same)
 
-together : (a s w f : List ℕ) → (((a ++ (32 ∷ [])) ++ s) ++ w) ++ f ≡ a ++ (32 ∷ (s ++ (w ++ f)))
-together a s w f = simp append_assoc
-
 -- The number, a space, the sign, the whole part and the fraction.
 pub line_made : (b size : ℕ) (z : ℤ) (one two three four five : List ℕ) → size ≡ unsigned_abs z → one ≡ decimal b → two ≡ one ++ (32 ∷ []) → three ≡ two ++ sign_text (is_negative z) → four ≡ three ++ decimal (size / 10 ^ 6)
     → five ≡ four ++ fraction_text 6 (size % 10 ^ 6) → five ≡ record_line b z

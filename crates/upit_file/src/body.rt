@@ -1,7 +1,7 @@
 //! Reads the records of block values up to the end of the text: gives a value for each block, or the first
 //! fault.
 
-ghost use Rattle.std.specs.Prelude.{◌≡◌, ℕ, ◌<◌, ◌≤◌, Some, None, [], pos, length, replicate, slice_index_or, IfOk, MatchResult};
+ghost use Rattle.std.specs.Prelude.{◌≡◌, ℕ, ◌<◌, Some, None, [], pos, length, replicate, slice_index_or, IfOk, MatchResult};
 ghost use Rattle.fixed_worth.specs.Record.{numbered_lines};
 ghost use Rattle.upit_file.specs.Body as spec;
 ghost use Rattle.upit_file.specs.Records.{UnlessMemory};

@@ -1,7 +1,7 @@
 //! Reads the header of a `.upit` text: gives the name and the number of blocks, and refuses another type of file, a
 //! number of blocks that isn't the wanted one, and a header that doesn't end.
 
-ghost use Rattle.std.specs.Prelude.{[], ◌≡◌, ◌≤◌, ◌==◌, ◌||◌, length, drop, MatchResult, OnSome, unwrap_or, Some, None};
+ghost use Rattle.std.specs.Prelude.{[], ◌≡◌, ◌≤◌, length, drop, MatchResult, unwrap_or, Some, None};
 ghost use Rattle.fixed_worth.specs.Text.{fields_of};
 ghost use Rattle.fixed_worth.specs.Record.{numbered_lines};
 ghost use Rattle.upit_file.specs.Header as spec;

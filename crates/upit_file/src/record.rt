@@ -1,7 +1,7 @@
 //! Reads one line behind the header: gives its block and the block's value, or tells that the line is skipped,
 //! that it ends the text, or what is wrong with it.
 
-ghost use Rattle.std.specs.Prelude.{◌≡◌, ℕ, ◌≤◌, false, Some, length, MatchResult};
+ghost use Rattle.std.specs.Prelude.{◌≡◌, ◌≤◌, false, Some, length, MatchResult};
 ghost use Rattle.fixed_worth.specs.Text.{fields_of};
 ghost use Rattle.fixed_worth.specs.Record.{is_skipped};
 ghost use Rattle.upit_file.specs.Header as header;

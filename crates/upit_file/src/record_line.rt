@@ -1,7 +1,7 @@
 //! Makes the line that a `.upit` text has for a block and its value.
 
-ghost use Rattle.std.specs.Prelude.{◌≡◌, ℕ, ◌+◌, ◌-◌, ◌*◌, ◌/◌, ◌%◌, ◌<◌, ◌≤◌, ◌^◌, [], ◌∷◌, ◌++◌, length, unsigned_abs};
-ghost use Rattle.fixed_worth.specs.Printed.{fraction_text, amount_text};
+ghost use Rattle.std.specs.Prelude.{◌≡◌, ◌+◌, ◌<◌, ◌≤◌, ◌^◌, ◌++◌, length};
+ghost use Rattle.fixed_worth.specs.Printed.{fraction_text};
 ghost use Rattle.upit_file.specs.Writing as spec;
 
 use fixed_worth::{Micros, ShortLine, WrittenNumber, trimmed_fraction};

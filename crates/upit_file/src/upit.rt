@@ -1,7 +1,7 @@
 //! What a `.upit` text holds: a name, and the value of each block. It can be made of any name and values that such a
 //! text can give.
 
-ghost use Rattle.std.specs.Prelude.{◌≡◌, ◌==◌, ◌<◌, ◌≤◌, ◌-◌, ◌&&◌, ◌||◌, pos, length, slice_index_or, IsTrue, SomeIff};
+ghost use Rattle.std.specs.Prelude.{◌≡◌, ◌==◌, ◌<◌, ◌≤◌, pos, length, slice_index_or, IsTrue, SomeIff};
 ghost use Rattle.std.specs.List.{list_any};
 ghost use Rattle.upit_file.specs.Records as spec;
 

@@ -1,7 +1,6 @@
 //! Writes a name and the values of blocks as a `.upit` text, or stops at the first write that fails.
 
-ghost use Rattle.std.specs.Prelude.{◌≡◌, ℕ, ◌+◌, ◌-◌, ◌^◌, ◌<◌, ◌≤◌, [], ◌∷◌, ◌++◌, length, codes, OnOk, OnErr};
-ghost use Rattle.std.specs.Fmt.{decimal};
+ghost use Rattle.std.specs.Prelude.{◌≡◌, ◌+◌, ◌-◌, ◌^◌, ◌<◌, ◌≤◌, [], ◌∷◌, ◌++◌, length, OnOk, OnErr};
 ghost use Rattle.std.specs.Io.KnownBytes.{Appends};
 ghost use Rattle.fixed_worth.specs.Laws.{with_line_feeds};
 ghost use Rattle.fixed_worth.specs.Device.{ReceivedPrefix, SentOrHeld};

@@ -1,5 +1,5 @@
 -- Making the table, and one seat and two.
-use Rattle.std.proofs.Common.{pos, ◌-ℤ◌, ◌≡◌, ◌≢◌, ℕ, zero, suc, ◌+◌, ◌%◌, ◌<◌, ◌==◌, ◌⊎◌, inl, inr, Bool, true, false, nat_eq, if◌then◌else◌, List, [], ◌∷◌, ◌++◌, length, replicate, get_or, set, sym, refl, ap, ◌∙◌, subst, arith, length-set, true≢false, ⊎_elim}
+use Rattle.std.proofs.Common.{pos, ◌-ℤ◌, ◌≡◌, ◌≢◌, ℕ, zero, suc, ◌+◌, ◌%◌, ◌<◌, ◌==◌, ◌⊎◌, inl, inr, Bool, true, false, nat_eq, if◌then◌else◌, List, [], ◌∷◌, ◌++◌, length, replicate, get_or, set, sym, refl, ap, ◌∙◌, subst, arith, length-set, true≢false, ⊎_elim, append-nil}
 use Rattle.std.proofs.lemmas.Int.{ints}
 use Rattle.std.proofs.lemmas.Bool.{eq-eqb, ne_eqb}
 use Rattle.std.proofs.lemmas.List.{get_or-append-add, get_or_append_left, get_or-replicate, length-replicate, length-append}
@@ -22,7 +22,8 @@ use Rattle.word_runner.specs.declared.view.View.{View}
 use Rattle.word_runner.specs.Layout.{count, units, Cells, excess_at, label_at, source_at, room_at, flow_at}
 use Rattle.word_runner.specs.Views.{of_block, Ruled, Sees, IsSeatsOwn, first_view, start_words, IsStart, IsMadeBy}
 use Rattle.word_runner.specs.Halves.{IsSole, IsHalf, half, left_half, right_half, joined_view, spent_view}
-use Rattle.word_runner.proofs.SeatViews.{free_operation, seats_set, append_none}
+use Rattle.word_runner.proofs.SeatViews.{free_operation, seats_set}
+use Rattle.word_runner.proofs.Units.{units_same, by_one}
 
 past : (xs ys : List ℕ) (n i x : ℕ) → length xs ≡ n → i ≡ n + x → get_or (xs ++ ys) i 0 ≡ get_or ys x 0
 past xs ys n i x l e = let e' : i ≡ length xs + x = omega arith in ap (λ (k : ℕ). get_or (xs ++ ys) k 0) e' ∙ get_or-append-add xs ys x 0
@@ -102,16 +103,10 @@ begins key gain loss q =
         flow = λ p l o r. let f = units_same _ _ (c.flow p l) in omega arith;
       }) j e;
     }
-  where
-    units_same : (x y : ℕ) → units x ≡ units y → x ≡ y
-    units_same x y e = let w = ap (λ (a : Amount). a.w) e in omega (arith, ints)
 
 -- ---- one seat and two
 pub sole_owns : (v : View) (b : ℕ) → IsSole v → IsSeatsOwn v b
-sole_owns v b s = record { live = s.live; serves = ap (λ (k : ℕ). b % k) s.workers ∙ one b ∙ sym s.number }
-  where
-    one : (b : ℕ) → b % 1 ≡ 0
-    one b = omega arith
+sole_owns v b s = record { live = s.live; serves = ap (λ (k : ℕ). b % k) s.workers ∙ by_one b ∙ sym s.number }
 
 at_end : {A : Type 0} (l : List A) (a b : A) (j : ℕ) → get_elem? (l ++ a ∷ []) j ≡ some b → (get_elem? l j ≡ some b) ⊎ ((j ≡ length l) × (a ≡ b))
 at_end [] a b zero e = inr (refl, some-injective a b e)
@@ -177,7 +172,7 @@ joins key id o v w q p s r at ne at' =
     (λ z. yours.operation b l (odd b (omega arith)) ∙ ap (operation_as units) (free_operation w b p.free)) in
     let Told : ℕ → View → Type 0 = λ j x. IsMadeBy net r.events x in
     let both_made : (b : ℕ) → b < count net → of_block b r.events ≡ of_block b (v.made ++ w.made) = λ b l. dite (ℕ_discrete (b % 2) 0)
-    (λ z. (r.made id v at).own b l (even b z) ∙ sym (append_none (of_block b v.made)) ∙ ap (λ (x : List Event). of_block b v.made ++ x) (sym ((r.made o w there).other b l (λ h. not_odd b z (h.serves) p.workers p.number))) ∙ sym (of_both b v.made w.made))
+    (λ z. (r.made id v at).own b l (even b z) ∙ sym (append-nil (of_block b v.made)) ∙ ap (λ (x : List Event). of_block b v.made ++ x) (sym ((r.made o w there).other b l (λ h. not_odd b z (h.serves) p.workers p.number))) ∙ sym (of_both b v.made w.made))
     (λ z. (r.made o w there).own b l (odd b (omega (arith, z))) ∙ ap (λ (x : List Event). x ++ of_block b w.made) (sym ((r.made id v at).other b l (λ h. not_even b z (h.serves) q.workers q.number))) ∙ sym (of_both b v.made w.made)) in
     let owner : ℕ → ℕ = λ _. id in
     record {
@@ -210,9 +205,6 @@ joins key id o v w q p s r at ne at' =
           (at_set s.views id j both x e));
     }
   where
-    by_one : (b : ℕ) → b % 1 ≡ 0
-    by_one b = omega arith
-
     of_both : (b : ℕ) (xs ys : List Event) → of_block b (xs ++ ys) ≡ of_block b xs ++ of_block b ys
     of_both b xs ys = filter-append (λ (z : Event). z.block == b) xs ys
 

@@ -1,10 +1,9 @@
 -- One or two seats in a list.
-use Rattle.std.proofs.Common.{◌≡◌, ℕ, List, [], ◌∷◌, length, ap, sym, ◌∙◌, subst, arith}
+use Rattle.std.proofs.Common.{◌≡◌, ℕ, List, [], ◌∷◌, length, ap, sym, ◌∙◌, subst}
 use lib.ListN.{get_elem?}
 use Rattle.word_runner.specs.Seats.{Own, WordsView, IsServed, IsWorker}
 use Rattle.word_runner.specs.Openings.{IsFirst, AreFirst}
 use Rattle.word_runner.specs.Runs.{AreSeats}
-use Rattle.std.proofs.lemmas.Grind.{common_steps}
 
 pub served_one : (w : WordsView) (xs : List Own) (s : Own) → xs ≡ s ∷ [] → AreSeats w xs → IsServed w.shared 0 1 s
 served_one w xs s e a =
@@ -26,6 +25,3 @@ first_seats w n seats e a = record {
 
 pub first_two : (w : WordsView) (xs : List Own) (s t : Own) → xs ≡ s ∷ t ∷ [] → AreFirst w 2 xs → IsFirst w 0 2 s × IsFirst w 1 2 t
 first_two w xs s t e a = (a.each 0 s (ap (λ (l : List Own). get_elem? l 0) e), a.each 1 t (ap (λ (l : List Own). get_elem? l 1) e))
-
-pub two_seats : (w : WordsView) (s t : Own) → w.workers ≡ 2 → IsServed w.shared 0 2 s → IsServed w.shared 1 2 t → AreSeats w (s ∷ t ∷ [])
-two_seats w s t e left right = grind (arith, common_steps)

@@ -1,5 +1,5 @@
 -- The views of the seats, where one of them changes.
-use Rattle.std.proofs.Common.{inl, inr, ◌⊎◌, ◌≡◌, ◌≢◌, ◌↔◌, ℕ, ◌-◌, ◌<◌, ◌==◌, Bool, cond, List, [], ◌∷◌, ◌++◌, set, sym, refl, ap, ◌∙◌, subst, arith, ⊎_elim}
+use Rattle.std.proofs.Common.{inl, inr, ◌⊎◌, ◌≡◌, ◌≢◌, ◌↔◌, ℕ, ◌-◌, ◌<◌, ◌==◌, Bool, cond, List, [], ◌∷◌, ◌++◌, set, sym, refl, ap, ◌∙◌, subst, arith, ⊎_elim, append-nil}
 use Rattle.std.proofs.lemmas.Bool.{eq-eqb, ne_eqb}
 use Rattle.std.proofs.lemmas.List.Elements.{filter-append}
 use mathlib.Core.Option.{some}
@@ -49,17 +49,13 @@ block_by v b (RaiseDue have best) e h = elim h [ inl f ↦ absurd cc | inr f ↦
 pub block_is : (v : View) (b : ℕ) → CanTurn v b → block_of_view v (word_of v.net b v.operation) ≡ b
 block_is v b q = block_by v b v.operation refl q.here
 
-pub append_none : (xs : List Event) → xs ++ [] ≡ xs
-append_none [] = refl
-append_none (x ∷ xs) = ap (λ (ys : List Event). x ∷ ys) (append_none xs)
-
 -- one more step, of the seat `me`, at its block b
 module _ (net : NetView) (es : List Event) (e : Event) where
   longer : (c : ℕ) (xs : List Event) → of_block c (xs ++ e ∷ []) ≡ of_block c xs ++ of_block c (e ∷ [])
   longer c xs = filter-append (λ (z : Event). z.block == c) xs (e ∷ [])
 
   elsewhere : (c : ℕ) (xs : List Event) → c ≢ e.block → of_block c (xs ++ e ∷ []) ≡ of_block c xs
-  elsewhere c xs ne = longer c xs ∙ ap (λ (x : List Event). of_block c xs ++ x) (ap (λ (z : Bool). cond z (e ∷ []) []) (ne_eqb e.block c (λ q. ne (sym q)))) ∙ append_none (of_block c xs)
+  elsewhere c xs ne = longer c xs ∙ ap (λ (x : List Event). of_block c xs ++ x) (ap (λ (z : Bool). cond z (e ∷ []) []) (ne_eqb e.block c (λ q. ne (sym q)))) ∙ append-nil (of_block c xs)
 
   pub made_more : (vs : List View) (me : ℕ) (v w : View) → IsMade net es vs → get_elem? vs me ≡ some v
       → ((j : ℕ) (u : View) → j ≢ me → get_elem? vs j ≡ some u → (c : ℕ) → c < count net → IsSeatsOwn u c → c ≢ e.block)

@@ -26,6 +26,7 @@ use Rattle.word_runner.specs.Seats.{IsFlowOfWords, IsWorker}
 use Rattle.word_runner.specs.CutNets.{scaled_parts, AreRooms}
 use Rattle.word_runner.specs.Runs.{IsRunOf, IsOpenRunOf}
 use Rattle.word_runner.specs.Ends.{IsQuietEnd}
+use Rattle.word_runner.proofs.Units.{units_same, by_one}
 
 turned_round : (n s r : Amount) → minus n s ≡ r → s ≡ minus n r
 turned_round n s r e = let h = same e in equal (record { w = omega (arith, ints, h); c = omega (arith, ints, h) })
@@ -33,9 +34,6 @@ turned_round n s r e = let h = same e in equal (record { w = omega (arith, ints,
 -- no room at the sink is more than what may be given there
 pub rooms_of : (net : NetView) (s : State (Unit {0}) View) → Ruled net s → AreRooms net s.words
 rooms_of net s r b l = subst (λ (a : Amount). AtMost a (negative (amount_at net.worths b))) (r.cells.room b l) (AtMost-minus (negative (amount_at net.worths b)) (r.machine.sink b) ((runs_keep_law net r.events r.machine r.run).amounts.sink b))
-
-units_same : (x y : ℕ) → units x ≡ units y → x ≡ y
-units_same x y e = let w = ap (λ (a : Amount). a.w) e in omega (arith, ints, w)
 
 module _ (net : NetView) (s : State (Unit {0}) View) (r : Ruled net s) (sum : ℕ) (all : all_given net ≡ units sum) where
   abbrev t : law.State
@@ -56,9 +54,6 @@ module _ (net : NetView) (s : State (Unit {0}) View) (r : Ruled net s) (sum : �
   module _ (id : ℕ) (v : View) (at : get_elem? s.views id ≡ some v) (w : IsWorker 0 1 v) where
     run_of : IsRunOf net v.made
     run_of = record { events = r.events; machine = t; run = r.run; at_blocks = λ b l. (r.made id v at).own b l (record { live = w.live; serves = ap (λ (k : ℕ). b % k) w.workers_are ∙ by_one b ∙ sym w.number_is }) }
-      where
-        by_one : (b : ℕ) → b % 1 ≡ 0
-        by_one b = omega arith
 
     pub ends : (flow : FlowView) → get_or s.words 0 0 + get_or s.words 1 0 ≡ sum → IsFlowOfWords net s.words flow → IsQuietEnd net v.made flow
     unfolding run_of

@@ -1,5 +1,5 @@
 -- Amounts of units, and numbers.
-use Rattle.std.proofs.Common.{◌≡◌, ℕ, ◌+◌, ◌-◌, ◌≤◌, arith}
+use Rattle.std.proofs.Common.{◌≡◌, ℕ, ◌+◌, ◌-◌, ◌%◌, ◌≤◌, ap, arith}
 use Rattle.std.proofs.lemmas.Int.{ints}
 use Rattle.ordered_group.specs.Amount.{Amount, plus, minus, AtMost, least}
 use Rattle.ordered_group.proofs.Order.{AtMost-trans}
@@ -7,6 +7,14 @@ use Rattle.machine_law.proofs.Numbers.{same, equal}
 use Rattle.word_runner.specs.Layout.{units}
 use Rattle.word_runner.specs.StepWords.{smaller}
 use Rattle.std.proofs.lemmas.Grind.{common_steps}
+
+-- equal amounts of units are of equal numbers
+pub units_same : (x y : ℕ) → units x ≡ units y → x ≡ y
+units_same x y e = let w = ap (λ (a : Amount). a.w) e in omega (arith, ints, w)
+
+-- a division by 1 leaves nothing
+pub by_one : (b : ℕ) → b % 1 ≡ 0
+by_one b = omega arith
 
 -- what an amount of units says of numbers
 pub units_most : (d x : ℕ) (e : Amount) → e ≡ units x → AtMost (units d) e → d ≤ x

@@ -1,7 +1,7 @@
 //! Gives the worths of a net as whole units that fit a word, the positive ones with their sum, or refuses a net whose
 //! positive worths sum to too much.
 
-ghost use Rattle.std.specs.Prelude.{◌≡◌, ◌<◌, ◌≤◌, ◌⊎◌, ◌<ℤ◌, ◌≤ℤ◌, ◌^◌, MatchOption, MatchResult, IfOk, pos};
+ghost use Rattle.std.specs.Prelude.{◌≡◌, ◌<◌, ◌⊎◌, ◌<ℤ◌, ◌≤ℤ◌, ◌^◌, MatchOption, MatchResult, IfOk, pos};
 ghost use Rattle.word_runner.specs.Layout.{units};
 ghost use Rattle.word_runner.specs.CutNets.{AreGains, AreLosses, AreWithin};
 ghost use Rattle.word_runner.specs.Openings.{OpeningFaultStands};

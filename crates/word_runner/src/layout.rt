@@ -1,7 +1,7 @@
 //! Where each number lies among the words: what has arrived at the source and at the sink, then for each block its excess, its
 //! label, its source amount and its room at the sink, and for each pair its flow.
 
-ghost use Rattle.std.specs.Prelude.{◌≡◌, ◌<◌, ◌+◌, length};
+ghost use Rattle.std.specs.Prelude.{◌≡◌, ◌<◌, length};
 ghost use Rattle.machine_law.specs.Residual.{IsEnd};
 ghost use Rattle.word_runner.specs.Layout.{width, excess_at, label_at, source_at, room_at, flow_at};
 ghost use Rattle.word_runner.specs.StepWords.{capacity_word, landing_word, look_word, word_of};

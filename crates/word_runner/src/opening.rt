@@ -1,8 +1,7 @@
 //! Opens a run without a lock: takes a net and a number of workers, and gives the shared words and each worker's
 //! private data.
 
-ghost use Rattle.std.specs.Prelude.{◌≡◌, ◌<◌, ◌≤◌, ◌^◌, IfOk, MatchResult, ◌↔◌};
-ghost use Rattle.machine_law.specs.declared.operations.Operation.TheVariants.{Idle};
+ghost use Rattle.std.specs.Prelude.{◌≡◌, ◌<◌, IfOk, MatchResult};
 ghost use Rattle.word_runner.specs.Views.{start_words};
 ghost use Rattle.word_runner.specs.CutNets.{AreGains};
 ghost use Rattle.word_runner.specs.Openings.{IsFirst, AreFirst, IsBegun, AreOpenedSeats, OpeningFaultStands, WordsFaultStands};

@@ -1,7 +1,7 @@
 //! A worker's private data and its next step: the operation of its block and the labels of its blocks. A step is one
 //! atomic operation on one shared word.
 
-ghost use Rattle.std.specs.Prelude.{◌≡◌, ◌<◌, ◌+◌, ◌⊎◌, ◌^◌, true, length};
+ghost use Rattle.std.specs.Prelude.{◌≡◌, ◌<◌, ◌⊎◌, ◌^◌, length};
 ghost use Rattle.machine_law.specs.declared.operations.Operation.TheVariants.{Idle};
 ghost use Rattle.machine_law.specs.Operations.{is_idle as is_free};
 ghost use Rattle.word_runner.specs.Views.{IsSeatsOwn};

@@ -1,7 +1,6 @@
 //! The atomic operations by which steps are made: to load, add to, subtract from or store the next word of a
 //! block.
 
-ghost use Rattle.std.specs.Prelude.{◌<◌};
 ghost use Rattle.word_runner.specs.Seats.{IsSeat, IsNextAt, HasTurned, IsSame, StepReads, StepAdds, Subtracts, Stores};
 
 use crate::plays::Turned;

@@ -1,6 +1,6 @@
 //! A whole run of the machine by workers under one lock, from a net to a maximum flow or why there is none.
 
-ghost use Rattle.std.specs.Prelude.{◌≡◌, ◌↔◌, ◌<◌, ◌≤◌, IsTrue, MatchResult, IsErrOf};
+ghost use Rattle.std.specs.Prelude.{◌≡◌, ◌↔◌, ◌≤◌, IsTrue, MatchResult, IsErrOf};
 ghost use Rattle.boards.specs.Boards.{shown_state};
 ghost use Rattle.workers.specs.Runs.{most_steps, Settles};
 ghost use Rattle.workers.specs.Solving.{AreBadWorkers, IsBoardLeft, IsLoss, RunFaultStands, SolveFaultStands};

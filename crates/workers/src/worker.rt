@@ -1,8 +1,6 @@
 //! The turns of one worker at a shared run, up to a limit: goes on with its block's operation or picks
 //! an active block, waits where there is none, and tells why it ended.
 
-ghost use Rattle.std.specs.Prelude.{◌≡◌, ◌+◌, ◌<◌, ◌%◌};
-
 use crate::gate::Gate;
 use crate::locked::Shared;
 use crate::pause::Pause;

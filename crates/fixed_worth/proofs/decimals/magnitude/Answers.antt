@@ -1,4 +1,4 @@
-use Rattle.std.proofs.Common.{◌+◌, ◌≤◌, arith}
+use Rattle.std.proofs.Common.{arith}
 use Rattle.fixed_worth.proofs.Digits.{short_value}
 use Rattle.fixed_worth.proofs.decimals.magnitude.Goals as goal
 use Rattle.std.proofs.lemmas.Grind.{common_steps}

@@ -1,4 +1,4 @@
-use Rattle.std.proofs.Common.{◌+◌, ◌*◌, ◌^◌, ◌++◌, arith, ◌∙◌}
+use Rattle.std.proofs.Common.{◌++◌, arith}
 use Rattle.fixed_worth.specs.Numeral.{value_of}
 use Rattle.fixed_worth.proofs.Digits.{overflows, carried, value_of-append, front_too_large}
 use Rattle.fixed_worth.proofs.decimals.mantissa.Goals as goal

@@ -1,4 +1,4 @@
-use Rattle.std.proofs.Common.{◌≤◌, arith, ◌∙◌}
+use Rattle.std.proofs.Common.{arith, ◌∙◌}
 use Rattle.fixed_worth.proofs.Fractions.{last_zero_dropped, last_digit_kept, tenth_below}
 use Rattle.fixed_worth.proofs.printing.trimmed_fraction.Goals as goal
 use Rattle.std.proofs.lemmas.Grind.{common_steps}

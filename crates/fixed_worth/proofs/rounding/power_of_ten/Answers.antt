@@ -1,4 +1,4 @@
-use Rattle.std.proofs.Common.{arith, ◌+◌}
+use Rattle.std.proofs.Common.{arith}
 use Rattle.fixed_worth.proofs.Powers.{ten_more, ten_most}
 use Rattle.fixed_worth.proofs.rounding.power_of_ten.Goals as goal
 use Rattle.std.proofs.lemmas.Grind.{common_steps}

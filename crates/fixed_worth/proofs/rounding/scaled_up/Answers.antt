@@ -1,4 +1,4 @@
-use Rattle.std.proofs.Common.{◌-◌, ◌∙◌, arith}
+use Rattle.std.proofs.Common.{◌-◌, arith}
 use Rattle.fixed_worth.proofs.Powers.{shifted, too_large}
 use Rattle.fixed_worth.proofs.rounding.scaled_up.Goals as goal
 use Rattle.std.proofs.lemmas.Grind.{common_steps}

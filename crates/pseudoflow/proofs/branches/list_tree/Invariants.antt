@@ -1,4 +1,4 @@
-use Rattle.std.proofs.Common.{◌≡◌, ◌<◌, ◌≤◌, length, IfSome}
+use Rattle.std.proofs.Common.{◌≡◌, ◌<◌, length, IfSome}
 use Rattle.pseudoflow.proofs.branches.list_tree.Given as goal
 
 abbrev pub invariant-loop-next : goal.invariant-loop-next

@@ -1,4 +1,4 @@
-use Rattle.std.proofs.Common.{◌<◌, ◌∙◌, arith}
+use Rattle.std.proofs.Common.{arith}
 use Rattle.closure_net.proofs.Spreads.{below_known}
 use Rattle.pseudoflow.proofs.first_labels.find_below.Goals as goal
 

@@ -1,4 +1,4 @@
-use Rattle.std.proofs.Common.{not, ◌∙◌, arith}
+use Rattle.std.proofs.Common.{not, arith}
 use Rattle.std.proofs.lemmas.List.Sums.{prefix_len-le-length}
 use Rattle.fixed_worth.specs.Text.{is_separator}
 use Rattle.fixed_worth.proofs.Cuts.{field_none, field_given}

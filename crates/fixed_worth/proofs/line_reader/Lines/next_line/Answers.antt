@@ -1,4 +1,4 @@
-use Rattle.std.proofs.Common.{◌+◌, ◌<◌, not, arith, ◌∙◌, ap, subst, refl, eqb}
+use Rattle.std.proofs.Common.{not, arith, ap, subst, refl, eqb}
 use Rattle.std.proofs.lemmas.List.Sums.{prefix_len-le-length}
 use Rattle.fixed_worth.specs.Text.{Left, BeginsTooLong}
 use Rattle.fixed_worth.proofs.Cuts.{line_given, line_too_long}

@@ -1,4 +1,4 @@
-use Rattle.std.proofs.Common.{◌++◌, arith}
+use Rattle.std.proofs.Common.{arith}
 use Rattle.std.proofs.lemmas.Result.{on_ok_weaker, on_err_weaker}
 use Rattle.fixed_worth.proofs.Pieces.{none_held, prefix_of_second}
 use Rattle.fixed_worth.proofs.pages.Page.put.Goals as goal

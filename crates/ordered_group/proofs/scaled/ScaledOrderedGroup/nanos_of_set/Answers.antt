@@ -1,4 +1,4 @@
-use Rattle.std.proofs.Common.{◌≡◌, ◌+◌, ◌<◌, arith, ap₂, ◌∙◌, ℤ, pos, ◌+ℤ◌, to_z, of_z, unsigned_abs}
+use Rattle.std.proofs.Common.{arith, ap₂, ℤ, pos, to_z, of_z, unsigned_abs}
 use Rattle.std.proofs.lemmas.Int.{to_z-of_z}
 use Rattle.ordered_group.proofs.Quotients.{quotient_with, machine_quotient, told_exactly}
 use Rattle.ordered_group.proofs.scaled.ScaledOrderedGroup.nanos_of_set.Goals as goal
