@@ -8,8 +8,8 @@ use Rattle.closure_net.specs.Network.{NetView}
 use Rattle.machine_law.specs.declared.operations.Operation.{Operation}
 use Rattle.machine_law.specs.declared.operations.Operation.TheVariants.{Idle}
 use Rattle.machine_law.specs.States.{State, with_value_at}
-use Rattle.machine_law.specs.Steps.{becomes}
-use Rattle.machine_law.proofs.Points.{put-same, put-other, put-each}
+use Rattle.machine_law.specs.Steps.{with_operation}
+use Rattle.machine_law.proofs.Points.{with_value_at-same, with_value_at-other, with_value_at-each}
 use Rattle.async_step.specs.declared.limits.TheConstants.{MOST_STEPS}
 use Rattle.async_step.specs.Views.{StateView, state_of, operation_at, IsSized}
 use Rattle.async_step.specs.Answers.{Fits, IsStateOf, GoesTo, StateStays}
@@ -22,28 +22,28 @@ use Rattle.std.proofs.lemmas.Grind.{common_steps}
 
 -- a list with another element, as a function from its places
 places-set : {X : Type 0} (xs : List X) (k : ℕ) (v d : X) → k < length xs → (λ i. get_or (set xs k v) i d) ≡ with_value_at (λ i. get_or xs i d) k v
-places-set xs k v d h = grind (arith, common_steps, fun_ext, cases_eq, get_or-set_same, put-same, get_or-set_other, put-other)
+places-set xs k v d h = grind (arith, common_steps, fun_ext, cases_eq, get_or-set_same, with_value_at-same, get_or-set_other, with_value_at-other)
 
 -- a changed number that fits
-fits_put : (f : ℕ → Amount) (k : ℕ) (v : Amount) → ((i : ℕ) → FitsPair (f i)) → FitsPair v → (i : ℕ) → FitsPair (with_value_at f k v i)
-fits_put f k v h e = put-each (λ i a. FitsPair a) f k v e (λ i _. h i)
+fits_with_value_at : (f : ℕ → Amount) (k : ℕ) (v : Amount) → ((i : ℕ) → FitsPair (f i)) → FitsPair v → (i : ℕ) → FitsPair (with_value_at f k v i)
+fits_with_value_at f k v h e = with_value_at-each (λ i a. FitsPair a) f k v e (λ i _. h i)
 
 -- and what the changed number is
-pub put_here : (f : ℕ → Amount) (k : ℕ) (v : Amount) → FitsPair (with_value_at f k v k) → FitsPair v
-put_here f k v h = subst FitsPair (put-same f k v) h
+pub fits_value : (f : ℕ → Amount) (k : ℕ) (v : Amount) → FitsPair (with_value_at f k v k) → FitsPair v
+fits_value f k v h = subst FitsPair (with_value_at-same f k v) h
 
 pub room_here : (net : NetView) (f : ℕ → Amount) (b : ℕ) (v : Amount) → FitsPair (minus (negative (amount_at net.worths b)) (with_value_at f b v b)) → FitsPair (minus (negative (amount_at net.worths b)) v)
-room_here net f b v h = subst (λ a. FitsPair (minus (negative (amount_at net.worths b)) a)) (put-same f b v) h
+room_here net f b v h = subst (λ a. FitsPair (minus (negative (amount_at net.worths b)) a)) (with_value_at-same f b v) h
 
 pub label_here : (f : ℕ → ℕ) (k v : ℕ) → with_value_at f k v k < 2 ^ 64 → v < 2 ^ 64
-label_here f k v h = subst (λ a. a < 2 ^ 64) (put-same f k v) h
+label_here f k v h = subst (λ a. a < 2 ^ 64) (with_value_at-same f k v) h
 
 -- the rooms after what a block gave the sink has changed
-room_put : (net : NetView) (f : ℕ → Amount) (b : ℕ) (v : Amount) → ((i : ℕ) → FitsPair (minus (negative (amount_at net.worths i)) (f i))) → FitsPair (minus (negative (amount_at net.worths b)) v) → (i : ℕ) → FitsPair (minus (negative (amount_at net.worths i)) (with_value_at f b v i))
-room_put net f b v h e = put-each (λ i a. FitsPair (minus (negative (amount_at net.worths i)) a)) f b v e (λ i _. h i)
+room_with_value_at : (net : NetView) (f : ℕ → Amount) (b : ℕ) (v : Amount) → ((i : ℕ) → FitsPair (minus (negative (amount_at net.worths i)) (f i))) → FitsPair (minus (negative (amount_at net.worths b)) v) → (i : ℕ) → FitsPair (minus (negative (amount_at net.worths i)) (with_value_at f b v i))
+room_with_value_at net f b v h e = with_value_at-each (λ i a. FitsPair (minus (negative (amount_at net.worths i)) a)) f b v e (λ i _. h i)
 
-label_put : (f : ℕ → ℕ) (k v : ℕ) → ((i : ℕ) → f i < 2 ^ 64) → v < 2 ^ 64 → (i : ℕ) → with_value_at f k v i < 2 ^ 64
-label_put f k v h e = put-each (λ i a. a < 2 ^ 64) f k v e (λ i _. h i)
+label_with_value_at : (f : ℕ → ℕ) (k v : ℕ) → ((i : ℕ) → f i < 2 ^ 64) → v < 2 ^ 64 → (i : ℕ) → with_value_at f k v i < 2 ^ 64
+label_with_value_at f k v h e = with_value_at-each (λ i a. a < 2 ^ 64) f k v e (λ i _. h i)
 
 -- what it says that no further step is counted, or that one is
 pub not_full : (t : Bool) (k n : ℕ) → IsTrue t ↔ (n ≤ k) → t ≡ false → k < n
@@ -54,25 +54,25 @@ module _ (net : NetView) (v : StateView) (over : IsStateOf net v) (b : ℕ) (l :
   operation_set = places-set v.operation b o Idle (omega (arith, l, over.blocks))
 
   -- every number fits after a change that can be made
-  pub fits_changed : (change : Change Amount) → CanChange net b change → Fits net (after_change (becomes (state_of v) b o) b change)
+  pub fits_changed : (change : Change Amount) → CanChange net b change → Fits net (after_change (with_operation (state_of v) b o) b change)
   fits_changed Nothing can =
       let h = over.fits in
       record { excess = h.excess; label = h.label; source = h.source; sink = h.sink; room = h.room; flow = h.flow; at_source = h.at_source; at_sink = h.at_sink }
   fits_changed (Excess at x) can =
       let h = over.fits in
-      record { excess = fits_put (state_of v).excess at x h.excess can.1; label = h.label; source = h.source; sink = h.sink; room = h.room; flow = h.flow; at_source = h.at_source; at_sink = h.at_sink }
+      record { excess = fits_with_value_at (state_of v).excess at x h.excess can.1; label = h.label; source = h.source; sink = h.sink; room = h.room; flow = h.flow; at_source = h.at_source; at_sink = h.at_sink }
   fits_changed (Label x) can =
       let h = over.fits in
-      record { excess = h.excess; label = label_put (state_of v).label b x h.label can; source = h.source; sink = h.sink; room = h.room; flow = h.flow; at_source = h.at_source; at_sink = h.at_sink }
+      record { excess = h.excess; label = label_with_value_at (state_of v).label b x h.label can; source = h.source; sink = h.sink; room = h.room; flow = h.flow; at_source = h.at_source; at_sink = h.at_sink }
   fits_changed (Source x) can =
       let h = over.fits in
-      record { excess = h.excess; label = h.label; source = fits_put (state_of v).source b x h.source can; sink = h.sink; room = h.room; flow = h.flow; at_source = h.at_source; at_sink = h.at_sink }
+      record { excess = h.excess; label = h.label; source = fits_with_value_at (state_of v).source b x h.source can; sink = h.sink; room = h.room; flow = h.flow; at_source = h.at_source; at_sink = h.at_sink }
   fits_changed (Sink x) can =
       let h = over.fits in
-      record { excess = h.excess; label = h.label; source = h.source; sink = fits_put (state_of v).sink b x h.sink can.0; room = room_put net (state_of v).sink b x h.room can.1; flow = h.flow; at_source = h.at_source; at_sink = h.at_sink }
+      record { excess = h.excess; label = h.label; source = h.source; sink = fits_with_value_at (state_of v).sink b x h.sink can.0; room = room_with_value_at net (state_of v).sink b x h.room can.1; flow = h.flow; at_source = h.at_source; at_sink = h.at_sink }
   fits_changed (Flow k x) can =
       let h = over.fits in
-      record { excess = h.excess; label = h.label; source = h.source; sink = h.sink; room = h.room; flow = fits_put (state_of v).flow k x h.flow can.1; at_source = h.at_source; at_sink = h.at_sink }
+      record { excess = h.excess; label = h.label; source = h.source; sink = h.sink; room = h.room; flow = fits_with_value_at (state_of v).flow k x h.flow can.1; at_source = h.at_source; at_sink = h.at_sink }
   fits_changed (AtSource x) can =
       let h = over.fits in
       record { excess = h.excess; label = h.label; source = h.source; sink = h.sink; room = h.room; flow = h.flow; at_source = can; at_sink = h.at_sink }
@@ -87,7 +87,7 @@ module _ (net : NetView) (v : StateView) (over : IsStateOf net v) (b : ℕ) (l :
       record w { operation = set w.operation b o; steps = w.steps + 1 }
 
   -- they show the state after both
-  shows : IsSized v → (change : Change Amount) → CanChange net b change → state_of (gone_on change) ≡ after_change (becomes (state_of v) b o) b change
+  shows : IsSized v → (change : Change Amount) → CanChange net b change → state_of (gone_on change) ≡ after_change (with_operation (state_of v) b o) b change
   shows sized Nothing can = λ i. record { excess = (state_of v).excess; label = (state_of v).label; source = (state_of v).source; sink = (state_of v).sink; flow = (state_of v).flow; operation = operation_set i; at_source = v.at_source; at_sink = v.at_sink; steps = v.steps + 1 }
   shows sized (Excess at x) can = λ i. record { excess = places-set v.excess at x zero_amount (omega (arith, can.0, over.blocks, sized.excess)) i; label = (state_of v).label; source = (state_of v).source; sink = (state_of v).sink; flow = (state_of v).flow; operation = operation_set i; at_source = v.at_source; at_sink = v.at_sink; steps = v.steps + 1 }
   shows sized (Label x) can = λ i. record { excess = (state_of v).excess; label = places-set v.label b x 0 (omega (arith, l, over.blocks, sized.label)) i; source = (state_of v).source; sink = (state_of v).sink; flow = (state_of v).flow; operation = operation_set i; at_source = v.at_source; at_sink = v.at_sink; steps = v.steps + 1 }
@@ -118,7 +118,7 @@ module _ (net : NetView) (v : StateView) (over : IsStateOf net v) (b : ℕ) (l :
   same_pairs (AtSource x) = refl
   same_pairs (AtSink x) = refl
 
-  pub goes : v.steps < MOST_STEPS → IsSized v → (change : Change Amount) → CanChange net b change → GoesTo net v (after_change (becomes (state_of v) b o) b change) (gone_on change)
+  pub goes : v.steps < MOST_STEPS → IsSized v → (change : Change Amount) → CanChange net b change → GoesTo net v (after_change (with_operation (state_of v) b o) b change) (gone_on change)
   goes few sized change can =
       let e = shows sized change can in
       record {

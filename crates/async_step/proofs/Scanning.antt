@@ -8,12 +8,12 @@ use Rattle.machine_law.specs.declared.operations.Best.{Best}
 use Rattle.machine_law.specs.declared.operations.Operation.{Operation}
 use Rattle.machine_law.specs.declared.operations.Operation.TheVariants.{Idle, Scan, PushDue, TakeDue, GiveDue, RaiseDue}
 use Rattle.machine_law.specs.Operations.{operation_as, is_idle}
-use Rattle.machine_law.specs.Reads.{after_last_port, after_port, IsScan}
+use Rattle.machine_law.specs.Reads.{after_last_port, after_port, LooksAtPort}
 use Rattle.async_step.specs.Views.{StateView, operation_at}
 use Rattle.async_step.specs.Scans.{after_label_by}
 
 -- an operation looks at one of so many ports where it does so with its amounts turned by f
-pub scan_under : {N M : Type 0} (f : N → M) (n : ℕ) (o : Operation N) → IsScan n (operation_as f o) → IsScan n o
+pub scan_under : {N M : Type 0} (f : N → M) (n : ℕ) (o : Operation N) → LooksAtPort n (operation_as f o) → LooksAtPort n o
 scan_under f n Idle h = h
 scan_under f n (Scan have place read best) h = h
 scan_under f n (PushDue have best) h = h
@@ -22,7 +22,7 @@ scan_under f n (GiveDue amount port) h = h
 scan_under f n (RaiseDue have best) h = h
 
 -- it isn't over while a port is looked at, nor once a port was chosen
-pub scan_works : {N : Type 0} (n : ℕ) (o : Operation N) → IsScan n o → is_idle o ≡ false
+pub scan_works : {N : Type 0} (n : ℕ) (o : Operation N) → LooksAtPort n o → is_idle o ≡ false
 scan_works n Idle h = absurd h
 scan_works n (Scan have place read best) h = refl
 scan_works n (PushDue have best) h = refl
@@ -40,7 +40,7 @@ ended_works label have best = either_works (nat_lt best.label label) (PushDue ha
 passed_works : {N : Type 0} (n label : ℕ) (have : N) (place : ℕ) (best : Best N) → is_idle (after_port n label have place (Some best)) ≡ false
 passed_works n label have place best = either_works (nat_lt (place + 1) n) (Scan have (place + 1) None (Some best)) (after_last_port label have (Some best)) refl (ended_works label have best)
 
-pub chosen_works : (n label : ℕ) (port : Port) (beyond : ℕ) (o : Operation Amount) → IsScan n o → is_idle (after_label_by n label port beyond o) ≡ false
+pub chosen_works : (n label : ℕ) (port : Port) (beyond : ℕ) (o : Operation Amount) → LooksAtPort n o → is_idle (after_label_by n label port beyond o) ≡ false
 chosen_works n label port beyond Idle h = absurd h
 chosen_works n label port beyond (Scan have place read best) h = passed_works n label have place _
 chosen_works n label port beyond (PushDue have best) h = refl
@@ -70,8 +70,8 @@ module _ {N : Type 0} (f : N → Amount) (v w : StateView) (os : List (Operation
   was : operation_as f x ≡ operation_at v.operation b
   was = ap (operation_as f) at ∙ sym (get_or-map (operation_as f) os b x Idle inside) ∙ ap (λ (us : List (Operation Amount)). operation_at us b) is
 
-  pub scan_in_place : (n : ℕ) → IsScan n (operation_at w.operation b) → IsScan n x
-  scan_in_place n h = scan_under f n x (subst (IsScan n) (sym was) (subst (λ (u : StateView). IsScan n (operation_at u.operation b)) (sym same) h))
+  pub scan_in_place : (n : ℕ) → LooksAtPort n (operation_at w.operation b) → LooksAtPort n x
+  scan_in_place n h = scan_under f n x (subst (LooksAtPort n) (sym was) (subst (λ (u : StateView). LooksAtPort n (operation_at u.operation b)) (sym same) h))
 
   -- a step that reads the block's label
   pub step_in_place : (step : ℕ → Operation Amount → Operation Amount) (own : ℕ) (y : Operation N) → length v.label ≡ length v.operation → own ≡ get_or v.label b own → operation_as f y ≡ step own (operation_as f x)

@@ -12,14 +12,14 @@ use Rattle.machine_law.specs.declared.operations.Best.{Best}
 use Rattle.machine_law.specs.declared.operations.Operation.{Operation}
 use Rattle.machine_law.specs.declared.operations.Operation.TheVariants.{Idle, Scan, PushDue, TakeDue, GiveDue, RaiseDue}
 use Rattle.machine_law.specs.Residual.{end_label, IsPortOf}
-use Rattle.machine_law.specs.Steps.{Step, becomes, after_label_at, after_look, after_look_by, next_kind, advance_by, advance}
+use Rattle.machine_law.specs.Steps.{Step, with_operation, after_label_at, after_look, after_look_by, next_kind, advance_by, advance}
 use Rattle.machine_law.specs.Amounts.{HasAmounts, IsOperation}
 use Rattle.machine_law.proofs.Law.{runs_keep_law}
 use Rattle.machine_law.proofs.Runs.{run_more}
 use Rattle.async_step.specs.Views.{StateView, state_of}
 use Rattle.async_step.specs.Scans.{IsScanAt, after_label_by, operation_after_look}
-use Rattle.machine_law.specs.Reads.{IsScan}
-use Rattle.async_step.specs.Answers.{IsStateOf, LeadsTelling, answer_of, answer_at, answer_by, answer_beyond, answer, saw_as, Stepped, IsStepRefused}
+use Rattle.machine_law.specs.Reads.{LooksAtPort}
+use Rattle.async_step.specs.Answers.{IsStateOf, LeadsTelling, answer_of, answer_at, answer_by, answer_beyond, answer, saw_as, IsStepTaken, IsStepRefused}
 use Rattle.async_step.specs.declared.saw.Saw.{Saw}
 use Rattle.async_step.specs.declared.saw.Saw.TheVariants.{Label}
 use Rattle.async_step.specs.declared.refusals.StepRefusal.{StepRefusal}
@@ -43,7 +43,7 @@ within_of net v b place is_read (RaiseDue have best) over at e = absurd at
 pub scan_within : (net : NetView) (v : StateView) (b place : ℕ) (is_read : Bool) → IsStateOf net v → IsScanAt place is_read ((state_of v).operation b) → place < length (ports net b)
 scan_within net v b place is_read over at = within_of net v b place is_read ((state_of v).operation b) over at refl
 
-pub scan_is : {N : Type 0} (n place : ℕ) (is_read : Bool) (o : Operation N) → IsScanAt place is_read o → place < n → IsScan n o
+pub scan_is : {N : Type 0} (n place : ℕ) (is_read : Bool) (o : Operation N) → IsScanAt place is_read o → place < n → LooksAtPort n o
 scan_is n place is_read Idle at l = at
 scan_is n place is_read (Scan have here read best) at l = subst (λ m. m < n) (sym at.0) l
 scan_is n place is_read (PushDue have best) at l = at
@@ -64,12 +64,12 @@ module _ {N : Type 0} (f : N → Amount) (net : NetView) (v w : StateView) (b : 
 
   -- at the port at a place, whose capacity is read
   pub scan_reads : (place : ℕ) (port : Port) (o : Operation Amount) → IsScanAt place true o → slice_get (ports net b) place ≡ Some port
-      → LeadsTelling f net v (becomes (state_of v) b (after_label_by (length (ports net b)) ((state_of v).label b) port (end_label net (state_of v) port) o)) (Label (end_label net (state_of v) port)) w r
+      → LeadsTelling f net v (with_operation (state_of v) b (after_label_by (length (ports net b)) ((state_of v).label b) port (end_label net (state_of v) port) o)) (Label (end_label net (state_of v) port)) w r
       → LeadsTelling f net v (advance_by net (state_of v) b o) (answer_of net (state_of v) b o) w r
   scan_reads place port Idle at p h = absurd at
   scan_reads place port (Scan have here None best) at p h = absurd (let q : false ≡ true = at.1 in cc)
   scan_reads place port (Scan have here (Some read) best) at p h =
-      subst (λ (q : Option Port). LeadsTelling f net v (becomes (state_of v) b (after_label_at net (state_of v) b have here best read q)) (answer_beyond net (state_of v) q) w r) (sym (ap (slice_get (ports net b)) at.0 ∙ p)) h
+      subst (λ (q : Option Port). LeadsTelling f net v (with_operation (state_of v) b (after_label_at net (state_of v) b have here best read q)) (answer_beyond net (state_of v) q) w r) (sym (ap (slice_get (ports net b)) at.0 ∙ p)) h
   scan_reads place port (PushDue have best) at p h = absurd at
   scan_reads place port (TakeDue amount over) at p h = absurd at
   scan_reads place port (GiveDue amount over) at p h = absurd at
@@ -83,12 +83,12 @@ module _ {N : Type 0} (f : N → Amount) (net : NetView) (v w : StateView) (b : 
 
   -- or isn't
   pub scan_looks : (place : ℕ) (port : Port) (o : Operation Amount) → IsScanAt place false o → slice_get (ports net b) place ≡ Some port
-      → LeadsTelling f net v (becomes (state_of v) b (operation_after_look net (state_of v) b port port.kind o)) (answer_by net (state_of v) b port port.kind) w r
+      → LeadsTelling f net v (with_operation (state_of v) b (operation_after_look net (state_of v) b port port.kind o)) (answer_by net (state_of v) b port port.kind) w r
       → LeadsTelling f net v (advance_by net (state_of v) b o) (answer_of net (state_of v) b o) w r
   scan_looks place port Idle at p h = absurd at
   scan_looks place port (Scan have here None best) at p h =
-      subst (λ (q : Option Port). LeadsTelling f net v (becomes (state_of v) b (after_look net (state_of v) b have here best q)) (answer_at net (state_of v) b q) w r) (sym (ap (slice_get (ports net b)) at.0 ∙ p))
-      (subst (λ (x : Operation Amount). LeadsTelling f net v (becomes (state_of v) b x) (answer_by net (state_of v) b port port.kind) w r) (looks_as have here best port port.kind) h)
+      subst (λ (q : Option Port). LeadsTelling f net v (with_operation (state_of v) b (after_look net (state_of v) b have here best q)) (answer_at net (state_of v) b q) w r) (sym (ap (slice_get (ports net b)) at.0 ∙ p))
+      (subst (λ (x : Operation Amount). LeadsTelling f net v (with_operation (state_of v) b x) (answer_by net (state_of v) b port port.kind) w r) (looks_as have here best port port.kind) h)
   scan_looks place port (Scan have here (Some read) best) at p h = absurd (let q : true ≡ false = at.1 in cc)
   scan_looks place port (PushDue have best) at p h = absurd at
   scan_looks place port (TakeDue amount over) at p h = absurd at
@@ -98,7 +98,7 @@ module _ {N : Type 0} (f : N → Amount) (net : NetView) (v w : StateView) (b : 
 -- a step that is made, or refused
 pub stepped : {N : Type 0} (f : N → Amount) (net : NetView) (v w : StateView) (e : Event) (r : Result (Saw N) StepRefusal) → IsStateOf net v → e.block < length net.worths → next_kind net (state_of v) e.block ≡ e.kind
     → LeadsTelling f net v (advance net (state_of v) e.block) (answer net (state_of v) e.block) w r
-    → MatchResult r (λ saw. Stepped net v e w (saw_as f saw)) (λ x. IsStepRefused net v e w x)
+    → MatchResult r (λ saw. IsStepTaken net v e w (saw_as f saw)) (λ x. IsStepRefused net v e w x)
 stepped f net v w e (Ok saw) over l k h =
     let step : Step net (state_of v) e (state_of w) = record { block = l; kind = k; after = h.0.state } in
     record {
@@ -119,6 +119,6 @@ stepped f net v w e (Err TooManySteps) over l k h = record { same = h.same; stan
 
 -- either way the state is one of a run
 pub still_state : {N : Type 0} (f : N → Amount) (net : NetView) (v w : StateView) (e : Event) (r : Result (Saw N) StepRefusal) → IsStateOf net v
-    → MatchResult r (λ saw. Stepped net v e w (saw_as f saw)) (λ x. IsStepRefused net v e w x) → IsStateOf net w
+    → MatchResult r (λ saw. IsStepTaken net v e w (saw_as f saw)) (λ x. IsStepRefused net v e w x) → IsStateOf net w
 still_state f net v w e (Ok saw) over h = h.state
 still_state f net v w e (Err x) over h = subst (IsStateOf net) (sym h.same) over

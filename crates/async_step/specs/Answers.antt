@@ -113,7 +113,7 @@ abbrev pub LeadsTelling : {N : Type 0} → (N → Amount) → NetView → StateV
 LeadsTelling f net old after tells new result = MatchResult result (λ saw. GoesTo net old after new × (saw_as f saw ≡ tells)) (λ e. StateStays net old after new e)
 
 -- one step was made, and this is what it saw, moved or raised
-pub record Stepped (net : NetView) (old : StateView) (event : Event) (new : StateView) (saw : Saw Amount) : Type 0 where
+pub record IsStepTaken (net : NetView) (old : StateView) (event : Event) (new : StateView) (saw : Saw Amount) : Type 0 where
   pub step : Step net (state_of old) event (state_of new)
   pub saw_is : saw ≡ answer net (state_of old) event.block
   pub counted : old.steps < MOST_STEPS

@@ -10,7 +10,7 @@ use Rattle.machine_law.specs.States.{State}
 use Rattle.machine_law.specs.Residual.{capacity, end_label}
 use Rattle.machine_law.specs.declared.operations.Operation.{Operation}
 use Rattle.machine_law.specs.declared.operations.Operation.TheVariants.{Idle, Scan, PushDue, TakeDue, GiveDue, RaiseDue}
-use Rattle.machine_law.specs.Reads.{better, after_capacity, after_port_by}
+use Rattle.machine_law.specs.Reads.{better_of, after_capacity, after_port_by}
 
 -- whether a capacity was read
 abbrev pub has_read : {N : Type 0} → Option N → Bool
@@ -34,7 +34,7 @@ read_or_zero (Some capacity) = capacity
 -- with one more port that may be the best
 abbrev pub with_candidate : Port → ℕ → Operation Amount → Operation Amount
 with_candidate port beyond Idle = Idle
-with_candidate port beyond (Scan have place read best) = Scan have place read (Some (better best (record { port = port; capacity = read_or_zero read; label = beyond })))
+with_candidate port beyond (Scan have place read best) = Scan have place read (Some (better_of best (record { port = port; capacity = read_or_zero read; label = beyond })))
 with_candidate port beyond (PushDue have best) = PushDue have best
 with_candidate port beyond (TakeDue amount port₁) = TakeDue amount port₁
 with_candidate port beyond (GiveDue amount port₁) = GiveDue amount port₁

@@ -3,7 +3,7 @@
 
 ghost use Rattle.std.specs.Prelude.{◌≡◌, ◌<◌, length};
 ghost use Rattle.machine_law.specs.Operations.{operation_as};
-ghost use Rattle.machine_law.specs.Steps.{becomes};
+ghost use Rattle.machine_law.specs.Steps.{with_operation};
 ghost use Rattle.async_step.specs.Views.{state_of};
 ghost use Rattle.async_step.specs.Answers.{IsStateOf, Leads};
 ghost use Rattle.async_step.specs.Changes.{CanChange, change_as, after_change, lists_after_change};
@@ -67,8 +67,8 @@ impl<G: OrderedGroup> State<G> {
         requires block { b < length net.now.worths }
         requires can { CanChange net.now b (change_as G.parts_of change) }
         ensures { Leads net.now self.old
-            (after_change (becomes (state_of self.old) b (operation_as G.parts_of operation)) b
-            (change_as G.parts_of change)) self.new result }
+            (after_change (with_operation (state_of self.old) b (operation_as G.parts_of operation))
+            b (change_as G.parts_of change)) self.new result }
     {
         // proof: the lists of a state are as long as its blocks
         let _sized = self.len();

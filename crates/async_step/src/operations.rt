@@ -3,7 +3,7 @@
 
 ghost use Rattle.std.specs.Prelude.{◌≡◌};
 ghost use Rattle.machine_law.specs.Operations.{operation_as};
-ghost use Rattle.machine_law.specs.Reads.{operation_begun_with, IsScan};
+ghost use Rattle.machine_law.specs.Reads.{operation_begun_with, LooksAtPort};
 ghost use Rattle.async_step.specs.Scans.{with_candidate, after_capacity_by, after_label_by};
 ghost use Rattle.machine_law.specs.Steps.{read_kind, push_kind, push_amount};
 
@@ -66,7 +66,7 @@ pub fn push_amount<G: OrderedGroup>(have: G, port: Port, capacity: G) -> G
 
 /// A block reads this capacity of the port that it looks at.
 pub fn see<G: OrderedGroup>(operation: &mut Operation<G>, ports: u32, label: u64, capacity: G)
-    requires { IsScan ports operation.old }
+    requires { LooksAtPort ports operation.old }
     ensures { operation_as G.parts_of operation.new ≡ after_capacity_by ports label
         (G.parts_of capacity) (operation_as G.parts_of operation.old) }
 {
@@ -120,7 +120,7 @@ pub fn choose<G: OrderedGroup>(
     port: Port,
     label: u64,
 )
-    requires { IsScan ports operation.old }
+    requires { LooksAtPort ports operation.old }
     ensures { operation_as G.parts_of operation.new ≡ after_label_by ports own port label
         (operation_as G.parts_of operation.old) }
 {

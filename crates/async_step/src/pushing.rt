@@ -8,7 +8,7 @@ ghost use Rattle.machine_law.specs.declared.operations.Operation.TheVariants.{Id
 ghost use Rattle.machine_law.specs.Operations.{best_as};
 ghost use Rattle.machine_law.specs.Residual.{IsPortOf};
 ghost use Rattle.machine_law.specs.States.{with_value_at};
-ghost use Rattle.machine_law.specs.Steps.{becomes, after_push, after_push_by, after_take, after_give, after_raise, push_amount};
+ghost use Rattle.machine_law.specs.Steps.{with_operation, after_push, after_push_by, after_take, after_give, after_raise, push_amount};
 ghost use Rattle.async_step.specs.Views.{state_of};
 ghost use Rattle.async_step.specs.Answers.{IsStateOf, Leads, LeadsTelling};
 ghost use Rattle.async_step.specs.declared.saw.Saw.TheVariants.{Moved, Raised};
@@ -178,7 +178,7 @@ impl<G: OrderedGroup> State<G> {
         requires over { IsStateOf net.now self.old }
         requires block { block < length net.now.worths }
         ensures { let s = state_of self.old in Leads net.now self.old
-            (record (becomes s block Idle) { at_sink = plus s.at_sink (G.parts_of amount) })
+            (record (with_operation s block Idle) { at_sink = plus s.at_sink (G.parts_of amount) })
             self.new result }
     {
         let more = self.at_sink().try_add(amount).ok_or(StepRefusal::TooLarge)?;
@@ -190,8 +190,8 @@ impl<G: OrderedGroup> State<G> {
         requires over { IsStateOf net.now self.old }
         requires block { block < length net.now.worths }
         ensures { let s = state_of self.old in Leads net.now self.old
-            (record (becomes s block Idle) { at_source = plus s.at_source (G.parts_of amount) })
-            self.new result }
+            (record (with_operation s block Idle)
+            { at_source = plus s.at_source (G.parts_of amount) }) self.new result }
     {
         let more = self
             .at_source()
@@ -212,7 +212,7 @@ impl<G: OrderedGroup> State<G> {
         requires block { block < length net.now.worths }
         requires other { other < length net.now.worths }
         ensures { let s = state_of self.old in Leads net.now self.old
-            (record (becomes s block Idle) { excess = with_value_at s.excess other (plus (s.excess other) (G.parts_of amount)) }) self.new result }
+            (record (with_operation s block Idle) { excess = with_value_at s.excess other (plus (s.excess other) (G.parts_of amount)) }) self.new result }
     {
         let more = self
             .excess(other)

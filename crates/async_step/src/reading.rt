@@ -3,9 +3,9 @@
 
 ghost use Rattle.std.specs.Prelude.{◌≡◌, ◌<◌, length};
 ghost use Rattle.closure_net.specs.Ports.{ports};
-ghost use Rattle.machine_law.specs.Reads.{operation_begun_with, IsScan};
+ghost use Rattle.machine_law.specs.Reads.{operation_begun_with, LooksAtPort};
 ghost use Rattle.machine_law.specs.Residual.{capacity, end_label, IsPortOf};
-ghost use Rattle.machine_law.specs.Steps.{becomes, advance};
+ghost use Rattle.machine_law.specs.Steps.{with_operation, advance};
 ghost use Rattle.async_step.specs.Views.{state_of};
 ghost use Rattle.async_step.specs.Scans.{IsScanAt, after_capacity_by, after_label_by, operation_after_look};
 ghost use Rattle.async_step.specs.Answers.{IsStateOf, LeadsTelling, answer_by, answer};
@@ -25,8 +25,8 @@ impl<G: OrderedGroup> State<G> {
         requires over { IsStateOf net.now self.old }
         requires block { block < length net.now.worths }
         ensures { let s = state_of self.old in LeadsTelling G.parts_of net.now self.old
-            (becomes s block (operation_begun_with (s.excess block))) (Excess (s.excess block))
-            self.new result }
+            (with_operation s block (operation_begun_with (s.excess block)))
+            (Excess (s.excess block)) self.new result }
     {
         let have = self.excess(block);
         self.make_step(net, block, Change::Nothing, operation_begun_with(have))?;
@@ -61,12 +61,12 @@ impl<G: OrderedGroup> State<G> {
         requires over { IsStateOf net.now self.old }
         requires block { block < length net.now.worths }
         requires port { IsPortOf net.now block port }
-        requires scan { IsScan
+        requires scan { LooksAtPort
             (length (ports net.now block)) ((state_of self.old).operation block) }
         ensures { let s = state_of self.old in let c = capacity net.now s block port in
             LeadsTelling G.parts_of net.now self.old
-            (becomes s block (after_capacity_by (length (ports net.now block)) (s.label block) c
-            (s.operation block)))
+            (with_operation s block (after_capacity_by (length (ports net.now block))
+            (s.label block) c (s.operation block)))
             (Capacity c) self.new result }
     {
         // proof: the lists of a state are as long as its blocks
@@ -106,12 +106,12 @@ impl<G: OrderedGroup> State<G> {
         requires over { IsStateOf net.now self.old }
         requires block { block < length net.now.worths }
         requires port { IsPortOf net.now block port }
-        requires scan { IsScan
+        requires scan { LooksAtPort
             (length (ports net.now block)) ((state_of self.old).operation block) }
         ensures { let s = state_of self.old in let h = end_label net.now s port in
             LeadsTelling G.parts_of net.now self.old
-            (becomes s block (after_label_by (length (ports net.now block)) (s.label block) port h
-            (s.operation block)))
+            (with_operation s block (after_label_by (length (ports net.now block)) (s.label block)
+            port h (s.operation block)))
             (Label h) self.new result }
     {
         // proof: the lists of a state are as long as its blocks
@@ -129,10 +129,10 @@ impl<G: OrderedGroup> State<G> {
         requires over { IsStateOf net.now self.old }
         requires block { block < length net.now.worths }
         requires port { IsPortOf net.now block port }
-        requires scan { IsScan
+        requires scan { LooksAtPort
             (length (ports net.now block)) ((state_of self.old).operation block) }
         ensures { let s = state_of self.old in LeadsTelling G.parts_of net.now self.old
-            (becomes s block
+            (with_operation s block
             (operation_after_look net.now s block port port.kind (s.operation block)))
             (answer_by net.now s block port port.kind) self.new result }
     {

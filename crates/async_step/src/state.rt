@@ -10,7 +10,7 @@ ghost use Rattle.machine_law.specs.Quiet.{IsFlowOf};
 ghost use Rattle.async_step.specs.Marks.{IsFirstRound};
 ghost use Rattle.async_step.specs.Views.{StateView, state_of, IsSized};
 ghost use Rattle.async_step.specs.Scans.{after_capacity_by, after_label_by};
-ghost use Rattle.machine_law.specs.Reads.{IsScan};
+ghost use Rattle.machine_law.specs.Reads.{LooksAtPort};
 ghost use Rattle.async_step.specs.Answers.{IsStateOf, IsWaiting};
 
 use crate::limits::MOST_STEPS;
@@ -332,7 +332,7 @@ impl<G: OrderedGroup> State<G> {
     pub(crate) fn see_capacity(&mut self, b: u32, ports: u32, capacity: G)
         requires block { b < length self.old.operation }
         requires room { self.old.steps < MOST_STEPS }
-        requires scan { IsScan ports ((state_of self.old).operation b) }
+        requires scan { LooksAtPort ports ((state_of self.old).operation b) }
         ensures { let s = state_of self.old in self.new ≡ record self.old {
           operation = slice_set self.old.operation b
               (after_capacity_by ports (s.label b) (G.parts_of capacity) (s.operation b));
@@ -355,7 +355,7 @@ impl<G: OrderedGroup> State<G> {
     pub(crate) fn choose_port(&mut self, b: u32, ports: u32, port: Port, label: u64)
         requires block { b < length self.old.operation }
         requires room { self.old.steps < MOST_STEPS }
-        requires scan { IsScan ports ((state_of self.old).operation b) }
+        requires scan { LooksAtPort ports ((state_of self.old).operation b) }
         ensures { let s = state_of self.old in self.new ≡ record self.old {
           operation = slice_set self.old.operation b
               (after_label_by ports (s.label b) port label (s.operation b));

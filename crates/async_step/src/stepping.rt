@@ -16,7 +16,7 @@
 ghost use Rattle.std.specs.Prelude.{◌≡◌, ◌<◌, length, MatchResult};
 ghost use Rattle.machine_law.specs.Steps.{next_kind, advance, next_event};
 ghost use Rattle.async_step.specs.Views.{state_of};
-ghost use Rattle.async_step.specs.Answers.{IsStateOf, LeadsTelling, Stepped, IsStepRefused, saw_as, answer};
+ghost use Rattle.async_step.specs.Answers.{IsStateOf, LeadsTelling, IsStepTaken, IsStepRefused, saw_as, answer};
 
 use crate::operations::{push_kind, read_kind};
 use crate::refusals::StepRefusal;
@@ -98,7 +98,7 @@ impl<G: OrderedGroup> State<G> {
         requires over { IsStateOf net.now self.old }
         requires block { b < length net.now.worths }
         ensures made { MatchResult result
-            (λ saw. Stepped net.now self.old (next_event net.now (state_of self.old) b) self.new
+            (λ saw. IsStepTaken net.now self.old (next_event net.now (state_of self.old) b) self.new
             (saw_as G.parts_of saw))
             (λ e. IsStepRefused net.now self.old
             (next_event net.now (state_of self.old) b) self.new e) }
@@ -116,7 +116,7 @@ impl<G: OrderedGroup> State<G> {
     pub fn step(&mut self, net: &Net<G>, event: Event) -> Result<Saw<G>, StepRefusal>
         requires { IsStateOf net.now self.old }
         ensures made { MatchResult result
-            (λ saw. Stepped net.now self.old event self.new (saw_as G.parts_of saw))
+            (λ saw. IsStepTaken net.now self.old event self.new (saw_as G.parts_of saw))
             (λ e. IsStepRefused net.now self.old event self.new e) }
         ensures state { IsStateOf net.now self.new }
     {

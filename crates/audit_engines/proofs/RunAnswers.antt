@@ -21,7 +21,7 @@ use Rattle.engines.specs.Certification.{IsRefusedFlow}
 use Rattle.engines.specs.NetAnswers.{SendsCertificate, SendsLine, certificate_text}
 use Rattle.engines.proofs.Answered.{keeps_self}
 use Rattle.engines.proofs.RefusedRuns.{refused_for_size}
-use Rattle.audit_engines.specs.TracedRuns.{CheckOverflowsAfter, IsNoOfRun, TellsRun, TracesNet, end_line}
+use Rattle.audit_engines.specs.TracedRuns.{CheckOverflowsAfter, IsNoOfRun, TellsRun, TracesNet, no_flow_line}
 
 -- ---- histories
 
@@ -90,7 +90,7 @@ module _ (counts : Bool) (name : Group) (price : Price) (net : NetView) (workers
   abbrev Ends : Result (List ℕ) EngineFault → Type 0
   Ends r = MatchResult r (λ line. IsNoOfRun net limit room history line) (λ fault. TracesNet counts name price net limit room before before old old (Err fault))
 
-  ended : (w : AuditEnd) → AuditFaultStands net workers limit room w history → Ends (end_line w)
+  ended : (w : AuditEnd) → AuditFaultStands net workers limit room w history → Ends (no_flow_line w)
   ended HistoryFull h = inr (inl (h, refl))
   ended (NoFlow Unsettled) h = inl (h, refl)
   ended (NoFlow TooLarge) h = inr (inr (inl (h, refl)))
@@ -99,10 +99,10 @@ module _ (counts : Bool) (name : Group) (price : Price) (net : NetView) (workers
   ended (NoFlow StrangerNet) h = (keeps_self before, keeps_self old)
   ended (NoFlow BadWorkers) h = (keeps_self before, keeps_self old)
 
-  pub unwritten : (fault : EngineFault) → end_line why ≡ Err fault → TracesNet counts name price net limit room before before old old (Err fault)
+  pub unwritten : (fault : EngineFault) → no_flow_line why ≡ Err fault → TracesNet counts name price net limit room before before old old (Err fault)
   unwritten fault e = subst Ends e (ended why stands)
 
-  module _ (line : List ℕ) (slice : List Event) (after : Option (List ℕ)) (is : end_line why ≡ Ok line) (same : slice ≡ history) where
+  module _ (line : List ℕ) (slice : List Event) (after : Option (List ℕ)) (is : no_flow_line why ≡ Ok line) (same : slice ≡ history) where
     is_no : IsNoOfRun net limit room history line
     is_no = subst Ends is (ended why stands)
 

@@ -48,9 +48,9 @@ abbrev pub history_full_line : List ℕ
 history_full_line = codes "HISTORYFULL" ++ 10 ∷ []
 
 -- the line that says why a run gives no flow, or the fault that does
-abbrev pub end_line : AuditEnd → Result (List ℕ) EngineFault
-end_line HistoryFull = Ok history_full_line
-end_line (NoFlow why) = no_line (unsolved_by why)
+abbrev pub no_flow_line : AuditEnd → Result (List ℕ) EngineFault
+no_flow_line HistoryFull = Ok history_full_line
+no_flow_line (NoFlow why) = no_line (unsolved_by why)
 
 -- The line of an answer without a certificate, and what its history shows: that it has as many events as the limit, or as many as there is
 -- room for below the limit, and some block has excess or an operation after it; or that the next step of some block, or the check of the flow,
@@ -80,8 +80,8 @@ TellsRun counts name price net limit room history old new (Err _) = ⊥
 
 -- ---- what is written to the trace and to standard output: `before` and `after` are the trace's bytes
 
-abbrev pub Untouched : Option (List ℕ) → Option (List ℕ) → Option (List ℕ) → Option (List ℕ) → Type 0
-Untouched before after old new = Keeps before after × Keeps old new
+abbrev pub IsUntouched : Option (List ℕ) → Option (List ℕ) → Option (List ℕ) → Option (List ℕ) → Type 0
+IsUntouched before after old new = Keeps before after × Keeps old new
 
 -- a history was written whole, and then what its run answers
 abbrev pub TracesRun : Bool → Group → Price → NetView → ℕ → ℕ → Option (List ℕ) → Option (List ℕ) → Option (List ℕ) → Option (List ℕ) → Result Verdict EngineFault → Type 0
@@ -94,10 +94,10 @@ CutsTrace net limit room before after old new = (history : List Event) × IsSome
 -- the answer for a net, and what was written with it
 abbrev pub TracesNet : Bool → Group → Price → NetView → ℕ → ℕ → Option (List ℕ) → Option (List ℕ) → Option (List ℕ) → Option (List ℕ) → Result Verdict EngineFault → Type 0
 TracesNet counts name price net limit room before after old new (Ok verdict) = TracesRun counts name price net limit room before after old new (Ok verdict)
-TracesNet counts name price net limit room before after old new (Err engine.Memory) = Untouched before after old new ⊎ TracesRun counts name price net limit room before after old new (Err engine.Memory)
+TracesNet counts name price net limit room before after old new (Err engine.Memory) = IsUntouched before after old new ⊎ TracesRun counts name price net limit room before after old new (Err engine.Memory)
 TracesNet counts name price net limit room before after old new (Err engine.Device) = CutsTrace net limit room before after old new ⊎ TracesRun counts name price net limit room before after old new (Err engine.Device)
-TracesNet counts name price net limit room before after old new (Err engine.Thread) = Untouched before after old new
-TracesNet counts name price net limit room before after old new (Err engine.Stranger) = Untouched before after old new
+TracesNet counts name price net limit room before after old new (Err engine.Thread) = IsUntouched before after old new
+TracesNet counts name price net limit room before after old new (Err engine.Stranger) = IsUntouched before after old new
 TracesNet counts name price net limit room before after old new (Err _) = ⊥
 
 -- ---- the texts of a mine
@@ -110,15 +110,15 @@ AnswersMineRun texts name limit room history Done text =
 AnswersMineRun texts name limit room history No text = (net : NetView) × IsNetBy texts name net × IsNoOfRun net limit room history text
 
 -- nothing was written, or what was written is of a net of the mine
-abbrev pub UntouchedOr : MineTexts → Group → ℕ → ℕ → Option (List ℕ) → Option (List ℕ) → Option (List ℕ) → Option (List ℕ) → EngineFault → Type 0
-UntouchedOr texts name limit room before after old new fault =
-    Untouched before after old new ⊎ ((net : NetView) × IsNetBy texts name net × TracesNet (counts_by name) name (price_wanted texts) net limit room before after old new (Err fault))
+abbrev pub IsUntouchedOr : MineTexts → Group → ℕ → ℕ → Option (List ℕ) → Option (List ℕ) → Option (List ℕ) → Option (List ℕ) → EngineFault → Type 0
+IsUntouchedOr texts name limit room before after old new fault =
+    IsUntouched before after old new ⊎ ((net : NetView) × IsNetBy texts name net × TracesNet (counts_by name) name (price_wanted texts) net limit room before after old new (Err fault))
 
 -- What is written at a fault: nothing, but where memory is refused after the run, or where the device of the trace or of standard output fails.
 abbrev pub TraceAtFault : MineTexts → Group → ℕ → ℕ → Option (List ℕ) → Option (List ℕ) → Option (List ℕ) → Option (List ℕ) → EngineFault → Type 0
-TraceAtFault texts name limit room before after old new engine.Memory = UntouchedOr texts name limit room before after old new engine.Memory
-TraceAtFault texts name limit room before after old new engine.Device = UntouchedOr texts name limit room before after old new engine.Device
-TraceAtFault texts name limit room before after old new _ = Untouched before after old new
+TraceAtFault texts name limit room before after old new engine.Memory = IsUntouchedOr texts name limit room before after old new engine.Memory
+TraceAtFault texts name limit room before after old new engine.Device = IsUntouchedOr texts name limit room before after old new engine.Device
+TraceAtFault texts name limit room before after old new _ = IsUntouched before after old new
 
 -- The answer, and what was written with it: where it is an answer of a run the trace has that run's whole history.
 abbrev pub Traces : MineTexts → Group → ℕ → ℕ → Option (List ℕ) → Option (List ℕ) → Option (List ℕ) → Option (List ℕ) → Result Verdict EngineFault → Type 0

@@ -5,7 +5,7 @@ ghost use Rattle.std.specs.Prelude.{◌≡◌, ◌+◌, ◌-◌, ◌^◌, ◌<�
 ghost use Rattle.machine_law.specs.declared.events.Event.{Event};
 ghost use Rattle.certificate_file.specs.ReadBack.{IsPrice};
 ghost use Rattle.workers.specs.Auditing.{IsAudit};
-ghost use Rattle.audit_engines.specs.TracedRuns.{TellsRun, TracesNet, end_line};
+ghost use Rattle.audit_engines.specs.TracedRuns.{TellsRun, TracesNet, no_flow_line};
 
 use crate::traced_outputs::TracedOutputs;
 use check_pit::Price;
@@ -90,8 +90,8 @@ where
 // The line that says why a run gave no flow.
 fn line_of_end(end: AuditEnd) -> Result<&'static [u8], EngineFault>
     ensures line { MatchResult result
-        (λ line. end_line end ≡ Ok line.now)
-        (λ fault. end_line end ≡ Err fault) }
+        (λ line. no_flow_line end ≡ Ok line.now)
+        (λ fault. no_flow_line end ≡ Err fault) }
     ensures no_device { ¬ IsErrOf result EngineFault.Device }
 {
     match end {

@@ -3,7 +3,7 @@ use Rattle.std.specs.Prelude.{◌≡◌, ℕ, ◌≤◌, ℤ, List, length, Fits
 use Rattle.std.specs.Int.{w128}
 use Rattle.blocks_file.specs.Denotes.{BlocksView}
 use Rattle.ordered_group.specs.Sets.{worth_in}
-use Rattle.shells.specs.Prices.{blocks_of}
+use Rattle.shells.specs.Prices.{priced_count}
 use Rattle.shells.specs.Series.{SeriesView}
 use Rattle.bench_report.specs.declared.report_fault.ReportFault.{ReportFault}
 use Rattle.bench_report.specs.declared.report_fault.ReportFault.TheVariants.{WrongModel, TooLarge, NoMemory}
@@ -11,7 +11,7 @@ use Rattle.bench_report.specs.Benches.{ReportedBlocks, blocks_at}
 
 -- the series and the worths are of as many blocks as the model
 pub record SameLengths (model : BlocksView) (series : SeriesView) (worths : List ℤ) : Type 0 where
-  pub of_shells : blocks_of series.prices ≡ model.blocks
+  pub of_shells : priced_count series.prices ≡ model.blocks
   pub of_worths : length worths ≡ model.blocks
 
 -- the tonnes and the worths of the first blocks of a bench and a shell, those below j, add up to numbers of 128 bits

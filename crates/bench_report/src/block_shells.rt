@@ -1,7 +1,7 @@
 //! Gives the shell of each block of a series as comma-separated values.
 
 ghost use Rattle.std.specs.Prelude.{◌≡◌, ◌++◌, Some, None, IfOk, OnOk};
-ghost use Rattle.shells.specs.Prices.{blocks_of};
+ghost use Rattle.shells.specs.Prices.{priced_count};
 ghost use Rattle.shells.specs.Series.{shell_at, IsSeries};
 ghost use Rattle.bench_report.specs.BlockShells.{block_shell_line, block_table_text};
 ghost use Rattle.bench_report.specs.Written.{IsReady, written_bytes};
@@ -59,7 +59,7 @@ fn put_block(
 /// Memory was refused.
 pub fn block_shells_text(alloc: Global, series: &Series) -> Result<Vec<u8>, AllocError>
     ensures text { IfOk result (λ v. v.items ≡ block_table_text
-        (shell_at series.now.shells) (blocks_of series.now.prices)) }
+        (shell_at series.now.shells) (priced_count series.now.prices)) }
     ensures series { OnOk result (IsSeries series.now) }
 {
     // proof: what every series is

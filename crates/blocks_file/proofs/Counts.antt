@@ -6,7 +6,7 @@ use Rattle.std.proofs.lemmas.List.Concat.{flat_map-append}
 use Rattle.fixed_worth.specs.declared.limits.TheConstants.{LINE_BYTES}
 use Rattle.fixed_worth.specs.Text.{Left, fields_of}
 use Rattle.fixed_worth.specs.Record.{Line, numbered_lines, is_skipped}
-use Rattle.blocks_file.specs.Records.{record_lines, long_fault}
+use Rattle.blocks_file.specs.Records.{record_line_numbers, long_fault}
 use Rattle.fixed_worth.proofs.NextLine.{line, Next, next_is, short}
 
 -- What has been counted, and what is left.
@@ -14,17 +14,17 @@ pub record Counted (all : List Line) (most count extra : ℕ) (left : Left) : Ty
   pub before : List Line
   pub whole : before ++ numbered_lines left.number left.lines ≡ all
   pub long : long_fault (numbered_lines left.number left.lines) ≡ long_fault all
-  pub counted : length (record_lines before) ≡ count
-  pub found : most < count → get_or (record_lines before) most 0 ≡ extra
+  pub counted : length (record_line_numbers before) ≡ count
+  pub found : most < count → get_or (record_line_numbers before) most 0 ≡ extra
   pub small : count ≤ left.number
 
 next_long : (k : ℕ) (text : List ℕ) (ls : List Line) → nat_lt LINE_BYTES (length text) ≡ false → long_fault (line k text ∷ ls) ≡ long_fault ls
 next_long k text ls s = rw s refl
 
-pub push_skipped : (before : List Line) (k : ℕ) (text : List ℕ) → is_skipped (fields_of text) ≡ true → record_lines (before ++ line k text ∷ []) ≡ record_lines before
-push_skipped before k text s = flat_map-append (λ l. cond (is_skipped (fields_of l.text)) [] (l.number ∷ [])) before (line k text ∷ []) ∙ rw s (append-nil (record_lines before))
+pub push_skipped : (before : List Line) (k : ℕ) (text : List ℕ) → is_skipped (fields_of text) ≡ true → record_line_numbers (before ++ line k text ∷ []) ≡ record_line_numbers before
+push_skipped before k text s = flat_map-append (λ l. cond (is_skipped (fields_of l.text)) [] (l.number ∷ [])) before (line k text ∷ []) ∙ rw s (append-nil (record_line_numbers before))
 
-pub push_record : (before : List Line) (k : ℕ) (text : List ℕ) → is_skipped (fields_of text) ≡ false → record_lines (before ++ line k text ∷ []) ≡ record_lines before ++ k ∷ []
+pub push_record : (before : List Line) (k : ℕ) (text : List ℕ) → is_skipped (fields_of text) ≡ false → record_line_numbers (before ++ line k text ∷ []) ≡ record_line_numbers before ++ k ∷ []
 push_record before k text s = flat_map-append (λ l. cond (is_skipped (fields_of l.text)) [] (l.number ∷ [])) before (line k text ∷ []) ∙ rw s refl
 
 pub moved : (all before : List Line) (left next : Left) (k : ℕ) (text : List ℕ) → before ++ numbered_lines left.number left.lines ≡ all → Next left next k text → (before ++ line k text ∷ []) ++ numbered_lines next.number next.lines ≡ all
@@ -52,8 +52,8 @@ is_extra all most count extra left next k text g h s e = record {
   before = g.before ++ line k text ∷ [];
   whole = moved all g.before left next k text g.whole h;
   long = still_long all left next k text g.long h;
-  counted = ap length (push_record g.before k text s) ∙ longer (record_lines g.before) k ∙ ap (λ (n : ℕ). n + 1) g.counted;
-  found = λ m. ap (λ (xs : List ℕ). get_or xs most 0) (push_record g.before k text s) ∙ get_or_push (record_lines g.before) k 0 most (g.counted ∙ e);
+  counted = ap length (push_record g.before k text s) ∙ longer (record_line_numbers g.before) k ∙ ap (λ (n : ℕ). n + 1) g.counted;
+  found = λ m. ap (λ (xs : List ℕ). get_or xs most 0) (push_record g.before k text s) ∙ get_or_push (record_line_numbers g.before) k 0 most (g.counted ∙ e);
   small = omega (arith, g.small, h.number);
 }
 
@@ -63,9 +63,9 @@ is_counted all most count extra left next k text g h s ne = record {
   before = g.before ++ line k text ∷ [];
   whole = moved all g.before left next k text g.whole h;
   long = still_long all left next k text g.long h;
-  counted = ap length (push_record g.before k text s) ∙ longer (record_lines g.before) k ∙ ap (λ (n : ℕ). n + 1) g.counted;
+  counted = ap length (push_record g.before k text s) ∙ longer (record_line_numbers g.before) k ∙ ap (λ (n : ℕ). n + 1) g.counted;
   found = λ m.
       let more : most < count = omega (arith, m, ne) in
-      ap (λ (xs : List ℕ). get_or xs most 0) (push_record g.before k text s) ∙ get_or_append_left (record_lines g.before) (k ∷ []) 0 most (omega (arith, more, g.counted)) ∙ g.found more;
+      ap (λ (xs : List ℕ). get_or xs most 0) (push_record g.before k text s) ∙ get_or_append_left (record_line_numbers g.before) (k ∷ []) 0 most (omega (arith, more, g.counted)) ∙ g.found more;
   small = omega (arith, g.small, h.number);
 }

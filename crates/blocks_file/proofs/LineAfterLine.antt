@@ -14,7 +14,7 @@ use Rattle.fixed_worth.specs.Record.{Line, numbered_lines, is_skipped}
 use Rattle.blocks_file.specs.declared.place.Place.{Place}
 use Rattle.blocks_file.specs.declared.blocks_fault.BlocksFault.{BlocksFault}
 use Rattle.blocks_file.specs.declared.blocks_fault.BlocksFault.TheVariants.{UnknownBlock, Repeated}
-use Rattle.blocks_file.specs.Records.{block_of, place_of_record, columns_of, value_in, shape_fault, block_fault, record_fault, is_record_of, has_record, record_among, first_fault, long_fault, record_lines}
+use Rattle.blocks_file.specs.Records.{block_of, place_of_record, columns_of, value_in, shape_fault, block_fault, record_fault, is_record_of, has_record, record_among, first_fault, long_fault, record_line_numbers}
 use Rattle.blocks_file.specs.Denotes.{origin}
 use Rattle.blocks_file.specs.RowReading.{HoldsValues, ArePut, AreKept}
 use Rattle.fixed_worth.proofs.NextLine.{line, Next, next_is}
@@ -31,7 +31,7 @@ pub record ReadSoFar (n : ℕ) (chosen : List ℕ) (all : List Line) (seen : Lis
   pub whole : before ++ numbered_lines left.number left.lines ≡ all
   pub long : long_fault (numbered_lines left.number left.lines) ≡ long_fault all
   pub marks : (b : ℕ) → b < n → get_or seen b false ≡ has_record before b
-  pub count : marked seen ≡ length (record_lines before)
+  pub count : marked seen ≡ length (record_line_numbers before)
   pub place : (b : ℕ) → b < n → get_or seen b false ≡ true → get_or places b origin ≡ place_of_record (record_among before b)
   pub value : (b i : ℕ) → b < n → get_or seen b false ≡ true → i < length chosen → get_or values (b * length chosen + i) (pos 0) ≡ value_in (columns_of (record_among before b)) (get_or chosen i 0)
   pub all_seen : length seen ≡ n
@@ -165,7 +165,7 @@ keeps n block chosen p row all seen more places others values new left next k te
       whole = moved all g.before left next k text g.whole h;
       long = still_long all left next k text g.long h;
       marks = λ b q. ap (λ (xs : List Bool). get_or xs b false) m ∙ mark_at seen g.before block b l i (g.marks b q) (r b) (eqb block b) refl;
-      count = ap marked m ∙ marked-set seen block i (g.marks block fresh.0 ∙ fresh.1) ∙ ap (λ (x : ℕ). x + 1) g.count ∙ sym (ap length (push_record g.before k text s) ∙ longer (record_lines g.before) k);
+      count = ap marked m ∙ marked-set seen block i (g.marks block fresh.0 ∙ fresh.1) ∙ ap (λ (x : ℕ). x + 1) g.count ∙ sym (ap length (push_record g.before k text s) ∙ longer (record_line_numbers g.before) k);
       place = λ b q t. ap (λ (xs : List Place). get_or xs b origin) o ∙ place_here places g.before block b p l j fresh.1 (r b) at (eqb block b) refl (λ e. g.place b q (old b t e));
       value = λ b c q t u. value_here chosen g.before block b c row values new l u fresh.1 (r b) holds put (eqb block b) refl (λ e. g.value b c q (old b t e) u);
       all_seen = ap length m ∙ length-set seen block true ∙ g.all_seen;
@@ -174,12 +174,12 @@ keeps n block chosen p row all seen more places others values new left next k te
     }
 
 -- All is read.
-pub read_all : (n : ℕ) (chosen : List ℕ) (all : List Line) (seen : List Bool) (places : List Place) (values : List ℤ) (left : Left) → ReadSoFar n chosen all seen places values left → left.lines ≡ [] → n ≡ length (record_lines all) → n ≤ MOST_BLOCKS → length chosen ≤ 8
+pub read_all : (n : ℕ) (chosen : List ℕ) (all : List Line) (seen : List Bool) (places : List Place) (values : List ℤ) (left : Left) → ReadSoFar n chosen all seen places values left → left.lines ≡ [] → n ≡ length (record_line_numbers all) → n ≤ MOST_BLOCKS → length chosen ≤ 8
     → (first_fault n chosen [] all ≡ None) × AreKept n chosen all places values
 read_all n chosen all seen places values left g e count bound few =
     let none : numbered_lines left.number left.lines ≡ [] = rw e refl in
     let same : g.before ≡ all = sym (append-nil g.before) ∙ ap (λ (xs : List Line). g.before ++ xs) (sym none) ∙ g.whole in
-    let full : marked seen ≡ length seen = g.count ∙ ap (λ (xs : List Line). length (record_lines xs)) same ∙ sym count ∙ sym g.all_seen in
+    let full : marked seen ≡ length seen = g.count ∙ ap (λ (xs : List Line). length (record_line_numbers xs)) same ∙ sym count ∙ sym g.all_seen in
     let had : (b : ℕ) → b < n → get_or seen b false ≡ true = λ b i. all_marked seen b full (omega (arith, g.all_seen)) in (
       sym g.fault ∙ ap (λ (ls : List Line). first_fault n chosen g.before ls) none,
       record {

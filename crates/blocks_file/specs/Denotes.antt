@@ -4,7 +4,7 @@ use Rattle.std.specs.List.{range_with_len}
 use Rattle.fixed_worth.specs.declared.limits.TheConstants.{MOST_BLOCKS}
 use Rattle.blocks_file.specs.declared.limits.TheConstants.{MOST_COLUMNS}
 use Rattle.blocks_file.specs.declared.place.Place.{Place}
-use Rattle.blocks_file.specs.Records.{place_of_record, columns_of, value_in, has_record, record_among, lines_in, count_of}
+use Rattle.blocks_file.specs.Records.{place_of_record, columns_of, value_in, has_record, record_among, lines_in, record_count_of}
 
 -- What the type shows: the number of blocks, the place of each, and each chosen column's values in millionths.
 pub record BlocksView : Type 0 where
@@ -34,7 +34,7 @@ pub record IsModel (n width : ℕ) (places : List Place) (values : List ℤ) : T
 
 -- There are as many blocks as records, each has one, and the record gives its place and its chosen values.
 pub record Denotes (chosen text : List ℕ) (m : BlocksView) : Type 0 where
-  pub count : m.blocks ≡ count_of text
+  pub count : m.blocks ≡ record_count_of text
   pub each : (b : ℕ) → b < m.blocks → has_record (lines_in text) b ≡ true
   pub all_places : length m.places ≡ m.blocks
   pub place : (b : ℕ) → b < m.blocks → slice_index_or m.places b origin ≡ place_of_record (record_among (lines_in text) b)

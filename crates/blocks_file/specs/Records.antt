@@ -97,8 +97,8 @@ long_fault [] = None
 long_fault (l ∷ lines) = cond (nat_lt LINE_BYTES (length l.text)) (Some (Text l.number)) (long_fault lines)
 
 -- The numbers of the lines that are records.
-abbrev pub record_lines : List Line → List ℕ
-record_lines lines = flat_map (λ l. cond (is_skipped (fields_of l.text)) [] (l.number ∷ [])) lines
+abbrev pub record_line_numbers : List Line → List ℕ
+record_line_numbers lines = flat_map (λ l. cond (is_skipped (fields_of l.text)) [] (l.number ∷ [])) lines
 
 -- The fault of the record after so many, if there is one.
 abbrev pub extra_fault : ℕ → List ℕ → Option BlocksFault
@@ -106,19 +106,19 @@ extra_fault most records = cond (nat_lt most (length records)) (Some (TooMany (s
 
 -- More than 2^24 records are too many.
 abbrev pub many_fault : List Line → Option BlocksFault
-many_fault lines = extra_fault MOST_BLOCKS (record_lines lines)
+many_fault lines = extra_fault MOST_BLOCKS (record_line_numbers lines)
 
 -- The faults that come before all that is wrong with single records.
 abbrev pub early_fault : List Line → Option BlocksFault
 early_fault lines = option_or (long_fault lines) (many_fault lines)
 
 -- The number of blocks of a text: that of its records.
-abbrev pub count_of : List ℕ → ℕ
-count_of text = length (record_lines (lines_in text))
+abbrev pub record_count_of : List ℕ → ℕ
+record_count_of text = length (record_line_numbers (lines_in text))
 
 -- The fault of a text, where these columns are chosen.
 abbrev pub fault_of : List ℕ → List ℕ → Option BlocksFault
-fault_of chosen text = option_or (early_fault (lines_in text)) (first_fault (count_of text) chosen [] (lines_in text))
+fault_of chosen text = option_or (early_fault (lines_in text)) (first_fault (record_count_of text) chosen [] (lines_in text))
 
 -- The fault is want of memory, or the claim holds.
 abbrev pub UnlessMemory : BlocksFault → Type 0 → Type 0

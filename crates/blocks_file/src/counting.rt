@@ -22,7 +22,7 @@ fn is_record(line: &[u8]) -> bool
 pub(crate) fn count_records(text: &[u8]) -> Result<u32, BlocksFault>
     ensures { let all = spec.lines_in text.now in MatchResult result
         (λ n. (spec.long_fault all ≡ None) × (spec.many_fault all ≡ None)
-        × (n ≡ length (spec.record_lines all)) × (n ≤ MOST_BLOCKS))
+        × (n ≡ length (spec.record_line_numbers all)) × (n ≤ MOST_BLOCKS))
         (λ e. spec.early_fault all ≡ Some e) }
 {
     let mut lines = Lines::new(text);

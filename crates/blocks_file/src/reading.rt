@@ -16,7 +16,7 @@ use std::alloc::Global;
 fn read_records(alloc: Global, text: &[u8], columns: &[u32], n: u32) -> Result<Kept, BlocksFault>
     requires few { length columns.now ≤ MOST_COLUMNS }
     requires short { spec.long_fault (spec.lines_in text.now) ≡ None }
-    requires counted { n ≡ length (spec.record_lines (spec.lines_in text.now)) }
+    requires counted { n ≡ length (spec.record_line_numbers (spec.lines_in text.now)) }
     requires bound { n ≤ MOST_BLOCKS }
     ensures { let all = spec.lines_in text.now in MatchResult result
         (λ kept. (spec.first_fault n columns.now [] all ≡ None)

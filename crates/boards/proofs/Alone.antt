@@ -12,7 +12,7 @@ use Rattle.machine_law.specs.declared.operations.Operation.TheVariants.{Idle, Sc
 use Rattle.machine_law.specs.States.{State, with_value_at, IsQuiet}
 use Rattle.machine_law.specs.Steps.{push_amount, after_push_by, after_give_by, advance_by}
 use Rattle.machine_law.proofs.Law.{runs_keep_law}
-use Rattle.machine_law.proofs.Points.{put-other}
+use Rattle.machine_law.proofs.Points.{with_value_at-other}
 use Rattle.boards.specs.Boards.{BoardView, shown_state, blocks_of_board, IsBoard}
 use Rattle.boards.specs.Turns.{HasNoOwn, IsPicked, IsUnserved, IsBlockDue, HasServed}
 use Rattle.boards.specs.Ends.{IsAlone, AreIdleBelow}
@@ -25,7 +25,7 @@ record Changes (s t : State) (b : ℕ) : Type 0 where
 
 changes : (s t : State) (b : ℕ) (o : Operation Amount) → t.operation ≡ with_value_at s.operation b o → t.steps ≡ s.steps + 1 → Changes s t b
 changes s t b o e k = record {
-  others = λ c ne. ap (λ (f : ℕ → Operation Amount). f c) e ∙ put-other s.operation b o c ne;
+  others = λ c ne. ap (λ (f : ℕ → Operation Amount). f c) e ∙ with_value_at-other s.operation b o c ne;
   counted = k;
 }
 

@@ -4,7 +4,7 @@ use Rattle.machine_law.specs.Steps.{next_event}
 use Rattle.boards.specs.Runs.{AreTurnsTo}
 use Rattle.boards.specs.Boards.{BoardView, shown_state, IsBoard}
 use Rattle.boards.specs.Turns.{IsBlockDue, HasServed, IsStepOf, IsTurnEnd, IsTurn}
-use Rattle.boards.specs.Records.{RecordView, IsRecordBoard, written_by, events_after, written_after, Writes, RecordGoesOn}
+use Rattle.boards.specs.Records.{RecordView, RecordsTurns, written_by, events_after, written_after, Writes, RecordGoesOn}
 use Rattle.boards.specs.declared.turn.Turn.{Turn}
 use Rattle.boards.specs.declared.turn.Turn.TheVariants.{Stepped, Idle as Unserved, Ended}
 use Rattle.boards.specs.declared.turn.End.{End}
@@ -83,7 +83,7 @@ written_is old b new Unserved h = refl
 written_is old b new (Ended end) h = refl
 
 -- where a block is due there is room for its event
-pub room_due : (r : RecordView) (own : Option ℕ) (from steps b capacity : ℕ) → IsRecordBoard r capacity → IsBlockDue r.board own from steps b → (r.records ≡ true → steps ≤ r.room) → r.records ≡ true → length r.events < capacity
+pub room_due : (r : RecordView) (own : Option ℕ) (from steps b capacity : ℕ) → RecordsTurns r capacity → IsBlockDue r.board own from steps b → (r.records ≡ true → steps ≤ r.room) → r.records ≡ true → length r.events < capacity
 room_due r own from steps b capacity is due room e = grind (arith, common_steps, turns_counted)
 
 -- ---- the events that are written down are the turns
@@ -94,7 +94,7 @@ written_turns old new own from steps (Stepped block more) is h e run =
 written_turns old new own from steps Unserved is h e run = same_turns old.board new old.events (ap (λ (b : BoardView). b.net) h.2) (ap (λ (b : BoardView). b.state) h.2) run
 written_turns old new own from steps (Ended end) is h e run = let same = end_same old.board new own from steps end h in same_turns old.board new old.events same.0 same.1 run
 
-pub recorded : (old new : RecordView) (own : Option ℕ) (from steps : ℕ) (turn : Turn) (capacity : ℕ) → IsRecordBoard old capacity → IsBoard new.board → IsTurn old.board own from steps new.board turn → Writes old turn new → IsRecordBoard new capacity
+pub recorded : (old new : RecordView) (own : Option ℕ) (from steps : ℕ) (turn : Turn) (capacity : ℕ) → RecordsTurns old capacity → IsBoard new.board → IsTurn old.board own from steps new.board turn → Writes old turn new → RecordsTurns new capacity
 recorded old new own from steps turn capacity was is h writes =
     let records : new.records ≡ old.records = ap (λ (r : RecordView). r.records) writes in
     let room : new.room ≡ old.room = ap (λ (r : RecordView). r.room) writes in

@@ -91,7 +91,7 @@ IsToldAs made limit Limit told = ((limit ≤ made) × (told ≡ Limit)) ⊎ ((ma
 IsToldAs made limit Full told = told ≡ Full
 
 -- there is no room for another step, below the limit, and the board isn't quiet
-pub record IsAuditFilled (audit : AuditView) (limit : ℕ) : Type 0 where
+pub record IsHistoryFull (audit : AuditView) (limit : ℕ) : Type 0 where
   pub full : length audit.history ≡ audit.room
   pub below : audit.room < limit
   pub unquiet : ¬ (IsQuiet audit.board.net (shown_state audit.board))
@@ -101,7 +101,7 @@ abbrev pub HasAuditEnded : AuditView → ℕ → End → Type 0
 HasAuditEnded audit limit Quiet = IsQuiet audit.board.net (shown_state audit.board)
 HasAuditEnded audit limit Stuck = SomeNextOverflows audit.board.net (shown_state audit.board)
 HasAuditEnded audit limit Limit = IsCutOffAt audit.board limit
-HasAuditEnded audit limit Full = IsAuditFilled audit limit
+HasAuditEnded audit limit Full = IsHistoryFull audit limit
 
 -- the run goes on over the same net, with the same room, and its further turns, and no others, are added to the history
 pub record AuditGoesOn (old new : AuditView) (limit : ℕ) : Type 0 where

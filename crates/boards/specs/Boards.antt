@@ -8,7 +8,7 @@ use Rattle.async_step.specs.declared.refusals.StepRefusal.{StepRefusal}
 use Rattle.machine_law.specs.States.{State, opening, IsQuiet}
 use Rattle.machine_law.specs.Quiet.{IsFlowOf, IsSolved}
 use Rattle.async_step.specs.Views.{StateView, state_of}
-use Rattle.async_step.specs.Answers.{IsStateOf, Stepped, RefusalStands}
+use Rattle.async_step.specs.Answers.{IsStateOf, IsStepTaken, RefusalStands}
 use Rattle.boards.specs.Runs.{SomeNextOverflows, SomeRunOverflows, IsMadeByTurns}
 
 -- a net, the lists of a state, and whether the run can't go on since a number wouldn't fit
@@ -48,7 +48,7 @@ pub record IsOpened (net : NetView) (board : BoardView) : Type 0 where
 
 -- one step was made on it, and this is what the step saw, moved or raised
 pub record HasStepped (old : BoardView) (event : Event) (new : BoardView) (saw : Saw Amount) : Type 0 where
-  pub step : Stepped old.net old.state event new.state saw
+  pub step : IsStepTaken old.net old.state event new.state saw
   pub rest : new ≡ record old { state = new.state }
 
 -- a step was refused, and it is as before

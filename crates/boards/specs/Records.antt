@@ -20,7 +20,7 @@ abbrev pub record_view : BoardView → List Event → Bool → ℕ → RecordVie
 record_view board events records room = record { board = board; events = events; records = records; room = room }
 
 -- turns alone made its steps, and where they are written down these are they; there is memory for as many as there is room for
-pub record IsRecordBoard (r : RecordView) (capacity : ℕ) : Type 0 where
+pub record RecordsTurns (r : RecordView) (capacity : ℕ) : Type 0 where
   pub turns : IsTurnBoard r.board
   pub made : r.records ≡ true → AreTurnsTo r.board.net r.events (shown_state r.board)
   pub reserved : r.room ≤ capacity

@@ -29,13 +29,13 @@ pub(crate) struct Recorded<G: OrderedGroup> {
 
 impl<G: OrderedGroup> Model for Recorded<G> {
     ghost use Rattle.std.specs.Prelude.{vec_capacity};
-    ghost use Rattle.boards.specs.Records.{RecordView, record_view, IsRecordBoard};
+    ghost use Rattle.boards.specs.Records.{RecordView, record_view, RecordsTurns};
 
     ghost Value = { RecordView };
 
     ghost view = { λ r. record_view r.board r.events.items r.records r.room };
 
-    ghost invariant = { λ r. IsRecordBoard
+    ghost invariant = { λ r. RecordsTurns
         (record_view r.board r.events.items r.records r.room) (vec_capacity r.events) };
 }
 

@@ -9,7 +9,7 @@ use Rattle.certificate_file.specs.declared.cert_fault.LineFault.TheVariants.{Tex
 use Rattle.certificate_file.specs.declared.body_lines.LineKind.{LineKind}
 use Rattle.certificate_file.specs.declared.body_lines.LineKind.TheVariants.{Pit, Source, Rest, Sink, End}
 use Rattle.certificate_file.specs.declared.body_lines.BodyLine.{BodyLine}
-use Rattle.certificate_file.specs.Pieces.{Piece, Unread, Passed, read_line, in_line, no_line, unless_fault, number_below, words_of}
+use Rattle.certificate_file.specs.Pieces.{Piece, Unread, IsPieceRead, read_line, in_line, piece_fault, unless_fault, number_below, words_of}
 use Rattle.certificate_file.specs.BodyLines.{kind_of, amount_in, is_amount, numbered_line, pit_line, block_line, rest_line, end_line, line_with, line_of_words, line_of, is_end, is_of_model, may_follow, line_behind, next_line, end_fault, fault_from, body_fault, lines_of_pieces}
 use Rattle.certificate_file.specs.Certificate.{Covers, UnlessMemory, has_pair, pit_of, block_if_pit, given_amount, gives_source, gives_rest, gives_sink, is_rest, amount_of}
 use Rattle.certificate_file.specs.Gathered.{Gathered, Adds}
@@ -26,7 +26,7 @@ unless_ok (Some e) r x h = cc
 unless_ok None r x h = h
 
 pub text_read : {A : Type 0} (f : List ℕ → Result A LineFault) (k : ℕ) (p : Piece) (x : A) → read_line f k p ≡ Ok x → f p.text ≡ Ok x
-text_read f k p x h = in_line_ok k (f p.text) x (unless_ok (no_line k p) (in_line k (f p.text)) x h)
+text_read f k p x h = in_line_ok k (f p.text) x (unless_ok (piece_fault k p) (in_line k (f p.text)) x h)
 
 -- A line of the body, by what it is made of.
 pub record Numbered (kind : LineKind) (b o : Option ℕ) (a : Option (ℤ × ℤ)) (line : BodyLine) : Type 0 where
@@ -139,7 +139,7 @@ pit_joins Rest b bs = refl
 pit_joins Sink b bs = refl
 pit_joins End b bs = refl
 
-pub goes_on : (counts : Bool) (n : ℕ) (pairs : List (ℕ × ℕ)) (all : Unread) (start : Gathered) (previous : Option BodyLine) (left next : Unread) (so later : Gathered) (line : BodyLine) → Going counts n pairs all start previous left so → Passed (line_of counts n) left next line
+pub goes_on : (counts : Bool) (n : ℕ) (pairs : List (ℕ × ℕ)) (all : Unread) (start : Gathered) (previous : Option BodyLine) (left next : Unread) (so later : Gathered) (line : BodyLine) → Going counts n pairs all start previous left so → IsPieceRead (line_of counts n) left next line
     → may_follow previous line ≡ true → is_end line.kind ≡ false → is_of_model (has_pair pairs) line.kind line ≡ true → Covers n (length pairs) later.flow → Adds n pairs (line ∷ []) so later → Going counts n pairs all start (Some line) next later
 goes_on counts n pairs all start previous left next so later line g p f e m c a =
     let has : ℕ → ℕ → Bool = has_pair pairs in

@@ -5,7 +5,7 @@ use Rattle.certificate_file.specs.declared.header.Wanted.{Wanted}
 use Rattle.certificate_file.specs.declared.header.Price.{Price}
 use Rattle.certificate_file.specs.declared.header.Version.{Version}
 use Rattle.certificate_file.specs.declared.cert_fault.CertFault.{CertFault}
-use Rattle.certificate_file.specs.Pieces.{Piece, Unread, Passed, piece_at, read_line}
+use Rattle.certificate_file.specs.Pieces.{Piece, Unread, IsPieceRead, piece_at, read_line}
 use Rattle.certificate_file.specs.Written.{header_with}
 use Rattle.certificate_file.specs.Header.{◌>>=◌, header_for, version_in, blocks_in, price_in, group_in}
 use Rattle.std.proofs.lemmas.Grind.{common_steps}
@@ -26,11 +26,11 @@ pub record ThreePassed (wanted : Option Wanted) (before later : Unread) (v : Ver
   pub third : Piece
   pub pieces : before.pieces ≡ first ∷ second ∷ third ∷ later.pieces
 
-pub three_passed : (wanted : Option Wanted) (s a b c : Unread) (v : Version) (n : ℕ) (price : Price) → s.number ≡ 0 → Passed version_in s a v → Passed (blocks_in wanted) a b n → Passed (price_in v) b c price → ThreePassed wanted s c v n price
+pub three_passed : (wanted : Option Wanted) (s a b c : Unread) (v : Version) (n : ℕ) (price : Price) → s.number ≡ 0 → IsPieceRead version_in s a v → IsPieceRead (blocks_in wanted) a b n → IsPieceRead (price_in v) b c price → ThreePassed wanted s c v n price
 three_passed wanted s a b c v n price zero p q r = grind (arith, common_steps)
 
 -- The fourth line is passed too.
-pub header_made : (wanted : Option Wanted) (s c d : Unread) (v : Version) (n : ℕ) (price : Price) (group : Group) → ThreePassed wanted s c v n price → Passed (group_in wanted) c d group
+pub header_made : (wanted : Option Wanted) (s c d : Unread) (v : Version) (n : ℕ) (price : Price) (group : Group) → ThreePassed wanted s c v n price → IsPieceRead (group_in wanted) c d group
     → (header_for wanted s.pieces ≡ Ok (header_with n price group)) × (d.pieces ≡ drop 4 s.pieces) × (d.number ≡ 4)
 header_made wanted s c d v n price group t q = grind (arith, common_steps)
 

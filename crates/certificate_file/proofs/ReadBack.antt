@@ -20,7 +20,7 @@ use Rattle.certificate_file.specs.declared.cert_fault.LineFault.{LineFault}
 use Rattle.certificate_file.specs.declared.body_lines.LineKind.{LineKind}
 use Rattle.certificate_file.specs.declared.body_lines.LineKind.TheVariants.{Pit, Source, Rest, Sink, End}
 use Rattle.certificate_file.specs.declared.body_lines.BodyLine.{BodyLine}
-use Rattle.certificate_file.specs.Pieces.{Piece, pieces_of, words_of, read_line, no_line, number_below}
+use Rattle.certificate_file.specs.Pieces.{Piece, pieces_of, words_of, read_line, piece_fault, number_below}
 use Rattle.certificate_file.specs.Header.{header_for, version_in, value_behind, value_behind_both, or_number, wanted_blocks, blocks_said, blocks_in, factor_of, price_said, mill_of, mill_said, price_in, group_in}
 use Rattle.certificate_file.specs.BodyLines.{is_end, rank, is_of_model, may_follow, next_line, body_fault, lines_of_pieces}
 use Rattle.certificate_file.specs.Certificate.{wanted_for}
@@ -39,7 +39,7 @@ abbrev pub line_piece : List ℕ → Piece
 line_piece text = record { text = text; ended = true }
 
 -- A line that is short enough is read.
-short_line : (k : ℕ) (text : List ℕ) → length text ≤ LINE_BYTES → no_line k (line_piece text) ≡ None
+short_line : (k : ℕ) (text : List ℕ) → length text ≤ LINE_BYTES → piece_fault k (line_piece text) ≡ None
 short_line k text h = let t : ltb LINE_BYTES (length text) ≡ false = grind (arith, nat_tests) in rw t refl
 
 pub line_read : {A : Type 0} (f : List ℕ → Result A LineFault) (k : ℕ) (text : List ℕ) (x : A) → length text ≤ LINE_BYTES → f text ≡ Ok x → read_line f k (line_piece text) ≡ Ok x

@@ -15,7 +15,7 @@ use Rattle.certificate_file.specs.declared.cert_fault.LineFault.TheVariants.{Tex
 use Rattle.certificate_file.specs.declared.body_lines.LineKind.{LineKind}
 use Rattle.certificate_file.specs.declared.body_lines.LineKind.TheVariants.{Pit, Source, Rest, Sink, End}
 use Rattle.certificate_file.specs.declared.body_lines.BodyLine.{BodyLine}
-use Rattle.certificate_file.specs.Pieces.{Piece, within, number_below, words_of, read_line, no_line, in_line, unless_fault}
+use Rattle.certificate_file.specs.Pieces.{Piece, within, number_below, words_of, read_line, piece_fault, in_line, unless_fault}
 use Rattle.certificate_file.specs.BodyLines.{kind_of, is_amount, amount_said, amount_in, pit_line, block_line, rest_line, end_line, line_with, line_of_words, line_of, is_end, next_line, end_fault, fault_from, body_fault, lines_from, lines_of_pieces}
 use Rattle.certificate_file.specs.Written.{spaced_words, words_with, line_words, body_text, end_text}
 use Rattle.certificate_file.proofs.Texts.{pieces_text, words_make_line}
@@ -125,7 +125,7 @@ no_fault_of (Some e) r x h = absurd cc
 no_fault_of None r x h = refl
 
 pub read_ends : {A : Type 0} (f : List ℕ → Result A LineFault) (k : ℕ) (p : Piece) (x : A) → read_line f k p ≡ Ok x → p.ended ≡ true
-read_ends f k p x h = ends_so k p (ltb LINE_BYTES (length p.text)) p.ended (no_fault_of (no_line k p) (in_line k (f p.text)) x h)
+read_ends f k p x h = ends_so k p (ltb LINE_BYTES (length p.text)) p.ended (no_fault_of (piece_fault k p) (in_line k (f p.text)) x h)
 
 pub piece_text : (p : Piece) (ps : List Piece) (line : List ℕ) → p.ended ≡ true → p.text ≡ line → pieces_text (p ∷ ps) ≡ line ++ (10 ∷ pieces_text ps)
 piece_text p ps line e f = rw (e, f) refl

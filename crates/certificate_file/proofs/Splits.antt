@@ -8,7 +8,7 @@ use Rattle.std.proofs.lemmas.List.Quantifiers.{position-Some}
 use Rattle.std.proofs.lemmas.List.{length-take-le}
 use Rattle.std.proofs.lemmas.Bool.Decides.{nat_tests}
 use Rattle.certificate_file.specs.declared.cert_fault.CertFault.TheVariants as fault
-use Rattle.certificate_file.specs.Pieces.{Piece, Unread, onto_piece, pieces_of, piece_at, words_of, no_line}
+use Rattle.certificate_file.specs.Pieces.{Piece, Unread, onto_piece, pieces_of, piece_at, words_of, piece_fault}
 use Rattle.std.proofs.lemmas.Grind.{common_steps}
 
 -- The first line ends at the first line feed.
@@ -57,20 +57,20 @@ none_left [] = refl
 none_left (b ∷ bs) = more_than_none (length bs) ∙ sym (some_at b bs (eqb b 10) refl)
 
 -- The steps of the readers.
-too_long : (k : ℕ) (p : Piece) (bs : List ℕ) → p.text ≡ bs → LINE_BYTES < length bs → no_line k p ≡ Some (fault.Text k)
+too_long : (k : ℕ) (p : Piece) (bs : List ℕ) → p.text ≡ bs → LINE_BYTES < length bs → piece_fault k p ≡ Some (fault.Text k)
 too_long k p bs e h = grind (arith, common_steps)
 
-pub long_first : (bs : List ℕ) (j k : ℕ) (v : Unread) → record { pieces = pieces_of bs; number = k } ≡ v → position (λ x. eqb x 10) bs ≡ Some j → LINE_BYTES < j → no_line (v.number + 1) (piece_at v.pieces 0) ≡ Some (fault.Text (k + 1))
+pub long_first : (bs : List ℕ) (j k : ℕ) (v : Unread) → record { pieces = pieces_of bs; number = k } ≡ v → position (λ x. eqb x 10) bs ≡ Some j → LINE_BYTES < j → piece_fault (v.number + 1) (piece_at v.pieces 0) ≡ Some (fault.Text (k + 1))
 long_first bs j k v is e h =
     let q = position-Some (λ x. eqb x 10) bs j 0 e in
     let all : length (take j bs) ≡ j = length-take-le j bs (omega (arith, q.0)) in
-    subst (λ (w : Unread). no_line (w.number + 1) (piece_at w.pieces 0) ≡ Some (fault.Text (k + 1))) is
+    subst (λ (w : Unread). piece_fault (w.number + 1) (piece_at w.pieces 0) ≡ Some (fault.Text (k + 1))) is
     (too_long (k + 1) (piece_at (pieces_of bs) 0) (take j bs) (ap (λ (ps : List Piece). (piece_at ps 0).text) (first_piece bs j e)) (omega arith))
 
-pub long_last : (bs : List ℕ) (k : ℕ) (v : Unread) → record { pieces = pieces_of bs; number = k } ≡ v → position (λ x. eqb x 10) bs ≡ None → LINE_BYTES < length bs → no_line (v.number + 1) (piece_at v.pieces 0) ≡ Some (fault.Text (k + 1))
+pub long_last : (bs : List ℕ) (k : ℕ) (v : Unread) → record { pieces = pieces_of bs; number = k } ≡ v → position (λ x. eqb x 10) bs ≡ None → LINE_BYTES < length bs → piece_fault (v.number + 1) (piece_at v.pieces 0) ≡ Some (fault.Text (k + 1))
 long_last bs k v is e h = grind (arith, common_steps, too_long, last_piece)
 
-pub cut_off : (bs : List ℕ) (k : ℕ) (v : Unread) → record { pieces = pieces_of bs; number = k } ≡ v → position (λ x. eqb x 10) bs ≡ None → length bs ≤ LINE_BYTES → no_line (v.number + 1) (piece_at v.pieces 0) ≡ Some fault.Truncated
+pub cut_off : (bs : List ℕ) (k : ℕ) (v : Unread) → record { pieces = pieces_of bs; number = k } ≡ v → position (λ x. eqb x 10) bs ≡ None → length bs ≤ LINE_BYTES → piece_fault (v.number + 1) (piece_at v.pieces 0) ≡ Some fault.Truncated
 cut_off bs k v is e h = grind (arith, common_steps, ltb, last_piece)
 
 pub line_given : (bs line back rest : List ℕ) (j k : ℕ) (v : Unread) → record { pieces = pieces_of bs; number = k } ≡ v → position (λ x. eqb x 10) bs ≡ Some j → line ≡ take j bs → back ≡ drop j bs → rest ≡ drop 1 back → v.pieces ≡ record { text = line; ended = true } ∷ pieces_of rest

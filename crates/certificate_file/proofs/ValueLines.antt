@@ -105,9 +105,9 @@ value_in_order P n pairs pit flow a r c e =
     pits P pit None (flow_lines pairs flow) a (first_of_all pit) e.pit tt first
 
 -- What lines give, part by part.
-given_append : (gives : BodyLine → Bool) (x : Amount) (ls ms : List BodyLine) → given_amount gives x (ls ++ ms) ≡ given_amount gives (given_amount gives x ls) ms
-given_append gives x [] ms = refl
-given_append gives x (l ∷ ls) ms = given_append gives (cond (gives l) (amount_of l) x) ls ms
+given_amount-append : (gives : BodyLine → Bool) (x : Amount) (ls ms : List BodyLine) → given_amount gives x (ls ++ ms) ≡ given_amount gives (given_amount gives x ls) ms
+given_amount-append gives x [] ms = refl
+given_amount-append gives x (l ∷ ls) ms = given_amount-append gives (cond (gives l) (amount_of l) x) ls ms
 
 pits_give_nothing : (gives : BodyLine → Bool) (x : Amount) (bs : List ℕ) → ((b : ℕ) → gives (pit_at b) ≡ false) → given_amount gives x (map pit_at bs) ≡ x
 pits_give_nothing gives x [] f = refl
@@ -171,7 +171,7 @@ pit_is : (pairs : List (ℕ × ℕ)) (pit : List ℕ) (flow : FlowView) → pit 
 pit_is pairs pit flow = grind (arith, common_steps, pit_append, no_pit, append-nil, pit_of_pits)
 
 four_parts : (gives : BodyLine → Bool) (hs ls ms ns : List BodyLine) → given_amount gives zero_amount (hs ++ (ls ++ (ms ++ ns))) ≡ given_amount gives (given_amount gives (given_amount gives (given_amount gives zero_amount hs) ls) ms) ns
-four_parts gives hs ls ms ns = given_append gives zero_amount hs (ls ++ (ms ++ ns)) ∙ given_append gives (given_amount gives zero_amount hs) ls (ms ++ ns) ∙ given_append gives (given_amount gives (given_amount gives zero_amount hs) ls) ms ns
+four_parts gives hs ls ms ns = given_amount-append gives zero_amount hs (ls ++ (ms ++ ns)) ∙ given_amount-append gives (given_amount gives zero_amount hs) ls (ms ++ ns) ∙ given_amount-append gives (given_amount gives (given_amount gives zero_amount hs) ls) ms ns
 
 owns_source : (n b : ℕ) → Owns (gives_source b) (line_of_block Source) n b
 owns_source n b = record { mine = λ x. eq-eqb b b refl; others = λ j x h l. ne_eqb j b h; same = λ j x. refl }

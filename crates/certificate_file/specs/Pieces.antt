@@ -38,8 +38,8 @@ abbrev pub piece_at : List Piece → ℕ → Piece
 piece_at ps k = slice_index_or ps k (record { text = []; ended = false })
 
 -- why a piece is no line: it is too long, or no line feed ends it
-abbrev pub no_line : ℕ → Piece → Option CertFault
-no_line k p = cond (nat_lt LINE_BYTES (length p.text)) (Some (fault.Text k)) (cond p.ended None (Some fault.Truncated))
+abbrev pub piece_fault : ℕ → Piece → Option CertFault
+piece_fault k p = cond (nat_lt LINE_BYTES (length p.text)) (Some (fault.Text k)) (cond p.ended None (Some fault.Truncated))
 
 -- what a line gives, or its fault with its number
 abbrev pub in_line : {A : Type 0} → ℕ → Result A LineFault → Result A CertFault
@@ -54,7 +54,7 @@ unless_fault None r = r
 
 -- what f makes of the line that a piece is
 abbrev pub read_line : {A : Type 0} → (List ℕ → Result A LineFault) → ℕ → Piece → Result A CertFault
-read_line f k p = unless_fault (no_line k p) (in_line k (f p.text))
+read_line f k p = unless_fault (piece_fault k p) (in_line k (f p.text))
 
 -- a number that is at least 0 and below the limit
 abbrev pub within : ℕ → Result ℤ NumberFault → Option ℕ
@@ -67,7 +67,7 @@ abbrev pub number_below : ℕ → List ℕ → Option ℕ
 number_below limit word = within limit (plain_of word)
 
 -- The first piece is a line of which f makes x, and the others are left.
-pub record Passed {A : Type 0} (f : List ℕ → Result A LineFault) (before later : Unread) (x : A) : Type 0 where
+pub record IsPieceRead {A : Type 0} (f : List ℕ → Result A LineFault) (before later : Unread) (x : A) : Type 0 where
   pub piece : Piece
   pub pieces : before.pieces ≡ piece ∷ later.pieces
   pub number : later.number ≡ before.number + 1

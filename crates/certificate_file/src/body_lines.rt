@@ -2,7 +2,7 @@
 //! lines may follow one another.
 
 ghost use Rattle.std.specs.Prelude.{◌≡◌, ◌+◌, true, Err, MatchResult};
-ghost use Rattle.certificate_file.specs.Pieces.{Passed, piece_at};
+ghost use Rattle.certificate_file.specs.Pieces.{IsPieceRead, piece_at};
 ghost use Rattle.certificate_file.specs.BodyLines as spec;
 
 use crate::cert_fault::{CertFault, LineFault};
@@ -200,7 +200,7 @@ pub fn read_in_order(
     previous: Option<BodyLine>,
 ) -> Result<BodyLine, CertFault>
     ensures { MatchResult result
-        (λ line. Passed (spec.line_of counts n) pieces.old pieces.new line
+        (λ line. IsPieceRead (spec.line_of counts n) pieces.old pieces.new line
         × (spec.may_follow previous line ≡ true))
         (λ e. spec.line_behind counts n previous
         (pieces.old.number + 1) (piece_at pieces.old.pieces 0) ≡ Err e) }

@@ -3,7 +3,7 @@
 
 ghost use Rattle.std.specs.Prelude.{◌≡◌, ◌+◌, drop, MatchOption, MatchResult, Some, None, Ok, Err};
 ghost use Rattle.certificate_file.specs.Pieces as pieces;
-ghost use Rattle.certificate_file.specs.Pieces.{Passed, words_of, piece_at, read_line};
+ghost use Rattle.certificate_file.specs.Pieces.{IsPieceRead, words_of, piece_at, read_line};
 ghost use Rattle.certificate_file.specs.Header as spec;
 
 use crate::cert_fault::{CertFault, LineFault};
@@ -186,7 +186,7 @@ pub fn in_line<T>(number: u64, read: Result<T, LineFault>) -> Result<T, CertFaul
 
 fn read_version(pieces: &mut Pieces) -> Result<Version, CertFault>
     ensures { MatchResult result
-        (λ x. Passed spec.version_in pieces.old pieces.new x)
+        (λ x. IsPieceRead spec.version_in pieces.old pieces.new x)
         (λ e. read_line spec.version_in
         (pieces.old.number + 1) (piece_at pieces.old.pieces 0) ≡ Err e) }
 {
@@ -196,7 +196,7 @@ fn read_version(pieces: &mut Pieces) -> Result<Version, CertFault>
 
 fn read_blocks(pieces: &mut Pieces, wanted: Option<Wanted>) -> Result<u32, CertFault>
     ensures { MatchResult result
-        (λ x. Passed (spec.blocks_in wanted) pieces.old pieces.new x)
+        (λ x. IsPieceRead (spec.blocks_in wanted) pieces.old pieces.new x)
         (λ e. read_line (spec.blocks_in wanted) (pieces.old.number + 1)
         (piece_at pieces.old.pieces 0) ≡ Err e) }
 {
@@ -206,7 +206,7 @@ fn read_blocks(pieces: &mut Pieces, wanted: Option<Wanted>) -> Result<u32, CertF
 
 fn read_price(pieces: &mut Pieces, version: Version) -> Result<Price, CertFault>
     ensures { MatchResult result
-        (λ x. Passed (spec.price_in version) pieces.old pieces.new x)
+        (λ x. IsPieceRead (spec.price_in version) pieces.old pieces.new x)
         (λ e. read_line (spec.price_in version) (pieces.old.number + 1)
         (piece_at pieces.old.pieces 0) ≡ Err e) }
 {
@@ -216,7 +216,7 @@ fn read_price(pieces: &mut Pieces, version: Version) -> Result<Price, CertFault>
 
 fn read_group(pieces: &mut Pieces, wanted: Option<Wanted>) -> Result<Group, CertFault>
     ensures { MatchResult result
-        (λ x. Passed (spec.group_in wanted) pieces.old pieces.new x)
+        (λ x. IsPieceRead (spec.group_in wanted) pieces.old pieces.new x)
         (λ e. read_line (spec.group_in wanted) (pieces.old.number + 1)
         (piece_at pieces.old.pieces 0) ≡ Err e) }
 {

@@ -3,7 +3,7 @@
 
 ghost use Rattle.std.specs.Prelude.{◌≡◌, ℕ, ◌+◌, ◌<◌, ◌≤◌, ◌^◌, ◌==◌, true, cond, List, [], ◌∷◌, length, MatchResult, Some};
 ghost use Rattle.std.specs.Iterator.{item_count, YieldsFirstBy};
-ghost use Rattle.certificate_file.specs.Pieces.{Unread, pieces_of, piece_at, no_line, words_of};
+ghost use Rattle.certificate_file.specs.Pieces.{Unread, pieces_of, piece_at, piece_fault, words_of};
 
 use crate::cert_fault::CertFault;
 use fixed_worth::{LINE_BYTES, behind_first, cut_at, first_line_feed};
@@ -57,7 +57,7 @@ impl<'a> Pieces<'a> {
             (λ line. (length line.now ≤ LINE_BYTES)
             × (self.old.pieces ≡ record { text = line.now; ended = true } ∷ self.new.pieces)
             × (self.new.number ≡ self.old.number + 1))
-            (λ e. no_line (self.old.number + 1) (piece_at self.old.pieces 0) ≡ Some e) }
+            (λ e. piece_fault (self.old.number + 1) (piece_at self.old.pieces 0) ≡ Some e) }
     {
         match first_line_feed(self.rest) {
             Some(end) => {

@@ -3,7 +3,7 @@ use Rattle.std.proofs.Common.{◌≡◌, ℕ, ◌+◌, ◌<◌, Bool, true, fals
 use Rattle.certificate_file.specs.declared.cert_fault.CertFault.{CertFault}
 use Rattle.certificate_file.specs.declared.cert_fault.CertFault.TheVariants as fault
 use Rattle.certificate_file.specs.declared.body_lines.BodyLine.{BodyLine}
-use Rattle.certificate_file.specs.Pieces.{Piece, onto_piece, pieces_of, piece_at, no_line}
+use Rattle.certificate_file.specs.Pieces.{Piece, onto_piece, pieces_of, piece_at, piece_fault}
 use Rattle.certificate_file.specs.BodyLines.{line_of, is_end, may_follow, next_line, end_fault, fault_from, body_fault, lines_of_pieces}
 use Rattle.certificate_file.specs.Certificate.{has_pair}
 use Rattle.check_pit.specs.StreamLines.{IsLine}
@@ -117,5 +117,5 @@ wrong_at counts n has previous number [] e h = cc
 wrong_at counts n has previous number (p ∷ ps) e h = ap (fault_from (end_fault (number + 1) ps) (λ l. body_fault counts n has (Some l) (number + 1) ps)) h
 
 -- A piece that is no line says nothing; and of one that is, the text goes on behind it.
-pub no_line_next : (counts : Bool) (n : ℕ) (has : ℕ → ℕ → Bool) (previous : Option BodyLine) (k : ℕ) (p : Piece) (e : CertFault) → no_line k p ≡ Some e → next_line counts n has previous k p ≡ Err e
+pub no_line_next : (counts : Bool) (n : ℕ) (has : ℕ → ℕ → Bool) (previous : Option BodyLine) (k : ℕ) (p : Piece) (e : CertFault) → piece_fault k p ≡ Some e → next_line counts n has previous k p ≡ Err e
 no_line_next counts n has previous k p e h = rw h refl

@@ -6,7 +6,7 @@ use Rattle.fixed_worth.proofs.Cuts.{position_none}
 use Rattle.std.proofs.lemmas.List.Quantifiers.{position-Some}
 use Rattle.fixed_worth.specs.declared.limits.TheConstants.{LINE_BYTES}
 use Rattle.certificate_file.specs.declared.cert_fault.CertFault.TheVariants as fault
-use Rattle.certificate_file.specs.Pieces.{Piece, onto_piece, pieces_of, piece_at, no_line}
+use Rattle.certificate_file.specs.Pieces.{Piece, onto_piece, pieces_of, piece_at, piece_fault}
 use Rattle.check_pit.specs.StreamView.{LineView}
 use Rattle.check_pit.specs.StreamLines.{ReadsSome}
 use Rattle.certificate_file.proofs.Splits.{cut_off}
@@ -36,23 +36,23 @@ no_feed : (bs : List ℕ) → length bs ≡ position_or_len (λ x. eqb x 10) bs 
 no_feed [] h i l = absurd (omega arith)
 no_feed (b ∷ bs) h i l = no_feed_at b bs (eqb b 10) refl h (no_feed bs) i l
 
-text_too_long : (k : ℕ) (p : Piece) → LINE_BYTES < length p.text → no_line k p ≡ Some (fault.Text k)
+text_too_long : (k : ℕ) (p : Piece) → LINE_BYTES < length p.text → piece_fault k p ≡ Some (fault.Text k)
 text_too_long k p h = grind (arith, common_steps)
 
-long_at : (bs : List ℕ) (o : Option ℕ) → position (λ b. eqb b 10) bs ≡ o → LINE_BYTES < unwrap_or o (length bs) → (k : ℕ) (future : List ℕ) → no_line k (piece_at (pieces_of (bs ++ future)) 0) ≡ Some (fault.Text k)
+long_at : (bs : List ℕ) (o : Option ℕ) → position (λ b. eqb b 10) bs ≡ o → LINE_BYTES < unwrap_or o (length bs) → (k : ℕ) (future : List ℕ) → piece_fault k (piece_at (pieces_of (bs ++ future)) 0) ≡ Some (fault.Text k)
 long_at bs (Some j) e h k future =
     let q = position-Some (λ b. eqb b 10) bs j 0 e in
     let far = longer bs future j (omega (arith, q.0)) q.2 in
     text_too_long k (piece_at (pieces_of (bs ++ future)) 0) (omega (arith, far, h))
 long_at bs None e h k future = grind (arith, common_steps, longer, no_feed, position_none, text_too_long)
 
-pub held_too_long : (bs seen : List ℕ) (o : Option ℕ) (u number k : ℕ) → seen ≡ bs → o ≡ position (λ b. eqb b 10) seen → u ≡ unwrap_or o (length seen) → LINE_BYTES < u → k ≡ number → (future : List ℕ) → no_line (number + 1) (piece_at (pieces_of (bs ++ future)) 0) ≡ Some (fault.Text (k + 1))
+pub held_too_long : (bs seen : List ℕ) (o : Option ℕ) (u number k : ℕ) → seen ≡ bs → o ≡ position (λ b. eqb b 10) seen → u ≡ unwrap_or o (length seen) → LINE_BYTES < u → k ≡ number → (future : List ℕ) → piece_fault (number + 1) (piece_at (pieces_of (bs ++ future)) 0) ≡ Some (fault.Text (k + 1))
 held_too_long bs seen o u number k same e f h n future = grind (arith, common_steps, eqb, long_at)
 
-pub held_cut_off : (bs later seen : List ℕ) (o : Option ℕ) (u number : ℕ) → seen ≡ bs → later ≡ bs → o ≡ position (λ b. eqb b 10) seen → o ≡ None → u ≡ unwrap_or o (length seen) → u ≤ LINE_BYTES → no_line (number + 1) (piece_at (pieces_of later) 0) ≡ Some fault.Truncated
+pub held_cut_off : (bs later seen : List ℕ) (o : Option ℕ) (u number : ℕ) → seen ≡ bs → later ≡ bs → o ≡ position (λ b. eqb b 10) seen → o ≡ None → u ≡ unwrap_or o (length seen) → u ≤ LINE_BYTES → piece_fault (number + 1) (piece_at (pieces_of later) 0) ≡ Some fault.Truncated
 held_cut_off bs later seen o u number same kept e none f h =
     let far : length seen ≤ LINE_BYTES = omega (arith, h, f ∙ ap (λ (x : Option ℕ). unwrap_or x (length seen)) none) in
-    subst (λ (xs : List ℕ). no_line (number + 1) (piece_at (pieces_of xs) 0) ≡ Some fault.Truncated) (same ∙ sym kept) (cut_off seen number (record { pieces = pieces_of seen; number = number }) refl (sym e ∙ none) far)
+    subst (λ (xs : List ℕ). piece_fault (number + 1) (piece_at (pieces_of xs) 0) ≡ Some fault.Truncated) (same ∙ sym kept) (cut_off seen number (record { pieces = pieces_of seen; number = number }) refl (sym e ∙ none) far)
 
 pub line_inside : (bs seen : List ℕ) (j : ℕ) → seen ≡ bs → position (λ b. eqb b 10) seen ≡ Some j → j < length bs
 line_inside bs seen j same e = let q = position-Some (λ b. eqb b 10) seen j 0 e in omega (arith, q.0, ap length same)

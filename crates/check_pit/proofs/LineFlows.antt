@@ -13,7 +13,7 @@ use Rattle.ordered_group.proofs.Totals.{total-same, total-minus, total-zero, tot
 use Rattle.prec_file.specs.Rests.{IsRests, from_at, to_at}
 use Rattle.closure_net.specs.Network.{NetView, IsAscending, holds_of}
 use Rattle.closure_net.specs.Closure.{group_worth}
-use Rattle.closure_net.specs.Flows.{Balanced, source_residual, inflow, outflow}
+use Rattle.closure_net.specs.Flows.{IsBalancedAt, source_residual, inflow, outflow}
 use Rattle.closure_net.proofs.Holding.{place_of}
 use Rattle.certificate_file.specs.declared.body_lines.LineKind.{LineKind}
 use Rattle.certificate_file.specs.declared.body_lines.LineKind.TheVariants.{Source, Rest, Sink}
@@ -26,7 +26,7 @@ use Rattle.check_pit.specs.LineLaws.{LineSumsTell}
 use Rattle.certificate_file.proofs.Order.{InOrder, Good, in_order_weaker, stands_in_order, ascending, known}
 use Rattle.certificate_file.proofs.LineOrder.{Has, has_good, Proper, good_is_proper, found}
 use Rattle.certificate_file.proofs.SameLines.{tells_source, tells_sink, tells_rest, source_so, sink_so, rest_so}
-use Rattle.check_pit.proofs.LineSums.{sum_giving, sum_given, sources_of_lines, end_sum, ends_of_lines, balance_is}
+use Rattle.check_pit.proofs.LineSums.{sum_giving, sum_giving_in_order, sources_of_lines, end_sum, ends_of_lines, balance_is}
 use Rattle.std.proofs.lemmas.Grind.{common_steps}
 
 -- what the pit is worth, block by block
@@ -94,13 +94,13 @@ balance_tells p s i t o S I T O e a b c d =
 
 module _ (net : NetView) (ls : List BodyLine) (rests : IsRests (record { blocks = length net.worths; pairs = net.pairs })) (order : InOrder (Proper (length net.worths) (has_pair net.pairs)) None ls) where
   carried : (k : ℕ) → k < length net.pairs → amount_at (flow_of (length net.worths) net.pairs ls).rest k ≡ sum_giving (gives_rest (get_or net.pairs k (0, 0))) ls
-  carried k h = rest_at (length net.worths) net.pairs ls k h ∙ sym (sum_given (Proper (length net.worths) (has_pair net.pairs)) (gives_rest (get_or net.pairs k (0, 0))) None ls (tells_rest (length net.worths) (has_pair net.pairs) (get_or net.pairs k (0, 0))) order)
+  carried k h = rest_at (length net.worths) net.pairs ls k h ∙ sym (sum_giving_in_order (Proper (length net.worths) (has_pair net.pairs)) (gives_rest (get_or net.pairs k (0, 0))) None ls (tells_rest (length net.worths) (has_pair net.pairs) (get_or net.pairs k (0, 0))) order)
 
   from_source : (b : ℕ) → b < length net.worths → amount_at (flow_of (length net.worths) net.pairs ls).source b ≡ sum_giving (gives_source b) ls
-  from_source b h = source_at (length net.worths) net.pairs ls b h ∙ sym (sum_given (Proper (length net.worths) (has_pair net.pairs)) (gives_source b) None ls (tells_source (length net.worths) (has_pair net.pairs) b) order)
+  from_source b h = source_at (length net.worths) net.pairs ls b h ∙ sym (sum_giving_in_order (Proper (length net.worths) (has_pair net.pairs)) (gives_source b) None ls (tells_source (length net.worths) (has_pair net.pairs) b) order)
 
   to_sink : (b : ℕ) → b < length net.worths → amount_at (flow_of (length net.worths) net.pairs ls).sink b ≡ sum_giving (gives_sink b) ls
-  to_sink b h = sink_at (length net.worths) net.pairs ls b h ∙ sym (sum_given (Proper (length net.worths) (has_pair net.pairs)) (gives_sink b) None ls (tells_sink (length net.worths) (has_pair net.pairs) b) order)
+  to_sink b h = sink_at (length net.worths) net.pairs ls b h ∙ sym (sum_giving_in_order (Proper (length net.worths) (has_pair net.pairs)) (gives_sink b) None ls (tells_sink (length net.worths) (has_pair net.pairs) b) order)
 
   model : (l : BodyLine) → Has l ls → is_of_model (has_pair net.pairs) l.kind l ≡ true
   model l h = (has_good (Proper (length net.worths) (has_pair net.pairs)) None ls order l h).pair
@@ -115,7 +115,7 @@ module _ (net : NetView) (ls : List BodyLine) (rests : IsRests (record { blocks 
       total-same _ (λ k. where_so (eqb (from_at net.pairs k) b) (sum_giving (gives_rest (get_or net.pairs k (0, 0))) ls)) (length net.pairs) (λ k h. ap (where_so (eqb (from_at net.pairs k) b)) (carried k h))
       ∙ ends_of_lines (λ q. q.0) b net.pairs ls rests.rising model
 
-  pub balanced : (b : ℕ) → b < length net.worths → Balanced net (flow_of (length net.worths) net.pairs ls) b ↔ (balance_of ls b ≡ zero_amount)
+  pub balanced : (b : ℕ) → b < length net.worths → IsBalancedAt net (flow_of (length net.worths) net.pairs ls) b ↔ (balance_of ls b ≡ zero_amount)
   balanced b h =
       balance_tells (balance_of ls b) (sum_giving (gives_source b) ls) (end_sum (λ l. l.other) b ls) (sum_giving (gives_sink b) ls) (end_sum (λ l. l.block) b ls) _ _ _ _ (balance_is ls b) (from_source b h) (in_over b) (to_sink b h) (out_over b)
 

@@ -36,9 +36,9 @@ given_on P gives m ms true e t p o ih =
 given_on P gives m ms false e t p o ih = plus-zero_left (sum_giving gives ms) ∙ ih
 
 -- of lines in order one at most gives, and its amount is the sum
-pub sum_given : (P : BodyLine → Type 0) (gives : BodyLine → Bool) (previous : Option BodyLine) (ls : List BodyLine) → Tells P gives → InOrder P previous ls → sum_giving gives ls ≡ given_amount gives zero_amount ls
-sum_given P gives previous [] t o = refl
-sum_given P gives previous (m ∷ ms) t o = given_on P gives m ms (gives m) refl t o.1 o.2 (sum_given P gives (Some m) ms t o.2)
+pub sum_giving_in_order : (P : BodyLine → Type 0) (gives : BodyLine → Bool) (previous : Option BodyLine) (ls : List BodyLine) → Tells P gives → InOrder P previous ls → sum_giving gives ls ≡ given_amount gives zero_amount ls
+sum_giving_in_order P gives previous [] t o = refl
+sum_giving_in_order P gives previous (m ∷ ms) t o = given_on P gives m ms (gives m) refl t o.1 o.2 (sum_giving_in_order P gives (Some m) ms t o.2)
 
 -- A sum over blocks or pairs, of sums over lines, is a sum over lines.
 pub exchanged : (gives : ℕ → BodyLine → Bool) (e : ℕ → Bool) (at : BodyLine → Amount) (m : ℕ) (ls : List BodyLine) → ((l : BodyLine) → Has l ls → total (λ k. where_so (e k) (where_so (gives k l) (amount_of l))) m ≡ at l) → (sum : List BodyLine → Amount) → sum [] ≡ zero_amount

@@ -16,7 +16,7 @@ use Rattle.certificate_file.specs.declared.body_lines.BodyLine.{BodyLine}
 use Rattle.check_pit.specs.declared.pit_fault.PitFault.{PitFault}
 use Rattle.check_pit.specs.declared.stream_fault.StreamFault.{StreamFault}
 use Rattle.check_pit.specs.declared.stream_fault.StreamFault.TheVariants.{Device, InputTooLong, Cert, Pit}
-use Rattle.certificate_file.specs.Pieces.{Piece, pieces_of, piece_at, no_line, in_line, unless_fault, read_line}
+use Rattle.certificate_file.specs.Pieces.{Piece, pieces_of, piece_at, piece_fault, in_line, unless_fault, read_line}
 use Rattle.certificate_file.specs.Header.{◌>>=◌}
 use Rattle.certificate_file.specs.BodyLines.{line_of, is_of_model, may_follow, in_order, in_model, line_behind, next_line}
 use Rattle.certificate_file.specs.Certificate.{has_pair}
@@ -60,29 +60,29 @@ model_whole : (e : CertFault) (has : ℕ → ℕ → Bool) (k : ℕ) (line : Bod
 model_whole e has k line true t o h = let z = rw t at h in cc
 model_whole e has k line false t o h = other_fault (fault.UnknownPair k) e (λ z. z) o (rw t at h)
 
-read_whole : {A : Type 0} (e : CertFault) (f : List ℕ → Result A LineFault) (k : ℕ) (p : Piece) → IsOutside e → (no_line k p ≡ Some e → ⊥) → read_line f k p ≡ Err e → ⊥
-read_whole e f k p o g = unless_whole e (no_line k p) (in_line k (f p.text)) g (in_line_whole e k (f p.text) o)
+read_whole : {A : Type 0} (e : CertFault) (f : List ℕ → Result A LineFault) (k : ℕ) (p : Piece) → IsOutside e → (piece_fault k p ≡ Some e → ⊥) → read_line f k p ≡ Err e → ⊥
+read_whole e f k p o g = unless_whole e (piece_fault k p) (in_line k (f p.text)) g (in_line_whole e k (f p.text) o)
 
-next_whole : (e : CertFault) (counts : Bool) (n : ℕ) (has : ℕ → ℕ → Bool) (previous : Option BodyLine) (k : ℕ) (p : Piece) → IsOutside e → (no_line k p ≡ Some e → ⊥) → next_line counts n has previous k p ≡ Err e → ⊥
+next_whole : (e : CertFault) (counts : Bool) (n : ℕ) (has : ℕ → ℕ → Bool) (previous : Option BodyLine) (k : ℕ) (p : Piece) → IsOutside e → (piece_fault k p ≡ Some e → ⊥) → next_line counts n has previous k p ≡ Err e → ⊥
 next_whole e counts n has previous k p o g =
     bind_whole e (line_behind counts n previous k p) (in_model has k)
     (bind_whole e (read_line (line_of counts n) k p) (in_order previous k) (read_whole e (line_of counts n) k p o g) (λ l. order_whole e previous k l (may_follow previous l) refl o))
     (λ l. model_whole e has k l (is_of_model has l.kind l) refl o)
 
-no_fault : (k : ℕ) (text : List ℕ) → length text ≤ LINE_BYTES → no_line k (record { text = text; ended = true }) ≡ None
+no_fault : (k : ℕ) (text : List ℕ) → length text ≤ LINE_BYTES → piece_fault k (record { text = text; ended = true }) ≡ None
 no_fault k text h =
     let t : ltb LINE_BYTES (length text) ≡ false = grind (arith, nat_tests) in
     rw t refl
 
-not_cut : (k : ℕ) (text : List ℕ) → length text ≤ LINE_BYTES → no_line k (record { text = text; ended = true }) ≡ Some fault.Truncated → ⊥
+not_cut : (k : ℕ) (text : List ℕ) → length text ≤ LINE_BYTES → piece_fault k (record { text = text; ended = true }) ≡ Some fault.Truncated → ⊥
 not_cut k text h e = let z = sym (no_fault k text h) ∙ e in cc
 
 -- What f makes of a piece: the fault of one that is no line, and of a line never that it is cut off.
 pub record ReadsLines {A : Type 0} (f : ℕ → Piece → Result A CertFault) : Type 0 where
-  pub none : (k : ℕ) (p : Piece) (e : CertFault) → no_line k p ≡ Some e → f k p ≡ Err e
+  pub none : (k : ℕ) (p : Piece) (e : CertFault) → piece_fault k p ≡ Some e → f k p ≡ Err e
   pub whole : (k : ℕ) (text : List ℕ) → length text ≤ LINE_BYTES → f k (record { text = text; ended = true }) ≡ Err fault.Truncated → ⊥
 
-read_none : {A : Type 0} (f : List ℕ → Result A LineFault) (k : ℕ) (p : Piece) (e : CertFault) → no_line k p ≡ Some e → read_line f k p ≡ Err e
+read_none : {A : Type 0} (f : List ℕ → Result A LineFault) (k : ℕ) (p : Piece) (e : CertFault) → piece_fault k p ≡ Some e → read_line f k p ≡ Err e
 read_none f k p e h = rw h refl
 
 pub line_reads : {A : Type 0} (f : List ℕ → Result A LineFault) → ReadsLines (read_line f)

@@ -5,7 +5,7 @@ use Rattle.ordered_group.specs.Amount.{zero_amount}
 use Rattle.ordered_group.specs.Sums.{amount_at}
 use Rattle.prec_file.specs.Rests.{IsFirstNot}
 use Rattle.closure_net.specs.Network.{NetView, holds_of}
-use Rattle.closure_net.specs.Flows.{Balanced, IsTight}
+use Rattle.closure_net.specs.Flows.{IsBalancedAt, IsTight}
 use Rattle.certificate_file.specs.declared.body_lines.BodyLine.{BodyLine}
 use Rattle.certificate_file.specs.Certificate.{pit_of}
 use Rattle.check_pit.specs.LineSums.{flow_of}
@@ -17,7 +17,7 @@ use Rattle.std.proofs.lemmas.Grind.{common_steps}
 
 -- the first balance other than zero is that of the first block that the flow doesn't balance
 pub unbalanced_flow : (net : NetView) (ls : List BodyLine) (room : RoomView) (b : ℕ) → LinesTell net ls → AreSumsOf net ls room → IsFirstNot (λ k. amount_at room.balances k ≡ zero_amount) (length net.worths) b
-    → IsFirstNot (Balanced net (flow_of (length net.worths) net.pairs ls)) (length net.worths) b
+    → IsFirstNot (IsBalancedAt net (flow_of (length net.worths) net.pairs ls)) (length net.worths) b
 unbalanced_flow net ls room b t s h = grind (arith, common_steps)
 
 -- the pit is tight by the flow exactly where it is worth what is left

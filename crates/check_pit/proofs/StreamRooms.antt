@@ -10,7 +10,7 @@ use Rattle.ordered_group.specs.Sums.{amount_at}
 use Rattle.prec_file.specs.Rests.{IsRests}
 use Rattle.closure_net.specs.Network.{NetView, IsAscending, holds_of}
 use Rattle.closure_net.specs.Closure.{IsClosed, IsGreatest, group_worth}
-use Rattle.closure_net.specs.Flows.{Balanced}
+use Rattle.closure_net.specs.Flows.{IsBalancedAt}
 use Rattle.closure_net.proofs.Duality.{greatest_from_tight}
 use Rattle.certificate_file.specs.declared.cert_fault.CertFault.{CertFault}
 use Rattle.check_pit.specs.declared.pit_fault.PitFault.{PitFault}
@@ -236,10 +236,10 @@ pub record AllRead (net : NetView) (room : RoomView) (ls : List BodyLine) : Type
 tells : (counts : Bool) (net : NetView) (body : List ℕ) → IsRests (record { blocks = length net.worths; pairs = net.pairs }) → fault_of_body counts net body ≡ None → LinesTell net (lines_of_body counts net body)
 tells counts net body r h = sums_tell counts net 4 (pieces_of body) r h
 
-balance_zero : (net : NetView) (room : RoomView) (ls : List BodyLine) (b : ℕ) → LinesTell net ls → AreSumsOf net ls room → b < length net.worths → amount_at room.balances b ≡ zero_amount → Balanced net (flow_by net ls) b
+balance_zero : (net : NetView) (room : RoomView) (ls : List BodyLine) (b : ℕ) → LinesTell net ls → AreSumsOf net ls room → b < length net.worths → amount_at room.balances b ≡ zero_amount → IsBalancedAt net (flow_by net ls) b
 balance_zero net room ls b t s h z = (t.balanced b h).1 (sym (s.balances b h) ∙ z)
 
-balance_not : (net : NetView) (room : RoomView) (ls : List BodyLine) (b : ℕ) → LinesTell net ls → AreSumsOf net ls room → b < length net.worths → (amount_at room.balances b ≡ zero_amount → ⊥) → Balanced net (flow_by net ls) b → ⊥
+balance_not : (net : NetView) (room : RoomView) (ls : List BodyLine) (b : ℕ) → LinesTell net ls → AreSumsOf net ls room → b < length net.worths → (amount_at room.balances b ≡ zero_amount → ⊥) → IsBalancedAt net (flow_by net ls) b → ⊥
 balance_not net room ls b t s h z f = z (s.balances b h ∙ (t.balanced b h).0 f)
 
 settled : (counts : Bool) (net : NetView) (room : RoomView) (ls : List BodyLine) (order : InOrder (Good counts (length net.worths) (has_pair net.pairs)) None ls) → LinesTell net ls → AllRead net room ls → SumsSettle net room → ProvesPit net (flow_by net ls) (pit_of ls)

@@ -1,7 +1,7 @@
 -- What is found of the balances alone.
 use Rattle.std.specs.Prelude.{ℕ, ◌<◌, length}
 use Rattle.closure_net.specs.Network.{NetView, FlowView}
-use Rattle.closure_net.specs.Flows.{Balanced}
+use Rattle.closure_net.specs.Flows.{IsBalancedAt}
 use Rattle.check_pit.specs.Fits.{BalanceFits, BalanceOverflows}
 use Rattle.check_pit.specs.Checks.{BalanceStands}
 use Rattle.check_pit.specs.declared.pit_fault.PitFault.{PitFault}
@@ -14,6 +14,6 @@ pub record ComesTo (net : NetView) (flow : FlowView) (b : ℕ) : Type 0 where
 
 -- the first balance that doesn't stand: it doesn't hold, or one of its sums doesn't fit
 abbrev pub BalanceFault : NetView → FlowView → PitFault → Type 0
-BalanceFault net flow (Unbalanced b) = ComesTo net flow b × BalanceFits net flow b × ¬ (Balanced net flow b)
+BalanceFault net flow (Unbalanced b) = ComesTo net flow b × BalanceFits net flow b × ¬ (IsBalancedAt net flow b)
 BalanceFault net flow TooLarge = (b : ℕ) × ComesTo net flow b × BalanceOverflows net flow b
 BalanceFault net flow _ = ⊥

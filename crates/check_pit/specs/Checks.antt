@@ -2,7 +2,7 @@
 use Rattle.std.specs.Prelude.{◌≡◌, ℕ, ◌<◌, ◌≤◌, Bool, List, length, slice_index_or, All, Contains}
 use Rattle.closure_net.specs.Network.{NetView, FlowView, FlowFits, holds_of}
 use Rattle.closure_net.specs.Closure.{Stays, IsClosed}
-use Rattle.closure_net.specs.Flows.{NoneNegative, WithinAt, Balanced, IsFlow, IsTight}
+use Rattle.closure_net.specs.Flows.{NoneNegative, WithinAt, IsBalancedAt, IsFlow, IsTight}
 use Rattle.check_pit.specs.Fits.{BalanceFits, SumsFit, SomeSumOverflows}
 use Rattle.check_pit.specs.declared.pit_fault.PitFault.{PitFault}
 use Rattle.check_pit.specs.declared.pit_fault.PitFault.TheVariants.{WrongSize, NotClosed, Negative, OverCapacity, Unbalanced, NotTight, TooLarge}
@@ -56,7 +56,7 @@ AllWithin net flow = (b : ℕ) → b < length net.worths → KeepsWithin net flo
 
 -- the balance of b stands: its sums fit, and it holds
 abbrev pub BalanceStands : NetView → FlowView → ℕ → Type 0
-BalanceStands net flow b = BalanceFits net flow b × Balanced net flow b
+BalanceStands net flow b = BalanceFits net flow b × IsBalancedAt net flow b
 
 -- every balance does
 abbrev pub AllBalanced : NetView → FlowView → Type 0
@@ -75,7 +75,7 @@ pub record PassesCapacities (net : NetView) (flow : FlowView) (pit : List ℕ) :
 
 -- a block is balanced where the sums of its balance fit, and those of the blocks before it
 abbrev pub BalancedWhileFit : NetView → FlowView → Type 0
-BalancedWhileFit net flow = (b : ℕ) → b < length net.worths → ((k : ℕ) → k ≤ b → BalanceFits net flow k) → Balanced net flow b
+BalancedWhileFit net flow = (b : ℕ) → b < length net.worths → ((k : ℕ) → k ≤ b → BalanceFits net flow k) → IsBalancedAt net flow b
 
 -- Each fault by itself, whatever else may be wrong, and whether or not it is the first of its kind.
 abbrev pub FaultHolds : NetView → FlowView → List ℕ → PitFault → Type 0
@@ -83,7 +83,7 @@ FaultHolds net flow pit WrongSize = ¬ (Sizes net flow pit)
 FaultHolds net flow pit (NotClosed b p) = IsOpen net.pairs (holds_of pit) (b, p)
 FaultHolds net flow pit Negative = ¬ (NoneBelowZero flow)
 FaultHolds net flow pit (OverCapacity b) = (b < length net.worths) × ¬ (KeepsWithin net flow b)
-FaultHolds net flow pit (Unbalanced b) = (b < length net.worths) × ¬ (Balanced net flow b)
+FaultHolds net flow pit (Unbalanced b) = (b < length net.worths) × ¬ (IsBalancedAt net flow b)
 FaultHolds net flow pit NotTight = ¬ (IsTight net flow (holds_of pit))
 FaultHolds net flow pit TooLarge = SomeSumOverflows net flow pit
 

@@ -3,7 +3,7 @@ use Rattle.std.specs.Prelude.{◌≡◌, ◌↔◌, ℕ, ◌<◌, Bool, List, le
 use Rattle.ordered_group.specs.Amount.{zero_amount}
 use Rattle.prec_file.specs.Rests.{IsRests}
 use Rattle.closure_net.specs.Network.{NetView, holds_of}
-use Rattle.closure_net.specs.Flows.{Balanced, IsTight}
+use Rattle.closure_net.specs.Flows.{IsBalancedAt, IsTight}
 use Rattle.certificate_file.specs.declared.body_lines.BodyLine.{BodyLine}
 use Rattle.certificate_file.specs.Pieces.{Piece}
 use Rattle.certificate_file.specs.BodyLines.{body_fault, lines_of_pieces}
@@ -14,7 +14,7 @@ use Rattle.check_pit.specs.LineSums.{balance_of, worth_of_blocks, residual_behin
 -- the lines denote this flow; and of it the sums over the lines tell whether a block is balanced and the pit tight
 pub record LinesTell (net : NetView) (ls : List BodyLine) : Type 0 where
   pub denotes : Denotes (length net.worths) net.pairs ls (pit_of ls) (flow_of (length net.worths) net.pairs ls)
-  pub balanced : (b : ℕ) → b < length net.worths → Balanced net (flow_of (length net.worths) net.pairs ls) b ↔ (balance_of ls b ≡ zero_amount)
+  pub balanced : (b : ℕ) → b < length net.worths → IsBalancedAt net (flow_of (length net.worths) net.pairs ls) b ↔ (balance_of ls b ≡ zero_amount)
   pub tight : IsTight net (flow_of (length net.worths) net.pairs ls) (holds_of (pit_of ls)) ↔ (worth_of_blocks net.worths (pit_of ls) ≡ residual_behind net.worths ls)
   pub limits : KeepLimits net.worths ls → NoneBelowZero (flow_of (length net.worths) net.pairs ls) × AllWithin net (flow_of (length net.worths) net.pairs ls)
 

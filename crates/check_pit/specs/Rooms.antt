@@ -4,7 +4,7 @@ use Rattle.ordered_group.specs.Amount.{Amount, zero_amount, plus, minus, AtMost,
 use Rattle.ordered_group.specs.Sums.{amount_at}
 use Rattle.prec_file.specs.Rests.{IsFirstNot}
 use Rattle.closure_net.specs.Network.{NetView, IsAscending, holds_of}
-use Rattle.closure_net.specs.Flows.{Balanced, IsTight}
+use Rattle.closure_net.specs.Flows.{IsBalancedAt, IsTight}
 use Rattle.check_pit.specs.declared.pit_fault.PitFault.{PitFault}
 use Rattle.check_pit.specs.declared.pit_fault.PitFault.TheVariants.{WrongSize, NotClosed, Negative, OverCapacity, Unbalanced, NotTight, TooLarge}
 use Rattle.certificate_file.specs.declared.body_lines.LineKind.{LineKind}
@@ -118,7 +118,7 @@ RefusesLine net l before e = (ls : List BodyLine) → AreSumsOf net ls before �
 
 -- where the room has the sums over lines that tell of a flow, this is the first block that the flow doesn't balance
 abbrev pub IsFirstUnbalanced : NetView → RoomView → ℕ → Type 0
-IsFirstUnbalanced net room b = (ls : List BodyLine) → LinesTell net ls → AreSumsOf net ls room → IsFirstNot (Balanced net (flow_of (length net.worths) net.pairs ls)) (length net.worths) b
+IsFirstUnbalanced net room b = (ls : List BodyLine) → LinesTell net ls → AreSumsOf net ls room → IsFirstNot (IsBalancedAt net (flow_of (length net.worths) net.pairs ls)) (length net.worths) b
 
 -- where it has them, whether the pit is tight by that flow
 abbrev pub TellsTight : NetView → RoomView → Bool → Type 0

@@ -6,7 +6,7 @@ use Rattle.ordered_group.specs.Sums.{amount_at}
 use Rattle.prec_file.specs.Rests.{IsFirstNot}
 use Rattle.closure_net.specs.Network.{NetView, FlowView, holds_of}
 use Rattle.closure_net.specs.Closure.{IsClosed}
-use Rattle.closure_net.specs.Flows.{Balanced, IsTight}
+use Rattle.closure_net.specs.Flows.{IsBalancedAt, IsTight}
 use Rattle.certificate_file.specs.declared.cert_fault.CertFault.{CertFault}
 use Rattle.certificate_file.specs.declared.cert_fault.CertFault.TheVariants as fault
 use Rattle.check_pit.specs.declared.pit_fault.PitFault.{PitFault}
@@ -89,9 +89,9 @@ BodyRefused left taken counts net body WrongSize = ⊥
 BodyRefused left taken counts net body (NotClosed b p) = (pit : List ℕ) × HasPit counts net body pit × IsFirstOpen net.pairs (holds_of pit) (b, p)
 BodyRefused left taken counts net body Negative = RefusesSome counts net body Negative
 BodyRefused left taken counts net body (OverCapacity b) = RefusesSome counts net body (OverCapacity b)
-BodyRefused left taken counts net body (Unbalanced b) = IsWholeBody left taken counts net body × IsFirstNot (Balanced net (flow_by net (lines_of_body counts net body))) (length net.worths) b
+BodyRefused left taken counts net body (Unbalanced b) = IsWholeBody left taken counts net body × IsFirstNot (IsBalancedAt net (flow_by net (lines_of_body counts net body))) (length net.worths) b
 BodyRefused left taken counts net body NotTight =
-    IsWholeBody left taken counts net body × ((b : ℕ) → b < length net.worths → Balanced net (flow_by net (lines_of_body counts net body)) b)
+    IsWholeBody left taken counts net body × ((b : ℕ) → b < length net.worths → IsBalancedAt net (flow_by net (lines_of_body counts net body)) b)
     × ¬ (IsTight net (flow_by net (lines_of_body counts net body)) (holds_of (pit_of (lines_of_body counts net body))))
 BodyRefused left taken counts net body TooLarge = RefusesSome counts net body TooLarge
 

@@ -7,7 +7,7 @@ use Rattle.certificate_file.specs.declared.cert_fault.CertFault.TheVariants as f
 use Rattle.check_pit.specs.declared.stream_fault.StreamFault.{StreamFault}
 use Rattle.check_pit.specs.declared.stream_fault.StreamFault.TheVariants.{Device, InputTooLong, Cert, Pit}
 use Rattle.check_pit.specs.StreamView.{LineView}
-use Rattle.certificate_file.specs.Pieces.{pieces_of, piece_at, no_line}
+use Rattle.certificate_file.specs.Pieces.{pieces_of, piece_at, piece_fault}
 
 -- these bytes were read and stand after what was held, and no line was passed
 pub record ReadsBytes {R : Type 0} (remaining : R → Option (List ℕ)) (before later : LineView R) (bytes : List ℕ) : Type 0 where
@@ -28,14 +28,14 @@ pub record IsLine (held : List ℕ) (count : ℕ) : Type 0 where
 
 -- what is held, whatever follows it, begins with no line, for this reason
 abbrev pub IsNoLine : ℕ → List ℕ → CertFault → Type 0
-IsNoLine number held e = (future : List ℕ) → no_line (number + 1) (piece_at (pieces_of (held ++ future)) 0) ≡ Some e
+IsNoLine number held e = (future : List ℕ) → piece_fault (number + 1) (piece_at (pieces_of (held ++ future)) 0) ≡ Some e
 
 -- why no further line is read: more bytes were read than a stream may give; or what is held is longer than a line; or the
 -- text ends before a line does
 abbrev pub NoLine : {R : Type 0} → Option (List ℕ) → LineView R → StreamFault → Type 0
 NoLine left s Device = Unit {0}
 NoLine left s InputTooLong = MOST_BYTES < s.taken
-NoLine left s (Cert fault.Truncated) = IsAtEnd left × (s.taken ≤ MOST_BYTES) × (no_line (s.number + 1) (piece_at (pieces_of s.held) 0) ≡ Some fault.Truncated)
+NoLine left s (Cert fault.Truncated) = IsAtEnd left × (s.taken ≤ MOST_BYTES) × (piece_fault (s.number + 1) (piece_at (pieces_of s.held) 0) ≡ Some fault.Truncated)
 NoLine left s (Cert e) = IsNoLine s.number s.held e
 NoLine left s (Pit e) = ⊥
 

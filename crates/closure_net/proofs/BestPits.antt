@@ -5,7 +5,7 @@ use Rattle.std.proofs.lemmas.Bool.{and_parts, and_from, or_cases, or_left, or_ri
 use Rattle.ordered_group.specs.Sets.{worth_in}
 use Rattle.ordered_group.proofs.Totals.{union, intersection, within_first, within_second}
 use Rattle.ordered_group.proofs.BlockSets.{count_in-within, worth_of_two, lead_rises, worth_in-same, count_in-same}
-use Rattle.closure_net.specs.Mine.{Mine, IsPit, worth_of, count_of, AreSame, IsBest, RisesTo, LiesWithin, RestsWithin}
+use Rattle.closure_net.specs.Mine.{Mine, IsPit, worth_of, block_count_of, AreSame, IsBest, RisesTo, LiesWithin, RestsWithin}
 
 pub union_is_pit : (mine : Mine) (e c : ℕ → Bool) → IsPit mine e → IsPit mine c → IsPit mine (union e c)
 union_is_pit mine e c h k b p r t = elim (or_cases (e b) (c b) t) [ inl x ↦ or_left (e p) (c p) (h b p r x) | inr x ↦ or_right (e p) (c p) (k b p r x) ]
@@ -16,7 +16,7 @@ intersection_is_pit mine e c h k b p r t = let x = and_parts (e b) (c b) t in an
 -- a pit that no pit is worth more than, and none that is worth the same has fewer blocks than, is the best
 pub best_from_fewest : (mine : Mine) (e : ℕ → Bool) → IsPit mine e
     → ((c : ℕ → Bool) → IsPit mine c → worth_of mine c ≤ℤ worth_of mine e)
-    → ((c : ℕ → Bool) → IsPit mine c → worth_of mine c ≡ worth_of mine e → count_of mine e ≤ count_of mine c)
+    → ((c : ℕ → Bool) → IsPit mine c → worth_of mine c ≡ worth_of mine e → block_count_of mine e ≤ block_count_of mine c)
     → IsBest mine e
 best_from_fewest mine e pit most fewest = record {
   is_pit = pit;
@@ -30,7 +30,7 @@ best_from_fewest mine e pit most fewest = record {
       let few = fewest (intersection c e) i as_much in
       let in_c = count_in-within (intersection c e) c n (λ b l. within_first c e b) in
       let in_e = count_in-within (intersection c e) e n (λ b l. within_second c e b) in
-      elim (cases_lt (count_of mine e) (count_of mine c)) [
+      elim (cases_lt (block_count_of mine e) (block_count_of mine c)) [
         | inl l ↦ l
         | inr l ↦ absurd (differ (λ b k. sym (in_c.1 (omega (arith, few, in_c.0, l)) b k) ∙ in_e.1 (omega (arith, few, in_e.0)) b k))
       ];
@@ -79,7 +79,7 @@ best_is_within mine later e c r h k b l t =
 pub best_of_same : (mine : Mine) (e c : ℕ → Bool) → RestsWithin mine → IsBest mine e → AreSame mine c e → IsBest mine c
 best_of_same mine e c o h s =
     let worth : worth_of mine c ≡ worth_of mine e = worth_in-same mine.worth c e mine.blocks s in
-    let count : count_of mine c ≡ count_of mine e = count_in-same c e mine.blocks s in
+    let count : block_count_of mine c ≡ block_count_of mine e = count_in-same c e mine.blocks s in
     record {
       is_pit = λ b p r t. let i = o.own b p r in s p i.1 ∙ h.is_pit b p r (sym (s b i.0) ∙ t);
       most = λ d pit. rw worth (h.most d pit);

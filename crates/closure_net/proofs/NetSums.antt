@@ -13,7 +13,7 @@ use Rattle.ordered_group.proofs.Order.{Below-not}
 use Rattle.ordered_group.proofs.Totals.{total-same}
 use Rattle.closure_net.specs.Network.{NetView}
 use Rattle.closure_net.specs.Closure.{Stays, IsClosed, group_worth, IsGreatest}
-use Rattle.closure_net.specs.Mine.{Mine, IsPit, count_of, IsRichest, IsBest, IsNetOf}
+use Rattle.closure_net.specs.Mine.{Mine, IsPit, block_count_of, IsRichest, IsBest, IsNetOf}
 use Rattle.closure_net.proofs.BestPits.{best_from_fewest}
 
 module _ (block : ℤ → ℕ → Amount) (mine : Mine) (net : NetView) (h : IsNetOf block mine net) where
@@ -62,5 +62,5 @@ greatest_is_best block orders mine net e h g =
     let behind : (c : ℕ → Bool) → IsPit mine c → ¬ (IsBefore mine.worth mine.blocks e c) =
     λ c p i. Below-not _ _ ((orders mine.worth e c mine.blocks).1 i) (greatest_sum block mine net h e c g p) in
     best_from_fewest mine e (pit_from_closed block mine net h e g.closed)
-    (λ c p. worth_kept _ _ (count_of mine c) (count_of mine e) (behind c p))
-    (λ c p s. count_kept _ _ (count_of mine c) (count_of mine e) (behind c p) s)
+    (λ c p. worth_kept _ _ (block_count_of mine c) (block_count_of mine e) (behind c p))
+    (λ c p s. count_kept _ _ (block_count_of mine c) (block_count_of mine e) (behind c p) s)

@@ -9,22 +9,22 @@ use Rattle.closure_net.specs.Carrying.{amount_of_place, carried_by, placed_count
 
 -- ---- places
 
-placed_most : (ps : List ℕ) → placed_count ps ≤ length ps
-placed_most [] = omega arith
-placed_most (zero ∷ ps) = omega (arith, placed_most ps)
-placed_most (suc p ∷ ps) = omega (arith, placed_most ps)
+placed_count_most : (ps : List ℕ) → placed_count ps ≤ length ps
+placed_count_most [] = omega arith
+placed_count_most (zero ∷ ps) = omega (arith, placed_count_most ps)
+placed_count_most (suc p ∷ ps) = omega (arith, placed_count_most ps)
 
 -- one more pair has a place where one had none
-placed_set : (ps : List ℕ) (k n : ℕ) → k < length ps → get_or ps k 0 ≡ 0 → placed_count (set ps k (suc n)) ≡ suc (placed_count ps)
-placed_set [] k n l e = absurd (omega arith)
-placed_set (zero ∷ ps) zero n l e = refl
-placed_set (suc p ∷ ps) zero n l e = absurd cc
-placed_set (zero ∷ ps) (suc k) n l e = placed_set ps k n (omega arith) e
-placed_set (suc p ∷ ps) (suc k) n l e = ap suc (placed_set ps k n (omega arith) e)
+placed_count-set : (ps : List ℕ) (k n : ℕ) → k < length ps → get_or ps k 0 ≡ 0 → placed_count (set ps k (suc n)) ≡ suc (placed_count ps)
+placed_count-set [] k n l e = absurd (omega arith)
+placed_count-set (zero ∷ ps) zero n l e = refl
+placed_count-set (suc p ∷ ps) zero n l e = absurd cc
+placed_count-set (zero ∷ ps) (suc k) n l e = placed_count-set ps k n (omega arith) e
+placed_count-set (suc p ∷ ps) (suc k) n l e = ap suc (placed_count-set ps k n (omega arith) e)
 
-placed_none : (n : ℕ) → placed_count (replicate n 0) ≡ 0
-placed_none zero = refl
-placed_none (suc n) = placed_none n
+placed_count-none : (n : ℕ) → placed_count (replicate n 0) ≡ 0
+placed_count-none zero = refl
+placed_count-none (suc n) = placed_count-none n
 
 -- at first no pair has a place
 pub places_none : (ps : List ℕ) (n amounts : ℕ) → ps ≡ replicate n 0 → n < 2 ^ 32 → amounts ≡ 0 → ArePlaces ps amounts
@@ -34,13 +34,13 @@ places_none ps n amounts e few none =
     subst P (sym e) (record {
       few = omega (arith, size);
       inside = λ i d l. omega (arith, get_or-replicate n i 0 d (omega (arith, size)));
-      count = none ∙ sym (placed_none n);
+      count = none ∙ sym (placed_count-none n);
       apart = λ i j li lj same other. absurd (other (get_or-replicate n i 0 0 (omega (arith, size))));
     })
 
 -- while a pair has no place, the next place is a number of 32 bits
 pub place_fits : (ps : List ℕ) (n k : ℕ) → ArePlaces ps n → k < length ps → get_or ps k 0 ≡ 0 → suc n < 2 ^ 32
-place_fits ps n k h l e = omega (arith, placed_most (set ps k 1), placed_set ps k 0 l e, length-set ps k 1, h.count, h.few)
+place_fits ps n k h l e = omega (arith, placed_count_most (set ps k 1), placed_count-set ps k 0 l e, length-set ps k 1, h.count, h.few)
 
 -- a pair that has no place gets the next one
 pub places_more : (ps : List ℕ) (n k : ℕ) → ArePlaces ps n → k < length ps → get_or ps k 0 ≡ 0 → ArePlaces (set ps k (suc n)) (suc n)
@@ -54,7 +54,7 @@ places_more ps n k h l e =
         | inl z ↦ omega (arith, here i d z)
         | inr q ↦ omega (arith, there i d q, h.inside i d (omega (arith, size)))
       ];
-      count = omega (arith, placed_set ps k n l e, h.count);
+      count = omega (arith, placed_count-set ps k n l e, h.count);
       apart = λ i j li lj same other. elim (cases_eq i k) [
         | inl z ↦ elim (cases_eq j k) [
           | inl y ↦ z ∙ sym y

@@ -15,8 +15,8 @@ abbrev pub outflow : List (ℕ × ℕ) → List Amount → ℕ → ℕ → Amoun
 outflow ps fs m b = at_end (from_at ps) (amount_at fs) m b
 
 -- what b gets from the source and over pairs is what it gives to the sink and over pairs
-abbrev pub Balanced : NetView → FlowView → ℕ → Type 0
-Balanced net flow b = plus (amount_at flow.source b) (inflow net.pairs flow.rest (length net.pairs) b) ≡ plus (amount_at flow.sink b) (outflow net.pairs flow.rest (length net.pairs) b)
+abbrev pub IsBalancedAt : NetView → FlowView → ℕ → Type 0
+IsBalancedAt net flow b = plus (amount_at flow.source b) (inflow net.pairs flow.rest (length net.pairs) b) ≡ plus (amount_at flow.sink b) (outflow net.pairs flow.rest (length net.pairs) b)
 
 -- the source gives a block at most its positive part, and it gives the sink at most its negative part
 abbrev pub Within : Amount → Amount → Amount → Type 0
@@ -37,7 +37,7 @@ pub record IsFlow (net : NetView) (flow : FlowView) : Type 0 where
   pub rest : NoneNegative flow.rest
   pub sink : NoneNegative flow.sink
   pub capacity : (b : ℕ) → b < length net.worths → WithinAt net.worths flow.source flow.sink b
-  pub balance : (b : ℕ) → b < length net.worths → Balanced net flow b
+  pub balance : (b : ℕ) → b < length net.worths → IsBalancedAt net flow b
 
 -- the residual capacity from the source to a block: what it could still give the block
 abbrev pub residual_at : List Amount → List Amount → ℕ → Amount

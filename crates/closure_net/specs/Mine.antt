@@ -23,8 +23,8 @@ IsPit mine pit = (b p : ℕ) → IsTrue (mine.rests b p) → IsTrue (pit b) → 
 abbrev pub worth_of : Mine → (ℕ → Bool) → ℤ
 worth_of mine pit = worth_in mine.worth pit mine.blocks
 
-abbrev pub count_of : Mine → (ℕ → Bool) → ℕ
-count_of mine pit = count_in pit mine.blocks
+abbrev pub block_count_of : Mine → (ℕ → Bool) → ℕ
+block_count_of mine pit = count_in pit mine.blocks
 
 -- two sets have the same blocks
 abbrev pub AreSame : Mine → (ℕ → Bool) → (ℕ → Bool) → Type 0
@@ -39,7 +39,7 @@ pub record IsRichest (mine : Mine) (pit : ℕ → Bool) : Type 0 where
 pub record IsBest (mine : Mine) (pit : ℕ → Bool) : Type 0 where
   pub is_pit : IsPit mine pit
   pub most : (other : ℕ → Bool) → IsPit mine other → worth_of mine other ≤ℤ worth_of mine pit
-  pub fewest : (other : ℕ → Bool) → IsPit mine other → ¬ (AreSame mine other pit) → worth_of mine other ≡ worth_of mine pit → count_of mine pit < count_of mine other
+  pub fewest : (other : ℕ → Bool) → IsPit mine other → ¬ (AreSame mine other pit) → worth_of mine other ≡ worth_of mine pit → block_count_of mine pit < block_count_of mine other
 
 -- the second mine has the blocks of the first, which rest on the same ones, and none is worth less
 pub record RisesTo (mine later : Mine) : Type 0 where

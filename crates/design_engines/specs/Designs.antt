@@ -4,7 +4,7 @@ use Rattle.std.specs.List.{flat_map}
 use Rattle.fixed_worth.specs.Printed.{amount_text}
 use Rattle.prec_file.specs.Records as prec
 use Rattle.prec_file.specs.Rests.{ArePairsOf}
-use Rattle.closure_net.specs.Mine.{IsPit, worth_of, count_of}
+use Rattle.closure_net.specs.Mine.{IsPit, worth_of, block_count_of}
 use Rattle.design_file.specs.Records.{design_of}
 use Rattle.design_value.specs.OpenPairs.{AreOpen}
 use Rattle.engines.specs.declared.judgement.Verdict.{Verdict}
@@ -26,7 +26,7 @@ pub record IsValued (texts : MineTexts) (design : List ℕ) (v : DesignView) : T
   pub blocks : ℕ
   pub mine : DenoteMine texts blocks
   pub drawn : IsDesign blocks design
-  pub count : v.count ≡ count_of (mine_of blocks texts) (design_of design)
+  pub count : v.count ≡ block_count_of (mine_of blocks texts) (design_of design)
   pub worth : v.worth ≡ worth_of (mine_of blocks texts) (design_of design)
   pub pairs : List (ℕ × ℕ)
   pub are : ArePairsOf (prec.pairs_of_text (precedence_of texts)) pairs

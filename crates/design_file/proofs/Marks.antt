@@ -1,6 +1,6 @@
 -- A block is marked where a line named it.
 use Rattle.std.proofs.Common.{◌≡◌, ℕ, ◌<◌, Bool, true, false, cond, List, [], ◌++◌, length, get_or, Option, Some, None, sym, ap, ◌∙◌, arith, append-nil}
-use Rattle.design_file.specs.Records.{is_passed, block_word, named_fault, record_fault, block_in, blocks_in, has, set_in, marks_after}
+use Rattle.design_file.specs.Records.{is_passed, block_word, named_fault, record_fault, block_in, blocks_of_fields, has, set_in, marks_after}
 use Rattle.std.proofs.lemmas.Grind.{common_steps}
 
 -- ---- marks
@@ -16,5 +16,5 @@ mark_by true n g line marks bs o e w h k j = h k j ∙ ap (λ (xs : List ℕ). h
 mark_by false n g line marks bs o e w h k j = mark_word n g line marks bs o e w h k j
 
 pub mark : (n : ℕ) (g : ℕ → Bool) (line : ℕ) (marks : List Bool) (bs : List ℕ) (fs : List (List ℕ)) → length marks ≡ n → record_fault n g line fs ≡ None → ((k : ℕ) → k < n → get_or marks k false ≡ has bs k)
-    → (k : ℕ) → k < n → get_or (marks_after fs marks) k false ≡ has (bs ++ blocks_in fs) k
+    → (k : ℕ) → k < n → get_or (marks_after fs marks) k false ≡ has (bs ++ blocks_of_fields fs) k
 mark n g line marks bs fs e w h k j = mark_by (is_passed fs) n g line marks bs (block_word fs) e w h k j

@@ -52,12 +52,12 @@ abbrev pub block_in : Option (List ℕ) → List ℕ
 block_in None = []
 block_in (Some word) = number_of word ∷ []
 
-abbrev pub blocks_in : List (List ℕ) → List ℕ
-blocks_in fields = cond (is_passed fields) [] (block_in (block_word fields))
+abbrev pub blocks_of_fields : List (List ℕ) → List ℕ
+blocks_of_fields fields = cond (is_passed fields) [] (block_in (block_word fields))
 
 -- The blocks that the lines name, in their order.
 abbrev pub blocks_of : List Line → List ℕ
-blocks_of lines = flat_map (λ l. blocks_in (fields_of l.text)) lines
+blocks_of lines = flat_map (λ l. blocks_of_fields (fields_of l.text)) lines
 
 -- The block is among these.
 abbrev pub has : List ℕ → ℕ → Bool

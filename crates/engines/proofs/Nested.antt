@@ -6,7 +6,7 @@ use Rattle.prec_file.specs.Records as prec
 use Rattle.closure_net.specs.Network.{holds_of}
 use Rattle.closure_net.specs.Mine.{Mine, IsBest, LiesWithin}
 use Rattle.settings_file.specs.Settings.{settings_of}
-use Rattle.shells.specs.Prices.{PricesView, blocks_of, worth_at}
+use Rattle.shells.specs.Prices.{PricesView, priced_count, worth_at}
 use Rattle.shells.specs.Series.{mine_of_prices}
 use Rattle.shells.proofs.Rising.{best_is_nested}
 use Rattle.mine_inputs.specs.PricedTexts.{cell, table_of, PricesRead}
@@ -17,15 +17,15 @@ use Rattle.engines.specs.Readings.{IsProvedPit, TellsSizes}
 use Rattle.engines.specs.Nested.{AcceptedAreNested}
 
 -- the table is of the blocks that the mine has
-table_size : (settings text : List ℕ) (n : ℕ) → PricesRead settings text n → n ≡ blocks_of (table_of settings text)
-table_size settings text n r = sym (length-map-range_with_len (cell text (unwrap_or (settings_of settings).revenue 0)) 0 (blocks.count_of text) ∙ r.count)
+table_size : (settings text : List ℕ) (n : ℕ) → PricesRead settings text n → n ≡ priced_count (table_of settings text)
+table_size settings text n r = sym (length-map-range_with_len (cell text (unwrap_or (settings_of settings).revenue 0)) 0 (blocks.record_count_of text) ∙ r.count)
 
 -- the mine of texts is that of their table
-mine_is : (settings text precedence : List ℕ) (k n : ℕ) → n ≡ blocks_of (table_of settings text) → mine_of n (priced_texts settings text precedence k) ≡ mine_of_prices (rests_by (prec.pairs_of_text precedence)) (table_of settings text) k
+mine_is : (settings text precedence : List ℕ) (k n : ℕ) → n ≡ priced_count (table_of settings text) → mine_of n (priced_texts settings text precedence k) ≡ mine_of_prices (rests_by (prec.pairs_of_text precedence)) (table_of settings text) k
 mine_is settings text precedence k n e = λ i. record { blocks = e i; rests = rests_by (prec.pairs_of_text precedence); worth = worth_at (table_of settings text) k }
 
 same_mine : (above above' : ℕ → ℕ → Bool) (table table' : PricesView) (k : ℕ) → ((b p : ℕ) → above b p ≡ above' b p) → table ≡ table' → mine_of_prices above' table' k ≡ mine_of_prices above table k
-same_mine above above' table table' k e f = let g = sym f in λ i. record { blocks = blocks_of (g i); rests = λ b p. sym (e b p) i; worth = worth_at (g i) k }
+same_mine above above' table table' k e f = let g = sym f in λ i. record { blocks = priced_count (g i); rests = λ b p. sym (e b p) i; worth = worth_at (g i) k }
 
 -- a pit that is proved in amounts that tell sizes is the best one
 best_of : (name : Group) (mine : Mine) (e : ℕ → Bool) → TellsSizes name → IsProvedPit name mine e → IsBest mine e

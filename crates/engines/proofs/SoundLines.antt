@@ -7,7 +7,7 @@ use Rattle.ordered_group.specs.Sums.{amount_at}
 use Rattle.ordered_group.specs.declared.groups.Group.{Group}
 use Rattle.closure_net.specs.Network.{NetView, FlowView, holds_of}
 use Rattle.closure_net.specs.Closure.{IsClosed}
-use Rattle.closure_net.specs.Flows.{Balanced, IsFlow, IsTight}
+use Rattle.closure_net.specs.Flows.{IsBalancedAt, IsFlow, IsTight}
 use Rattle.closure_net.specs.Mine.{IsNetOf}
 use Rattle.certificate_file.specs.declared.header.Header.{Header}
 use Rattle.certificate_file.specs.declared.body_lines.LineKind.{LineKind}
@@ -110,7 +110,7 @@ module _ (counts : Bool) (name : Group) (net : NetView) (text pit : List ℕ) (f
   refusal_leaves Negative h = absurd (not_negative h.1.kind net h.1 (line_kept h.0 h.1 h.2) h.4)
   refusal_leaves (OverCapacity b) h = absurd (not_over h.1.kind net h.1 (line_kept h.0 h.1 h.2) h.4.1)
   refusal_leaves (Unbalanced b) h =
-      let balanced : Balanced net (flow_for counts net text) b = subst (λ (f : FlowView). Balanced net f b) (sym flow_is) (p.proves.is_flow.balance b h.1.0) in
+      let balanced : IsBalancedAt net (flow_for counts net text) b = subst (λ (f : FlowView). IsBalancedAt net f b) (sym flow_is) (p.proves.is_flow.balance b h.1.0) in
       absurd (h.1.2 balanced)
   refusal_leaves NotTight h =
       let T : FlowView → Type 0 = λ f. IsTight net f (holds_of pit) in

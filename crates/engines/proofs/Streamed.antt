@@ -7,7 +7,7 @@ use Rattle.ordered_group.specs.Amount.{Amount}
 use Rattle.ordered_group.specs.declared.groups.Group.{Group}
 use Rattle.prec_file.specs.Rests.{IsFirstNot}
 use Rattle.closure_net.specs.Network.{NetView, IsNet, IsAscending, holds_of}
-use Rattle.closure_net.specs.Flows.{Balanced, IsTight}
+use Rattle.closure_net.specs.Flows.{IsBalancedAt, IsTight}
 use Rattle.closure_net.specs.Mine.{IsNetOf}
 use Rattle.certificate_file.specs.declared.cert_fault.CertFault.{CertFault}
 use Rattle.certificate_file.specs.declared.cert_fault.CertFault.TheVariants as cert
@@ -76,10 +76,10 @@ module _ (name : Group) (counts : Bool) (net : NetView) (text body left : List �
   refusal Negative h = (h.0, h.1, begins (h.0 ++ h.1 ∷ []) h.2, h.3, h.4)
   refusal (OverCapacity b) h = (h.0, h.1, begins (h.0 ++ h.1 ∷ []) h.2, h.3, h.4)
   refusal (Unbalanced b) h =
-      let P : List BodyLine → Type 0 = λ ls. IsFirstNot (Balanced net (flow_of (length net.worths) net.pairs ls)) (length net.worths) b in
+      let P : List BodyLine → Type 0 = λ ls. IsFirstNot (IsBalancedAt net (flow_of (length net.worths) net.pairs ls)) (length net.worths) b in
       ((within h.0, no_fault h.0), subst P (whole_lines h.0.ends) h.1)
   refusal NotTight h =
-      let P : List BodyLine → Type 0 = λ ls. ((b : ℕ) → b < length net.worths → Balanced net (flow_of (length net.worths) net.pairs ls) b) × ¬ (IsTight net (flow_of (length net.worths) net.pairs ls) (holds_of (pit_of ls))) in
+      let P : List BodyLine → Type 0 = λ ls. ((b : ℕ) → b < length net.worths → IsBalancedAt net (flow_of (length net.worths) net.pairs ls) b) × ¬ (IsTight net (flow_of (length net.worths) net.pairs ls) (holds_of (pit_of ls))) in
       let told = subst P (whole_lines h.0.ends) (h.1, h.2) in
       ((within h.0, no_fault h.0), told.0, told.1)
   refusal TooLarge h = (h.0, h.1, begins (h.0 ++ h.1 ∷ []) h.2, h.3, h.4)

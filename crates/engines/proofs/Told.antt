@@ -7,13 +7,13 @@ use Rattle.ordered_group.specs.Laws.{SumsTellWorth}
 use Rattle.ordered_group.proofs.Totals.Ranges.{total-same}
 use Rattle.closure_net.specs.Network.{NetView, IsAscending, holds_of}
 use Rattle.closure_net.specs.Closure.{group_worth}
-use Rattle.closure_net.specs.Mine.{IsNetOf, worth_of, count_of}
+use Rattle.closure_net.specs.Mine.{IsNetOf, worth_of, block_count_of}
 use Rattle.mine_inputs.specs.Mines.{MineTexts, mine_of}
 use Rattle.engines.proofs.Counted.{count_in-ascending}
 
 module _ (block : ℤ → ℕ → Amount) (texts : MineTexts) (net : NetView) (of_mine : IsNetOf block (mine_of (length net.worths) texts) net) (pit : List ℕ) (ascending : IsAscending pit) (below : All (λ b. b < length net.worths) pit) (count : ℕ) (c : count ≡ length pit) where
   -- as many as the pit lists
-  pub size_told : count_of (mine_of (length net.worths) texts) (holds_of pit) ≡ count
+  pub size_told : block_count_of (mine_of (length net.worths) texts) (holds_of pit) ≡ count
   size_told = count_in-ascending pit (length net.worths) ascending below ∙ sym c
 
   group_sum_is : group_worth net.worths (holds_of pit) ≡ group_sum block (mine_of (length net.worths) texts).worth (holds_of pit) (length net.worths)

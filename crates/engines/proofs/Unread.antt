@@ -87,20 +87,20 @@ few_records records true e h = absurd cc
 few_records records false e h = grind (arith, nat_tests)
 
 -- a text without a fault has at most `MOST_BLOCKS` blocks
-few_blocks : (text chosen : List ℕ) → blocks.fault_of chosen text ≡ None → blocks.count_of text ≤ MOST_BLOCKS
+few_blocks : (text chosen : List ℕ) → blocks.fault_of chosen text ≡ None → blocks.record_count_of text ≤ MOST_BLOCKS
 few_blocks text chosen h =
-    let records = blocks.record_lines (blocks.lines_in text) in
+    let records = blocks.record_line_numbers (blocks.lines_in text) in
     few_records records (nat_lt MOST_BLOCKS (length records)) refl (or_second (blocks.long_fault (blocks.lines_in text)) (blocks.many_fault (blocks.lines_in text)) (or_none _ _ h))
 
 -- the columns of a text of blocks have one length, and no revenue is negative
-are_charged : (charges : ChargeColumns) (text : List ℕ) (n : ℕ) → n ≡ blocks.count_of text → AreCharged (costs_at charges text) n
-are_charged (Plain cost) text n e = length-map-range_with_len (cell text cost) 0 (blocks.count_of text) ∙ sym e
-are_charged (Mill processing mining) text n e = (length-map-range_with_len (cell text processing) 0 (blocks.count_of text) ∙ sym e, length-map-range_with_len (cell text mining) 0 (blocks.count_of text) ∙ sym e)
+are_charged : (charges : ChargeColumns) (text : List ℕ) (n : ℕ) → n ≡ blocks.record_count_of text → AreCharged (costs_at charges text) n
+are_charged (Plain cost) text n e = length-map-range_with_len (cell text cost) 0 (blocks.record_count_of text) ∙ sym e
+are_charged (Mill processing mining) text n e = (length-map-range_with_len (cell text processing) 0 (blocks.record_count_of text) ∙ sym e, length-map-range_with_len (cell text mining) 0 (blocks.record_count_of text) ∙ sym e)
 
 table_stands : (settings text : List ℕ) (n : ℕ) (fault : PricesFault) → PricesRead settings text n → PricesFail settings text fault → ⊥
 table_stands settings text n prices_fault.WrongLength r h =
     let said = settings_of settings in
-    let revenues = length-map-range_with_len (cell text (unwrap_or said.revenue 0)) 0 (blocks.count_of text) in
+    let revenues = length-map-range_with_len (cell text (unwrap_or said.revenue 0)) 0 (blocks.record_count_of text) in
     elim h.stands [ inl uncharged ↦ uncharged (are_charged (columns_said said).charges text (length (table_of settings text).revenue) revenues) | inr many ↦ omega (arith, many, revenues, few_blocks text (price_columns said) r.read) ]
 table_stands settings text n (prices_fault.NegativeRevenue b) r h =
     let first = h.stands.2 in

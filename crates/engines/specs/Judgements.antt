@@ -2,7 +2,7 @@
 use Rattle.std.specs.Prelude.{◌≡◌, ℕ, ℤ, List}
 use Rattle.ordered_group.specs.declared.groups.Group.{Group}
 use Rattle.closure_net.specs.Network.{NetView, IsNet, holds_of}
-use Rattle.closure_net.specs.Mine.{IsNetOf, worth_of, count_of}
+use Rattle.closure_net.specs.Mine.{IsNetOf, worth_of, block_count_of}
 use Rattle.check_pit.specs.Checks.{ProvesPit}
 use Rattle.check_pit.specs.declared.pit_fault.PitFault.{PitFault}
 use Rattle.engines.specs.declared.judgement.Judgement.{Judgement}
@@ -19,7 +19,7 @@ pub record CertificateAccepted (texts : MineTexts) (certificate : List ℕ) (nam
   pub group : read.group ≡ name
   pub proves : ProvesPit read.net read.flow read.pit
   pub proved : IsProvedPit name (mine_of read.blocks texts) (holds_of read.pit)
-  pub count : count_of (mine_of read.blocks texts) (holds_of read.pit) ≡ blocks
+  pub count : block_count_of (mine_of read.blocks texts) (holds_of read.pit) ≡ blocks
   pub worth : worth_of (mine_of read.blocks texts) (holds_of read.pit) ≡ nanos
 
 -- The texts denote a mine and its net, and the header of the certificate is one for it; and the certificate doesn't prove its pit, for this reason.

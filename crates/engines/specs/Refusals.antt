@@ -3,7 +3,7 @@ use Rattle.std.specs.Prelude.{◌≡◌, ℕ, ◌<◌, Bool, List, [], ◌∷◌
 use Rattle.ordered_group.specs.declared.groups.Group.{Group}
 use Rattle.prec_file.specs.Rests.{IsFirstNot}
 use Rattle.closure_net.specs.Network.{NetView, FlowView, holds_of}
-use Rattle.closure_net.specs.Flows.{Balanced, IsTight}
+use Rattle.closure_net.specs.Flows.{IsBalancedAt, IsTight}
 use Rattle.certificate_file.specs.declared.body_lines.BodyLine.{BodyLine}
 use Rattle.check_pit.specs.declared.pit_fault.PitFault.{PitFault}
 use Rattle.check_pit.specs.declared.pit_fault.PitFault.TheVariants.{WrongSize, NotClosed, Negative, OverCapacity, Unbalanced, NotTight, TooLarge}
@@ -51,8 +51,8 @@ TextRefused counts name net text WrongSize = ⊥
 TextRefused counts name net text (NotClosed b p) = (pit : List ℕ) × SaysPit counts name net text pit × IsFirstOpen net.pairs (holds_of pit) (b, p)
 TextRefused counts name net text Negative = TextRefusesLine counts net text Negative
 TextRefused counts name net text (OverCapacity b) = TextRefusesLine counts net text (OverCapacity b)
-TextRefused counts name net text (Unbalanced b) = IsFaultless counts name net text × IsFirstNot (Balanced net (flow_for counts net text)) (length net.worths) b
+TextRefused counts name net text (Unbalanced b) = IsFaultless counts name net text × IsFirstNot (IsBalancedAt net (flow_for counts net text)) (length net.worths) b
 TextRefused counts name net text NotTight =
-    IsFaultless counts name net text × ((b : ℕ) → b < length net.worths → Balanced net (flow_for counts net text) b)
+    IsFaultless counts name net text × ((b : ℕ) → b < length net.worths → IsBalancedAt net (flow_for counts net text) b)
     × ¬ (IsTight net (flow_for counts net text) (holds_of (pit_of (lines_for counts net text))))
 TextRefused counts name net text TooLarge = TextRefusesLine counts net text TooLarge

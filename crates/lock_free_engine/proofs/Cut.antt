@@ -3,7 +3,7 @@ use Rattle.std.proofs.Common.{◌≡◌, ℕ, ◌<◌, Bool, true, false, List, 
 use Rattle.std.proofs.lemmas.Int.{ints}
 use Rattle.ordered_group.specs.Amount.{Amount, zero_amount, plus, minus, AtMost, Below, positive, negative}
 use Rattle.ordered_group.specs.Sums.{total, where_so, amount_at}
-use Rattle.ordered_group.proofs.Order.{AtMost-refl, AtMost-both, Below-most, most_or_below, positive-negative, larger-right}
+use Rattle.ordered_group.proofs.Order.{AtMost-refl, AtMost-both, Below-most, most_or_below, positive-negative, larger_amount-right}
 use Rattle.ordered_group.proofs.Totals.{total-same, total-plus, total_mono, total_term, total_nonneg, total_none_each, where_nonneg}
 use Rattle.prec_file.specs.Rests.{IsKnown}
 use Rattle.closure_net.specs.Network.{NetView, FlowView}
@@ -13,14 +13,14 @@ use Rattle.closure_net.proofs.Duality.{PairsKnown, greatest_from_tight}
 use Rattle.machine_law.specs.Conservation.{all_given}
 use Rattle.machine_law.proofs.Numbers.{same, equal}
 use Rattle.machine_law.proofs.Quiet.{quiet_solves}
-use Rattle.word_runner.specs.CutNets.{IsCut, net_with}
+use Rattle.word_runner.specs.CutNets.{IsCut, net_with_worths}
 use Rattle.word_runner.specs.Runs.{IsQuietRunOf}
 use Rattle.lock_free_engine.specs.Tightness.{RunsAreTight}
 
 -- ---- a block that takes all that there is
 
 nonneg : (x : Amount) → AtMost zero_amount (positive x)
-nonneg x = larger-right x zero_amount
+nonneg x = larger_amount-right x zero_amount
 
 -- a set sums to the positive worths at most, less what any of its blocks may give the sink
 module _ (n : ℕ) (w : ℕ → Amount) (e : ℕ → Bool) where
@@ -65,14 +65,14 @@ module _ (net : NetView) (flow : FlowView) (is : IsFlow net flow) (none : AtMost
 
 -- ---- the net and the one that is cut
 module _ (net : NetView) (ws : List Amount) (c : IsCut net ws) (flow : FlowView) (is : IsFlow net flow) where
-  reaches_cut : (e : ℕ → Bool) → Reaches net flow e → Reaches (net_with net ws) flow e
+  reaches_cut : (e : ℕ → Bool) → Reaches net flow e → Reaches (net_with_worths net ws) flow e
   reaches_cut e r = let z = c.size in record {
     begins = λ b l o. let k : b < length net.worths = omega (arith, l, z) in r.begins b k (λ m. o (subst (λ (x : Amount). AtMost x (amount_at flow.source b)) (sym (c.positives b k)) m));
     down = r.down;
     up = r.up;
   }
 
-  reaches_uncut : (e : ℕ → Bool) → Reaches (net_with net ws) flow e → Reaches net flow e
+  reaches_uncut : (e : ℕ → Bool) → Reaches (net_with_worths net ws) flow e → Reaches net flow e
   reaches_uncut e r = let z = c.size in record {
     begins = λ b l o. r.begins b (omega (arith, l, z)) (λ m. o (subst (λ (x : Amount). AtMost x (amount_at flow.source b)) (c.positives b l) m));
     down = r.down;
@@ -80,10 +80,10 @@ module _ (net : NetView) (ws : List Amount) (c : IsCut net ws) (flow : FlowView)
   }
 
   -- it reaches the same blocks in either
-  reached_cut : (e : ℕ → Bool) → IsReached net flow e → IsReached (net_with net ws) flow e
+  reached_cut : (e : ℕ → Bool) → IsReached net flow e → IsReached (net_with_worths net ws) flow e
   reached_cut e r = (reaches_cut e r.0, λ d s b t. r.1 d (reaches_uncut d s) b t)
 
-  module _ (e : ℕ → Bool) (r : IsReached net flow e) (tight : IsTight (net_with net ws) flow e) where
+  module _ (e : ℕ → Bool) (r : IsReached net flow e) (tight : IsTight (net_with_worths net ws) flow e) where
     abbrev n : ℕ
     n = length net.worths
 
@@ -128,9 +128,9 @@ runs_are_tight net workers limit flow steps is s =
     let k = s.is_cut in
     let ws = k.worths in
     let known : PairsKnown net = is.rests.known in
-    let quiet : IsQuietRunOf (net_with net ws) s.made flow = subst (λ (x : NetView). IsQuietRunOf x s.made flow) k.is s.quiet in
-    let cut_known : PairsKnown (net_with net ws) = subst (λ (n : ℕ). All (IsKnown n) net.pairs) (sym k.cuts.size) known in
-    let solved = quiet_solves (net_with net ws) quiet.run.events quiet.run.machine flow cut_known quiet.run.run quiet.quiet quiet.amounts in
+    let quiet : IsQuietRunOf (net_with_worths net ws) s.made flow = subst (λ (x : NetView). IsQuietRunOf x s.made flow) k.is s.quiet in
+    let cut_known : PairsKnown (net_with_worths net ws) = subst (λ (n : ℕ). All (IsKnown n) net.pairs) (sym k.cuts.size) known in
+    let solved = quiet_solves (net_with_worths net ws) quiet.run.events quiet.run.machine flow cut_known quiet.run.run quiet.quiet quiet.amounts in
     let flows = s.greatest.is_flow in
     let closed = λ (e : ℕ → Bool) (r : IsReached net flow e). solved.closed e (reached_cut net ws k.cuts flow flows e r) in
     let tight = λ (e : ℕ → Bool) (r : IsReached net flow e). tight_uncut net ws k.cuts flow flows e r (solved.tight e (reached_cut net ws k.cuts flow flows e r)) in

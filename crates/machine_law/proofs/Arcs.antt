@@ -11,7 +11,7 @@ use Rattle.closure_net.specs.Network.{NetView}
 use Rattle.machine_law.specs.States.{with_value_at}
 use Rattle.machine_law.specs.Labels.{arcs}
 use Rattle.machine_law.proofs.Numbers.{Same, same, shifted}
-use Rattle.machine_law.proofs.Points.{total-put}
+use Rattle.machine_law.proofs.Points.{total-with_value_at}
 
 module _ (net : NetView) where
   -- fewer arcs, of lesser flow
@@ -41,14 +41,14 @@ module _ (net : NetView) where
       ])
 
   -- the flow of one pair is changed
-  pub arcs-put : (f : ℕ → Bool) (u : ℕ → Amount) (x i : ℕ) (v : Amount) → i < length net.pairs → Same (plus (arcs net f (with_value_at u i v) x) (where_so ((to_at net.pairs i == x) && f i) (u i))) (plus (arcs net f u x) (where_so ((to_at net.pairs i == x) && f i) v))
+  pub arcs-with_value_at : (f : ℕ → Bool) (u : ℕ → Amount) (x i : ℕ) (v : Amount) → i < length net.pairs → Same (plus (arcs net f (with_value_at u i v) x) (where_so ((to_at net.pairs i == x) && f i) (u i))) (plus (arcs net f u x) (where_so ((to_at net.pairs i == x) && f i) v))
   unfolding arcs
-  arcs-put f u x i v l = total-put (λ k a. where_so ((to_at net.pairs k == x) && f k) a) u i v (length net.pairs) l
+  arcs-with_value_at f u x i v l = total-with_value_at (λ k a. where_so ((to_at net.pairs k == x) && f k) a) u i v (length net.pairs) l
 
   -- more flow on one pair adds at most as much, and only where it ends at x
   pub arcs-plus : (f : ℕ → Bool) (u : ℕ → Amount) (x i y : ℕ) (d : Amount) → i < length net.pairs → to_at net.pairs i ≡ y → AtMost zero_amount d → AtMost (arcs net f (with_value_at u i (plus (u i) d)) x) (plus (arcs net f u x) (where_so (y == x) d))
   arcs-plus f u x i y d l e n =
-      let t = arcs-put f u x i (plus (u i) d) l in
+      let t = arcs-with_value_at f u x i (plus (u i) d) l in
       let g = same (where_so-plus ((to_at net.pairs i == x) && f i) (u i) d) in
       let m = where_most ((to_at net.pairs i == x) && f i) (y == x) d d (λ q. rw (← e) ((and_parts (to_at net.pairs i == x) (f i) q).0)) (AtMost-refl d) n in
       shifted m (record { w = omega (arith, ints, t, g); c = omega (arith, ints, t, g) })

@@ -13,18 +13,18 @@ use Rattle.machine_law.specs.declared.operations.Operation.{Operation}
 use Rattle.machine_law.specs.declared.operations.Operation.TheVariants.{Idle, PushDue, TakeDue, GiveDue, RaiseDue}
 use Rattle.machine_law.specs.States.{State, with_value_at}
 use Rattle.machine_law.specs.Residual.{IsEnd, IsPortOf}
-use Rattle.machine_law.specs.Steps.{becomes, after_push, after_push_by, after_take, after_give, after_give_by, after_raise}
-use Rattle.machine_law.specs.Transit.{sum_on_way, lands_by, into_sink, into_source, amount_coming_to_sink, amount_coming_to_source, amount_given_back, amount_drained}
+use Rattle.machine_law.specs.Steps.{with_operation, after_push, after_push_by, after_take, after_give, after_give_by, after_raise}
+use Rattle.machine_law.specs.Transit.{sum_on_way, amount_landing_by, into_sink, into_source, amount_coming_to_sink, amount_coming_to_source, amount_given_back, amount_drained}
 use Rattle.machine_law.specs.Balances.{balance, supply, IsBalanced}
 use Rattle.machine_law.proofs.Numbers.{Same, same, equal}
-use Rattle.machine_law.proofs.Points.{where-put}
-use Rattle.machine_law.proofs.Sums.{inflow-plus, outflow-plus, inflow-minus, outflow-minus, sum_on_way-put, amount_given_back-more, amount_drained-more}
+use Rattle.machine_law.proofs.Points.{where-with_value_at}
+use Rattle.machine_law.proofs.Sums.{inflow-plus, outflow-plus, inflow-minus, outflow-minus, sum_on_way-with_value_at, amount_given_back-more, amount_drained-more}
 use Rattle.machine_law.proofs.PortLists.{port_with}
 use Rattle.machine_law.proofs.Supply.{IsAtRest, way_rest, supply_rest, supply_pushed, supply_taken, supply_given}
 
 module _ (net : NetView) (s : State) (b : ℕ) (l : b < length net.worths) (k : IsBalanced net s) where
   -- ---- reads and raises
-  pub balanced_rest : (old new : Operation Amount) → s.operation b ≡ old → IsAtRest old → IsAtRest new → IsBalanced net (becomes s b new)
+  pub balanced_rest : (old new : Operation Amount) → s.operation b ≡ old → IsAtRest old → IsAtRest new → IsBalanced net (with_operation s b new)
   balanced_rest old new e r n = record {
     blocks = λ x. let h = same (k.blocks x) in let v = supply_rest net s b l x old new e r n in equal (record { w = omega (arith, ints, h, v); c = omega (arith, ints, h, v) });
     at_source = let h = same k.at_source in let v = way_rest net s b l old new into_source e r n in equal (record { w = omega (arith, ints, h, v); c = omega (arith, ints, h, v) });
@@ -35,9 +35,9 @@ module _ (net : NetView) (s : State) (b : ℕ) (l : b < length net.worths) (k : 
   balanced_raised have best e = let r = balanced_rest (RaiseDue have best) Idle e tt tt in record { blocks = r.blocks; at_source = r.at_source; at_sink = r.at_sink }
 
   -- ---- the capacity step
-  balance_pushed : (d : Amount) (kind : PortKind) (other slot x : ℕ) → IsEnd net b kind other slot → Same (balance net (after_push_by s b d (port_with kind other slot) kind) x) (minus (plus (balance net s x) (lands_by kind other x d)) (where_so (b == x) d))
+  balance_pushed : (d : Amount) (kind : PortKind) (other slot x : ℕ) → IsEnd net b kind other slot → Same (balance net (after_push_by s b d (port_with kind other slot) kind) x) (minus (plus (balance net s x) (amount_landing_by kind other x d)) (where_so (b == x) d))
   balance_pushed d Sink other slot x q =
-      let i = where-put (λ a. a) s.sink b (s.sink b) (plus (s.sink b) d) x refl in
+      let i = where-with_value_at (λ a. a) s.sink b (s.sink b) (plus (s.sink b) d) x refl in
       let m = same (where_so-plus (b == x) (s.sink b) d) in
       record { w = omega (arith, ints, i, m); c = omega (arith, ints, i, m) }
   balance_pushed d Forward other slot x q =
@@ -49,13 +49,13 @@ module _ (net : NetView) (s : State) (b : ℕ) (l : b < length net.worths) (k : 
       let o = outflow-minus net s.flow slot other d x q.0 q.2 in
       record { w = omega (arith, ints, i, o); c = omega (arith, ints, i, o) }
   balance_pushed d Source other slot x q =
-      let i = where-put (λ a. a) s.source b (s.source b) (minus (s.source b) d) x refl in
+      let i = where-with_value_at (λ a. a) s.source b (s.source b) (minus (s.source b) d) x refl in
       let m = same (where_so-minus (b == x) (s.source b) d) in
       record { w = omega (arith, ints, i, m); c = omega (arith, ints, i, m) }
 
   way_pushed : (f : Port → Amount → Amount) (have : Amount) (best : Best Amount) (d : Amount) (p : Port) → s.operation b ≡ PushDue have best → Same (sum_on_way net f (with_value_at s.operation b (TakeDue d p))) (plus (sum_on_way net f s.operation) (f p d))
   way_pushed f have best d p e =
-      let c = sum_on_way-put net f s.operation b (PushDue have best) (TakeDue d p) l e in
+      let c = sum_on_way-with_value_at net f s.operation b (PushDue have best) (TakeDue d p) l e in
       record { w = omega (arith, ints, c); c = omega (arith, ints, c) }
 
   -- what the source has got back, and what the sink has got
@@ -114,7 +114,7 @@ module _ (net : NetView) (s : State) (b : ℕ) (l : b < length net.worths) (k : 
   -- ---- the excess steps
   way_taken : (f : Port → Amount → Amount) (d : Amount) (p : Port) → s.operation b ≡ TakeDue d p → Same (sum_on_way net f (with_value_at s.operation b (GiveDue d p))) (sum_on_way net f s.operation)
   way_taken f d p e =
-      let c = sum_on_way-put net f s.operation b (TakeDue d p) (GiveDue d p) l e in
+      let c = sum_on_way-with_value_at net f s.operation b (TakeDue d p) (GiveDue d p) l e in
       record { w = omega (arith, ints, c); c = omega (arith, ints, c) }
 
   pub balanced_taken : (d : Amount) (p : Port) → s.operation b ≡ TakeDue d p → IsBalanced net (after_take s b d p)
@@ -126,7 +126,7 @@ module _ (net : NetView) (s : State) (b : ℕ) (l : b < length net.worths) (k : 
 
   way_given : (f : Port → Amount → Amount) (d : Amount) (p : Port) → s.operation b ≡ GiveDue d p → Same (plus (sum_on_way net f (with_value_at s.operation b Idle)) (f p d)) (sum_on_way net f s.operation)
   way_given f d p e =
-      let c = sum_on_way-put net f s.operation b (GiveDue d p) Idle l e in
+      let c = sum_on_way-with_value_at net f s.operation b (GiveDue d p) Idle l e in
       record { w = omega (arith, ints, c); c = omega (arith, ints, c) }
 
   balanced_given_by : (d : Amount) (kind : PortKind) (other slot : ℕ) → s.operation b ≡ GiveDue d (port_with kind other slot) → ((x : ℕ) → balance net (after_give_by s b d (port_with kind other slot) kind) x ≡ supply net (after_give_by s b d (port_with kind other slot) kind) x) → IsBalanced net (after_give_by s b d (port_with kind other slot) kind)

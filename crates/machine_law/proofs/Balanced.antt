@@ -17,9 +17,9 @@ use Rattle.machine_law.specs.declared.operations.Operation.{Operation}
 use Rattle.machine_law.specs.declared.operations.Operation.TheVariants.{Idle, Scan, PushDue, TakeDue, GiveDue, RaiseDue}
 use Rattle.machine_law.specs.States.{State, opening}
 use Rattle.machine_law.specs.Residual.{capacity, end_label}
-use Rattle.machine_law.specs.Reads.{is_positive, operation_begun_with, better, after_last_port, after_port, after_capacity, after_label}
+use Rattle.machine_law.specs.Reads.{is_positive, operation_begun_with, better_of, after_last_port, after_port, after_capacity, after_label}
 use Rattle.machine_law.specs.Steps.{after_look, after_look_by, after_label_at, push_amount, advance, advance_by}
-use Rattle.machine_law.specs.Transit.{sum_on_way, lands, into_sink, into_source, inflow_at, outflow_at, amount_given_back, amount_drained}
+use Rattle.machine_law.specs.Transit.{sum_on_way, amount_landing, into_sink, into_source, inflow_at, outflow_at, amount_given_back, amount_drained}
 use Rattle.machine_law.specs.Amounts.{HasAmounts, IsOperation}
 use Rattle.machine_law.specs.Balances.{IsBalanced}
 use Rattle.machine_law.proofs.Numbers.{same, equal}
@@ -44,7 +44,7 @@ rest_seen : (count label : ℕ) (have : Amount) (place : ℕ) (best : Option (Be
 rest_seen count label have place best read = rest_cond (is_positive read) (Scan have place (Some read) best) (after_port count label have place best) tt (rest_passed count label have place best)
 
 rest_chosen : (count label : ℕ) (have : Amount) (place : ℕ) (best : Option (Best Amount)) (read : Amount) (p : Port) (beyond : ℕ) → IsAtRest (after_label count label have place best read p beyond)
-rest_chosen count label have place best read p beyond = rest_passed count label have place (Some (better best (record { port = p; capacity = read; label = beyond })))
+rest_chosen count label have place best read p beyond = rest_passed count label have place (Some (better_of best (record { port = p; capacity = read; label = beyond })))
 
 module _ (net : NetView) (s : State) (b : ℕ) where
   rest_looked_by : (have : Amount) (place : ℕ) (best : Option (Best Amount)) (p : Port) (kind : PortKind) → IsAtRest (after_look_by net s b have place best p kind)
@@ -105,7 +105,7 @@ module _ (net : NetView) where
     blocks = λ b.
         let i = same (no_inflow b) in
         let o = same (no_outflow b) in
-        let c = same (nothing_on_way (lands b)) in
+        let c = same (nothing_on_way (amount_landing b)) in
         equal (record { w = omega (arith, ints, i, o, c); c = omega (arith, ints, i, o, c) });
     at_source = let g = same nothing_given_back in let c = same (nothing_on_way into_source) in equal (record { w = omega (arith, ints, g, c); c = omega (arith, ints, g, c) });
     at_sink = let g = same nothing_drained in let c = same (nothing_on_way into_sink) in equal (record { w = omega (arith, ints, g, c); c = omega (arith, ints, g, c) });

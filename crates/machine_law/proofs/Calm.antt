@@ -15,7 +15,7 @@ use Rattle.machine_law.specs.declared.operations.Operation.TheVariants.{Idle, Sc
 use Rattle.machine_law.specs.States.{State}
 use Rattle.machine_law.specs.Residual.{room, end_label, label_beyond}
 use Rattle.machine_law.specs.Balances.{supply}
-use Rattle.machine_law.specs.Labels.{arcs, steep, label_by, label_seen, ports_have, is_under, IsOpenBy, IsAbove, IsNearLabel, IsLevelIfAny, IsWalk, IsLevelled}
+use Rattle.machine_law.specs.Labels.{arcs, steep_capacity, label_by, label_seen, ports_have, is_under, IsOpenBy, IsAbove, IsNearLabel, IsLevelIfAny, IsWalk, IsLevelled}
 
 -- What a step from s to t leaves to x, whose label stays: labels only rise, and x's backward arcs gain at most what its supply does.
 pub record IsCalm (net : NetView) (s t : State) (x : ℕ) : Type 0 where
@@ -108,7 +108,7 @@ module _ (net : NetView) (s t : State) (x : ℕ) (m : IsCalm net s t x) where
   operation_calm (GiveDue d p) h = tt
   operation_calm (RaiseDue have best) h = (walk_calm have [] (Some best) h.0, rw m.own h.1)
 
-  pub steep_calm : AtMost (steep net s x) (supply net s x) → AtMost (steep net t x) (supply net t x)
+  pub steep_calm : AtMost (steep_capacity net s x) (supply net s x) → AtMost (steep_capacity net t x) (supply net t x)
   steep_calm h =
       let f : ℕ → Bool = λ k. nat_lt (t.label (from_at net.pairs k) + 1) (t.label x) in
       let g : ℕ → Bool = λ k. nat_lt (s.label (from_at net.pairs k) + 1) (s.label x) in

@@ -23,20 +23,20 @@ use Rattle.machine_law.specs.Amounts.{HasAmounts, IsOperation, IsHeld}
 use Rattle.machine_law.specs.Law.{IsLawful}
 use Rattle.machine_law.specs.Conservation.{all_given, standing_excess, amount_carried, amount_aloft, IsConserved, IsWhole, RunsConserve}
 use Rattle.machine_law.proofs.Numbers.{Same, same, equal, Below-absurd}
-use Rattle.machine_law.proofs.Points.{total-put}
+use Rattle.machine_law.proofs.Points.{total-with_value_at}
 use Rattle.machine_law.proofs.PortLists.{port_with}
 use Rattle.machine_law.proofs.Supply.{IsAtRest}
 use Rattle.machine_law.proofs.Balanced.{rest_begun, rest_looked, rest_weighed}
 use Rattle.machine_law.proofs.Law.{steps_keep_law, lawful_opening}
 
 -- ---- the sums after one change
-standing_excess-put : (net : NetView) (f : ℕ → Amount) (k : ℕ) (v : Amount) → k < length net.worths → Same (plus (standing_excess net (with_value_at f k v)) (f k)) (plus (standing_excess net f) v)
+standing_excess-with_value_at : (net : NetView) (f : ℕ → Amount) (k : ℕ) (v : Amount) → k < length net.worths → Same (plus (standing_excess net (with_value_at f k v)) (f k)) (plus (standing_excess net f) v)
 unfolding standing_excess
-standing_excess-put net f k v l = total-put (λ _ a. a) f k v (length net.worths) l
+standing_excess-with_value_at net f k v l = total-with_value_at (λ _ a. a) f k v (length net.worths) l
 
-amount_aloft-put : (net : NetView) (f : ℕ → Operation Amount) (k : ℕ) (old new : Operation Amount) → k < length net.worths → f k ≡ old → Same (plus (amount_aloft net (with_value_at f k new)) (amount_carried old)) (plus (amount_aloft net f) (amount_carried new))
+amount_aloft-with_value_at : (net : NetView) (f : ℕ → Operation Amount) (k : ℕ) (old new : Operation Amount) → k < length net.worths → f k ≡ old → Same (plus (amount_aloft net (with_value_at f k new)) (amount_carried old)) (plus (amount_aloft net f) (amount_carried new))
 unfolding amount_aloft
-amount_aloft-put net f k old new l e = rw (← e) (total-put (λ _ a. amount_carried a) f k new (length net.worths) l)
+amount_aloft-with_value_at net f k old new l e = rw (← e) (total-with_value_at (λ _ a. amount_carried a) f k new (length net.worths) l)
 
 rest_carried : (o : Operation Amount) → IsAtRest o → amount_carried o ≡ zero_amount
 rest_carried Idle h = refl
@@ -51,7 +51,7 @@ module _ (net : NetView) (known : All (IsKnown (length net.worths)) net.pairs) (
   -- an operation that carries nothing goes on to one that carries nothing
   stays : (old new : Operation Amount) → s.operation b ≡ old → amount_carried old ≡ zero_amount → amount_carried new ≡ zero_amount → plus (plus (standing_excess net s.excess) (amount_aloft net (with_value_at s.operation b new))) (plus s.at_source s.at_sink) ≡ all_given net
   stays old new e x y =
-      let a = amount_aloft-put net s.operation b old new l e in
+      let a = amount_aloft-with_value_at net s.operation b old new l e in
       let p = same x in
       let q = same y in
       let h = same k in
@@ -65,27 +65,27 @@ module _ (net : NetView) (known : All (IsKnown (length net.worths)) net.pairs) (
 
   conserved_taken : (d : Amount) (p : Port) → s.operation b ≡ TakeDue d p → IsConserved net (after_take s b d p)
   conserved_taken d p e =
-      let a = amount_aloft-put net s.operation b (TakeDue d p) (GiveDue d p) l e in
-      let x = standing_excess-put net s.excess b (minus (s.excess b) d) l in
+      let a = amount_aloft-with_value_at net s.operation b (TakeDue d p) (GiveDue d p) l e in
+      let x = standing_excess-with_value_at net s.excess b (minus (s.excess b) d) l in
       let h = same k in
       equal (record { w = omega (arith, ints, a, x, h); c = omega (arith, ints, a, x, h) })
 
   given_into : (d : Amount) (p : Port) (other : ℕ) → other < length net.worths → s.operation b ≡ GiveDue d p → plus (plus (standing_excess net (with_value_at s.excess other (plus (s.excess other) d))) (amount_aloft net (with_value_at s.operation b Idle))) (plus s.at_source s.at_sink) ≡ all_given net
   given_into d p other i e =
-      let a = amount_aloft-put net s.operation b (GiveDue d p) Idle l e in
-      let x = standing_excess-put net s.excess other (plus (s.excess other) d) i in
+      let a = amount_aloft-with_value_at net s.operation b (GiveDue d p) Idle l e in
+      let x = standing_excess-with_value_at net s.excess other (plus (s.excess other) d) i in
       let h = same k in
       equal (record { w = omega (arith, ints, a, x, h); c = omega (arith, ints, a, x, h) })
 
   conserved_given : (d : Amount) (kind : PortKind) (other slot : ℕ) → s.operation b ≡ GiveDue d (port_with kind other slot) → IsEnd net b kind other slot → IsConserved net (after_give_by s b d (port_with kind other slot) kind)
   conserved_given d Sink other slot e q =
-      let a = amount_aloft-put net s.operation b (GiveDue d (port_with Sink other slot)) Idle l e in
+      let a = amount_aloft-with_value_at net s.operation b (GiveDue d (port_with Sink other slot)) Idle l e in
       let h = same k in
       equal (record { w = omega (arith, ints, a, h); c = omega (arith, ints, a, h) })
   conserved_given d Forward other slot e q = given_into d (port_with Forward other slot) other (subst (λ (y : ℕ). y < length net.worths) q.2 (known slot (0, 0) q.0).1) e
   conserved_given d Backward other slot e q = given_into d (port_with Backward other slot) other (subst (λ (y : ℕ). y < length net.worths) q.2 (known slot (0, 0) q.0).0) e
   conserved_given d Source other slot e q =
-      let a = amount_aloft-put net s.operation b (GiveDue d (port_with Source other slot)) Idle l e in
+      let a = amount_aloft-with_value_at net s.operation b (GiveDue d (port_with Source other slot)) Idle l e in
       let h = same k in
       equal (record { w = omega (arith, ints, a, h); c = omega (arith, ints, a, h) })
 

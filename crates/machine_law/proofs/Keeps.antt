@@ -6,7 +6,7 @@ use Rattle.std.proofs.lemmas.Bool.{cond_both, ltb-true}
 use Rattle.std.proofs.lemmas.Option.{slice_get_within}
 use Rattle.ordered_group.specs.Amount.{Amount, zero_amount, plus, minus, AtMost, Below, positive, negative}
 use Rattle.ordered_group.specs.Sums.{amount_at}
-use Rattle.ordered_group.proofs.Order.{AtMost-refl, AtMost-trans, Below-most, least-left, least-right}
+use Rattle.ordered_group.proofs.Order.{AtMost-refl, AtMost-trans, Below-most, lesser_amount-left, lesser_amount-right}
 use Rattle.ordered_group.proofs.Signs.{NonNeg-plus, AtMost-plus}
 use Rattle.prec_file.specs.Rests.{to_at}
 use Rattle.closure_net.specs.Network.{NetView}
@@ -19,13 +19,13 @@ use Rattle.machine_law.specs.declared.operations.Operation.{Operation}
 use Rattle.machine_law.specs.declared.operations.Operation.TheVariants.{Idle, Scan, PushDue, TakeDue, GiveDue, RaiseDue}
 use Rattle.machine_law.specs.States.{State, with_value_at, opening}
 use Rattle.machine_law.specs.Residual.{room, capacity, capacity_by, end_label, IsEnd, IsPortOf}
-use Rattle.machine_law.specs.Reads.{is_positive, operation_begun_with, better, after_last_port, after_port, after_capacity, after_label}
-use Rattle.machine_law.specs.Steps.{becomes, after_look, after_look_by, after_label_at, push_amount, after_push, after_push_by, after_take, after_give_by, after_raise, advance, advance_by}
+use Rattle.machine_law.specs.Reads.{is_positive, operation_begun_with, better_of, after_last_port, after_port, after_capacity, after_label}
+use Rattle.machine_law.specs.Steps.{with_operation, after_look, after_look_by, after_label_at, push_amount, after_push, after_push_by, after_take, after_give_by, after_raise, advance, advance_by}
 use Rattle.machine_law.specs.Transit.{amount_owed}
 use Rattle.machine_law.specs.Amounts.{HasAmounts, IsWithin, IsWithinBy, IsBestPort, IsBestIfAny, IsReadCapacity, IsHeld, IsDue, IsOperation}
 use Rattle.machine_law.specs.Balances.{IsBalanced}
-use Rattle.machine_law.proofs.Numbers.{shifted, joined, Below-least, positive-yes}
-use Rattle.machine_law.proofs.Points.{put-other, put-each}
+use Rattle.machine_law.proofs.Numbers.{shifted, joined, Below-lesser_amount, positive-yes}
+use Rattle.machine_law.proofs.Points.{with_value_at-other, with_value_at-each}
 use Rattle.machine_law.proofs.PortLists.{port_with, port-at}
 use Rattle.machine_law.proofs.Coming.{has_port}
 use Rattle.std.proofs.lemmas.Grind.{common_steps}
@@ -80,16 +80,16 @@ module _ (net : NetView) (s t : State) (x : ℕ) (m : IsMore net s t x) where
 
 -- ---- the amount of a push
 pub push_most : (have : Amount) (kind : PortKind) (read : Amount) → AtMost (push_amount have kind read) have
-push_most have Sink read = least-left have read
+push_most have Sink read = lesser_amount-left have read
 push_most have Forward read = AtMost-refl have
-push_most have Backward read = least-left have read
-push_most have Source read = least-left have read
+push_most have Backward read = lesser_amount-left have read
+push_most have Source read = lesser_amount-left have read
 
 pub push_some : (net : NetView) (s : State) (b : ℕ) (have : Amount) (kind : PortKind) (slot : ℕ) (read : Amount) → Below zero_amount have → IsWithinBy net s b kind slot read → Below zero_amount (push_amount have kind read)
-push_some net s b have Sink slot read h w = Below-least have read h w.0
+push_some net s b have Sink slot read h w = Below-lesser_amount have read h w.0
 push_some net s b have Forward slot read h w = h
-push_some net s b have Backward slot read h w = Below-least have read h w.0
-push_some net s b have Source slot read h w = Below-least have read h w.0
+push_some net s b have Backward slot read h w = Below-lesser_amount have read h w.0
+push_some net s b have Source slot read h w = Below-lesser_amount have read h w.0
 
 held_push : (net : NetView) (s : State) (b : ℕ) (have : Amount) (kind : PortKind) (slot : ℕ) (read : Amount) → IsHeld s b have → IsWithinBy net s b kind slot read → IsHeld s b (push_amount have kind read)
 held_push net s b have kind slot read h w = record { some = push_some net s b have kind slot read h.some w; held = AtMost-trans (push_amount have kind read) have (s.excess b) (push_most have kind read) h.held }
@@ -103,17 +103,17 @@ module _ (net : NetView) (s : State) (b : ℕ) (k : HasAmounts net s) where
       let p = port_with Sink other slot in
       let t = after_push_by s b d p Sink in
       let new = NonNeg-plus (s.sink b) d (k.sink b) (Below-most zero_amount d hd.some) in
-      let most : AtMost (plus (s.sink b) d) (negative (amount_at net.worths b)) = joined (least-right have read) w.1 (record { w = omega (arith, ints); c = omega (arith, ints) }) in
+      let most : AtMost (plus (s.sink b) d) (negative (amount_at net.worths b)) = joined (lesser_amount-right have read) w.1 (record { w = omega (arith, ints); c = omega (arith, ints) }) in
       record {
         excess = k.excess;
         source = k.source;
         source_most = k.source_most;
-        sink = put-each (λ _ a. AtMost zero_amount a) s.sink b (plus (s.sink b) d) new (λ i ne. k.sink i);
-        sink_most = put-each (λ i a. AtMost a (negative (amount_at net.worths i))) s.sink b (plus (s.sink b) d) most (λ i ne. k.sink_most i);
+        sink = with_value_at-each (λ _ a. AtMost zero_amount a) s.sink b (plus (s.sink b) d) new (λ i ne. k.sink i);
+        sink_most = with_value_at-each (λ i a. AtMost a (negative (amount_at net.worths i))) s.sink b (plus (s.sink b) d) most (λ i ne. k.sink_most i);
         flow = k.flow;
         at_source = k.at_source;
         at_sink = k.at_sink;
-        operation = put-each (λ i o. IsOperation net t i o) s.operation b (TakeDue d p) (record { some = hd.some; held = hd.held }, q) (λ i ne. operation_more net s t i (record { excess = AtMost-refl (s.excess i); sink = put-other s.sink b (plus (s.sink b) d) i ne; source = refl; flow = λ j e. AtMost-refl (s.flow j) }) (s.operation i) (k.operation i));
+        operation = with_value_at-each (λ i o. IsOperation net t i o) s.operation b (TakeDue d p) (record { some = hd.some; held = hd.held }, q) (λ i ne. operation_more net s t i (record { excess = AtMost-refl (s.excess i); sink = with_value_at-other s.sink b (plus (s.sink b) d) i ne; source = refl; flow = λ j e. AtMost-refl (s.flow j) }) (s.operation i) (k.operation i));
       }
   amounts_pushed_by have Forward other slot read h q w =
       let d = push_amount have Forward read in
@@ -128,45 +128,45 @@ module _ (net : NetView) (s : State) (b : ℕ) (k : HasAmounts net s) where
         source_most = k.source_most;
         sink = k.sink;
         sink_most = k.sink_most;
-        flow = put-each (λ _ a. AtMost zero_amount a) s.flow slot (plus (s.flow slot) d) new (λ i ne. k.flow i);
+        flow = with_value_at-each (λ _ a. AtMost zero_amount a) s.flow slot (plus (s.flow slot) d) new (λ i ne. k.flow i);
         at_source = k.at_source;
         at_sink = k.at_sink;
-        operation = put-each (λ i o. IsOperation net t i o) s.operation b (TakeDue d p) (record { some = hd.some; held = hd.held }, q) (λ i ne. operation_more net s t i (record { excess = AtMost-refl (s.excess i); sink = refl; source = refl; flow = λ j e. put-each (λ n a. AtMost (s.flow n) a) s.flow slot (plus (s.flow slot) d) (AtMost-plus (s.flow slot) d dn) (λ n _. AtMost-refl (s.flow n)) j }) (s.operation i) (k.operation i));
+        operation = with_value_at-each (λ i o. IsOperation net t i o) s.operation b (TakeDue d p) (record { some = hd.some; held = hd.held }, q) (λ i ne. operation_more net s t i (record { excess = AtMost-refl (s.excess i); sink = refl; source = refl; flow = λ j e. with_value_at-each (λ n a. AtMost (s.flow n) a) s.flow slot (plus (s.flow slot) d) (AtMost-plus (s.flow slot) d dn) (λ n _. AtMost-refl (s.flow n)) j }) (s.operation i) (k.operation i));
       }
   amounts_pushed_by have Backward other slot read h q w =
       let d = push_amount have Backward read in
       let hd = held_push net s b have Backward slot read h w in
       let p = port_with Backward other slot in
       let t = after_push_by s b d p Backward in
-      let new : AtMost zero_amount (minus (s.flow slot) d) = joined (least-right have read) w.1 (record { w = omega (arith, ints); c = omega (arith, ints) }) in
+      let new : AtMost zero_amount (minus (s.flow slot) d) = joined (lesser_amount-right have read) w.1 (record { w = omega (arith, ints); c = omega (arith, ints) }) in
       record {
         excess = k.excess;
         source = k.source;
         source_most = k.source_most;
         sink = k.sink;
         sink_most = k.sink_most;
-        flow = put-each (λ _ a. AtMost zero_amount a) s.flow slot (minus (s.flow slot) d) new (λ i ne. k.flow i);
+        flow = with_value_at-each (λ _ a. AtMost zero_amount a) s.flow slot (minus (s.flow slot) d) new (λ i ne. k.flow i);
         at_source = k.at_source;
         at_sink = k.at_sink;
-        operation = put-each (λ i o. IsOperation net t i o) s.operation b (TakeDue d p) (record { some = hd.some; held = hd.held }, q) (λ i ne. operation_more net s t i (record { excess = AtMost-refl (s.excess i); sink = refl; source = refl; flow = λ j e. put-each (λ n a. to_at net.pairs n ≡ i → AtMost (s.flow n) a) s.flow slot (minus (s.flow slot) d) (λ at. absurd (ne (sym at ∙ q.1))) (λ n _ _. AtMost-refl (s.flow n)) j e }) (s.operation i) (k.operation i));
+        operation = with_value_at-each (λ i o. IsOperation net t i o) s.operation b (TakeDue d p) (record { some = hd.some; held = hd.held }, q) (λ i ne. operation_more net s t i (record { excess = AtMost-refl (s.excess i); sink = refl; source = refl; flow = λ j e. with_value_at-each (λ n a. to_at net.pairs n ≡ i → AtMost (s.flow n) a) s.flow slot (minus (s.flow slot) d) (λ at. absurd (ne (sym at ∙ q.1))) (λ n _ _. AtMost-refl (s.flow n)) j e }) (s.operation i) (k.operation i));
       }
   amounts_pushed_by have Source other slot read h q w =
       let d = push_amount have Source read in
       let hd = held_push net s b have Source slot read h w in
       let p = port_with Source other slot in
       let t = after_push_by s b d p Source in
-      let new : AtMost zero_amount (minus (s.source b) d) = joined (least-right have read) w.1 (record { w = omega (arith, ints); c = omega (arith, ints) }) in
+      let new : AtMost zero_amount (minus (s.source b) d) = joined (lesser_amount-right have read) w.1 (record { w = omega (arith, ints); c = omega (arith, ints) }) in
       let less : AtMost (minus (s.source b) d) (positive (amount_at net.worths b)) = joined (k.source_most b) (Below-most zero_amount d hd.some) (record { w = omega (arith, ints); c = omega (arith, ints) }) in
       record {
         excess = k.excess;
-        source = put-each (λ _ a. AtMost zero_amount a) s.source b (minus (s.source b) d) new (λ i ne. k.source i);
-        source_most = put-each (λ i a. AtMost a (positive (amount_at net.worths i))) s.source b (minus (s.source b) d) less (λ i ne. k.source_most i);
+        source = with_value_at-each (λ _ a. AtMost zero_amount a) s.source b (minus (s.source b) d) new (λ i ne. k.source i);
+        source_most = with_value_at-each (λ i a. AtMost a (positive (amount_at net.worths i))) s.source b (minus (s.source b) d) less (λ i ne. k.source_most i);
         sink = k.sink;
         sink_most = k.sink_most;
         flow = k.flow;
         at_source = k.at_source;
         at_sink = k.at_sink;
-        operation = put-each (λ i o. IsOperation net t i o) s.operation b (TakeDue d p) (record { some = hd.some; held = hd.held }, q) (λ i ne. operation_more net s t i (record { excess = AtMost-refl (s.excess i); sink = refl; source = put-other s.source b (minus (s.source b) d) i ne; flow = λ j e. AtMost-refl (s.flow j) }) (s.operation i) (k.operation i));
+        operation = with_value_at-each (λ i o. IsOperation net t i o) s.operation b (TakeDue d p) (record { some = hd.some; held = hd.held }, q) (λ i ne. operation_more net s t i (record { excess = AtMost-refl (s.excess i); sink = refl; source = with_value_at-other s.source b (minus (s.source b) d) i ne; flow = λ j e. AtMost-refl (s.flow j) }) (s.operation i) (k.operation i));
       }
 
   amounts_pushed : (have : Amount) (p : Port) (read : Amount) → IsHeld s b have → IsPortOf net b p → IsWithin net s b p read → HasAmounts net (after_push s b (push_amount have p.kind read) p)
@@ -177,7 +177,7 @@ module _ (net : NetView) (s : State) (b : ℕ) (k : HasAmounts net s) where
   amounts_taken d p h q =
       let t = after_take s b d p in
       record {
-        excess = put-each (λ _ a. AtMost zero_amount a) s.excess b (minus (s.excess b) d) (shifted h.held (record { w = omega (arith, ints); c = omega (arith, ints) })) (λ i ne. k.excess i);
+        excess = with_value_at-each (λ _ a. AtMost zero_amount a) s.excess b (minus (s.excess b) d) (shifted h.held (record { w = omega (arith, ints); c = omega (arith, ints) })) (λ i ne. k.excess i);
         source = k.source;
         source_most = k.source_most;
         sink = k.sink;
@@ -185,7 +185,7 @@ module _ (net : NetView) (s : State) (b : ℕ) (k : HasAmounts net s) where
         flow = k.flow;
         at_source = k.at_source;
         at_sink = k.at_sink;
-        operation = put-each (λ i o. IsOperation net t i o) s.operation b (GiveDue d p) (h.some, q) (λ i ne. operation_more net s t i (record { excess = subst (AtMost (s.excess i)) (sym (put-other s.excess b (minus (s.excess b) d) i ne)) (AtMost-refl (s.excess i)); sink = refl; source = refl; flow = λ j e. AtMost-refl (s.flow j) }) (s.operation i) (k.operation i));
+        operation = with_value_at-each (λ i o. IsOperation net t i o) s.operation b (GiveDue d p) (h.some, q) (λ i ne. operation_more net s t i (record { excess = subst (AtMost (s.excess i)) (sym (with_value_at-other s.excess b (minus (s.excess b) d) i ne)) (AtMost-refl (s.excess i)); sink = refl; source = refl; flow = λ j e. AtMost-refl (s.flow j) }) (s.operation i) (k.operation i));
       }
 
   -- a state that leaves every block what it may rely on, with no amount below zero
@@ -199,14 +199,14 @@ module _ (net : NetView) (s : State) (b : ℕ) (k : HasAmounts net s) where
     flow = rw ef k.flow;
     at_source = at_source;
     at_sink = at_sink;
-    operation = subst (λ (u : ℕ → Operation Amount). (x : ℕ) → IsOperation net t x (u x)) (sym eo) (put-each (λ i u. IsOperation net t i u) s.operation b o (operation_more net s t b (m b) o is) (λ i ne. operation_more net s t i (m i) (s.operation i) (k.operation i)));
+    operation = subst (λ (u : ℕ → Operation Amount). (x : ℕ) → IsOperation net t x (u x)) (sym eo) (with_value_at-each (λ i u. IsOperation net t i u) s.operation b o (operation_more net s t b (m b) o is) (λ i ne. operation_more net s t i (m i) (s.operation i) (k.operation i)));
   }
 
   nothing_less : (x : ℕ) → IsMore net s s x
   nothing_less x = record { excess = AtMost-refl (s.excess x); sink = refl; source = refl; flow = λ j _. AtMost-refl (s.flow j) }
 
   more_excess : (other x : ℕ) (d : Amount) → AtMost zero_amount d → AtMost (s.excess x) (with_value_at s.excess other (plus (s.excess other) d) x)
-  more_excess other x d h = put-each (λ n a. AtMost (s.excess n) a) s.excess other (plus (s.excess other) d) (AtMost-plus (s.excess other) d h) (λ n _. AtMost-refl (s.excess n)) x
+  more_excess other x d h = with_value_at-each (λ n a. AtMost (s.excess n) a) s.excess other (plus (s.excess other) d) (AtMost-plus (s.excess other) d h) (λ n _. AtMost-refl (s.excess n)) x
 
   amounts_given_by : (d : Amount) (p : Port) (kind : PortKind) → AtMost zero_amount d → HasAmounts net (after_give_by s b d p kind)
   amounts_given_by d p Sink h = amounts_left (after_give_by s b d p Sink) Idle (λ x. record { excess = (nothing_less x).excess; sink = refl; source = refl; flow = (nothing_less x).flow }) refl refl refl refl k.at_source (NonNeg-plus s.at_sink d k.at_sink h) tt
@@ -215,8 +215,8 @@ module _ (net : NetView) (s : State) (b : ℕ) (k : HasAmounts net s) where
   amounts_given_by d p Source h = amounts_left (after_give_by s b d p Source) Idle (λ x. record { excess = (nothing_less x).excess; sink = refl; source = refl; flow = (nothing_less x).flow }) refl refl refl refl (NonNeg-plus s.at_source d k.at_source h) k.at_sink tt
 
   -- ---- reads and raises
-  amounts_becomes : (o : Operation Amount) → IsOperation net s b o → HasAmounts net (becomes s b o)
-  amounts_becomes o is = amounts_left (becomes s b o) o (λ x. record { excess = (nothing_less x).excess; sink = refl; source = refl; flow = (nothing_less x).flow }) refl refl refl refl k.at_source k.at_sink is
+  amounts_with_operation : (o : Operation Amount) → IsOperation net s b o → HasAmounts net (with_operation s b o)
+  amounts_with_operation o is = amounts_left (with_operation s b o) o (λ x. record { excess = (nothing_less x).excess; sink = refl; source = refl; flow = (nothing_less x).flow }) refl refl refl refl k.at_source k.at_sink is
 
   amounts_raised : (best : Best Amount) → HasAmounts net (after_raise s b best)
   amounts_raised best = amounts_left (after_raise s b best) Idle (λ x. record { excess = (nothing_less x).excess; sink = refl; source = refl; flow = (nothing_less x).flow }) refl refl refl refl k.at_source k.at_sink tt
@@ -236,14 +236,14 @@ module _ (net : NetView) (s : State) (b : ℕ) (k : HasAmounts net s) where
       (λ e. record { inside = ltb-true (place + 1) (length (ports net b)) e; held = h; passed = i; present = tt })
       (λ e. op_ended (s.label b) have best h i)
 
-  any_better : (best : Option (Best Amount)) (new : Best Amount) → IsBestIfAny net s b best → IsBestPort net s b new → IsBestPort net s b (better best new)
+  any_better : (best : Option (Best Amount)) (new : Best Amount) → IsBestIfAny net s b best → IsBestPort net s b new → IsBestPort net s b (better_of best new)
   any_better None new i n = n
   any_better (Some best) new i n = cond_both (nat_lt new.label best.label) new best (IsBestPort net s b) (λ e. n) (λ e. i)
 
   op_chosen : (have : Amount) (place : ℕ) (best : Option (Best Amount)) (read : Amount) (p : Port) → IsHeld s b have → IsBestIfAny net s b best → IsPortOf net b p → IsWithin net s b p read → IsOperation net s b (after_label (length (ports net b)) (s.label b) have place best read p (end_label net s p))
   op_chosen have place best read p h i q w =
       let new : Best Amount = record { port = p; capacity = read; label = end_label net s p } in
-      op_passed have place (Some (better best new)) h (any_better best new i (record { port = q; within = w }))
+      op_passed have place (Some (better_of best new)) h (any_better best new i (record { port = q; within = w }))
 
   -- a capacity that is just read
   within_now : (kind : PortKind) (slot : ℕ) → Below zero_amount (capacity_by net s b kind slot) → IsWithinBy net s b kind slot (capacity_by net s b kind slot)
@@ -274,13 +274,13 @@ module _ (net : NetView) (s : State) (b : ℕ) (k : HasAmounts net s) where
 
   -- ---- each step
   amounts_advance_by : (o : Operation Amount) → s.operation b ≡ o → IsBalanced net s → IsOperation net s b o → HasAmounts net (advance_by net s b o)
-  amounts_advance_by Idle e l h = amounts_becomes (operation_begun_with (s.excess b)) (op_begun (has_port net s b (ap amount_owed e) k l))
+  amounts_advance_by Idle e l h = amounts_with_operation (operation_begun_with (s.excess b)) (op_begun (has_port net s b (ap amount_owed e) k l))
   amounts_advance_by (Scan have place None best) e l h =
       let q = slice_get (ports net b) place in
-      amounts_becomes (after_look net s b have place best q) (op_looked have place best q refl h.held h.passed)
+      amounts_with_operation (after_look net s b have place best q) (op_looked have place best q refl h.held h.passed)
   amounts_advance_by (Scan have place (Some read) best) e l h =
       let q = slice_get (ports net b) place in
-      amounts_becomes (after_label_at net s b have place best read q) (op_weighed have place best read q refl h.held h.passed h.present)
+      amounts_with_operation (after_label_at net s b have place best read q) (op_weighed have place best read q refl h.held h.passed h.present)
   amounts_advance_by (PushDue have best) e l h = amounts_pushed have best.port best.capacity h.held h.over.port h.over.within
   amounts_advance_by (TakeDue d p) e l h = amounts_taken d p h.0 h.1
   amounts_advance_by (GiveDue d p) e l h = amounts_given_by d p p.kind (Below-most zero_amount d h.0)

@@ -19,11 +19,11 @@ use Rattle.machine_law.specs.declared.operations.Operation.{Operation}
 use Rattle.machine_law.specs.declared.operations.Operation.TheVariants.{Idle, Scan, PushDue, TakeDue, GiveDue, RaiseDue}
 use Rattle.machine_law.specs.States.{State, opening}
 use Rattle.machine_law.specs.Residual.{capacity, end_label}
-use Rattle.machine_law.specs.Reads.{is_positive, operation_begun_with, better, after_last_port, after_port, after_capacity, after_label}
+use Rattle.machine_law.specs.Reads.{is_positive, operation_begun_with, better_of, after_last_port, after_port, after_capacity, after_label}
 use Rattle.machine_law.specs.Steps.{after_look, after_look_by, after_label_at, advance, advance_by, Run}
 use Rattle.machine_law.specs.Transit.{amount_owed, amount_coming}
 use Rattle.machine_law.specs.Amounts.{HasAmounts, IsOperation, IsWithinBy, IsReadCapacity}
-use Rattle.machine_law.specs.Labels.{steep, IsWalk, IsLevelled, HasLabels}
+use Rattle.machine_law.specs.Labels.{steep_capacity, IsWalk, IsLevelled, HasLabels}
 use Rattle.machine_law.specs.Law.{IsLawful, StepsKeepLaw, RunsKeepLaw}
 use Rattle.machine_law.proofs.Numbers.{same, shifted, Below-more}
 use Rattle.machine_law.proofs.Arcs.{arcs-none}
@@ -66,7 +66,7 @@ module _ (net : NetView) (s : State) (b : ℕ) (k : HasAmounts net s) (h : HasLa
       (λ z. levelled_passed have place best (walk_pass net s b k h have p (drop (place + 1) (ports net b)) best c z (walk_at have place best p e w)))
 
   levelled_chosen : (have : Amount) (place : ℕ) (best : Option (Best Amount)) (read : Amount) (p : Port) → slice_get (ports net b) place ≡ Some p → IsReady net s b p.kind → IsWalk net s b have (drop place (ports net b)) best → IsLevelled net s b (after_label (length (ports net b)) (s.label b) have place best read p (end_label net s p))
-  levelled_chosen have place best read p e r w = levelled_passed have place (Some (better best (record { port = p; capacity = read; label = end_label net s p })))
+  levelled_chosen have place best read p e r w = levelled_passed have place (Some (better_of best (record { port = p; capacity = read; label = end_label net s p })))
       (walk_choose net s b k h have read p (drop (place + 1) (ports net b)) best (port-at net b place p e) r (walk_at have place best p e w))
 
   levelled_looked_by : (have : Amount) (place : ℕ) (best : Option (Best Amount)) (kind : PortKind) (other slot : ℕ) → slice_get (ports net b) place ≡ Some (port_with kind other slot) → IsWalk net s b have (drop place (ports net b)) best → IsLevelled net s b (after_look_by net s b have place best (port_with kind other slot) kind)
@@ -118,7 +118,7 @@ pub steps_keep_law : StepsKeepLaw
 steps_keep_law net s e t h st = subst (IsLawful net) (sym st.after) (lawful_advance net s e.block st.block h)
 
 -- ---- the opening
-steep_opening : (net : NetView) (b : ℕ) → AtMost (steep net (opening net) b) (minus (plus (positive (amount_at net.worths b)) (amount_coming net (opening net) b)) zero_amount)
+steep_opening : (net : NetView) (b : ℕ) → AtMost (steep_capacity net (opening net) b) (minus (plus (positive (amount_at net.worths b)) (amount_coming net (opening net) b)) zero_amount)
 steep_opening net b =
     let z = same (arcs-none net (λ j. nat_lt (0 + 1) 0) (λ j. zero_amount) b (λ j _ _ q. let l = ltb-true (0 + 1) 0 q in absurd (omega (arith, l)))) in
     let c = coming_nonneg net (opening net) b (amounts_opening net) in

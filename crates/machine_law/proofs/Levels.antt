@@ -2,7 +2,7 @@
 use Rattle.std.proofs.Common.{◌≡◌, ◌≢◌, ℕ, zero, suc, ◌+◌, ◌<◌, ◌≤◌, ◌⊎◌, inl, inr, ap, sym, ◌∙◌, arith}
 use Rattle.std.proofs.lemmas.Bool.{cases_eq}
 use Rattle.machine_law.specs.States.{with_value_at}
-use Rattle.machine_law.proofs.Points.{put-same, put-other}
+use Rattle.machine_law.proofs.Points.{with_value_at-same, with_value_at-other}
 
 -- a block below n stands at this level, or none does
 find_at : (n : ℕ) (h : ℕ → ℕ) (l : ℕ) → ((b : ℕ) × (b < n) × (h b ≡ l)) ⊎ ((b : ℕ) → b < n → h b ≢ l)
@@ -31,8 +31,8 @@ empty_level (suc k) (suc n) h less = elim (find_at (suc n) h k) [
         λ b i. elim (cases_eq b f.0) [
           | inl e ↦ (λ (q : h b ≡ r.0). let z : r.0 ≡ k = sym q ∙ (ap h e ∙ f.2) in absurd (omega (arith, z, lr)))
           | inr ne ↦ elim (cases_eq b n) [
-            | inl at ↦ (λ (q : h b ≡ r.0). r.2 f.0 (omega (arith, lf, ne, at)) (put-same h f.0 (h n) ∙ (sym (ap h at) ∙ q)))
-            | inr apart ↦ (λ (q : h b ≡ r.0). r.2 b (omega (arith, i, apart)) (put-other h f.0 (h n) b ne ∙ q))
+            | inl at ↦ (λ (q : h b ≡ r.0). r.2 f.0 (omega (arith, lf, ne, at)) (with_value_at-same h f.0 (h n) ∙ (sym (ap h at) ∙ q)))
+            | inr apart ↦ (λ (q : h b ≡ r.0). r.2 b (omega (arith, i, apart)) (with_value_at-other h f.0 (h n) b ne ∙ q))
           ]
         ],
       )
@@ -46,4 +46,4 @@ empty_above n h =
     let r = empty_level (n + 2) (n + 1) g (omega arith) in
     let top = r.2 n (omega arith) in
     let lr = r.1 in
-    (r.0, elim (cases_eq r.0 0) [ inl e ↦ absurd (top (put-same h n 0 ∙ sym e)) | inr ne ↦ omega (arith, ne) ], omega (arith, lr), λ b i q. r.2 b (omega (arith, i)) (put-other h n 0 b (omega (arith, i)) ∙ q))
+    (r.0, elim (cases_eq r.0 0) [ inl e ↦ absurd (top (with_value_at-same h n 0 ∙ sym e)) | inr ne ↦ omega (arith, ne) ], omega (arith, lr), λ b i q. r.2 b (omega (arith, i)) (with_value_at-other h n 0 b (omega (arith, i)) ∙ q))

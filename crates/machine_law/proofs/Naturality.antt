@@ -5,7 +5,7 @@ use Rattle.closure_net.specs.declared.port.Port.{Port}
 use Rattle.machine_law.specs.declared.operations.Best.{Best}
 use Rattle.machine_law.specs.declared.operations.Operation.TheVariants.{Scan, PushDue, RaiseDue}
 use Rattle.machine_law.specs.Operations.{best_as, operation_as}
-use Rattle.machine_law.specs.Reads.{better, after_last_port, after_port, after_label}
+use Rattle.machine_law.specs.Reads.{better_of, after_last_port, after_port, after_label}
 
 -- a choice, over other numbers
 cond_as : {X Y : Type 0} (g : X → Y) (t : Bool) (x y : X) → g (cond t x y) ≡ cond t (g x) (g y)
@@ -13,9 +13,9 @@ cond_as g true x y = refl
 cond_as g false x y = refl
 
 module _ {N M : Type 0} (f : N → M) where
-  pub better-as : (best : Option (Best N)) (new : Best N) → best_as f (better best new) ≡ better (option_map (best_as f) best) (best_as f new)
-  better-as None new = refl
-  better-as (Some best) new = cond_as (best_as f) (nat_lt new.label best.label) new best
+  pub better_of-as : (best : Option (Best N)) (new : Best N) → best_as f (better_of best new) ≡ better_of (option_map (best_as f) best) (best_as f new)
+  better_of-as None new = refl
+  better_of-as (Some best) new = cond_as (best_as f) (nat_lt new.label best.label) new best
 
   pub after_last_port-as : (label : ℕ) (have : N) (best : Option (Best N)) → operation_as f (after_last_port label have best) ≡ after_last_port label (f have) (option_map (best_as f) best)
   after_last_port-as label have None = refl
@@ -29,4 +29,4 @@ module _ {N M : Type 0} (f : N → M) where
   pub after_label-as : (count label : ℕ) (have : N) (place : ℕ) (best : Option (Best N)) (capacity : N) (port : Port) (beyond : ℕ) → operation_as f (after_label count label have place best capacity port beyond) ≡ after_label count label (f have) place (option_map (best_as f) best) (f capacity) port beyond
   after_label-as count label have place best capacity port beyond =
       let new : Best N = record { port = port; capacity = capacity; label = beyond } in
-      after_port-as count label have place (Some (better best new)) ∙ ap (λ b. after_port count label (f have) place (Some b)) (better-as best new)
+      after_port-as count label have place (Some (better_of best new)) ∙ ap (λ b. after_port count label (f have) place (Some b)) (better_of-as best new)

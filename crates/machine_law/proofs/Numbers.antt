@@ -3,7 +3,7 @@ use Rattle.std.proofs.Common.{◌≡◌, true, false, ap, refl, arith, Ordering}
 use Rattle.std.specs.declared.cmp.Ordering.TheVariants.{Less, Equal, Greater}
 use Rattle.std.specs.Ordering.{MatchOrdering, is_lt}
 use Rattle.std.proofs.lemmas.Int.{ints}
-use Rattle.ordered_group.specs.Amount.{Amount, zero_amount, plus, minus, AtMost, Below, Amount_eq, amount_cmp, least}
+use Rattle.ordered_group.specs.Amount.{Amount, zero_amount, plus, minus, AtMost, Below, Amount_eq, amount_cmp, lesser_amount}
 use Rattle.ordered_group.proofs.Order.{amount_ranks, Below-most}
 use Rattle.closure_net.specs.Ports.{is_below}
 use Rattle.machine_law.specs.Reads.{is_positive}
@@ -68,5 +68,5 @@ pub positive-no : (x : Amount) → is_positive x ≡ false → AtMost x zero_amo
 positive-no x e = is_below-no zero_amount x e
 
 -- the lesser of two amounts above zero is above zero
-pub Below-least : (x y : Amount) → Below zero_amount x → Below zero_amount y → Below zero_amount (least x y)
-Below-least x y h k = grind (arith, common_steps)
+pub Below-lesser_amount : (x y : Amount) → Below zero_amount x → Below zero_amount y → Below zero_amount (lesser_amount x y)
+Below-lesser_amount x y h k = grind (arith, common_steps)

@@ -8,24 +8,24 @@ use Rattle.machine_law.specs.States.{with_value_at}
 use Rattle.machine_law.proofs.Numbers.{Same, same}
 use Rattle.std.proofs.lemmas.Grind.{common_steps}
 
-pub put-same : {X : Type 0} (f : ℕ → X) (k : ℕ) (v : X) → with_value_at f k v k ≡ v
+pub with_value_at-same : {X : Type 0} (f : ℕ → X) (k : ℕ) (v : X) → with_value_at f k v k ≡ v
 unfolding with_value_at
-put-same f k v = rw (eq-eqb k k refl) refl
+with_value_at-same f k v = rw (eq-eqb k k refl) refl
 
-pub put-other : {X : Type 0} (f : ℕ → X) (k : ℕ) (v : X) (i : ℕ) → i ≢ k → with_value_at f k v i ≡ f i
+pub with_value_at-other : {X : Type 0} (f : ℕ → X) (k : ℕ) (v : X) (i : ℕ) → i ≢ k → with_value_at f k v i ≡ f i
 unfolding with_value_at
-put-other f k v i ne = rw (ne_eqb i k ne) refl
+with_value_at-other f k v i ne = rw (ne_eqb i k ne) refl
 
 -- what holds of the new value, and of each other one
-pub put-each : {X : Type 0} (P : ℕ → X → Type 0) (f : ℕ → X) (k : ℕ) (v : X) → P k v → ((i : ℕ) → i ≢ k → P i (f i)) → (i : ℕ) → P i (with_value_at f k v i)
-put-each P f k v hv h i = grind (arith, common_steps, cases_eq, put-same, put-other)
+pub with_value_at-each : {X : Type 0} (P : ℕ → X → Type 0) (f : ℕ → X) (k : ℕ) (v : X) → P k v → ((i : ℕ) → i ≢ k → P i (f i)) → (i : ℕ) → P i (with_value_at f k v i)
+with_value_at-each P f k v hv h i = grind (arith, common_steps, cases_eq, with_value_at-same, with_value_at-other)
 
 -- a sum over the values
-pub total-put : {X : Type 0} (F : ℕ → X → Amount) (f : ℕ → X) (k : ℕ) (v : X) (n : ℕ) → k < n → Same (plus (total (λ i. F i (with_value_at f k v i)) n) (F k (f k))) (plus (total (λ i. F i (f i)) n) (F k v))
-total-put F f k v n l =
-    same (total_changed (λ i. F i (f i)) (λ i. F i (with_value_at f k v i)) k n l (λ i _ ne. ap (F i) (put-other f k v i ne))
-    ∙ ap (λ a. plus (total (λ i. F i (f i)) n) a) (ap (F k) (put-same f k v)))
+pub total-with_value_at : {X : Type 0} (F : ℕ → X → Amount) (f : ℕ → X) (k : ℕ) (v : X) (n : ℕ) → k < n → Same (plus (total (λ i. F i (with_value_at f k v i)) n) (F k (f k))) (plus (total (λ i. F i (f i)) n) (F k v))
+total-with_value_at F f k v n l =
+    same (total_changed (λ i. F i (f i)) (λ i. F i (with_value_at f k v i)) k n l (λ i _ ne. ap (F i) (with_value_at-other f k v i ne))
+    ∙ ap (λ a. plus (total (λ i. F i (f i)) n) a) (ap (F k) (with_value_at-same f k v)))
 
 -- an amount at each place, where the old value is named
-pub where-put : {X : Type 0} (F : X → Amount) (f : ℕ → X) (k : ℕ) (old v : X) (x : ℕ) → f k ≡ old → Same (plus (F (with_value_at f k v x)) (where_so (k == x) (F old))) (plus (F (f x)) (where_so (k == x) (F v)))
-where-put F f k old v x e = grind (arith, common_steps, cases_eq, same, put-same, eq-eqb, put-other, ne_eqb)
+pub where-with_value_at : {X : Type 0} (F : X → Amount) (f : ℕ → X) (k : ℕ) (old v : X) (x : ℕ) → f k ≡ old → Same (plus (F (with_value_at f k v x)) (where_so (k == x) (F old))) (plus (F (f x)) (where_so (k == x) (F v)))
+where-with_value_at F f k old v x e = grind (arith, common_steps, cases_eq, same, with_value_at-same, eq-eqb, with_value_at-other, ne_eqb)

@@ -17,13 +17,13 @@ use Rattle.machine_law.specs.declared.operations.Operation.TheVariants.{PushDue,
 use Rattle.machine_law.specs.States.{State, with_value_at}
 use Rattle.machine_law.specs.Residual.{room, IsEnd, IsPortOf}
 use Rattle.machine_law.specs.Steps.{after_push, after_push_by, push_amount}
-use Rattle.machine_law.specs.Transit.{lands_by}
+use Rattle.machine_law.specs.Transit.{amount_landing_by}
 use Rattle.machine_law.specs.Amounts.{HasAmounts, IsWithin, IsWithinBy}
 use Rattle.machine_law.specs.Balances.{supply}
-use Rattle.machine_law.specs.Labels.{arcs, steep, label_seen, IsWalk, IsLevelled, HasLabels}
+use Rattle.machine_law.specs.Labels.{arcs, steep_capacity, label_seen, IsWalk, IsLevelled, HasLabels}
 use Rattle.machine_law.proofs.Numbers.{Same, same, shifted, joined, Below-more}
-use Rattle.machine_law.proofs.Points.{put-other, put-each}
-use Rattle.machine_law.proofs.Arcs.{arcs-most, arcs-plus, arcs-put}
+use Rattle.machine_law.proofs.Points.{with_value_at-other, with_value_at-each}
+use Rattle.machine_law.proofs.Arcs.{arcs-most, arcs-plus, arcs-with_value_at}
 use Rattle.machine_law.proofs.Calm.{IsCalm, operation_calm, steep_calm}
 use Rattle.machine_law.proofs.Supply.{supply_pushed}
 use Rattle.machine_law.proofs.Staying.{same_arcs}
@@ -55,26 +55,26 @@ module _ (net : NetView) (s : State) (b : ℕ) (l : b < length net.worths) (have
   is_low j = not false && nat_lt (s.label (from_at net.pairs j)) label
 
   -- the supply after the push
-  supply_at : (kind : PortKind) (x : ℕ) → s.operation b ≡ PushDue have (best_at kind) → Same (supply net (after kind) x) (minus (plus (supply net s x) (lands_by kind other x (amount_of kind))) (where_so (b == x) (amount_of kind)))
+  supply_at : (kind : PortKind) (x : ℕ) → s.operation b ≡ PushDue have (best_at kind) → Same (supply net (after kind) x) (minus (plus (supply net s x) (amount_landing_by kind other x (amount_of kind))) (where_so (b == x) (amount_of kind)))
   supply_at kind x e = supply_pushed net s b l x have (best_at kind) (amount_of kind) (port_with kind other slot) kind e
 
-  supply_own : (kind : PortKind) → s.operation b ≡ PushDue have (best_at kind) → Same (supply net (after kind) b) (minus (plus (supply net s b) (lands_by kind other b (amount_of kind))) (amount_of kind))
+  supply_own : (kind : PortKind) → s.operation b ≡ PushDue have (best_at kind) → Same (supply net (after kind) b) (minus (plus (supply net s b) (amount_landing_by kind other b (amount_of kind))) (amount_of kind))
   supply_own kind e =
       let v = supply_at kind b e in
       let w = same (where_at (b == b) (amount_of kind) (eq-eqb b b refl)) in
       record { w = omega (arith, ints, v, w); c = omega (arith, ints, v, w) }
 
   -- what the backward arcs of x gain
-  arcs_pushed : (kind : PortKind) (x : ℕ) → IsEnd net b kind other slot → AtMost zero_amount (amount_of kind) → ((j : ℕ) → AtMost zero_amount ((after kind).flow j)) → (f g : ℕ → Bool) → ((j : ℕ) → f j ≡ true → g j ≡ true) → AtMost (arcs net f (after kind).flow x) (plus (arcs net g s.flow x) (lands_by kind other x (amount_of kind)))
+  arcs_pushed : (kind : PortKind) (x : ℕ) → IsEnd net b kind other slot → AtMost zero_amount (amount_of kind) → ((j : ℕ) → AtMost zero_amount ((after kind).flow j)) → (f g : ℕ → Bool) → ((j : ℕ) → f j ≡ true → g j ≡ true) → AtMost (arcs net f (after kind).flow x) (plus (arcs net g s.flow x) (amount_landing_by kind other x (amount_of kind)))
   arcs_pushed Sink x q n a f g i = same_arcs net s x k f g i
   arcs_pushed Forward x q n a f g i =
       let t = after Forward in
-      AtMost-trans (arcs net f t.flow x) (arcs net g t.flow x) (plus (arcs net g s.flow x) (lands_by Forward other x (amount_of Forward)))
+      AtMost-trans (arcs net f t.flow x) (arcs net g t.flow x) (plus (arcs net g s.flow x) (amount_landing_by Forward other x (amount_of Forward)))
       (arcs-most net f g t.flow t.flow x (λ j _ _ y. i j y) (λ j. AtMost-refl (t.flow j)) a)
       (arcs-plus net g s.flow x slot other (amount_of Forward) q.0 q.2 n)
   arcs_pushed Backward x q n a f g i =
       let t = after Backward in
-      let less : (j : ℕ) → AtMost (t.flow j) (s.flow j) = put-each (λ j a. AtMost a (s.flow j)) s.flow slot (minus (s.flow slot) (amount_of Backward)) (AtMost-minus (s.flow slot) (amount_of Backward) n) (λ j _. AtMost-refl (s.flow j)) in
+      let less : (j : ℕ) → AtMost (t.flow j) (s.flow j) = with_value_at-each (λ j a. AtMost a (s.flow j)) s.flow slot (minus (s.flow slot) (amount_of Backward)) (AtMost-minus (s.flow slot) (amount_of Backward) n) (λ j _. AtMost-refl (s.flow j)) in
       joined (arcs-most net f g t.flow s.flow x (λ j _ _ y. i j y) less k.flow) (where_nonneg (other == x) (amount_of Backward) n) (record { w = omega (arith, ints); c = omega (arith, ints) })
   arcs_pushed Source x q n a f g i = same_arcs net s x k f g i
 
@@ -94,10 +94,10 @@ module _ (net : NetView) (s : State) (b : ℕ) (l : b < length net.worths) (have
   same_source Sink x ne = refl
   same_source Forward x ne = refl
   same_source Backward x ne = refl
-  same_source Source x ne = put-other s.source b (minus (s.source b) (amount_of Source)) x ne
+  same_source Source x ne = with_value_at-other s.source b (minus (s.source b) (amount_of Source)) x ne
 
   same_sink : (kind : PortKind) (x : ℕ) → x ≢ b → (after kind).sink x ≡ s.sink x
-  same_sink Sink x ne = put-other s.sink b (plus (s.sink b) (amount_of Sink)) x ne
+  same_sink Sink x ne = with_value_at-other s.sink b (plus (s.sink b) (amount_of Sink)) x ne
   same_sink Forward x ne = refl
   same_sink Backward x ne = refl
   same_sink Source x ne = refl
@@ -124,19 +124,19 @@ module _ (net : NetView) (s : State) (b : ℕ) (l : b < length net.worths) (have
           labels = λ i. rw (same_label kind) (omega arith);
           source = same_source kind x ne;
           sink = same_sink kind x ne;
-          gain = lands_by kind other x (amount_of kind);
+          gain = amount_landing_by kind other x (amount_of kind);
           arcs_most = arcs_pushed kind x q nonneg a;
           supply_more = shifted (AtMost-refl zero_amount) (record { w = omega (arith, ints, v, z); c = omega (arith, ints, v, z) });
         }
 
     -- the bound at b, where it stands at most one label above the best port
-    steep_near : s.label b ≤ label + 1 → AtMost (steep net (after kind) b) (supply net (after kind) b)
+    steep_near : s.label b ≤ label + 1 → AtMost (steep_capacity net (after kind) b) (supply net (after kind) b)
     steep_near near =
-        room_left (steep net (after kind) b) (arcs net is_low s.flow b) (supply net s b) (supply net (after kind) b) have (amount_of kind) (lands_by kind other b (amount_of kind))
-        (subst (λ (u : ℕ → ℕ). AtMost (arcs net (λ j. nat_lt (u (from_at net.pairs j) + 1) (u b)) (after kind).flow b) (plus (arcs net is_low s.flow b) (lands_by kind other b (amount_of kind)))) (sym (same_label kind)) (arcs_pushed kind b q nonneg a is_steep is_low (steep_low near)))
+        room_left (steep_capacity net (after kind) b) (arcs net is_low s.flow b) (supply net s b) (supply net (after kind) b) have (amount_of kind) (amount_landing_by kind other b (amount_of kind))
+        (subst (λ (u : ℕ → ℕ). AtMost (arcs net (λ j. nat_lt (u (from_at net.pairs j) + 1) (u b)) (after kind).flow b) (plus (arcs net is_low s.flow b) (amount_landing_by kind other b (amount_of kind)))) (sym (same_label kind)) (arcs_pushed kind b q nonneg a is_steep is_low (steep_low near)))
         low_is (push_most have kind read) (supply_own kind e)
 
-    rest_of : AtMost (steep net (after kind) b) (supply net (after kind) b) → ((x : ℕ) → Below zero_amount (room net (after kind) x) → s.label x ≤ 1) → ((x : ℕ) → Below zero_amount ((after kind).source x) → s.label x ≤ length net.worths + 3) → ((x : ℕ) → ((after kind).source x ≡ positive (amount_at net.worths x)) ⊎ (length net.worths + 2 < s.label x)) → HasLabels net (after kind)
+    rest_of : AtMost (steep_capacity net (after kind) b) (supply net (after kind) b) → ((x : ℕ) → Below zero_amount (room net (after kind) x) → s.label x ≤ 1) → ((x : ℕ) → Below zero_amount ((after kind).source x) → s.label x ≤ length net.worths + 3) → ((x : ℕ) → ((after kind).source x ≡ positive (amount_at net.worths x)) ⊎ (length net.worths + 2 < s.label x)) → HasLabels net (after kind)
     rest_of here sink source left =
         let t = after kind in
         record {
@@ -145,10 +145,10 @@ module _ (net : NetView) (s : State) (b : ℕ) (l : b < length net.worths) (have
           source = λ x o. rw (same_label kind) (source x o);
           left = λ x. rw (same_label kind) (left x);
           steep_most = λ x. elim (cases_eq x b) [
-            | inl at ↦ subst (λ (y : ℕ). AtMost (steep net t y) (supply net t y)) (sym at) here
+            | inl at ↦ subst (λ (y : ℕ). AtMost (steep_capacity net t y) (supply net t y)) (sym at) here
             | inr ne ↦ steep_calm net s t x (calm x ne) (h.steep_most x)
           ];
-          operation = subst (λ (u : ℕ → Operation Amount). (x : ℕ) → IsLevelled net t x (u x)) (sym (same_operation kind)) (put-each (λ i u. IsLevelled net t i u) s.operation b (TakeDue (amount_of kind) (port_with kind other slot)) tt (λ i ne. operation_calm net s t i (calm i ne) (s.operation i) (h.operation i)));
+          operation = subst (λ (u : ℕ → Operation Amount). (x : ℕ) → IsLevelled net t x (u x)) (sym (same_operation kind)) (with_value_at-each (λ i u. IsLevelled net t i u) s.operation b (TakeDue (amount_of kind) (port_with kind other slot)) tt (λ i ne. operation_calm net s t i (calm i ne) (s.operation i) (h.operation i)));
         }
 
   -- ---- by the kind of port
@@ -158,17 +158,17 @@ module _ (net : NetView) (s : State) (b : ℕ) (l : b < length net.worths) (have
     is_high j = nat_lt (label_seen (Some (best_at Backward)) j (s.label (from_at net.pairs j)) + 1) (s.label b)
 
     -- the bound at b, where it stands higher: the best arc counts, and loses what is pushed
-    steep_far : label + 1 < s.label b → AtMost (steep net (after Backward) b) (supply net (after Backward) b)
+    steep_far : label + 1 < s.label b → AtMost (steep_capacity net (after Backward) b) (supply net (after Backward) b)
     steep_far far =
         let d = amount_of Backward in
         let t = after Backward in
         let n = nonneg Backward e q w walk a in
         let at : is_high slot ≡ true = rw (eq-eqb slot slot refl) (lt-ltb (label + 1) (s.label b) far) in
         let counted : ((to_at net.pairs slot == b) && is_high slot) ≡ true = and_from (to_at net.pairs slot == b) (is_high slot) (eq-eqb (to_at net.pairs slot) b q.1) at in
-        let p = arcs-put net is_high s.flow b slot (minus (s.flow slot) d) q.0 in
+        let p = arcs-with_value_at net is_high s.flow b slot (minus (s.flow slot) d) q.0 in
         let x = same (where_at ((to_at net.pairs slot == b) && is_high slot) (s.flow slot) counted) in
         let y = same (where_at ((to_at net.pairs slot == b) && is_high slot) (minus (s.flow slot) d) counted) in
-        let c : AtMost (steep net t b) (arcs net is_high t.flow b) = arcs-most net is_steep is_high t.flow t.flow b (λ j _ _ z. elim (cases_eq slot j) [
+        let c : AtMost (steep_capacity net t b) (arcs net is_high t.flow b) = arcs-most net is_steep is_high t.flow t.flow b (λ j _ _ z. elim (cases_eq slot j) [
           | inl i ↦ subst (λ (m : ℕ). is_high m ≡ true) i at
           | inr ne ↦ rw (ne_eqb slot j ne) z
         ]) (λ j. AtMost-refl (t.flow j)) a in
@@ -181,7 +181,7 @@ module _ (net : NetView) (s : State) (b : ℕ) (l : b < length net.worths) (have
   labels_pushed_by Sink e q w walk a =
       let d = amount_of Sink in
       rest_of Sink e q w walk a (steep_near Sink e q w walk a walk.level.near)
-      (put-each (λ i c. Below zero_amount (minus (negative (amount_at net.worths i)) c) → s.label i ≤ 1) s.sink b (plus (s.sink b) d)
+      (with_value_at-each (λ i c. Below zero_amount (minus (negative (amount_at net.worths i)) c) → s.label i ≤ 1) s.sink b (plus (s.sink b) d)
       (λ y. h.sink b (Below-more y (shifted (nonneg Sink e q w walk a) (record { w = omega (arith, ints); c = omega (arith, ints) })))) (λ i ne. h.sink i))
       h.source h.left
   labels_pushed_by Forward e q w walk a = rest_of Forward e q w walk a (steep_near Forward e q w walk a walk.level.near) h.sink h.source h.left
@@ -193,8 +193,8 @@ module _ (net : NetView) (s : State) (b : ℕ) (l : b < length net.worths) (have
       let d = amount_of Source in
       let near = walk.level.near in
       rest_of Source e q w walk a (steep_near Source e q w walk a near.0) h.sink
-      (put-each (λ i c. Below zero_amount c → s.label i ≤ length net.worths + 3) s.source b (minus (s.source b) d) (λ y. h.source b (Below-more y (AtMost-minus (s.source b) d (nonneg Source e q w walk a)))) (λ i ne. h.source i))
-      (put-each (λ i c. (c ≡ positive (amount_at net.worths i)) ⊎ (length net.worths + 2 < s.label i)) s.source b (minus (s.source b) d) (inr (omega (arith, near.1, below))) (λ i ne. h.left i))
+      (with_value_at-each (λ i c. Below zero_amount c → s.label i ≤ length net.worths + 3) s.source b (minus (s.source b) d) (λ y. h.source b (Below-more y (AtMost-minus (s.source b) d (nonneg Source e q w walk a)))) (λ i ne. h.source i))
+      (with_value_at-each (λ i c. (c ≡ positive (amount_at net.worths i)) ⊎ (length net.worths + 2 < s.label i)) s.source b (minus (s.source b) d) (inr (omega (arith, near.1, below))) (λ i ne. h.left i))
 
 pub labels_pushed : (net : NetView) (s : State) (b : ℕ) → b < length net.worths → (have : Amount) (best : Best Amount) → s.operation b ≡ PushDue have best → Below zero_amount have → IsPortOf net b best.port → IsWithin net s b best.port best.capacity → IsWalk net s b have [] (Some best) → best.label < s.label b → HasAmounts net s → HasLabels net s
     → (let t : State = after_push s b (push_amount have best.port.kind best.capacity) best.port in ((j : ℕ) → AtMost zero_amount (t.flow j)) → HasLabels net t)

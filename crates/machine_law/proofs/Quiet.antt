@@ -19,8 +19,8 @@ use Rattle.machine_law.specs.declared.operations.Operation.{Operation}
 use Rattle.machine_law.specs.declared.operations.Operation.TheVariants.{Idle}
 use Rattle.machine_law.specs.States.{State, IsQuiet}
 use Rattle.machine_law.specs.Residual.{room}
-use Rattle.machine_law.specs.Transit.{amount_owed, on_way, sum_on_way, lands, amount_coming, inflow_at, outflow_at}
-use Rattle.machine_law.specs.Labels.{steep}
+use Rattle.machine_law.specs.Transit.{amount_owed, on_way, sum_on_way, amount_landing, amount_coming, inflow_at, outflow_at}
+use Rattle.machine_law.specs.Labels.{steep_capacity}
 use Rattle.machine_law.specs.Law.{IsLawful}
 use Rattle.machine_law.specs.Quiet.{IsFlowOf, IsSolved, QuietSolves}
 use Rattle.machine_law.proofs.Numbers.{same, equal, shifted}
@@ -71,7 +71,7 @@ module _ (net : NetView) (s : State) (flow : FlowView) (known : PairsKnown net) 
 
   nothing_coming : (b : ℕ) → amount_coming net s b ≡ zero_amount
   unfolding sum_on_way
-  nothing_coming b = total-none (λ c. on_way (lands b) (s.operation c)) (length net.worths) (λ c l. idle_on_way (lands b) (s.operation c) (q.operation c l))
+  nothing_coming b = total-none (λ c. on_way (amount_landing b) (s.operation c)) (length net.worths) (λ c l. idle_on_way (amount_landing b) (s.operation c) (q.operation c l))
 
   -- what comes in and goes out is the same by either view
   end_same : (end : ℕ → ℕ) (b : ℕ) → at_end end (amount_at flow.rest) (length net.pairs) b ≡ at_end end s.flow (length net.pairs) b
@@ -116,7 +116,7 @@ module _ (net : NetView) (s : State) (flow : FlowView) (known : PairsKnown net) 
       let b = to_at net.pairs k in
       let m = h.labels.steep_most b in
       let z = same (supply_zero b (known k (0, 0) l).1) in
-      let a : AtMost (s.flow k) (steep net s b) = arcs-each net (λ i. nat_lt (s.label (from_at net.pairs i) + 1) (s.label b)) s.flow k l (lt-ltb (s.label (from_at net.pairs k) + 1) (s.label b) far) h.amounts.flow in
+      let a : AtMost (s.flow k) (steep_capacity net s b) = arcs-each net (λ i. nat_lt (s.label (from_at net.pairs i) + 1) (s.label b)) s.flow k l (lt-ltb (s.label (from_at net.pairs k) + 1) (s.label b) far) h.amounts.flow in
       record { worths = omega (arith, ints, m, z, a); counts = λ i. omega (arith, ints, m, z, a, i) }
 
   -- ---- the blocks above an empty level

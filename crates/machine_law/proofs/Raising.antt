@@ -15,8 +15,8 @@ use Rattle.machine_law.specs.Residual.{room}
 use Rattle.machine_law.specs.Steps.{after_raise}
 use Rattle.machine_law.specs.Amounts.{HasAmounts}
 use Rattle.machine_law.specs.Balances.{supply}
-use Rattle.machine_law.specs.Labels.{arcs, steep, IsWalk, IsLevelled, HasLabels}
-use Rattle.machine_law.proofs.Points.{put-same, put-other, put-each}
+use Rattle.machine_law.specs.Labels.{arcs, steep_capacity, IsWalk, IsLevelled, HasLabels}
+use Rattle.machine_law.proofs.Points.{with_value_at-same, with_value_at-other, with_value_at-each}
 use Rattle.machine_law.proofs.Arcs.{arcs-most}
 use Rattle.machine_law.proofs.Calm.{IsCalm, operation_calm, steep_calm}
 use Rattle.machine_law.proofs.Supply.{supply_raised}
@@ -24,12 +24,12 @@ use Rattle.machine_law.proofs.Staying.{same_arcs, same_supply}
 
 module _ (net : NetView) (s : State) (b : ℕ) (l : b < length net.worths) (have : Amount) (best : Best Amount) (e : s.operation b ≡ RaiseDue have best) (some : Below zero_amount have) (walk : IsWalk net s b have [] (Some best)) (up : s.label b ≤ best.label) (k : HasAmounts net s) (h : HasLabels net s) where
   rises : (i : ℕ) → s.label i ≤ (after_raise s b best).label i
-  rises = put-each (λ i n. s.label i ≤ n) s.label b (best.label + 1) (omega (arith, up)) (λ i ne. omega arith)
+  rises = with_value_at-each (λ i n. s.label i ≤ n) s.label b (best.label + 1) (omega (arith, up)) (λ i ne. omega arith)
 
   own : (after_raise s b best).label b ≡ best.label + 1
-  own = put-same s.label b (best.label + 1)
+  own = with_value_at-same s.label b (best.label + 1)
 
-  steep_raised : AtMost (steep net (after_raise s b best) b) (supply net (after_raise s b best) b)
+  steep_raised : AtMost (steep_capacity net (after_raise s b best) b) (supply net (after_raise s b best) b)
   steep_raised =
       let t = after_raise s b best in
       let f : ℕ → Bool = λ j. nat_lt (t.label (from_at net.pairs j) + 1) (t.label b) in
@@ -45,7 +45,7 @@ module _ (net : NetView) (s : State) (b : ℕ) (l : b < length net.worths) (have
 
   calm : (x : ℕ) → x ≢ b → IsCalm net s (after_raise s b best) x
   calm x ne = record {
-    own = put-other s.label b (best.label + 1) x ne;
+    own = with_value_at-other s.label b (best.label + 1) x ne;
     labels = rises;
     source = refl;
     sink = refl;
@@ -67,15 +67,15 @@ module _ (net : NetView) (s : State) (b : ℕ) (l : b < length net.worths) (have
           | inr ne ↦
               let u = h.forward j i in
               let m = rises (to_at net.pairs j) in
-              let a = put-other s.label b (best.label + 1) (from_at net.pairs j) ne in
+              let a = with_value_at-other s.label b (best.label + 1) (from_at net.pairs j) ne in
               omega (arith, u, m, a)
         ];
-        sink = put-each (λ i n. Below zero_amount (room net s i) → n ≤ 1) s.label b (best.label + 1) (λ o. let u = walk.passed (sink_port b) (refl, refl) o refl in omega (arith, u)) (λ i ne. h.sink i);
-        source = put-each (λ i n. Below zero_amount (s.source i) → n ≤ length net.worths + 3) s.label b (best.label + 1) (λ o. let u = walk.passed (source_port b) (refl, refl) o refl in omega (arith, u)) (λ i ne. h.source i);
-        left = put-each (λ i n. (s.source i ≡ positive (amount_at net.worths i)) ⊎ (length net.worths + 2 < n)) s.label b (best.label + 1) (elim (h.left b) [ inl y ↦ inl y | inr y ↦ inr (omega (arith, y, up)) ]) (λ i ne. h.left i);
+        sink = with_value_at-each (λ i n. Below zero_amount (room net s i) → n ≤ 1) s.label b (best.label + 1) (λ o. let u = walk.passed (sink_port b) (refl, refl) o refl in omega (arith, u)) (λ i ne. h.sink i);
+        source = with_value_at-each (λ i n. Below zero_amount (s.source i) → n ≤ length net.worths + 3) s.label b (best.label + 1) (λ o. let u = walk.passed (source_port b) (refl, refl) o refl in omega (arith, u)) (λ i ne. h.source i);
+        left = with_value_at-each (λ i n. (s.source i ≡ positive (amount_at net.worths i)) ⊎ (length net.worths + 2 < n)) s.label b (best.label + 1) (elim (h.left b) [ inl y ↦ inl y | inr y ↦ inr (omega (arith, y, up)) ]) (λ i ne. h.left i);
         steep_most = λ x. elim (cases_eq x b) [
-          | inl at ↦ subst (λ (y : ℕ). AtMost (steep net t y) (supply net t y)) (sym at) steep_raised
+          | inl at ↦ subst (λ (y : ℕ). AtMost (steep_capacity net t y) (supply net t y)) (sym at) steep_raised
           | inr ne ↦ steep_calm net s t x (calm x ne) (h.steep_most x)
         ];
-        operation = put-each (λ i u. IsLevelled net t i u) s.operation b Idle tt (λ i ne. operation_calm net s t i (calm i ne) (s.operation i) (h.operation i));
+        operation = with_value_at-each (λ i u. IsLevelled net t i u) s.operation b Idle tt (λ i ne. operation_calm net s t i (calm i ne) (s.operation i) (h.operation i));
       }

@@ -2,7 +2,7 @@
 use Rattle.std.proofs.Common.{◌≡◌, ◌≢◌, ℕ, ◌<◌, inl, inr, Option, Some, None, length, get_or, refl, ap, sym, ◌∙◌, subst}
 use Rattle.std.specs.Prelude.{slice_get}
 use Rattle.std.proofs.lemmas.Option.{slice_get-get_or}
-use Rattle.ordered_group.specs.Amount.{Amount, zero_amount, least}
+use Rattle.ordered_group.specs.Amount.{Amount, zero_amount, lesser_amount}
 use Rattle.closure_net.specs.Network.{NetView}
 use Rattle.closure_net.specs.Ports.{ports, sink_port}
 use Rattle.closure_net.specs.declared.port.Port.{Port}
@@ -16,14 +16,14 @@ use Rattle.machine_law.specs.declared.operations.Operation.TheVariants.{Idle, Sc
 use Rattle.machine_law.specs.States.{State}
 use Rattle.machine_law.specs.Residual.{capacity, end_label}
 use Rattle.machine_law.specs.Reads.{after_capacity, after_label}
-use Rattle.machine_law.specs.Steps.{next_of, next_kind, read_kind, push_kind, becomes, after_look, after_look_by, after_label_at, push_amount, after_push, advance, advance_by}
+use Rattle.machine_law.specs.Steps.{next_of, next_kind, read_kind, push_kind, with_operation, after_look, after_look_by, after_label_at, push_amount, after_push, advance, advance_by}
 use Rattle.machine_law.specs.Amounts.{IsOperation}
 use Rattle.machine_law.specs.Table.{Makes, StepsAreRows}
 use Rattle.machine_law.proofs.PortLists.{port_with}
 
 module _ (net : NetView) (s : State) (b : ℕ) where
   -- ---- the row of the kind that is next leaves what is computed
-  row_looked : (t : State) (have : Amount) (place : ℕ) (best : Option (Best Amount)) (kind : PortKind) (other slot : ℕ) → s.operation b ≡ Scan have place None best → slice_get (ports net b) place ≡ Some (port_with kind other slot) → t ≡ becomes s b (after_look_by net s b have place best (port_with kind other slot) kind) → Makes net s b (read_kind kind) t
+  row_looked : (t : State) (have : Amount) (place : ℕ) (best : Option (Best Amount)) (kind : PortKind) (other slot : ℕ) → s.operation b ≡ Scan have place None best → slice_get (ports net b) place ≡ Some (port_with kind other slot) → t ≡ with_operation s b (after_look_by net s b have place best (port_with kind other slot) kind) → Makes net s b (read_kind kind) t
   row_looked t have place best Sink other slot e at after = record { have = have; place = place; best = best; port = port_with Sink other slot; scan = e; present = at; limited = λ h. absurd cc; after = after }
   row_looked t have place best Forward other slot e at after = record { have = have; place = place; read = None; best = best; port = port_with Forward other slot; recorded = zero_amount; scan = e; present = at; due = inl (refl, refl, refl); after = after }
   row_looked t have place best Backward other slot e at after = record { have = have; place = place; best = best; port = port_with Backward other slot; scan = e; present = at; limited = λ h. absurd cc; after = after }
@@ -48,11 +48,11 @@ module _ (net : NetView) (s : State) (b : ℕ) where
   row_by (Scan have place None best) t e i after =
       let p = get_or (ports net b) place (sink_port b) in
       let at = port_here place i.inside in
-      rw at (row_looked t have place best p.kind p.other p.slot e at (after ∙ ap (becomes s b) (looked_here have place best p at)))
+      rw at (row_looked t have place best p.kind p.other p.slot e at (after ∙ ap (with_operation s b) (looked_here have place best p at)))
   row_by (Scan have place (Some read) best) t e i after =
       let p = get_or (ports net b) place (sink_port b) in
       let at = port_here place i.inside in
-      record { have = have; place = place; read = Some read; best = best; port = p; recorded = read; scan = e; present = at; due = inr refl; after = after ∙ ap (λ q. becomes s b (after_label_at net s b have place best read q)) at }
+      record { have = have; place = place; read = Some read; best = best; port = p; recorded = read; scan = e; present = at; due = inr refl; after = after ∙ ap (λ q. with_operation s b (after_label_at net s b have place best read q)) at }
   row_by (PushDue have best) t e i after = row_pushed t have best.capacity best.label best.port.kind best.port.other best.port.slot e after
   row_by (TakeDue d p) t e i after = record { amount = d; port = p; due = e; after = after }
   row_by (GiveDue d p) t e i after = record { amount = d; port = p; due = e; after = after }
@@ -74,7 +74,7 @@ module _ (net : NetView) (s : State) (b : ℕ) where
   limited_push Backward h = refl
   limited_push Source h = refl
 
-  limited_amount : (have : Amount) (kind : PortKind) (read : Amount) → kind ≢ Forward → push_amount have kind read ≡ least have read
+  limited_amount : (have : Amount) (kind : PortKind) (read : Amount) → kind ≢ Forward → push_amount have kind read ≡ lesser_amount have read
   limited_amount have Sink read h = refl
   limited_amount have Forward read h = absurd (h refl)
   limited_amount have Backward read h = refl
@@ -93,14 +93,14 @@ module _ (net : NetView) (s : State) (b : ℕ) where
   next_by ReadExcess t r = from_operation Idle ReadExcess t r.idle refl r.after
   next_by ReadCapacity t r =
       from_operation (Scan r.have r.place None r.best) ReadCapacity t r.scan (rw r.present (limited_kind r.port.kind r.limited))
-      (r.after ∙ ap (becomes s b) (sym (looked_here r.have r.place r.best r.port r.present ∙ limited_looked r.have r.place r.best r.port r.port.kind r.limited)))
+      (r.after ∙ ap (with_operation s b) (sym (looked_here r.have r.place r.best r.port r.present ∙ limited_looked r.have r.place r.best r.port r.port.kind r.limited)))
   next_by ReadLabel t r = elim r.due [
     | inl f ↦
         from_operation (Scan r.have r.place None r.best) ReadLabel t (r.scan ∙ ap (λ x. Scan r.have r.place x r.best) f.1) (rw r.present (ap read_kind f.0))
-        (r.after ∙ ap (becomes s b) (ap (λ c. after_label (length (ports net b)) (s.label b) r.have r.place r.best c r.port (end_label net s r.port)) f.2 ∙ sym (looked_here r.have r.place r.best r.port r.present ∙ forward_looked r.have r.place r.best r.port f.0)))
+        (r.after ∙ ap (with_operation s b) (ap (λ c. after_label (length (ports net b)) (s.label b) r.have r.place r.best c r.port (end_label net s r.port)) f.2 ∙ sym (looked_here r.have r.place r.best r.port r.present ∙ forward_looked r.have r.place r.best r.port f.0)))
     | inr f ↦
         from_operation (Scan r.have r.place (Some r.recorded) r.best) ReadLabel t (r.scan ∙ ap (λ x. Scan r.have r.place x r.best) f) refl
-        (r.after ∙ ap (λ q. becomes s b (after_label_at net s b r.have r.place r.best r.recorded q)) (sym r.present))
+        (r.after ∙ ap (λ q. with_operation s b (after_label_at net s b r.have r.place r.best r.recorded q)) (sym r.present))
   ]
   next_by TakeCapacity t r =
       from_operation (PushDue r.have r.best) TakeCapacity t r.due (limited_push r.best.port.kind r.limited)

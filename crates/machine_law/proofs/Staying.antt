@@ -11,12 +11,12 @@ use Rattle.closure_net.specs.declared.port.PortKind.TheVariants.{Sink, Forward, 
 use Rattle.machine_law.specs.declared.operations.Operation.{Operation}
 use Rattle.machine_law.specs.declared.operations.Operation.TheVariants.{Idle, TakeDue, GiveDue}
 use Rattle.machine_law.specs.States.{State, with_value_at}
-use Rattle.machine_law.specs.Steps.{becomes, after_take, after_give, after_give_by}
+use Rattle.machine_law.specs.Steps.{with_operation, after_take, after_give, after_give_by}
 use Rattle.machine_law.specs.Amounts.{HasAmounts}
 use Rattle.machine_law.specs.Balances.{supply}
 use Rattle.machine_law.specs.Labels.{arcs, IsLevelled, HasLabels}
 use Rattle.machine_law.proofs.Numbers.{Same, shifted}
-use Rattle.machine_law.proofs.Points.{put-each}
+use Rattle.machine_law.proofs.Points.{with_value_at-each}
 use Rattle.machine_law.proofs.Arcs.{arcs-most}
 use Rattle.machine_law.proofs.Calm.{IsCalm, operation_calm, steep_calm}
 use Rattle.machine_law.proofs.Supply.{IsAtRest, supply_rest, supply_taken, supply_given}
@@ -48,11 +48,11 @@ module _ (net : NetView) (s : State) (b : ℕ) (k : HasAmounts net s) (h : HasLa
         source = λ x o. rw el (h.source x (subst (λ (u : ℕ → Amount). Below zero_amount (u x)) es o));
         left = λ x. rw (es, el) (h.left x);
         steep_most = λ x. steep_calm net s t x (calm x) (h.steep_most x);
-        operation = subst (λ (u : ℕ → Operation Amount). (x : ℕ) → IsLevelled net t x (u x)) (sym eo) (put-each (λ i u. IsLevelled net t i u) s.operation b o (operation_calm net s t b (calm b) o is) (λ i ne. operation_calm net s t i (calm i) (s.operation i) (h.operation i)));
+        operation = subst (λ (u : ℕ → Operation Amount). (x : ℕ) → IsLevelled net t x (u x)) (sym eo) (with_value_at-each (λ i u. IsLevelled net t i u) s.operation b o (operation_calm net s t b (calm b) o is) (λ i ne. operation_calm net s t i (calm i) (s.operation i) (h.operation i)));
       }
 
-  pub labels_rest : b < length net.worths → (old new : Operation Amount) → s.operation b ≡ old → IsAtRest old → IsAtRest new → IsLevelled net s b new → HasLabels net (becomes s b new)
-  labels_rest l old new e r n is = labels_stay (becomes s b new) new refl refl refl refl refl (λ x. supply_rest net s b l x old new e r n) is
+  pub labels_rest : b < length net.worths → (old new : Operation Amount) → s.operation b ≡ old → IsAtRest old → IsAtRest new → IsLevelled net s b new → HasLabels net (with_operation s b new)
+  labels_rest l old new e r n is = labels_stay (with_operation s b new) new refl refl refl refl refl (λ x. supply_rest net s b l x old new e r n) is
 
   pub labels_taken : b < length net.worths → (d : Amount) (p : Port) → s.operation b ≡ TakeDue d p → HasLabels net (after_take s b d p)
   labels_taken l d p e = labels_stay (after_take s b d p) (GiveDue d p) refl refl refl refl refl (λ x. supply_taken net s b l x d p e) tt

@@ -12,12 +12,12 @@ use Rattle.machine_law.specs.declared.operations.Best.{Best}
 use Rattle.machine_law.specs.declared.operations.Operation.{Operation}
 use Rattle.machine_law.specs.declared.operations.Operation.TheVariants.{Idle, Scan, PushDue, TakeDue, GiveDue, RaiseDue}
 use Rattle.machine_law.specs.States.{State, with_value_at}
-use Rattle.machine_law.specs.Steps.{becomes, after_push_by, after_take, after_give, after_give_by, after_raise}
-use Rattle.machine_law.specs.Transit.{amount_owed, on_way, sum_on_way, lands}
+use Rattle.machine_law.specs.Steps.{with_operation, after_push_by, after_take, after_give, after_give_by, after_raise}
+use Rattle.machine_law.specs.Transit.{amount_owed, on_way, sum_on_way, amount_landing}
 use Rattle.machine_law.specs.Balances.{supply}
 use Rattle.machine_law.proofs.Numbers.{Same, same}
-use Rattle.machine_law.proofs.Points.{where-put}
-use Rattle.machine_law.proofs.Sums.{sum_on_way-put}
+use Rattle.machine_law.proofs.Points.{where-with_value_at}
+use Rattle.machine_law.proofs.Sums.{sum_on_way-with_value_at}
 
 -- an operation that has pushed nothing yet
 abbrev pub IsAtRest : Operation Amount → Type 0
@@ -49,13 +49,13 @@ where_nothing t a e = rw e (where_so-zero t)
 
 -- the supply of x by these excesses and operations
 abbrev on_hand : NetView → (ℕ → Amount) → (ℕ → Operation Amount) → ℕ → Amount
-on_hand net excess operation x = minus (plus (excess x) (sum_on_way net (lands x) operation)) (amount_owed (operation x))
+on_hand net excess operation x = minus (plus (excess x) (sum_on_way net (amount_landing x) operation)) (amount_owed (operation x))
 
 module _ (net : NetView) (s : State) (b : ℕ) (l : b < length net.worths) where
   -- what is on its way to one end, where nothing was and nothing is of this operation
   pub way_rest : (old new : Operation Amount) (f : Port → Amount → Amount) → s.operation b ≡ old → IsAtRest old → IsAtRest new → Same (sum_on_way net f (with_value_at s.operation b new)) (sum_on_way net f s.operation)
   way_rest old new f e r n =
-      let c = sum_on_way-put net f s.operation b old new l e in
+      let c = sum_on_way-with_value_at net f s.operation b old new l e in
       let p = same (rest_on_way old f r) in
       let q = same (rest_on_way new f n) in
       record { w = omega (arith, ints, c, p, q); c = omega (arith, ints, c, p, q) }
@@ -63,33 +63,33 @@ module _ (net : NetView) (s : State) (b : ℕ) (l : b < length net.worths) where
   module _ (x : ℕ) where
     hand_rest : (old new : Operation Amount) → s.operation b ≡ old → IsAtRest old → IsAtRest new → Same (on_hand net s.excess (with_value_at s.operation b new) x) (on_hand net s.excess s.operation x)
     hand_rest old new e r n =
-        let c = way_rest old new (lands x) e r n in
-        let o = where-put amount_owed s.operation b old new x e in
+        let c = way_rest old new (amount_landing x) e r n in
+        let o = where-with_value_at amount_owed s.operation b old new x e in
         let was = same (where_nothing (b == x) (amount_owed old) (rest_owed old r)) in
         let is = same (where_nothing (b == x) (amount_owed new) (rest_owed new n)) in
         record { w = omega (arith, ints, c, o, was, is); c = omega (arith, ints, c, o, was, is) }
 
-    hand_pushed : (have : Amount) (best : Best Amount) (d : Amount) (p : Port) → s.operation b ≡ PushDue have best → Same (on_hand net s.excess (with_value_at s.operation b (TakeDue d p)) x) (minus (plus (on_hand net s.excess s.operation x) (lands x p d)) (where_so (b == x) d))
+    hand_pushed : (have : Amount) (best : Best Amount) (d : Amount) (p : Port) → s.operation b ≡ PushDue have best → Same (on_hand net s.excess (with_value_at s.operation b (TakeDue d p)) x) (minus (plus (on_hand net s.excess s.operation x) (amount_landing x p d)) (where_so (b == x) d))
     hand_pushed have best d p e =
-        let c = sum_on_way-put net (lands x) s.operation b (PushDue have best) (TakeDue d p) l e in
-        let o = where-put amount_owed s.operation b (PushDue have best) (TakeDue d p) x e in
+        let c = sum_on_way-with_value_at net (amount_landing x) s.operation b (PushDue have best) (TakeDue d p) l e in
+        let o = where-with_value_at amount_owed s.operation b (PushDue have best) (TakeDue d p) x e in
         let none = same (where_so-zero (b == x)) in
         record { w = omega (arith, ints, c, o, none); c = omega (arith, ints, c, o, none) }
 
-    hand_given : (d : Amount) (p : Port) → s.operation b ≡ GiveDue d p → Same (plus (on_hand net s.excess (with_value_at s.operation b Idle) x) (lands x p d)) (on_hand net s.excess s.operation x)
+    hand_given : (d : Amount) (p : Port) → s.operation b ≡ GiveDue d p → Same (plus (on_hand net s.excess (with_value_at s.operation b Idle) x) (amount_landing x p d)) (on_hand net s.excess s.operation x)
     hand_given d p e =
-        let c = sum_on_way-put net (lands x) s.operation b (GiveDue d p) Idle l e in
-        let o = where-put amount_owed s.operation b (GiveDue d p) Idle x e in
+        let c = sum_on_way-with_value_at net (amount_landing x) s.operation b (GiveDue d p) Idle l e in
+        let o = where-with_value_at amount_owed s.operation b (GiveDue d p) Idle x e in
         record { w = omega (arith, ints, c, o); c = omega (arith, ints, c, o) }
 
     -- ---- the steps
-    pub supply_rest : (old new : Operation Amount) → s.operation b ≡ old → IsAtRest old → IsAtRest new → Same (supply net (becomes s b new) x) (supply net s x)
+    pub supply_rest : (old new : Operation Amount) → s.operation b ≡ old → IsAtRest old → IsAtRest new → Same (supply net (with_operation s b new) x) (supply net s x)
     supply_rest old new e r n = hand_rest old new e r n
 
     pub supply_raised : (have : Amount) (best : Best Amount) → s.operation b ≡ RaiseDue have best → Same (supply net (after_raise s b best) x) (supply net s x)
     supply_raised have best e = hand_rest (RaiseDue have best) Idle e tt tt
 
-    pub supply_pushed : (have : Amount) (best : Best Amount) (d : Amount) (p : Port) (kind : PortKind) → s.operation b ≡ PushDue have best → Same (supply net (after_push_by s b d p kind) x) (minus (plus (supply net s x) (lands x p d)) (where_so (b == x) d))
+    pub supply_pushed : (have : Amount) (best : Best Amount) (d : Amount) (p : Port) (kind : PortKind) → s.operation b ≡ PushDue have best → Same (supply net (after_push_by s b d p kind) x) (minus (plus (supply net s x) (amount_landing x p d)) (where_so (b == x) d))
     supply_pushed have best d p Sink e = hand_pushed have best d p e
     supply_pushed have best d p Forward e = hand_pushed have best d p e
     supply_pushed have best d p Backward e = hand_pushed have best d p e
@@ -97,22 +97,22 @@ module _ (net : NetView) (s : State) (b : ℕ) (l : b < length net.worths) where
 
     pub supply_taken : (d : Amount) (p : Port) → s.operation b ≡ TakeDue d p → Same (supply net (after_take s b d p) x) (supply net s x)
     supply_taken d p e =
-        let c = sum_on_way-put net (lands x) s.operation b (TakeDue d p) (GiveDue d p) l e in
-        let o = where-put amount_owed s.operation b (TakeDue d p) (GiveDue d p) x e in
-        let i = where-put (λ a. a) s.excess b (s.excess b) (minus (s.excess b) d) x refl in
+        let c = sum_on_way-with_value_at net (amount_landing x) s.operation b (TakeDue d p) (GiveDue d p) l e in
+        let o = where-with_value_at amount_owed s.operation b (TakeDue d p) (GiveDue d p) x e in
+        let i = where-with_value_at (λ a. a) s.excess b (s.excess b) (minus (s.excess b) d) x refl in
         let m = same (where_so-minus (b == x) (s.excess b) d) in
         let none = same (where_so-zero (b == x)) in
         record { w = omega (arith, ints, c, o, i, m, none); c = omega (arith, ints, c, o, i, m, none) }
 
-    given_into : (d : Amount) (other slot : ℕ) (p : Port) → s.operation b ≡ GiveDue d p → lands x p d ≡ where_so (other == x) d → Same (on_hand net (with_value_at s.excess other (plus (s.excess other) d)) (with_value_at s.operation b Idle) x) (on_hand net s.excess s.operation x)
+    given_into : (d : Amount) (other slot : ℕ) (p : Port) → s.operation b ≡ GiveDue d p → amount_landing x p d ≡ where_so (other == x) d → Same (on_hand net (with_value_at s.excess other (plus (s.excess other) d)) (with_value_at s.operation b Idle) x) (on_hand net s.excess s.operation x)
     given_into d other slot p e q =
         let h = hand_given d p e in
-        let i = where-put (λ a. a) s.excess other (s.excess other) (plus (s.excess other) d) x refl in
+        let i = where-with_value_at (λ a. a) s.excess other (s.excess other) (plus (s.excess other) d) x refl in
         let m = same (where_so-plus (other == x) (s.excess other) d) in
         let v = same q in
         record { w = omega (arith, ints, h, i, m, v); c = omega (arith, ints, h, i, m, v) }
 
-    given_out : (d : Amount) (p : Port) → s.operation b ≡ GiveDue d p → lands x p d ≡ zero_amount → Same (on_hand net s.excess (with_value_at s.operation b Idle) x) (on_hand net s.excess s.operation x)
+    given_out : (d : Amount) (p : Port) → s.operation b ≡ GiveDue d p → amount_landing x p d ≡ zero_amount → Same (on_hand net s.excess (with_value_at s.operation b Idle) x) (on_hand net s.excess s.operation x)
     given_out d p e q =
         let h = hand_given d p e in
         let v = same q in

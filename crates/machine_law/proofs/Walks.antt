@@ -13,11 +13,11 @@ use Rattle.closure_net.specs.declared.port.PortKind.TheVariants.{Sink, Forward, 
 use Rattle.machine_law.specs.declared.operations.Best.{Best}
 use Rattle.machine_law.specs.States.{State}
 use Rattle.machine_law.specs.Residual.{room, capacity, capacity_by, end_label, label_beyond, IsEnd, IsPortOf}
-use Rattle.machine_law.specs.Reads.{is_positive, better}
+use Rattle.machine_law.specs.Reads.{is_positive, better_of}
 use Rattle.machine_law.specs.Transit.{amount_owed}
 use Rattle.machine_law.specs.Amounts.{HasAmounts}
 use Rattle.machine_law.specs.Balances.{supply}
-use Rattle.machine_law.specs.Labels.{arcs, steep, high, label_by, same_by, same_port, ports_have, is_under, IsOpenBy, IsAbove, IsNearLabel, IsBestLabel, IsLevelIfAny, IsWalk, HasLabels}
+use Rattle.machine_law.specs.Labels.{arcs, steep_capacity, high_capacity, label_by, same_by, same_port, ports_have, is_under, IsOpenBy, IsAbove, IsNearLabel, IsBestLabel, IsLevelIfAny, IsWalk, HasLabels}
 use Rattle.machine_law.proofs.Numbers.{same, shifted, positive-no, Below-absurd}
 use Rattle.machine_law.proofs.Arcs.{arcs-most, arcs-most_or, arcs-none}
 use Rattle.machine_law.proofs.PortLists.{has_backward, has_open}
@@ -65,15 +65,15 @@ module _ (net : NetView) (s : State) (b : ℕ) where
   same_end_of p q x y e = same_end p.kind q.kind p.other q.other p.slot q.slot x y e
 
 -- ---- the best port, with one more
-better-most : (best : Option (Best Amount)) (new : Best Amount) → (better best new).label ≤ new.label
-better-most None new = omega arith
-better-most (Some best) new = cond_both (nat_lt new.label best.label) new best (λ x. x.label ≤ new.label) (λ e. omega arith) (λ e. ltb-false new.label best.label e)
+better_of-most : (best : Option (Best Amount)) (new : Best Amount) → (better_of best new).label ≤ new.label
+better_of-most None new = omega arith
+better_of-most (Some best) new = cond_both (nat_lt new.label best.label) new best (λ x. x.label ≤ new.label) (λ e. omega arith) (λ e. ltb-false new.label best.label e)
 
-under_better : (best : Option (Best Amount)) (new : Best Amount) (n : ℕ) → is_under (Some (better best new)) n ≡ true → is_under best n ≡ true
+under_better : (best : Option (Best Amount)) (new : Best Amount) (n : ℕ) → is_under (Some (better_of best new)) n ≡ true → is_under best n ≡ true
 under_better None new n e = refl
 under_better (Some best) new n e = grind (arith, common_steps)
 
-above_better : (best : Option (Best Amount)) (new : Best Amount) (n : ℕ) → IsAbove best n → (better best new).label ≤ n
+above_better : (best : Option (Best Amount)) (new : Best Amount) (n : ℕ) → IsAbove best n → (better_of best new).label ≤ n
 above_better None new n h = absurd h
 above_better (Some best) new n h = cond_both (nat_lt new.label best.label) new best (λ x. x.label ≤ n) (λ e. let u = ltb-true new.label best.label e in omega (arith, h, u)) (λ e. h)
 
@@ -91,13 +91,13 @@ module _ (net : NetView) (s : State) (b : ℕ) (k : HasAmounts net s) (h : HasLa
   near_new Backward other slot q r = tt
   near_new Source other slot q r = let u = h.source b r in (omega (arith, u), omega arith)
 
-  level_better : (best : Option (Best Amount)) (new : Best Amount) → IsLevelIfAny net s b best → IsBestLabel net s b new → IsBestLabel net s b (better best new)
+  level_better : (best : Option (Best Amount)) (new : Best Amount) → IsLevelIfAny net s b best → IsBestLabel net s b new → IsBestLabel net s b (better_of best new)
   level_better None new i n = n
   level_better (Some best) new i n = cond_both (nat_lt new.label best.label) new best (IsBestLabel net s b) (λ e. n) (λ e. i)
 
-  high_better : (best : Option (Best Amount)) (new : Best Amount) → AtMost (high net s b best) (supply net s b) → AtMost (high net s b (Some new)) (supply net s b) → AtMost (high net s b (Some (better best new))) (supply net s b)
+  high_better : (best : Option (Best Amount)) (new : Best Amount) → AtMost (high_capacity net s b best) (supply net s b) → AtMost (high_capacity net s b (Some new)) (supply net s b) → AtMost (high_capacity net s b (Some (better_of best new))) (supply net s b)
   high_better None new i n = n
-  high_better (Some best) new i n = cond_both (nat_lt new.label best.label) new best (λ x. AtMost (high net s b (Some x)) (supply net s b)) (λ e. n) (λ e. i)
+  high_better (Some best) new i n = cond_both (nat_lt new.label best.label) new best (λ x. AtMost (high_capacity net s b (Some x)) (supply net s b)) (λ e. n) (λ e. i)
 
   -- ---- an operation begins
   pub walk_begun : amount_owed (s.operation b) ≡ zero_amount → IsWalk net s b (s.excess b) (ports net b) None
@@ -140,29 +140,29 @@ module _ (net : NetView) (s : State) (b : ℕ) (k : HasAmounts net s) (h : HasLa
       }
 
   -- ---- a port is passed whose label is read
-  pub walk_choose : (have read : Amount) (p : Port) (ps : List Port) (best : Option (Best Amount)) → IsPortOf net b p → IsReady net s b p.kind → IsWalk net s b have (p ∷ ps) best → IsWalk net s b have ps (Some (better best (record { port = p; capacity = read; label = end_label net s p })))
+  pub walk_choose : (have read : Amount) (p : Port) (ps : List Port) (best : Option (Best Amount)) → IsPortOf net b p → IsReady net s b p.kind → IsWalk net s b have (p ∷ ps) best → IsWalk net s b have ps (Some (better_of best (record { port = p; capacity = read; label = end_label net s p })))
   walk_choose have read p ps best ip r w =
       let new : Best Amount = record { port = p; capacity = read; label = end_label net s p } in
-      let most = better-most best new in
+      let most = better_of-most best new in
       let back : ℕ → Port = backward_port (from_at net.pairs) in
       record {
         level = level_better best new w.level (record { recorded = omega arith; near = near_new p.kind p.other p.slot ip r });
         low_most =
-            let f : ℕ → Bool = λ j. not (ports_have ps (back j)) && is_under (Some (better best new)) (s.label (from_at net.pairs j)) in
+            let f : ℕ → Bool = λ j. not (ports_have ps (back j)) && is_under (Some (better_of best new)) (s.label (from_at net.pairs j)) in
             let g : ℕ → Bool = λ j. not (ports_have (p ∷ ps) (back j)) && is_under best (s.label (from_at net.pairs j)) in
             AtMost-trans (arcs net f s.flow b) (arcs net g s.flow b) (minus (supply net s b) have)
             (arcs-most net f g s.flow s.flow b (λ j l at z.
-            let q = and_parts (not (ports_have ps (back j))) (is_under (Some (better best new)) (s.label (from_at net.pairs j))) z in
+            let q = and_parts (not (ports_have ps (back j))) (is_under (Some (better_of best new)) (s.label (from_at net.pairs j))) z in
             elim (cases_Bool (same_port p (back j))) [
               | inl y ↦
                   let u = same_end_of net s b p (back j) ip (l, at, refl) y in
-                  let v = ltb-true (s.label (from_at net.pairs j)) (better best new).label q.1 in
+                  let v = ltb-true (s.label (from_at net.pairs j)) (better_of best new).label q.1 in
                   absurd (omega (arith, u, v, most))
               | inr n ↦ and_from (not (ports_have (p ∷ ps) (back j))) (is_under best (s.label (from_at net.pairs j))) (not_from_false (ports_have (p ∷ ps) (back j)) (or_from (same_port p (back j)) (ports_have ps (back j)) n (not-true (ports_have ps (back j)) q.0))) (under_better best new (s.label (from_at net.pairs j)) q.1)
             ]) (λ j. AtMost-refl (s.flow j)) k.flow)
             w.low_most;
         high_most = high_better best new w.high_most
-            (AtMost-trans (high net s b (Some new)) (steep net s b) (supply net s b)
+            (AtMost-trans (high_capacity net s b (Some new)) (steep_capacity net s b) (supply net s b)
             (arcs-most net (λ j. nat_lt (label_by p.kind p.slot (end_label net s p) j (s.label (from_at net.pairs j)) + 1) (s.label b)) (λ j. nat_lt (s.label (from_at net.pairs j) + 1) (s.label b)) s.flow s.flow b (λ j _ _ z. rw (seen_new p.kind p.other p.slot j ip) at z) (λ j. AtMost-refl (s.flow j)) k.flow)
             (h.steep_most b));
         passed = λ q iq oq n. elim (cases_Bool (same_port p q)) [

@@ -11,7 +11,7 @@ use Rattle.machine_law.specs.declared.events.Kind.TheVariants.{ReadExcess, ReadC
 use Rattle.machine_law.specs.States.{State, with_value_at, opening}
 use Rattle.machine_law.specs.Steps.{next_kind, advance}
 use Rattle.machine_law.specs.Transit.{amount_owed, amount_coming, sum_on_way}
-use Rattle.machine_law.specs.Labels.{arcs, steep}
+use Rattle.machine_law.specs.Labels.{arcs, steep_capacity}
 
 abbrev number : Kind → ℕ
 number ReadExcess = 0
@@ -53,7 +53,7 @@ flow k b s = (s.flow k).w ∷ (s.excess b).w ∷ []
 
 -- labels, excesses, flows, source amounts, the sink amount of block 1, what comes to it, what block 0 owes, what is steep at 1
 abbrev half_way : State → List ℤ
-half_way s = pos (s.label 0) ∷ pos (s.label 1) ∷ pos (s.label 2) ∷ (s.excess 0).w ∷ (s.excess 1).w ∷ (s.excess 2).w ∷ (s.flow 0).w ∷ (s.flow 1).w ∷ (s.source 0).w ∷ (s.source 1).w ∷ (s.source 2).w ∷ (s.sink 1).w ∷ (amount_coming net s 1).w ∷ (amount_owed (s.operation 1)).w ∷ (amount_owed (s.operation 0)).w ∷ (steep net s 1).w ∷ pos s.steps ∷ []
+half_way s = pos (s.label 0) ∷ pos (s.label 1) ∷ pos (s.label 2) ∷ (s.excess 0).w ∷ (s.excess 1).w ∷ (s.excess 2).w ∷ (s.flow 0).w ∷ (s.flow 1).w ∷ (s.source 0).w ∷ (s.source 1).w ∷ (s.source 2).w ∷ (s.sink 1).w ∷ (amount_coming net s 1).w ∷ (amount_owed (s.operation 1)).w ∷ (amount_owed (s.operation 0)).w ∷ (steep_capacity net s 1).w ∷ pos s.steps ∷ []
 
 -- excesses, and the amounts of the flow
 abbrev at_the_end : State → List ℤ

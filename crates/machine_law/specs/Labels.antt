@@ -21,8 +21,8 @@ unfoldable pub arcs : NetView → (ℕ → Bool) → (ℕ → Amount) → ℕ �
 arcs net test flow b = total (λ k. where_so ((to_at net.pairs k == b) && test k) (flow k)) (length net.pairs)
 
 -- the capacity of b's backward arcs that fall by more than one label
-abbrev pub steep : NetView → State → ℕ → Amount
-steep net s b = arcs net (λ k. nat_lt (s.label (from_at net.pairs k) + 1) (s.label b)) s.flow b
+abbrev pub steep_capacity : NetView → State → ℕ → Amount
+steep_capacity net s b = arcs net (λ k. nat_lt (s.label (from_at net.pairs k) + 1) (s.label b)) s.flow b
 
 -- ---- what an operation remembers of labels
 
@@ -38,8 +38,8 @@ label_seen None k label = label
 label_seen (Some best) k label = label_by best.port.kind best.port.slot best.label k label
 
 -- the steep bound's capacity, where the best port counts by the label that was read
-abbrev pub high : NetView → State → ℕ → Option (Best Amount) → Amount
-high net s b best = arcs net (λ k. nat_lt (label_seen best k (s.label (from_at net.pairs k)) + 1) (s.label b)) s.flow b
+abbrev pub high_capacity : NetView → State → ℕ → Option (Best Amount) → Amount
+high_capacity net s b best = arcs net (λ k. nat_lt (label_seen best k (s.label (from_at net.pairs k)) + 1) (s.label b)) s.flow b
 
 -- whether two ports of one block are the same
 abbrev pub same_by : PortKind → PortKind → ℕ → ℕ → Bool
@@ -62,8 +62,8 @@ is_under None label = true
 is_under (Some best) label = nat_lt label best.label
 
 -- the capacity of the backward arcs that are passed and end below the best port, or of all that are passed while there is none
-abbrev pub low : NetView → State → ℕ → List Port → Option (Best Amount) → Amount
-low net s b rest best = arcs net (λ k. not (ports_have rest (backward_port (from_at net.pairs) k)) && is_under best (s.label (from_at net.pairs k))) s.flow b
+abbrev pub low_capacity : NetView → State → ℕ → List Port → Option (Best Amount) → Amount
+low_capacity net s b rest best = arcs net (λ k. not (ports_have rest (backward_port (from_at net.pairs) k)) && is_under best (s.label (from_at net.pairs k))) s.flow b
 
 -- by the kind of port: it isn't backward, and has capacity
 abbrev pub IsOpenBy : NetView → State → ℕ → PortKind → Type 0
@@ -98,8 +98,8 @@ IsLevelIfAny net s b (Some best) = IsBestLabel net s b best
 -- open ports that are passed none ends below the best one, nor is there any while there is no best one.
 pub record IsWalk (net : NetView) (s : State) (b : ℕ) (have : Amount) (rest : List Port) (best : Option (Best Amount)) : Type 0 where
   pub level : IsLevelIfAny net s b best
-  pub low_most : AtMost (low net s b rest best) (minus (supply net s b) have)
-  pub high_most : AtMost (high net s b best) (supply net s b)
+  pub low_most : AtMost (low_capacity net s b rest best) (minus (supply net s b) have)
+  pub high_most : AtMost (high_capacity net s b best) (supply net s b)
   pub passed : (p : Port) → IsPortOf net b p → IsOpenBy net s b p.kind → ports_have rest p ≡ false → IsAbove best (end_label net s p)
 
 -- what holds of an operation of b: a push is due where the block stands above the best port, and a raise where it doesn't
@@ -119,5 +119,5 @@ pub record HasLabels (net : NetView) (s : State) : Type 0 where
   pub sink : (b : ℕ) → Below zero_amount (room net s b) → s.label b ≤ 1
   pub source : (b : ℕ) → Below zero_amount (s.source b) → s.label b ≤ length net.worths + 3
   pub left : (b : ℕ) → (s.source b ≡ positive (amount_at net.worths b)) ⊎ (length net.worths + 2 < s.label b)
-  pub steep_most : (b : ℕ) → AtMost (steep net s b) (supply net s b)
+  pub steep_most : (b : ℕ) → AtMost (steep_capacity net s b) (supply net s b)
   pub operation : (b : ℕ) → IsLevelled net s b (s.operation b)

@@ -16,9 +16,9 @@ abbrev pub operation_begun_with : Amount → Operation Amount
 operation_begun_with excess = if is_positive excess then Scan excess 0 None None else Idle
 
 -- The best port, with one more: that with the lesser label, and the earlier one where the labels are equal.
-abbrev pub better : {N : Type 0} → Option (Best N) → Best N → Best N
-better None new = new
-better (Some best) new = if nat_lt new.label best.label then new else best
+abbrev pub better_of : {N : Type 0} → Option (Best N) → Best N → Best N
+better_of None new = new
+better_of (Some best) new = if nat_lt new.label best.label then new else best
 
 -- After the last port is passed: a push is due where the block stands above the best port, and otherwise a raise. Where no
 -- port was best, the operation ends.
@@ -36,18 +36,18 @@ after_capacity count label have place best capacity = if is_positive capacity th
 
 -- after the label beyond the port at this place is read: the port may become the best one, and it is passed
 abbrev pub after_label : {N : Type 0} → ℕ → ℕ → N → ℕ → Option (Best N) → N → Port → ℕ → Operation N
-after_label count label have place best capacity port beyond = after_port count label have place (Some (better best (record { port = port; capacity = capacity; label = beyond })))
+after_label count label have place best capacity port beyond = after_port count label have place (Some (better_of best (record { port = port; capacity = capacity; label = beyond })))
 
 -- ---- the same as changes of an operation
 
 -- the operation looks at one of so many ports
-abbrev pub IsScan : {N : Type 0} → ℕ → Operation N → Type 0
-IsScan count Idle = ⊥
-IsScan count (Scan have place read best) = place < count
-IsScan count (PushDue have best) = ⊥
-IsScan count (TakeDue amount port) = ⊥
-IsScan count (GiveDue amount port) = ⊥
-IsScan count (RaiseDue have best) = ⊥
+abbrev pub LooksAtPort : {N : Type 0} → ℕ → Operation N → Type 0
+LooksAtPort count Idle = ⊥
+LooksAtPort count (Scan have place read best) = place < count
+LooksAtPort count (PushDue have best) = ⊥
+LooksAtPort count (TakeDue amount port) = ⊥
+LooksAtPort count (GiveDue amount port) = ⊥
+LooksAtPort count (RaiseDue have best) = ⊥
 
 -- after the port that the operation looks at is passed
 abbrev pub after_port_by : {N : Type 0} → ℕ → ℕ → Operation N → Operation N

@@ -1,6 +1,6 @@
 -- The steps of the machine (Hong 2008) as what a block's operation leads to, and runs. `Table` has the same by the kind of step.
 use Rattle.std.specs.Prelude.{◌≡◌, ℕ, ◌+◌, ◌<◌, Option, Some, None, List, [], ◌∷◌, length, slice_get}
-use Rattle.ordered_group.specs.Amount.{Amount, zero_amount, plus, minus, least}
+use Rattle.ordered_group.specs.Amount.{Amount, zero_amount, plus, minus, lesser_amount}
 use Rattle.closure_net.specs.Network.{NetView}
 use Rattle.closure_net.specs.Ports.{ports}
 use Rattle.closure_net.specs.declared.port.Port.{Port}
@@ -58,8 +58,8 @@ next_event net s b = record { block = b; kind = next_kind net s b }
 -- ---- what a step leaves
 
 -- every step gives the block an operation, and adds one to the number of steps
-abbrev pub becomes : State → ℕ → Operation Amount → State
-becomes s b operation = record s { operation = with_value_at s.operation b operation; steps = s.steps + 1 }
+abbrev pub with_operation : State → ℕ → Operation Amount → State
+with_operation s b operation = record s { operation = with_value_at s.operation b operation; steps = s.steps + 1 }
 
 -- the operation after a read at a port whose capacity isn't read: of its capacity, or of the label beyond a forward one
 abbrev pub after_look_by : NetView → State → ℕ → Amount → ℕ → Option (Best Amount) → Port → PortKind → Operation Amount
@@ -80,47 +80,47 @@ after_label_at net s b have place best read (Some port) = after_label (length (p
 
 -- the amount of a push over a port of this kind: what there is, at most the capacity that was read
 abbrev pub push_amount : Amount → PortKind → Amount → Amount
-push_amount have Sink read = least have read
+push_amount have Sink read = lesser_amount have read
 push_amount have Forward read = have
-push_amount have Backward read = least have read
-push_amount have Source read = least have read
+push_amount have Backward read = lesser_amount have read
+push_amount have Source read = lesser_amount have read
 
 -- the capacity step of a push of d over a port of this kind
 abbrev pub after_push_by : State → ℕ → Amount → Port → PortKind → State
-after_push_by s b d port Sink = record (becomes s b (TakeDue d port)) { sink = with_value_at s.sink b (plus (s.sink b) d) }
-after_push_by s b d port Forward = record (becomes s b (TakeDue d port)) { flow = with_value_at s.flow port.slot (plus (s.flow port.slot) d) }
-after_push_by s b d port Backward = record (becomes s b (TakeDue d port)) { flow = with_value_at s.flow port.slot (minus (s.flow port.slot) d) }
-after_push_by s b d port Source = record (becomes s b (TakeDue d port)) { source = with_value_at s.source b (minus (s.source b) d) }
+after_push_by s b d port Sink = record (with_operation s b (TakeDue d port)) { sink = with_value_at s.sink b (plus (s.sink b) d) }
+after_push_by s b d port Forward = record (with_operation s b (TakeDue d port)) { flow = with_value_at s.flow port.slot (plus (s.flow port.slot) d) }
+after_push_by s b d port Backward = record (with_operation s b (TakeDue d port)) { flow = with_value_at s.flow port.slot (minus (s.flow port.slot) d) }
+after_push_by s b d port Source = record (with_operation s b (TakeDue d port)) { source = with_value_at s.source b (minus (s.source b) d) }
 
 abbrev pub after_push : State → ℕ → Amount → Port → State
 after_push s b d port = after_push_by s b d port port.kind
 
 -- d is taken out of the excess of b
 abbrev pub after_take : State → ℕ → Amount → Port → State
-after_take s b d port = record (becomes s b (GiveDue d port)) { excess = with_value_at s.excess b (minus (s.excess b) d) }
+after_take s b d port = record (with_operation s b (GiveDue d port)) { excess = with_value_at s.excess b (minus (s.excess b) d) }
 
 -- d arrives over a port of this kind
 abbrev pub after_give_by : State → ℕ → Amount → Port → PortKind → State
-after_give_by s b d port Sink = record (becomes s b Idle) { at_sink = plus s.at_sink d }
-after_give_by s b d port Forward = record (becomes s b Idle) { excess = with_value_at s.excess port.other (plus (s.excess port.other) d) }
-after_give_by s b d port Backward = record (becomes s b Idle) { excess = with_value_at s.excess port.other (plus (s.excess port.other) d) }
-after_give_by s b d port Source = record (becomes s b Idle) { at_source = plus s.at_source d }
+after_give_by s b d port Sink = record (with_operation s b Idle) { at_sink = plus s.at_sink d }
+after_give_by s b d port Forward = record (with_operation s b Idle) { excess = with_value_at s.excess port.other (plus (s.excess port.other) d) }
+after_give_by s b d port Backward = record (with_operation s b Idle) { excess = with_value_at s.excess port.other (plus (s.excess port.other) d) }
+after_give_by s b d port Source = record (with_operation s b Idle) { at_source = plus s.at_source d }
 
 abbrev pub after_give : State → ℕ → Amount → Port → State
 after_give s b d port = after_give_by s b d port port.kind
 
 -- b rises to one above the label that was read at the best port
 abbrev pub after_raise : State → ℕ → Best Amount → State
-after_raise s b best = record (becomes s b Idle) { label = with_value_at s.label b (best.label + 1) }
+after_raise s b best = record (with_operation s b Idle) { label = with_value_at s.label b (best.label + 1) }
 
 -- the state after the step that is next for b, which has this operation
 abbrev pub advance_by : NetView → State → ℕ → Operation Amount → State
 -- ReadExcess
-advance_by net s b Idle = becomes s b (operation_begun_with (s.excess b))
+advance_by net s b Idle = with_operation s b (operation_begun_with (s.excess b))
 -- ReadCapacity, or ReadLabel beyond a forward port
-advance_by net s b (Scan have place None best) = becomes s b (after_look net s b have place best (slice_get (ports net b) place))
+advance_by net s b (Scan have place None best) = with_operation s b (after_look net s b have place best (slice_get (ports net b) place))
 -- ReadLabel
-advance_by net s b (Scan have place (Some read) best) = becomes s b (after_label_at net s b have place best read (slice_get (ports net b) place))
+advance_by net s b (Scan have place (Some read) best) = with_operation s b (after_label_at net s b have place best read (slice_get (ports net b) place))
 -- TakeCapacity or GiveCapacity
 advance_by net s b (PushDue have best) = after_push s b (push_amount have best.port.kind best.capacity) best.port
 -- TakeExcess

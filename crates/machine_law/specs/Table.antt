@@ -1,6 +1,6 @@
 -- The steps of the machine as a table: for each kind of step when a block makes it, and what it leaves.
 use Rattle.std.specs.Prelude.{◌≡◌, ◌≢◌, ◌↔◌, ℕ, ◌<◌, ◌⊎◌, Option, Some, None, length, slice_get}
-use Rattle.ordered_group.specs.Amount.{Amount, zero_amount, least}
+use Rattle.ordered_group.specs.Amount.{Amount, zero_amount, lesser_amount}
 use Rattle.closure_net.specs.Network.{NetView}
 use Rattle.closure_net.specs.Ports.{ports}
 use Rattle.closure_net.specs.declared.port.Port.{Port}
@@ -13,13 +13,13 @@ use Rattle.machine_law.specs.declared.operations.Operation.TheVariants.{Idle, Sc
 use Rattle.machine_law.specs.States.{State}
 use Rattle.machine_law.specs.Residual.{capacity, end_label}
 use Rattle.machine_law.specs.Reads.{operation_begun_with, after_capacity, after_label}
-use Rattle.machine_law.specs.Steps.{becomes, after_push, after_take, after_give, after_raise, Step}
+use Rattle.machine_law.specs.Steps.{with_operation, after_push, after_take, after_give, after_raise, Step}
 use Rattle.machine_law.specs.Amounts.{HasAmounts}
 
 -- b has no operation; it sees its excess, and begins one where that is positive
 pub record ReadsExcess (net : NetView) (s : State) (b : ℕ) (t : State) : Type 0 where
   pub idle : s.operation b ≡ Idle
-  pub after : t ≡ becomes s b (operation_begun_with (s.excess b))
+  pub after : t ≡ with_operation s b (operation_begun_with (s.excess b))
 
 -- the present port isn't forward, and its capacity isn't read; b sees it, and passes the port where it is zero
 pub record ReadsCapacity (net : NetView) (s : State) (b : ℕ) (t : State) : Type 0 where
@@ -30,7 +30,7 @@ pub record ReadsCapacity (net : NetView) (s : State) (b : ℕ) (t : State) : Typ
   pub scan : s.operation b ≡ Scan have place None best
   pub present : slice_get (ports net b) place ≡ Some port
   pub limited : port.kind ≢ Forward
-  pub after : t ≡ becomes s b (after_capacity (length (ports net b)) (s.label b) have place best (capacity net s b port))
+  pub after : t ≡ with_operation s b (after_capacity (length (ports net b)) (s.label b) have place best (capacity net s b port))
 
 -- The present port is forward, or its capacity was read; b sees the label at the other end, and passes the port, which becomes the
 -- best one if there was none or its label is less. It is recorded with the capacity that was read, a forward one with zero.
@@ -44,7 +44,7 @@ pub record ReadsLabel (net : NetView) (s : State) (b : ℕ) (t : State) : Type 0
   pub scan : s.operation b ≡ Scan have place read best
   pub present : slice_get (ports net b) place ≡ Some port
   pub due : ((port.kind ≡ Forward) × (read ≡ None) × (recorded ≡ zero_amount)) ⊎ (read ≡ Some recorded)
-  pub after : t ≡ becomes s b (after_label (length (ports net b)) (s.label b) have place best recorded port (end_label net s port))
+  pub after : t ≡ with_operation s b (after_label (length (ports net b)) (s.label b) have place best recorded port (end_label net s port))
 
 -- a push is due, and the best port isn't forward: the flow of the pair or what b has of the source falls, or what it gave the sink rises
 pub record TakesCapacity (net : NetView) (s : State) (b : ℕ) (t : State) : Type 0 where
@@ -52,7 +52,7 @@ pub record TakesCapacity (net : NetView) (s : State) (b : ℕ) (t : State) : Typ
   pub best : Best Amount
   pub due : s.operation b ≡ PushDue have best
   pub limited : best.port.kind ≢ Forward
-  pub after : t ≡ after_push s b (least have best.capacity) best.port
+  pub after : t ≡ after_push s b (lesser_amount have best.capacity) best.port
 
 -- a push is due, and the best port is forward: the flow of the pair rises
 pub record GivesCapacity (net : NetView) (s : State) (b : ℕ) (t : State) : Type 0 where

@@ -34,11 +34,11 @@ unfoldable pub sum_on_way : NetView → (Port → Amount → Amount) → (ℕ �
 sum_on_way net f operation = total (λ b. on_way f (operation b)) (length net.worths)
 
 -- by the kind of port, what of d goes into block x, to the sink, and to the source
-abbrev pub lands_by : PortKind → ℕ → ℕ → Amount → Amount
-lands_by Sink other x d = zero_amount
-lands_by Forward other x d = where_so (other == x) d
-lands_by Backward other x d = where_so (other == x) d
-lands_by Source other x d = zero_amount
+abbrev pub amount_landing_by : PortKind → ℕ → ℕ → Amount → Amount
+amount_landing_by Sink other x d = zero_amount
+amount_landing_by Forward other x d = where_so (other == x) d
+amount_landing_by Backward other x d = where_so (other == x) d
+amount_landing_by Source other x d = zero_amount
 
 abbrev pub into_sink_by : PortKind → Amount → Amount
 into_sink_by Sink d = d
@@ -53,8 +53,8 @@ into_source_by Backward d = zero_amount
 into_source_by Source d = d
 
 -- what of d goes over a port into block x, to the sink, and to the source
-abbrev pub lands : ℕ → Port → Amount → Amount
-lands x port d = lands_by port.kind port.other x d
+abbrev pub amount_landing : ℕ → Port → Amount → Amount
+amount_landing x port d = amount_landing_by port.kind port.other x d
 
 abbrev pub into_sink : Port → Amount → Amount
 into_sink port d = into_sink_by port.kind d
@@ -64,7 +64,7 @@ into_source port d = into_source_by port.kind d
 
 -- the amounts of all pushes into x that have made their capacity step and have not arrived
 abbrev pub amount_coming : NetView → State → ℕ → Amount
-amount_coming net s x = sum_on_way net (lands x) s.operation
+amount_coming net s x = sum_on_way net (amount_landing x) s.operation
 
 -- the amounts of all pushes to the sink that have made their capacity step and have not arrived
 abbrev pub amount_coming_to_sink : NetView → State → Amount

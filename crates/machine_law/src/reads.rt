@@ -2,13 +2,13 @@
 //! better, and whether it goes on looking, pushes or raises its label.
 
 ghost use Rattle.std.specs.Prelude.{◌≡◌, Some};
-ghost use Rattle.machine_law.specs.Reads.{better, after_last_port, after_port_by, IsScan};
+ghost use Rattle.machine_law.specs.Reads.{better_of, after_last_port, after_port_by, LooksAtPort};
 
 use crate::operations::{Best, Operation};
 
 /// The best port with one more: the lower of the two, and of two as low the earlier.
 pub fn better<N: Copy>(best: &mut Option<Best<N>>, new: Best<N>)
-    ensures { best.new ≡ Some (better best.old new) }
+    ensures { best.new ≡ Some (better_of best.old new) }
 {
     let lower = match best {
         Some(old) => new.label < old.label,
@@ -37,7 +37,7 @@ pub fn after_last_port<N: Copy>(label: u64, have: N, best: Option<Best<N>>) -> O
 
 /// A block of so many ports and this label passes the port that it looks at.
 pub fn pass<N: Copy>(operation: &mut Operation<N>, ports: u32, label: u64)
-    requires { IsScan ports operation.old }
+    requires { LooksAtPort ports operation.old }
     ensures { operation.new ≡ after_port_by ports label operation.old }
 {
     let next = match operation {

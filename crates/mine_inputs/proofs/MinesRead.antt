@@ -6,7 +6,7 @@ use Rattle.prec_file.specs.Records as prec
 use Rattle.upit_file.specs.Records as upit
 use Rattle.settings_file.specs.Settings.{SettingsView, first_missing}
 use Rattle.certificate_file.specs.declared.header.Price.{Price}
-use Rattle.shells.specs.Prices.{PricesView, NoRevenueNegative, blocks_of, price_of, worth_at}
+use Rattle.shells.specs.Prices.{PricesView, NoRevenueNegative, priced_count, price_of, worth_at}
 use Rattle.mine_inputs.specs.declared.engine_fault.EngineFault.{EngineFault}
 use Rattle.mine_inputs.specs.declared.engine_fault.EngineFault.TheVariants as engine
 use Rattle.mine_inputs.specs.declared.mines.MineInputs.{MineInputs}
@@ -69,10 +69,10 @@ module _ (o q : Option (List ℕ)) (p : List ℕ) (k : ℕ) where
       table_known s b table positive r t =
           let known : table ≡ table_of s b = t.is ∙ ap (λ (v : SettingsView). table_by v b) (sym (settings_are s said r.1)) in
           record {
-            read = priced s b said table (blocks_of table) refl positive whole r t;
+            read = priced s b said table (priced_count table) refl positive whole r t;
             are = record {
-              size = length-map-range_with_len (worth_at table k) 0 (blocks_of table);
-              each = λ c h. get_or-map-range_with_len (worth_at table k) 0 (blocks_of table) c c (pos 0) h (omega arith) ∙ ap (λ (t : PricesView). worth_at t k c) known;
+              size = length-map-range_with_len (worth_at table k) 0 (priced_count table);
+              each = λ c h. get_or-map-range_with_len (worth_at table k) 0 (priced_count table) c c (pos 0) h (omega arith) ∙ ap (λ (t : PricesView). worth_at t k c) known;
             };
             price = ap (λ (t : PricesView). price_of t.costs k) known;
           }

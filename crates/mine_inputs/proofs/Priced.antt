@@ -11,7 +11,7 @@ use Rattle.settings_file.specs.declared.settings_fault.SettingsFault.TheVariants
 use Rattle.settings_file.specs.Settings.{SettingsView, ReadsSettings, first_missing}
 use Rattle.settings_file.proofs.Known.{settings_are, settings_read}
 use Rattle.prec_file.specs.Records as prec
-use Rattle.shells.specs.Prices.{PricesView, plain_costs, mill_costs, NoRevenueNegative, PricesFaultStands, blocks_of, worth_at, worths_at}
+use Rattle.shells.specs.Prices.{PricesView, plain_costs, mill_costs, NoRevenueNegative, PricesFaultStands, priced_count, worth_at, worths_at}
 use Rattle.mine_inputs.specs.Mines.{priced_texts}
 use Rattle.mine_inputs.specs.declared.engine_fault.EngineFault.{EngineFault}
 use Rattle.mine_inputs.specs.declared.engine_fault.EngineFault.TheVariants as engine
@@ -30,10 +30,10 @@ pub worths_priced : (settings text precedence : List ℕ) (table : PricesView) (
 worths_priced settings text precedence table rests k a = record {
   mine = a.mine k;
   worths = record {
-    size = length-map-range_with_len (worth_at table k) 0 (blocks_of table) ∙ a.size;
+    size = length-map-range_with_len (worth_at table k) 0 (priced_count table) ∙ a.size;
     each = λ b h.
-        let l : b < blocks_of table = omega (arith, h, a.size) in
-        get_or-map-range_with_len (worth_at table k) 0 (blocks_of table) b b (pos 0) l (omega arith) ∙ ap (λ (t : PricesView). worth_at t k b) a.table;
+        let l : b < priced_count table = omega (arith, h, a.size) in
+        get_or-map-range_with_len (worth_at table k) 0 (priced_count table) b b (pos 0) l (omega arith) ∙ ap (λ (t : PricesView). worth_at t k b) a.table;
   };
   pairs = a.pairs;
 }
@@ -43,12 +43,12 @@ pub column_is : (chosen text : List ℕ) (m : BlocksView) (i : ℕ) → Denotes 
 column_is chosen text m i d h =
     let column = get_or m.columns i [] in
     let size = length-map-range_with_len (λ b. get_or column b (pos 0)) 0 m.blocks in
-    let most = length-map-range_with_len (cell text (get_or chosen i 0)) 0 (blocks.count_of text) in
+    let most = length-map-range_with_len (cell text (get_or chosen i 0)) 0 (blocks.record_count_of text) in
     same_at_default (pos 0) (values_of m i) (cells text (get_or chosen i 0)) (size ∙ d.count ∙ sym most) (λ b l.
     let below : b < m.blocks = omega (arith, l, size) in
-    let inside : b < blocks.count_of text = omega (arith, below, d.count) in
+    let inside : b < blocks.record_count_of text = omega (arith, below, d.count) in
     get_or-map-range_with_len (λ c. get_or column c (pos 0)) 0 m.blocks b b (pos 0) below (omega arith) ∙ d.value i b h below
-    ∙ sym (get_or-map-range_with_len (cell text (get_or chosen i 0)) 0 (blocks.count_of text) b b (pos 0) inside (omega arith)))
+    ∙ sym (get_or-map-range_with_len (cell text (get_or chosen i 0)) 0 (blocks.record_count_of text) b b (pos 0) inside (omega arith)))
 
 -- the charges and the prices that are made of the columns of a model are those of its text, whatever is chosen behind them
 charges_are : (revenue : ℕ) (charges : ChargeColumns) (others text : List ℕ) (m : BlocksView) → Denotes (revenue ∷ (charge_list charges ++ others)) text m → first_charges charges m ≡ costs_at charges text
@@ -111,13 +111,13 @@ prices_told (Some text) columns m (Ok table) h is = prices_made text columns m t
 prices_told (Some text) columns m (Err fault) h f = prices_fail text columns m fault h f
 
 -- the texts that price blocks, and the precedence, were read
-pub all_read : (settings text precedence : List ℕ) (said : SettingsView) (table : PricesView) (rests : RestsView) (n : ℕ) → n ≡ blocks_of table → NoRevenueNegative table → first_missing (price_keys said) said ≡ None → ReadsSettingsText settings said → ReadsPrices (columns_said said) text table → ReadsPrec n precedence rests
+pub all_read : (settings text precedence : List ℕ) (said : SettingsView) (table : PricesView) (rests : RestsView) (n : ℕ) → n ≡ priced_count table → NoRevenueNegative table → first_missing (price_keys said) said ≡ None → ReadsSettingsText settings said → ReadsPrices (columns_said said) text table → ReadsPrec n precedence rests
     → ArePricesRead settings text precedence table rests
 all_read settings text precedence said table rests n e positive whole s t p =
     let known = settings_are settings said s.1 in
     let is : table ≡ table_of settings text = t.is ∙ ap (λ (v : SettingsView). table_by v text) (sym known) in
-    let size : blocks_of table ≡ rests.blocks = sym e ∙ sym p.2 in
-    let count = sym (length-map-range_with_len (cell text (unwrap_or said.revenue 0)) 0 (blocks.count_of text)) ∙ ap blocks_of (sym t.is) ∙ size in
+    let size : priced_count table ≡ rests.blocks = sym e ∙ sym p.2 in
+    let count = sym (length-map-range_with_len (cell text (unwrap_or said.revenue 0)) 0 (blocks.record_count_of text)) ∙ ap priced_count (sym t.is) ∙ size in
     let M : SettingsView → Type 0 = λ v. first_missing (price_keys v) v ≡ None in
     let C : SettingsView → Type 0 = λ v. blocks.fault_of (price_columns v) text ≡ None in
     let columns : ColumnsKnown settings = record { within = s.0; read = settings_read settings said s.1; said = subst M (sym known) whole } in

@@ -7,7 +7,7 @@ use Rattle.settings_file.specs.declared.keys.Key.{Key}
 use Rattle.settings_file.specs.declared.settings_fault.SettingsFault.TheVariants as settings_fault
 use Rattle.settings_file.specs.Settings.{SettingsView, first_missing}
 use Rattle.settings_file.proofs.Known.{settings_are, settings_read}
-use Rattle.shells.specs.Prices.{PricesView, PricesFaultStands, NoRevenueNegative, blocks_of}
+use Rattle.shells.specs.Prices.{PricesView, PricesFaultStands, NoRevenueNegative, priced_count}
 use Rattle.mine_inputs.specs.declared.engine_fault.EngineFault.{EngineFault}
 use Rattle.mine_inputs.specs.declared.engine_fault.EngineFault.TheVariants as engine
 use Rattle.mine_inputs.specs.declared.engine_fault.Problem.TheVariants as problem
@@ -116,15 +116,15 @@ pub prices_unsaid : (q : Option (List ℕ)) (columns : PriceColumns) (said : Set
 prices_unsaid q columns said e same h = subst (λ (cs : PriceColumns). IfSome q (λ b. PricesReadFail cs b e)) same h
 
 -- prices that were read are of the blocks of the text
-pub priced : (s b : List ℕ) (said : SettingsView) (table : PricesView) (n : ℕ) → n ≡ blocks_of table → NoRevenueNegative table → first_missing (price_keys said) said ≡ None → ReadsSettingsText s said → ReadsPrices (columns_said said) b table → PricesRead s b n
+pub priced : (s b : List ℕ) (said : SettingsView) (table : PricesView) (n : ℕ) → n ≡ priced_count table → NoRevenueNegative table → first_missing (price_keys said) said ≡ None → ReadsSettingsText s said → ReadsPrices (columns_said said) b table → PricesRead s b n
 priced s b said table n e positive whole a t =
     let known = sym (settings_are s said a.1) in
     let is : table ≡ table_of s b = t.is ∙ ap (λ (v : SettingsView). table_by v b) known in
     let C : SettingsView → Type 0 = λ v. blocks.fault_of (price_columns v) b ≡ None in
-    let count = sym (length-map-range_with_len (cell b (unwrap_or said.revenue 0)) 0 (blocks.count_of b)) ∙ ap blocks_of (sym t.is) ∙ sym e in
+    let count = sym (length-map-range_with_len (cell b (unwrap_or said.revenue 0)) 0 (blocks.record_count_of b)) ∙ ap priced_count (sym t.is) ∙ sym e in
     record { columns = columns_known s said a whole; within = t.within; read = subst C known t.read; count = count; revenues = subst NoRevenueNegative is positive }
 
-prec_fails_at : (s b p : List ℕ) (said : SettingsView) (table : PricesView) (n : ℕ) (e : EngineFault) → n ≡ blocks_of table → NoRevenueNegative table → first_missing (price_keys said) said ≡ None → ReadsSettingsText s said → ReadsPrices (columns_said said) b table → PrecReadFails n p e → PricedMineFails s b p e
+prec_fails_at : (s b p : List ℕ) (said : SettingsView) (table : PricesView) (n : ℕ) (e : EngineFault) → n ≡ priced_count table → NoRevenueNegative table → first_missing (price_keys said) said ≡ None → ReadsSettingsText s said → ReadsPrices (columns_said said) b table → PrecReadFails n p e → PricedMineFails s b p e
 prec_fails_at s b p said table n (engine.Prec q) size positive whole a t h = (n, priced s b said table n size positive whole a t, h)
 prec_fails_at s b p said table n engine.Memory size positive whole a t h = tt
 prec_fails_at s b p said table n engine.Device size positive whole a t h = tt
@@ -139,14 +139,14 @@ prec_fails_at s b p said table n (engine.Trace q) size positive whole a t h = ab
 prec_fails_at s b p said table n engine.Thread size positive whole a t h = absurd h
 prec_fails_at s b p said table n engine.Stranger size positive whole a t h = absurd h
 
-pub prec_answer : (o q r : Option (List ℕ)) (said : SettingsView) (table : PricesView) (n : ℕ) (e : EngineFault) → n ≡ blocks_of table → NoRevenueNegative table → first_missing (price_keys said) said ≡ None → IfSome o (λ s. ReadsSettingsText s said) → IfSome q (λ b. ReadsPrices (columns_said said) b table) → IfSome r (λ p. PrecReadFails n p e)
+pub prec_answer : (o q r : Option (List ℕ)) (said : SettingsView) (table : PricesView) (n : ℕ) (e : EngineFault) → n ≡ priced_count table → NoRevenueNegative table → first_missing (price_keys said) said ≡ None → IfSome o (λ s. ReadsSettingsText s said) → IfSome q (λ b. ReadsPrices (columns_said said) b table) → IfSome r (λ p. PrecReadFails n p e)
     → IfSome o (λ s. IfSome q (λ b. IfSome r (λ p. PricedMineFails s b p e)))
 prec_answer None q r said table n e size positive whole a t h = tt
 prec_answer (Some s) None r said table n e size positive whole a t h = tt
 prec_answer (Some s) (Some b) None said table n e size positive whole a t h = tt
 prec_answer (Some s) (Some b) (Some p) said table n e size positive whole a t h = prec_fails_at s b p said table n e size positive whole a t h
 
-pub mine_answer : (o q r : Option (List ℕ)) (said : SettingsView) (table : PricesView) (rests : RestsView) (n : ℕ) → n ≡ blocks_of table → NoRevenueNegative table → first_missing (price_keys said) said ≡ None → IfSome o (λ s. ReadsSettingsText s said) → IfSome q (λ b. ReadsPrices (columns_said said) b table) → IfSome r (λ p. ReadsPrec n p rests)
+pub mine_answer : (o q r : Option (List ℕ)) (said : SettingsView) (table : PricesView) (rests : RestsView) (n : ℕ) → n ≡ priced_count table → NoRevenueNegative table → first_missing (price_keys said) said ≡ None → IfSome o (λ s. ReadsSettingsText s said) → IfSome q (λ b. ReadsPrices (columns_said said) b table) → IfSome r (λ p. ReadsPrec n p rests)
     → IfSome o (λ s. IfSome q (λ b. IfSome r (λ p. ArePricesRead s b p table rests)))
 mine_answer None q r said table rests n size positive whole a t h = tt
 mine_answer (Some s) None r said table rests n size positive whole a t h = tt

@@ -65,7 +65,7 @@ cell text column b = blocks.value_in (blocks.columns_of (blocks.record_among (bl
 
 -- the numbers of a column, block by block
 abbrev pub cells : List ℕ → ℕ → List ℤ
-cells text column = map (cell text column) (range_with_len 0 (blocks.count_of text))
+cells text column = map (cell text column) (range_with_len 0 (blocks.record_count_of text))
 
 -- the values of the column of a model that was chosen as the i-th, block by block
 abbrev pub values_of : BlocksView → ℕ → List ℤ
@@ -110,7 +110,7 @@ pub record PricesRead (settings text : List ℕ) (n : ℕ) : Type 0 where
   pub columns : ColumnsKnown settings
   pub within : IsWithinLimit text
   pub read : blocks.fault_of (price_columns (settings_of settings)) text ≡ None
-  pub count : blocks.count_of text ≡ n
+  pub count : blocks.record_count_of text ≡ n
   pub revenues : NoRevenueNegative (table_of settings text)
 
 -- a fault of settings that need these keys: one of the text, or a key is missing; want of memory isn't one

@@ -2,7 +2,7 @@
 use Rattle.std.specs.Prelude.{◌≡◌, ℕ, ℤ, List}
 use Rattle.prec_file.specs.Rests.{RestsView, ArePairsOf}
 use Rattle.prec_file.specs.Records as prec
-use Rattle.shells.specs.Prices.{PricesView, blocks_of}
+use Rattle.shells.specs.Prices.{PricesView, priced_count}
 pub use Rattle.mine_inputs.specs.EngineFaults.{of_model}
 use Rattle.mine_inputs.specs.PricedTexts.{table_of}
 use Rattle.mine_inputs.specs.Mines.{MineTexts, priced_texts, precedence_of, price_wanted, WorthsRead, DenoteMine}
@@ -30,5 +30,5 @@ IsMineRead texts factor worths rests = AreRead texts (nanos_at worths factor) re
 pub record ArePricesRead (settings blocks precedence : List ℕ) (prices : PricesView) (rests : RestsView) : Type 0 where
   pub mine : (factor : ℕ) → DenoteMine (priced_texts settings blocks precedence factor) rests.blocks
   pub table : prices ≡ table_of settings blocks
-  pub size : blocks_of prices ≡ rests.blocks
+  pub size : priced_count prices ≡ rests.blocks
   pub pairs : ArePairsOf (prec.pairs_of_text precedence) rests.pairs

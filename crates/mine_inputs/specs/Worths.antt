@@ -2,7 +2,7 @@
 use Rattle.std.specs.Prelude.{ℕ, ℤ, pos, ◌*ℤ◌, List, length, map}
 use Rattle.certificate_file.specs.declared.header.Price.{Price}
 use Rattle.certificate_file.specs.declared.header.Price.TheVariants.{Objective, Factor, Mill}
-use Rattle.shells.specs.Prices.{blocks_of, price_of, worths_at}
+use Rattle.shells.specs.Prices.{priced_count, price_of, worths_at}
 use Rattle.mine_inputs.specs.declared.worths.Worths.{Worths}
 use Rattle.mine_inputs.specs.declared.worths.Worths.TheVariants.{Values, Prices}
 
@@ -13,7 +13,7 @@ billionths_of values = map (λ x. pos 1000 *ℤ x) values
 -- how many blocks have a worth
 abbrev pub blocks_valued : Worths → ℕ
 blocks_valued (Values upit) = length upit.values
-blocks_valued (Prices table) = blocks_of table
+blocks_valued (Prices table) = priced_count table
 
 -- what the blocks are worth in billionths: by their values, or by their prices at a factor
 abbrev pub nanos_at : Worths → ℕ → List ℤ

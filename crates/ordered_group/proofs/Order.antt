@@ -4,7 +4,7 @@ use Rattle.std.specs.declared.cmp.Ordering.TheVariants.{Less, Equal, Greater}
 use Rattle.std.specs.Ordering.{MatchOrdering, is_eq, ordering_then, int_cmp}
 use Rattle.std.specs.Cmp.{int_ranks}
 use Rattle.std.proofs.lemmas.Int.{ints}
-use Rattle.ordered_group.specs.Amount.{Amount, zero_amount, plus, minus, AtMost, Below, Amount_eq, amount_cmp, larger, larger_of, least, lesser_of, positive, negative}
+use Rattle.ordered_group.specs.Amount.{Amount, zero_amount, plus, minus, AtMost, Below, Amount_eq, amount_cmp, larger_amount, larger_of, lesser_amount, lesser_of, positive, negative}
 
 then_ranks : (x y : Amount) (o p : Ordering) → MatchOrdering o (x.w <ℤ y.w) (x.w ≡ y.w) (y.w <ℤ x.w) → MatchOrdering p (x.c <ℤ y.c) (x.c ≡ y.c) (y.c <ℤ x.c) → MatchOrdering (ordering_then o p) (Below x y) (x ≡ y) (Below y x)
 then_ranks x y Less p h k = record { worths = omega (arith, ints); counts = λ e. omega (arith, ints) }
@@ -22,7 +22,7 @@ larger_cases x y Less h = inl (refl, record { worths = h.worths; counts = λ e. 
 larger_cases x y Equal h = inr (refl, record { worths = omega (arith, ints, ap (λ a. a.w) h); counts = λ e. omega (arith, ints, ap (λ a. a.c) h) })
 larger_cases x y Greater h = inr (refl, record { worths = h.worths; counts = λ e. omega (arith, ints, h.counts e) })
 
-pub larger_is : (x y : Amount) → ((larger x y ≡ y) × AtMost x y) ⊎ ((larger x y ≡ x) × AtMost y x)
+pub larger_is : (x y : Amount) → ((larger_amount x y ≡ y) × AtMost x y) ⊎ ((larger_amount x y ≡ x) × AtMost y x)
 larger_is x y = larger_cases x y (amount_cmp x y) (amount_ranks x y)
 
 parts : (x p q : Amount) → ((p ≡ zero_amount) × AtMost x zero_amount) ⊎ ((p ≡ x) × AtMost zero_amount x) → ((q ≡ zero_amount) × AtMost (minus zero_amount x) zero_amount) ⊎ ((q ≡ minus zero_amount x) × AtMost zero_amount (minus zero_amount x)) → x ≡ minus p q
@@ -82,14 +82,14 @@ lesser_cases x y Equal h = inl (refl, AtMost-same x y h)
 lesser_cases x y Greater h = inr (refl, Below-most y x h)
 
 -- the lesser of two is one of them, and at most each
-pub least_is : (x y : Amount) → ((least x y ≡ x) × AtMost x y) ⊎ ((least x y ≡ y) × AtMost y x)
-least_is x y = lesser_cases x y (amount_cmp x y) (amount_ranks x y)
+pub lesser_amount_is : (x y : Amount) → ((lesser_amount x y ≡ x) × AtMost x y) ⊎ ((lesser_amount x y ≡ y) × AtMost y x)
+lesser_amount_is x y = lesser_cases x y (amount_cmp x y) (amount_ranks x y)
 
-pub least-left : (x y : Amount) → AtMost (least x y) x
-least-left x y = elim (least_is x y) [ inl h ↦ AtMost-same _ _ h.0 | inr h ↦ rw h.0 h.1 ]
+pub lesser_amount-left : (x y : Amount) → AtMost (lesser_amount x y) x
+lesser_amount-left x y = elim (lesser_amount_is x y) [ inl h ↦ AtMost-same _ _ h.0 | inr h ↦ rw h.0 h.1 ]
 
-pub least-right : (x y : Amount) → AtMost (least x y) y
-least-right x y = elim (least_is x y) [ inl h ↦ rw h.0 h.1 | inr h ↦ AtMost-same _ _ h.0 ]
+pub lesser_amount-right : (x y : Amount) → AtMost (lesser_amount x y) y
+lesser_amount-right x y = elim (lesser_amount_is x y) [ inl h ↦ rw h.0 h.1 | inr h ↦ AtMost-same _ _ h.0 ]
 
-pub larger-right : (x y : Amount) → AtMost y (larger x y)
-larger-right x y = elim (larger_is x y) [ inl h ↦ AtMost-same _ _ (sym h.0) | inr h ↦ rw h.0 h.1 ]
+pub larger_amount-right : (x y : Amount) → AtMost y (larger_amount x y)
+larger_amount-right x y = elim (larger_is x y) [ inl h ↦ AtMost-same _ _ (sym h.0) | inr h ↦ rw h.0 h.1 ]

@@ -2,7 +2,7 @@
 use Rattle.std.proofs.Common.{arith, ◌⊎◌}
 use Rattle.std.proofs.lemmas.Int.{ints}
 use Rattle.ordered_group.specs.Amount.{Amount, zero_amount, plus, minus, AtMost, Below, positive, negative}
-use Rattle.ordered_group.proofs.Order.{larger-right, most_or_below}
+use Rattle.ordered_group.proofs.Order.{larger_amount-right, most_or_below}
 
 -- not below zero
 abbrev pub NonNeg : Amount → Type 0
@@ -27,7 +27,7 @@ sign_or x = most_or_below x zero_amount
 
 -- neither part is negative
 pub NonNeg-positive : (x : Amount) → NonNeg (positive x)
-NonNeg-positive x = larger-right x zero_amount
+NonNeg-positive x = larger_amount-right x zero_amount
 
 pub NonNeg-negative : (x : Amount) → NonNeg (negative x)
-NonNeg-negative x = larger-right (minus zero_amount x) zero_amount
+NonNeg-negative x = larger_amount-right (minus zero_amount x) zero_amount

@@ -55,8 +55,8 @@ larger_of Equal x y = x
 larger_of Greater x y = x
 
 -- the greater of two
-abbrev pub larger : Amount → Amount → Amount
-larger x y = larger_of (amount_cmp x y) x y
+abbrev pub larger_amount : Amount → Amount → Amount
+larger_amount x y = larger_of (amount_cmp x y) x y
 
 -- the lesser of two by their order, the first where they are equal
 abbrev pub lesser_of : Ordering → Amount → Amount → Amount
@@ -65,16 +65,16 @@ lesser_of Equal x y = x
 lesser_of Greater x y = y
 
 -- the lesser of two
-abbrev pub least : Amount → Amount → Amount
-least x y = lesser_of (amount_cmp x y) x y
+abbrev pub lesser_amount : Amount → Amount → Amount
+lesser_amount x y = lesser_of (amount_cmp x y) x y
 
 -- x where it is above zero, and else zero
 abbrev pub positive : Amount → Amount
-positive x = larger x zero_amount
+positive x = larger_amount x zero_amount
 
 -- the opposite of x where that is above zero, and else zero
 abbrev pub negative : Amount → Amount
-negative x = larger (minus zero_amount x) zero_amount
+negative x = larger_amount (minus zero_amount x) zero_amount
 
 -- amounts with equal numbers are equal
 pub Amount_eq : (x y : Amount) → x.w ≡ y.w → x.c ≡ y.c → x ≡ y

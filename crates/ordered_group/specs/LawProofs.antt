@@ -35,14 +35,14 @@ worth_told v e n = worth_sum (pos 0) v e n
 pub counted_told : (v : ℕ → ℤ) (e : ℕ → Bool) (n : ℕ) → (group_sum counted_block v e n).w ≡ worth_in v e n
 counted_told v e n = worth_sum (negsuc 0) v e n
 
-ranked : (x y : Amount) (p q : ℤ) (k l : ℕ) (o : Ordering) → MatchOrdering o (p <ℤ q) (p ≡ q) (q <ℤ p) → x.w ≡ p → y.w ≡ q → x.c +ℤ pos k ≡ pos 0 → y.c +ℤ pos l ≡ pos 0 → Below x y → (p <ℤ q) ⊎ ((p ≡ q) × (l < k))
-ranked x y p q k l Less r a b c d h = inl r
-ranked x y p q k l Equal r a b c d h = inr (r, let i = h.counts (omega (arith, ints, a, b, r)) in omega (arith, ints, c, d, i))
-ranked x y p q k l Greater r a b c d h = absurd (omega (arith, ints, a, b, r, h))
+ranks_of_below : (x y : Amount) (p q : ℤ) (k l : ℕ) (o : Ordering) → MatchOrdering o (p <ℤ q) (p ≡ q) (q <ℤ p) → x.w ≡ p → y.w ≡ q → x.c +ℤ pos k ≡ pos 0 → y.c +ℤ pos l ≡ pos 0 → Below x y → (p <ℤ q) ⊎ ((p ≡ q) × (l < k))
+ranks_of_below x y p q k l Less r a b c d h = inl r
+ranks_of_below x y p q k l Equal r a b c d h = inr (r, let i = h.counts (omega (arith, ints, a, b, r)) in omega (arith, ints, c, d, i))
+ranks_of_below x y p q k l Greater r a b c d h = absurd (omega (arith, ints, a, b, r, h))
 
-ordered : (x y : Amount) (p q : ℤ) (k l : ℕ) → x.w ≡ p → y.w ≡ q → x.c +ℤ pos k ≡ pos 0 → y.c +ℤ pos l ≡ pos 0 → Below x y ↔ ((p <ℤ q) ⊎ ((p ≡ q) × (l < k)))
-ordered x y p q k l a b c d = (
-  λ h. ranked x y p q k l (int_cmp p q) (int_ranks p q) a b c d h,
+below_by_ranks : (x y : Amount) (p q : ℤ) (k l : ℕ) → x.w ≡ p → y.w ≡ q → x.c +ℤ pos k ≡ pos 0 → y.c +ℤ pos l ≡ pos 0 → Below x y ↔ ((p <ℤ q) ⊎ ((p ≡ q) × (l < k)))
+below_by_ranks x y p q k l a b c d = (
+  λ h. ranks_of_below x y p q k l (int_cmp p q) (int_ranks p q) a b c d h,
   λ s. elim s [
     | inl h ↦ record { worths = omega (arith, ints, a, b, h); counts = λ e. absurd (omega (arith, ints, a, b, h, e)) }
     | inr h ↦ record { worths = omega (arith, ints, a, b, h.0); counts = λ e. omega (arith, ints, c, d, h.1) }
@@ -51,7 +51,7 @@ ordered x y p q k l a b c d = (
 
 -- with counts, sums are ordered as the sets are
 pub counted_orders : (v : ℕ → ℤ) (e c : ℕ → Bool) (n : ℕ) → Below (group_sum counted_block v e n) (group_sum counted_block v c n) ↔ IsBefore v n e c
-counted_orders v e c n = ordered _ _ _ _ _ _ (counted_told v e n) (counted_told v c n) (count_sum v e n) (count_sum v c n)
+counted_orders v e c n = below_by_ranks _ _ _ _ _ _ (counted_told v e n) (counted_told v c n) (count_sum v e n) (count_sum v c n)
 
 -- equal counts decide nothing
 pub then_equal : (o : Ordering) → o ≡ ordering_then o Equal

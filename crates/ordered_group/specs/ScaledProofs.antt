@@ -102,24 +102,24 @@ strictly x y Equal r c h = absurd (omega (arith, ints, c, h.counts r))
 strictly x y Greater r c h = absurd (omega (arith, ints, r, h.worths))
 
 module _ (x y : Amount) (p q : ℤ) (k l n : ℕ) (a : x.w +ℤ pos k ≡ p *ℤ pos (n + 1)) (b : y.w +ℤ pos l ≡ q *ℤ pos (n + 1)) (c : x.c ≡ y.c) (m : k ≤ n) (o : l ≤ n) where
-  ranked : (r : Ordering) → MatchOrdering r (p <ℤ q) (p ≡ q) (q <ℤ p) → x.w <ℤ y.w → (p <ℤ q) ⊎ ((p ≡ q) × (l < k))
-  ranked Less r h = inl r
-  ranked Equal r h = inr (r, omega (arith, ints, a, b, h, ap (λ (z : ℤ). z *ℤ pos (n + 1)) r))
-  ranked Greater r h = absurd (omega (arith, ints, a, b, h, outweighs n q p l k m r))
+  ranks_of_below : (r : Ordering) → MatchOrdering r (p <ℤ q) (p ≡ q) (q <ℤ p) → x.w <ℤ y.w → (p <ℤ q) ⊎ ((p ≡ q) × (l < k))
+  ranks_of_below Less r h = inl r
+  ranks_of_below Equal r h = inr (r, omega (arith, ints, a, b, h, ap (λ (z : ℤ). z *ℤ pos (n + 1)) r))
+  ranks_of_below Greater r h = absurd (omega (arith, ints, a, b, h, outweighs n q p l k m r))
 
   below_from : (p <ℤ q) ⊎ ((p ≡ q) × (l < k)) → x.w <ℤ y.w
   below_from (inl h) = omega (arith, ints, a, b, outweighs n p q k l o h)
   below_from (inr h) = omega (arith, ints, a, b, h.1, ap (λ (z : ℤ). z *ℤ pos (n + 1)) h.0)
 
-  ordered : Below x y ↔ ((p <ℤ q) ⊎ ((p ≡ q) × (l < k)))
-  ordered = (
-    λ h. ranked (int_cmp p q) (int_ranks p q) (strictly x y (int_cmp x.w y.w) (int_ranks x.w y.w) c h),
+  below_by_ranks : Below x y ↔ ((p <ℤ q) ⊎ ((p ≡ q) × (l < k)))
+  below_by_ranks = (
+    λ h. ranks_of_below (int_cmp p q) (int_ranks p q) (strictly x y (int_cmp x.w y.w) (int_ranks x.w y.w) c h),
     λ s. let h = below_from s in record { worths = omega (arith, ints, h); counts = λ e. absurd (omega (arith, ints, h, e)) },
   )
 
 pub scaled_orders : (v : ℕ → ℤ) (e c : ℕ → Bool) (n : ℕ) → Below (group_sum scaled_block v e n) (group_sum scaled_block v c n) ↔ IsBefore v n e c
 scaled_orders v e c n =
-    ordered (group_sum scaled_block v e n) (group_sum scaled_block v c n) (worth_in v e n) (worth_in v c n) (count_in e n) (count_in c n) n
+    below_by_ranks (group_sum scaled_block v e n) (group_sum scaled_block v c n) (worth_in v e n) (worth_in v c n) (count_in e n) (count_in c n) n
     (units_sum (n + 1) v e n) (units_sum (n + 1) v c n)
     (no_count (λ b. (v b *ℤ pos (n + 1)) -ℤ pos 1) e n ∙ sym (no_count (λ b. (v b *ℤ pos (n + 1)) -ℤ pos 1) c n))
     (count_in-most e n) (count_in-most c n)

@@ -2,7 +2,7 @@
 //! zeros, and sums that tell when they don't fit.
 
 ghost use Rattle.std.specs.Prelude.{◌≡◌, ◌↔◌, IsTrue, IfOk, MatchOption, length, map, replicate};
-ghost use Rattle.ordered_group.specs.Amount.{zero_amount, is_zero, minus, AtMost, FitsPair, positive, negative, least};
+ghost use Rattle.ordered_group.specs.Amount.{zero_amount, is_zero, minus, AtMost, FitsPair, positive, negative, lesser_amount};
 ghost use Rattle.ordered_group.specs.Sums.{total, amount_at, SumFits, SumOverflows};
 
 use crate::groups::OrderedGroup;
@@ -69,7 +69,7 @@ pub fn negative_part<G: OrderedGroup>(worth: G) -> Option<G>
 
 /// The lesser of two amounts.
 pub fn smaller<G: OrderedGroup>(a: G, b: G) -> G
-    ensures { G.parts_of result ≡ least (G.parts_of a) (G.parts_of b) }
+    ensures { G.parts_of result ≡ lesser_amount (G.parts_of a) (G.parts_of b) }
 {
     match a.cmp(&b) {
         Ordering::Greater => b,

@@ -8,7 +8,7 @@ use Rattle.prec_file.specs.declared.limits.TheConstants.{MOST_PAIRS}
 use Rattle.prec_file.specs.declared.prec_fault.PrecFault.{PrecFault}
 use Rattle.prec_file.specs.declared.prec_fault.PrecFault.TheVariants.{Text, Number, UnknownBlock, Repeated, WrongCount, TooMany, NoMemory}
 use Rattle.fixed_worth.specs.Record.{reads, is_skipped}
-use Rattle.prec_file.specs.Records.{block_of, count_of, predecessors_of, pairs_in, shape_fault, history_fault, record_fault}
+use Rattle.prec_file.specs.Records.{block_of, predecessor_count_of, predecessors_of, pairs_in, shape_fault, history_fault, record_fault}
 use Rattle.prec_file.specs.Indexes.{TellsFault}
 use Rattle.prec_file.proofs.Shapes.{known}
 use Rattle.std.proofs.lemmas.Grind.{common_steps}
@@ -75,17 +75,17 @@ unfolding history_fault
 repeated n had k line b fs s f e h = grind (arith, common_steps)
 
 pub wrong_count : (n : ℕ) (had : ℕ → Bool) (k line b count found : ℕ) (fs : List (List ℕ)) → is_skipped fs ≡ false → shape_fault n line fs ≡ None → b ≡ block_of fs → had b ≡ false
-    → count ≡ count_of fs → found ≡ length (predecessors_of fs) → count ≢ found → record_fault n had k line fs ≡ Some (WrongCount line)
+    → count ≡ predecessor_count_of fs → found ≡ length (predecessors_of fs) → count ≢ found → record_fault n had k line fs ≡ Some (WrongCount line)
 unfolding history_fault
 wrong_count n had k line b count found fs s f e h p q ne = grind (arith, common_steps)
 
 pub too_many : (n : ℕ) (had : ℕ → Bool) (k line b count found : ℕ) (fs : List (List ℕ)) → is_skipped fs ≡ false → shape_fault n line fs ≡ None → b ≡ block_of fs → had b ≡ false
-    → count ≡ count_of fs → found ≡ length (predecessors_of fs) → count ≡ found → MOST_PAIRS < k + found → record_fault n had k line fs ≡ Some (TooMany line)
+    → count ≡ predecessor_count_of fs → found ≡ length (predecessors_of fs) → count ≡ found → MOST_PAIRS < k + found → record_fault n had k line fs ≡ Some (TooMany line)
 unfolding history_fault
 too_many n had k line b count found fs s f e h p q same large = grind (arith, common_steps)
 
 pub no_fault : (n : ℕ) (had : ℕ → Bool) (k line b count found : ℕ) (fs : List (List ℕ)) → is_skipped fs ≡ false → shape_fault n line fs ≡ None → b ≡ block_of fs → had b ≡ false
-    → count ≡ count_of fs → found ≡ length (predecessors_of fs) → count ≡ found → k + found ≤ MOST_PAIRS → record_fault n had k line fs ≡ None
+    → count ≡ predecessor_count_of fs → found ≡ length (predecessors_of fs) → count ≡ found → k + found ≤ MOST_PAIRS → record_fault n had k line fs ≡ None
 unfolding history_fault
 no_fault n had k line b count found fs s f e h p q same few = grind (arith, common_steps)
 

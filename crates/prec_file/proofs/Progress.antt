@@ -6,7 +6,7 @@ use Rattle.std.specs.Option.{option_or}
 use Rattle.fixed_worth.specs.declared.limits.TheConstants.{LINE_BYTES}
 use Rattle.prec_file.specs.declared.prec_fault.PrecFault.{PrecFault}
 use Rattle.fixed_worth.specs.Record.{Line, numbered_lines, is_skipped}
-use Rattle.prec_file.specs.Records.{block_of, pairs_in, blocks_in, record_fault, fault_behind, has, blocks_of, pairs_of, first_fault, fault_of, pairs_of_text}
+use Rattle.prec_file.specs.Records.{block_of, pairs_in, blocks_of_fields, record_fault, fault_behind, has, blocks_of, pairs_of, first_fault, fault_of, pairs_of_text}
 use Rattle.prec_file.specs.Indexes.{marks_after}
 use Rattle.prec_file.proofs.History.{record_same, record_block}
 use Rattle.prec_file.proofs.Marks.{mark}
@@ -45,7 +45,7 @@ goes_on n text seen more pairs others left next line g e f h i w p m =
     let l : Line = record { number = next.number; text = line } in
     let rest = numbered_lines next.number next.lines in
     let a : pairs_of (numbered_lines left.number left.lines) ≡ pairs_in (fields_of line) ++ pairs_of rest = rw (f, h) refl in
-    let bs : blocks_of (g.before ++ l ∷ []) ≡ blocks_of g.before ++ blocks_in (fields_of line) = flat_map-append (λ x. blocks_in (fields_of x.text)) g.before (l ∷ []) ∙ ap (λ (xs : List ℕ). blocks_of g.before ++ xs) (append-nil (blocks_in (fields_of line))) in
+    let bs : blocks_of (g.before ++ l ∷ []) ≡ blocks_of g.before ++ blocks_of_fields (fields_of line) = flat_map-append (λ x. blocks_of_fields (fields_of x.text)) g.before (l ∷ []) ∙ ap (λ (xs : List ℕ). blocks_of g.before ++ xs) (append-nil (blocks_of_fields (fields_of line))) in
     let ps : pairs_of (g.before ++ l ∷ []) ≡ pairs_of g.before ++ pairs_in (fields_of line) = flat_map-append (λ x. pairs_in (fields_of x.text)) g.before (l ∷ []) ∙ ap (λ (xs : List (ℕ × ℕ)). pairs_of g.before ++ xs) (append-nil (pairs_in (fields_of line))) in
     record {
       before = g.before ++ l ∷ [];

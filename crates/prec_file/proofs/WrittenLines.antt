@@ -15,7 +15,7 @@ use Rattle.fixed_worth.specs.Laws.{with_line_feeds}
 use Rattle.fixed_worth.proofs.Joined.{is_one_line, is_word, behind_spaces, lines_cut, with_line_feeds-append, fields_cut, joined_is_one_line}
 use Rattle.fixed_worth.proofs.WrittenNumbers.{decimal_is_word, decimal_is_one_line, decimals_pass}
 use Rattle.prec_file.specs.Rests.{IsKnown, IsRising, above_of, first_of}
-use Rattle.prec_file.specs.Written.{line_of, lines_below, AreNarrow}
+use Rattle.prec_file.specs.Written.{prec_line, lines_below, AreNarrow}
 use Rattle.prec_file.proofs.Finding.{above_at}
 use Rattle.std.proofs.lemmas.Grind.{common_steps}
 
@@ -52,7 +52,7 @@ rows ps (suc b) = rows ps b ++ (row ps b ∷ [])
 regroup : (x y s t : List ℕ) → (x ++ y) ++ (s ++ t) ≡ (x ++ (y ++ s)) ++ t
 regroup x y s t = simp append_assoc
 
-line_is : (ps : List (ℕ × ℕ)) (b : ℕ) → line_of ps b ≡ row ps b ++ (10 ∷ [])
+line_is : (ps : List (ℕ × ℕ)) (b : ℕ) → prec_line ps b ≡ row ps b ++ (10 ∷ [])
 line_is ps b = grind (arith, common_steps, behind_spaces, flat_map-map, regroup)
 
 text_is : (ps : List (ℕ × ℕ)) (n : ℕ) → lines_below ps n ≡ with_line_feeds (rows ps n)

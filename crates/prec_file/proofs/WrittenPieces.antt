@@ -4,7 +4,7 @@ use Rattle.std.specs.Fmt.{decimal}
 use Rattle.std.proofs.lemmas.List.{take-append-drop}
 use Rattle.std.proofs.lemmas.Bool.{cases_eq}
 use Rattle.std.proofs.lemmas.Grind.{flat_map-append, common_steps}
-use Rattle.prec_file.specs.Written.{spaced_numbers, line_of, lines_below}
+use Rattle.prec_file.specs.Written.{spaced_numbers, prec_line, lines_below}
 
 -- what holds anyhow
 
@@ -20,7 +20,7 @@ spaced_parts before numbers i =
     ∙ ap (λ l. before ++ l) (sym (flat_map-append (λ n. 32 ∷ decimal n) (take i numbers) (drop i numbers)) ∙ ap spaced_numbers (take-append-drop i numbers))
 
 -- one more line
-pub lines_more : (ps : List (ℕ × ℕ)) (b : ℕ) → lines_below ps b ++ line_of ps b ≡ lines_below ps (b + 1)
+pub lines_more : (ps : List (ℕ × ℕ)) (b : ℕ) → lines_below ps b ++ prec_line ps b ≡ lines_below ps (b + 1)
 lines_more ps b = rw add-one refl
 
 -- The first lines are the front of all lines.
@@ -31,5 +31,5 @@ lines_front ps b (suc n) h =
       | inl e ↦ ([], append-nil (lines_below ps b) ∙ ap (lines_below ps) e)
       | inr d ↦
           let q = lines_front ps b n (omega arith) in
-          (q.0 ++ line_of ps n, sym (append_assoc (lines_below ps b) q.0 (line_of ps n)) ∙ ap (λ l. l ++ line_of ps n) q.1)
+          (q.0 ++ prec_line ps n, sym (append_assoc (lines_below ps b) q.0 (prec_line ps n)) ∙ ap (λ l. l ++ prec_line ps n) q.1)
     ]

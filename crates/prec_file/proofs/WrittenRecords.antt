@@ -16,7 +16,7 @@ use Rattle.std.specs.Option.{option_or}
 use Rattle.fixed_worth.specs.declared.limits.TheConstants.{LINE_BYTES}
 use Rattle.prec_file.specs.declared.limits.TheConstants.{MOST_PAIRS}
 use Rattle.prec_file.specs.Rests.{RestsView, IsRests, ArePairsOf, from_at, to_at, numbers, above_of, first_of}
-use Rattle.prec_file.specs.Records.{pairs_in, blocks_in, shape_fault, record_fault, fault_behind, has, blocks_of, pairs_of, first_fault, pairs_of_text}
+use Rattle.prec_file.specs.Records.{pairs_in, blocks_of_fields, shape_fault, record_fault, fault_behind, has, blocks_of, pairs_of, first_fault, pairs_of_text}
 use Rattle.prec_file.specs.Written.{prec_text, AreNarrow}
 use Rattle.prec_file.specs.ReadBack.{ReadsBack}
 use Rattle.prec_file.proofs.Shapes.{sound, pairs_at}
@@ -67,18 +67,18 @@ row_pairs n ps b w l =
     ∙ ap (map (with_block b)) (numbers_of-decimals above (small_blocks n ps b w))
 
 -- its block
-row_blocks : (n : ℕ) (ps : List (ℕ × ℕ)) (b : ℕ) → IsWritable n ps → b < n → blocks_in (fields_of (row ps b)) ≡ b ∷ []
+row_blocks : (n : ℕ) (ps : List (ℕ × ℕ)) (b : ℕ) → IsWritable n ps → b < n → blocks_of_fields (fields_of (row ps b)) ≡ b ∷ []
 row_blocks n ps b w l =
     let own : b < 2 ^ 64 = omega (arith, w.blocks) in
-    ap blocks_in (row_fields n ps b w l) ∙ rw (decimal_is_no_remark b own) (ap (λ x. x ∷ []) (number_of-decimal b own))
+    ap blocks_of_fields (row_fields n ps b w l) ∙ rw (decimal_is_no_remark b own) (ap (λ x. x ∷ []) (number_of-decimal b own))
 
 -- ---- the records up to a block
 
-numbered-append : (k : ℕ) (xs ys : List (List ℕ)) → numbered_lines k (xs ++ ys) ≡ numbered_lines k xs ++ numbered_lines (k + length xs) ys
-numbered-append k [] ys = let e : k + 0 ≡ k = omega arith in ap (λ j. numbered_lines j ys) (sym e)
-numbered-append k (x ∷ xs) ys =
+numbered_lines-append : (k : ℕ) (xs ys : List (List ℕ)) → numbered_lines k (xs ++ ys) ≡ numbered_lines k xs ++ numbered_lines (k + length xs) ys
+numbered_lines-append k [] ys = let e : k + 0 ≡ k = omega arith in ap (λ j. numbered_lines j ys) (sym e)
+numbered_lines-append k (x ∷ xs) ys =
     let e : k + 1 + length xs ≡ k + suc (length xs) = omega arith in
-    ap (λ ls. record { number = k + 1; text = x } ∷ ls) (numbered-append (k + 1) xs ys ∙ ap (λ j. numbered_lines (k + 1) xs ++ numbered_lines j ys) e)
+    ap (λ ls. record { number = k + 1; text = x } ∷ ls) (numbered_lines-append (k + 1) xs ys ∙ ap (λ j. numbered_lines (k + 1) xs ++ numbered_lines j ys) e)
 
 -- the line of block b, and the lines below it
 line_at : List (ℕ × ℕ) → ℕ → Line
@@ -89,7 +89,7 @@ before ps b = numbered_lines 0 (rows ps b)
 
 before_more : (ps : List (ℕ × ℕ)) (b : ℕ) → before ps (suc b) ≡ before ps b ++ (line_at ps b ∷ [])
 unfolding before line_at
-before_more ps b = numbered-append 0 (rows ps b) (row ps b ∷ [])
+before_more ps b = numbered_lines-append 0 (rows ps b) (row ps b ∷ [])
 
 pairs_more : (n : ℕ) (ps : List (ℕ × ℕ)) (b : ℕ) → IsWritable n ps → b < n → pairs_of (before ps (suc b)) ≡ pairs_of (before ps b) ++ map (with_block b) (above_of ps b)
 unfolding line_at
@@ -102,8 +102,8 @@ blocks_more : (n : ℕ) (ps : List (ℕ × ℕ)) (b : ℕ) → IsWritable n ps �
 unfolding line_at
 blocks_more n ps b w l =
     ap blocks_of (before_more ps b)
-    ∙ flat_map-append (λ x. blocks_in (fields_of x.text)) (before ps b) (line_at ps b ∷ [])
-    ∙ ap (λ xs. blocks_of (before ps b) ++ xs) (append-nil (blocks_in (fields_of (row ps b))) ∙ row_blocks n ps b w l)
+    ∙ flat_map-append (λ x. blocks_of_fields (fields_of x.text)) (before ps b) (line_at ps b ∷ [])
+    ∙ ap (λ xs. blocks_of (before ps b) ++ xs) (append-nil (blocks_of_fields (fields_of (row ps b))) ∙ row_blocks n ps b w l)
 
 none_before : (ps : List (ℕ × ℕ)) → before ps zero ≡ []
 unfolding before

@@ -15,9 +15,9 @@ block_of [] = 0
 block_of (block ∷ fields) = number_of block
 
 -- Its second field is how many predecessors it lists.
-abbrev pub count_of : List (List ℕ) → ℕ
-count_of [] = 0
-count_of (block ∷ fields) = block_of fields
+abbrev pub predecessor_count_of : List (List ℕ) → ℕ
+predecessor_count_of [] = 0
+predecessor_count_of (block ∷ fields) = block_of fields
 
 -- The further fields are the predecessors.
 abbrev pub predecessors_of : List (List ℕ) → List ℕ
@@ -37,7 +37,7 @@ shape_fault n line fields =
 unfoldable pub history_fault : (ℕ → Bool) → ℕ → ℕ → List (List ℕ) → Option PrecFault
 history_fault had before line fields =
     cond (had (block_of fields)) (Some (Repeated line))
-    (cond (not (count_of fields == length (predecessors_of fields))) (Some (WrongCount line))
+    (cond (not (predecessor_count_of fields == length (predecessors_of fields))) (Some (WrongCount line))
     (cond (nat_lt MOST_PAIRS (before + length (predecessors_of fields))) (Some (TooMany line))
     None))
 
@@ -50,8 +50,8 @@ abbrev pub line_fault : ℕ → (ℕ → Bool) → ℕ → Line → Option PrecF
 line_fault n had before l = cond (nat_lt LINE_BYTES (length l.text)) (Some (Text l.number)) (record_fault n had before l.number (fields_of l.text))
 
 -- The block whose record a line is, if it is one.
-abbrev pub blocks_in : List (List ℕ) → List ℕ
-blocks_in fields = cond (is_skipped fields) [] (block_of fields ∷ [])
+abbrev pub blocks_of_fields : List (List ℕ) → List ℕ
+blocks_of_fields fields = cond (is_skipped fields) [] (block_of fields ∷ [])
 
 -- The pairs that a line lists: its block with each of its predecessors.
 abbrev pub pairs_in : List (List ℕ) → List (ℕ × ℕ)
@@ -59,7 +59,7 @@ pairs_in fields = cond (is_skipped fields) [] (map (λ p. (block_of fields, p)) 
 
 -- The blocks whose records the lines are.
 abbrev pub blocks_of : List Line → List ℕ
-blocks_of lines = flat_map (λ l. blocks_in (fields_of l.text)) lines
+blocks_of lines = flat_map (λ l. blocks_of_fields (fields_of l.text)) lines
 
 -- The pairs that the lines list, in their order.
 abbrev pub pairs_of : List Line → List (ℕ × ℕ)

@@ -13,13 +13,13 @@ abbrev pub spaced_numbers : List ℕ → List ℕ
 spaced_numbers numbers = flat_map (λ number. 32 ∷ decimal number) numbers
 
 -- The line of a block: the block, how many predecessors it has, these ascending, and a line feed (10).
-abbrev pub line_of : List (ℕ × ℕ) → ℕ → List ℕ
-line_of ps b = (decimal b ++ (32 ∷ decimal (length (above_of ps b)))) ++ (spaced_numbers (above_of ps b) ++ (10 ∷ []))
+abbrev pub prec_line : List (ℕ × ℕ) → ℕ → List ℕ
+prec_line ps b = (decimal b ++ (32 ∷ decimal (length (above_of ps b)))) ++ (spaced_numbers (above_of ps b) ++ (10 ∷ []))
 
 -- The lines of the blocks below n, ascending.
 abbrev pub lines_below : List (ℕ × ℕ) → ℕ → List ℕ
 lines_below ps zero = []
-lines_below ps (suc n) = lines_below ps n ++ line_of ps n
+lines_below ps (suc n) = lines_below ps n ++ prec_line ps n
 
 -- The file: a line for each block.
 abbrev pub prec_text : RestsView → List ℕ

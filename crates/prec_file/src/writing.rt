@@ -5,7 +5,7 @@ ghost use Rattle.std.specs.Fmt.{decimal};
 ghost use Rattle.std.specs.Io.KnownBytes.{Appends};
 ghost use Rattle.fixed_worth.specs.Device.{ReceivedPrefix, SentOrHeld};
 ghost use Rattle.prec_file.specs.Rests.{IsFirstNot};
-ghost use Rattle.prec_file.specs.Written.{prec_text, line_of, spaced_numbers, IsNarrowAt, AreNarrow, WriteFaultStands};
+ghost use Rattle.prec_file.specs.Written.{prec_text, prec_line, spaced_numbers, IsNarrowAt, AreNarrow, WriteFaultStands};
 
 use crate::{PrecWriteFault, Predecessors, Rests};
 use fixed_worth::{CountedWrite, Page, WriteFault, WrittenNumber};
@@ -119,10 +119,10 @@ fn put_line<W: CountedWrite>(
     requires known { block < predecessors.now.blocks }
     requires room { W.failed out.old < 2 ^ 64 - 1 }
     ensures held { OnOk result (SentOrHeld (W.contents out.old) (W.contents out.new) page.new
-        (page.old ++ line_of predecessors.now.pairs block)) }
+        (page.old ++ prec_line predecessors.now.pairs block)) }
     ensures kept { OnOk result (W.failed out.new ≡ W.failed out.old) }
     ensures prefix { OnErr result (ReceivedPrefix (W.contents out.old) (W.contents out.new)
-        (page.old ++ line_of predecessors.now.pairs block)) }
+        (page.old ++ prec_line predecessors.now.pairs block)) }
     ensures counted { OnErr result (W.failed out.new ≡ W.failed out.old + 1) }
 {
     let above = predecessors.above(block);

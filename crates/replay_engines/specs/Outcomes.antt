@@ -3,7 +3,7 @@ use Rattle.std.specs.Prelude.{◌≡◌, ℕ, ℤ, List, [], ◌∷◌, ◌++◌
 use Rattle.ordered_group.specs.declared.groups.Group.{Group}
 use Rattle.closure_net.specs.Network.{NetView, FlowView, holds_of}
 use Rattle.closure_net.specs.Reached.{IsReached}
-use Rattle.closure_net.specs.Mine.{worth_of, count_of}
+use Rattle.closure_net.specs.Mine.{worth_of, block_count_of}
 use Rattle.machine_law.specs.declared.events.Event.{Event}
 use Rattle.machine_law.specs.States.{State, opening, IsQuiet}
 use Rattle.machine_law.specs.Steps.{Run}
@@ -33,7 +33,7 @@ pub record IsFlowAccepted (texts : MineTexts) (name : Group) (net : NetView) (fl
   pub reached : IsReached net flow (holds_of pit)
   pub sound : IsSound net flow pit
   pub proved : IsProvedPit name (mine_of (length net.worths) texts) (holds_of pit)
-  pub count : count_of (mine_of (length net.worths) texts) (holds_of pit) ≡ blocks
+  pub count : block_count_of (mine_of (length net.worths) texts) (holds_of pit) ≡ blocks
   pub worth : worth_of (mine_of (length net.worths) texts) (holds_of pit) ≡ nanos
 
 -- a sum in the check of the flow and of this pit doesn't fit, and nothing else fails

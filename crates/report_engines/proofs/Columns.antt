@@ -6,7 +6,7 @@ use Rattle.fixed_worth.specs.Text.{fields_of}
 use Rattle.fixed_worth.specs.Record.{Line, is_skipped}
 use Rattle.blocks_file.specs.declared.blocks_fault.BlocksFault.{BlocksFault}
 use Rattle.blocks_file.specs.declared.blocks_fault.BlocksFault.TheVariants.{Number, NoColumn}
-use Rattle.blocks_file.specs.Records.{head_reads, is_bad, are_there, shape_fault, block_fault, block_of, record_fault, has_record, first_fault, early_fault, lines_in, count_of, fault_of}
+use Rattle.blocks_file.specs.Records.{head_reads, is_bad, are_there, shape_fault, block_fault, block_of, record_fault, has_record, first_fault, early_fault, lines_in, record_count_of, fault_of}
 use Rattle.upit_file.proofs.Names.{none_parts}
 
 -- columns are as good as others, of which they are some: none of them is bad, and all are there, where so it is of the others
@@ -47,8 +47,8 @@ module _ (fewer chosen : List ℕ) (some : AreSomeOf fewer chosen) where
 
   pub unfaulted : (text : List ℕ) → fault_of chosen text ≡ None → fault_of fewer text ≡ None
   unfaulted text h =
-      let p = none_parts (early_fault (lines_in text)) (first_fault (count_of text) chosen [] (lines_in text)) h in
-      none_of _ _ p.0 (lines_unfaulted (count_of text) [] (lines_in text) p.1)
+      let p = none_parts (early_fault (lines_in text)) (first_fault (record_count_of text) chosen [] (lines_in text)) h in
+      none_of _ _ p.0 (lines_unfaulted (record_count_of text) [] (lines_in text) p.1)
 
 -- ---- the first of some columns
 

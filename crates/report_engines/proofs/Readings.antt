@@ -8,7 +8,7 @@ use Rattle.settings_file.specs.declared.settings_fault.SettingsFault.TheVariants
 use Rattle.settings_file.specs.Settings.{SettingsView, settings_of, names_mill, first_missing}
 use Rattle.settings_file.proofs.Known.{settings_are}
 use Rattle.settings_file.proofs.MissingKeys.{none_missing}
-use Rattle.shells.specs.Prices.{PricesView, PricesFaultStands, NoRevenueNegative, blocks_of}
+use Rattle.shells.specs.Prices.{PricesView, PricesFaultStands, NoRevenueNegative, priced_count}
 use Rattle.mine_inputs.specs.declared.engine_fault.EngineFault.{EngineFault}
 use Rattle.mine_inputs.specs.declared.engine_fault.EngineFault.TheVariants as engine
 use Rattle.mine_inputs.specs.declared.engine_fault.Problem.TheVariants as problem
@@ -167,7 +167,7 @@ module _ (s t : List ℕ) (columns : ReportColumns) (factors : List ℕ) (factor
       is = priced.prices_are ∙ columns_price m r;
     }
 
-    prec_fails : (p : List ℕ) (n : ℕ) (e : EngineFault) → n ≡ blocks_of prices → NoRevenueNegative prices → PrecReadFails n p e → ReportMineFails s t p e
+    prec_fails : (p : List ℕ) (n : ℕ) (e : EngineFault) → n ≡ priced_count prices → NoRevenueNegative prices → PrecReadFails n p e → ReportMineFails s t p e
     prec_fails p n (engine.Prec q) size positive h = (blocks_read m r, prec_answer (Some s) (Some t) (Some p) (settings_of s) prices n (engine.Prec q) size positive columns_known settings_told prices_read h)
     prec_fails p n engine.Memory size positive h = tt
     prec_fails p n engine.Device size positive h = tt
@@ -182,7 +182,7 @@ module _ (s t : List ℕ) (columns : ReportColumns) (factors : List ℕ) (factor
     prec_fails p n engine.Thread size positive h = absurd h
     prec_fails p n engine.Stranger size positive h = absurd h
 
-    mine_read : (p : List ℕ) (n : ℕ) (rests : RestsView) → n ≡ blocks_of prices → NoRevenueNegative prices → ReadsPrec n p rests → IsReportRead s t p prices rests factors m columns.prices.charges factor
+    mine_read : (p : List ℕ) (n : ℕ) (rests : RestsView) → n ≡ priced_count prices → NoRevenueNegative prices → ReadsPrec n p rests → IsReportRead s t p prices rests factors m columns.prices.charges factor
     mine_read p n rests size positive h = record {
       series = record {
         mine = all_read s t p (settings_of s) prices rests n size positive columns_known settings_told prices_read h;
@@ -224,14 +224,14 @@ model_unread (Some s) None r columns factors factor e a h = tt
 model_unread (Some s) (Some b) None columns factors factor e a h = tt
 model_unread (Some s) (Some b) (Some p) columns factors factor e a h = model_fails s b columns factors factor a p e h
 
-pub prec_unread : (o q r : Option (List ℕ)) (columns : ReportColumns) (factors : List ℕ) (factor : ℕ) (m : BlocksView) (prices : PricesView) (n : ℕ) (e : EngineFault) → n ≡ blocks_of prices → NoRevenueNegative prices → IsPricedModel columns.prices.charges m prices
+pub prec_unread : (o q r : Option (List ℕ)) (columns : ReportColumns) (factors : List ℕ) (factor : ℕ) (m : BlocksView) (prices : PricesView) (n : ℕ) (e : EngineFault) → n ≡ priced_count prices → NoRevenueNegative prices → IsPricedModel columns.prices.charges m prices
     → IfSome o (λ s. IsSaid s columns factors factor) → IfSome q (λ b. ReadsBlocks (report_list columns) b m) → IfSome r (λ p. PrecReadFails n p e) → IfSome o (λ s. IfSome q (λ b. IfSome r (λ p. ReportMineFails s b p e)))
 prec_unread None q r columns factors factor m prices n e size positive priced a b h = tt
 prec_unread (Some s) None r columns factors factor m prices n e size positive priced a b h = tt
 prec_unread (Some s) (Some t) None columns factors factor m prices n e size positive priced a b h = tt
 prec_unread (Some s) (Some t) (Some p) columns factors factor m prices n e size positive priced a b h = prec_fails s t columns factors factor a m prices b priced p n e size positive h
 
-pub all_are_read : (o q r : Option (List ℕ)) (columns : ReportColumns) (factors : List ℕ) (factor : ℕ) (m : BlocksView) (prices : PricesView) (n : ℕ) (rests : RestsView) → n ≡ blocks_of prices → NoRevenueNegative prices → IsPricedModel columns.prices.charges m prices
+pub all_are_read : (o q r : Option (List ℕ)) (columns : ReportColumns) (factors : List ℕ) (factor : ℕ) (m : BlocksView) (prices : PricesView) (n : ℕ) (rests : RestsView) → n ≡ priced_count prices → NoRevenueNegative prices → IsPricedModel columns.prices.charges m prices
     → IfSome o (λ s. IsSaid s columns factors factor) → IfSome q (λ b. ReadsBlocks (report_list columns) b m) → IfSome r (λ p. ReadsPrec n p rests) → IfSome o (λ s. IfSome q (λ b. IfSome r (λ p. IsReportRead s b p prices rests factors m columns.prices.charges factor)))
 all_are_read None q r columns factors factor m prices n rests size positive priced a b h = tt
 all_are_read (Some s) None r columns factors factor m prices n rests size positive priced a b h = tt

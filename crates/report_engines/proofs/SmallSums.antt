@@ -7,7 +7,7 @@ use Rattle.std.proofs.lemmas.List.FromFn.{get_or-map-range_with_len, length-map-
 use Rattle.blocks_file.specs.Denotes.{BlocksView, IsSmall}
 use Rattle.fixed_worth.specs.declared.limits.TheConstants.{MOST_BLOCKS, MOST_FACTOR}
 use Rattle.ordered_group.specs.Sets.{worth_in}
-use Rattle.shells.specs.Prices.{PricesView, blocks_of, number_at, worth_after, worth_at, worths_at}
+use Rattle.shells.specs.Prices.{PricesView, priced_count, number_at, worth_after, worth_at, worths_at}
 use Rattle.shells.specs.Series.{SeriesView}
 use Rattle.mine_inputs.specs.declared.priced_inputs.ChargeColumns.{ChargeColumns}
 use Rattle.mine_inputs.specs.declared.priced_inputs.ChargeColumns.TheVariants.{Plain, Mill}
@@ -53,8 +53,8 @@ left_bound (Plain cost) m b earned small l h = difference_bound earned (pos 1000
 left_bound (Mill processing mining) m b earned small l h = mill_bound earned (pos 1000 *ℤ number_at (values_of m 1) b) (pos 1000 *ℤ number_at (values_of m 2) b) h (charge_bound m 1 b (small 1 (omega arith)) l) (charge_bound m 2 b (small 2 (omega arith)) l)
 
 module _ (charges : ChargeColumns) (m : BlocksView) (prices : PricesView) (p : IsPricedModel charges m prices) where
-  pub priced_size : blocks_of prices ≡ m.blocks
-  priced_size = ap blocks_of p.prices_are ∙ length-map-range_with_len (λ b. get_or (get_or m.columns 0 []) b (pos 0)) 0 m.blocks
+  pub priced_size : priced_count prices ≡ m.blocks
+  priced_size = ap priced_count p.prices_are ∙ length-map-range_with_len (λ b. get_or (get_or m.columns 0 []) b (pos 0)) 0 m.blocks
 
   worth_bound : (k b : ℕ) → k ≤ MOST_FACTOR → b < m.blocks → unsigned_abs (worth_at prices k b) ≤ most
   worth_bound k b few l =
@@ -64,14 +64,14 @@ module _ (charges : ChargeColumns) (m : BlocksView) (prices : PricesView) (p : I
 
   worths_bound : (k b : ℕ) → k ≤ MOST_FACTOR → b < m.blocks → unsigned_abs (get_or (worths_at prices k) b (pos 0)) ≤ most
   worths_bound k b few l =
-      let at = get_or-map-range_with_len (worth_at prices k) 0 (blocks_of prices) b b (pos 0) (omega (arith, l, priced_size)) (omega arith) in
+      let at = get_or-map-range_with_len (worth_at prices k) 0 (priced_count prices) b b (pos 0) (omega (arith, l, priced_size)) (omega arith) in
       subst (λ z. unsigned_abs z ≤ most) (sym at) (worth_bound k b few l)
 
   -- the model, the series and the worths are of as many blocks
   pub same_lengths : (series : SeriesView) (k : ℕ) → series.prices ≡ prices → SameLengths m series (worths_at prices k)
   same_lengths series k is = record {
-    of_shells = ap blocks_of is ∙ priced_size;
-    of_worths = length-map-range_with_len (worth_at prices k) 0 (blocks_of prices) ∙ priced_size;
+    of_shells = ap priced_count is ∙ priced_size;
+    of_worths = length-map-range_with_len (worth_at prices k) 0 (priced_count prices) ∙ priced_size;
   }
 
   pub sums_fit : (series : SeriesView) (k : ℕ) → m.blocks ≤ MOST_BLOCKS → k ≤ MOST_FACTOR → AllSumsFit (reported_blocks m series (place_beside charges) (worths_at prices k))

@@ -9,7 +9,7 @@ use Rattle.prec_file.specs.Rests.{RestsView}
 use Rattle.settings_file.specs.Settings.{settings_of}
 use Rattle.closure_net.specs.declared.net.NetFault.{NetFault}
 use Rattle.closure_net.specs.declared.net.NetFault.TheVariants as net_fault
-use Rattle.shells.specs.Prices.{PricesView, blocks_of, worth_at, worths_at}
+use Rattle.shells.specs.Prices.{PricesView, priced_count, worth_at, worths_at}
 use Rattle.shells.specs.Series.{SeriesView, upto, IsSeries}
 use Rattle.shells.specs.Nesting.{BestPitsAreNested}
 use Rattle.bench_report.specs.declared.bench_row.BenchRow.{BenchRow}
@@ -50,14 +50,14 @@ module _ (s t p : List ℕ) (prices : PricesView) (rests : RestsView) (factors :
 
   size_is : rests.blocks ≡ m.blocks
   size_is =
-      sym read.series.mine.size ∙ ap blocks_of read.series.mine.table
-      ∙ length-map-range_with_len (cell t (unwrap_or (settings_of s).revenue 0)) 0 (blocks.count_of t) ∙ sym read.blocks_are.2.count
+      sym read.series.mine.size ∙ ap priced_count read.series.mine.table
+      ∙ length-map-range_with_len (cell t (unwrap_or (settings_of s).revenue 0)) 0 (blocks.record_count_of t) ∙ sym read.blocks_are.2.count
 
   module _ (series : SeriesView) (shell_rows : List ShellRow) (settled : IsSettled rests.pairs prices factors series shell_rows) (is : IsSeries series) where
     worth_is : (b : ℕ) → b < m.blocks → worth_at (table_of s t) (report_factor s) b ≡ get_or (worths_at series.prices factor) b (pos 0)
     worth_is b l =
-        let inside : b < blocks_of prices = omega (arith, l, size_is, read.series.mine.size) in
-        let at = get_or-map-range_with_len (worth_at prices factor) 0 (blocks_of prices) b b (pos 0) inside (omega arith) in
+        let inside : b < priced_count prices = omega (arith, l, size_is, read.series.mine.size) in
+        let at = get_or-map-range_with_len (worth_at prices factor) 0 (priced_count prices) b b (pos 0) inside (omega arith) in
         sym (ap (λ (v : PricesView). get_or (worths_at v factor) b (pos 0)) settled.same_prices ∙ at ∙ ap (λ (v : PricesView). worth_at v factor b) read.series.mine.table ∙ ap (λ k. worth_at (table_of s t) k b) read.factor_is)
 
     -- the tonnes of a block are those of its record

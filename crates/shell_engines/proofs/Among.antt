@@ -5,7 +5,7 @@ use Rattle.ordered_group.specs.Amount.{Amount, zero_amount}
 use Rattle.ordered_group.specs.Sets.{worth_in}
 use Rattle.closure_net.specs.Network.{NetView, net_view, holds_of, IsAscending}
 use Rattle.closure_net.specs.Mine.{IsBest}
-use Rattle.shells.specs.Prices.{PricesView, blocks_of, worth_at}
+use Rattle.shells.specs.Prices.{PricesView, priced_count, worth_at}
 use Rattle.shells.specs.Series.{mine_at}
 use Rattle.engines.proofs.Counted.{count_in-ascending}
 use Rattle.sub_mines.specs.Parts.{every_block}
@@ -46,15 +46,15 @@ worth_folded v e zero = refl
 worth_folded v e (suc n) = ap (λ x. x +ℤ cond (e n) (v n) (pos 0)) (worth_folded v e n)
 
 -- a pit of ascending blocks, each with a price, has as many as it lists and is worth what they are worth together
-pub proved_row : (pairs : List (ℕ × ℕ)) (prices : PricesView) (k : ℕ) (blocks : List ℕ) (count : ℕ) (worth : ℤ) → IsAscending blocks → All (λ b. b < blocks_of prices) blocks → count ≡ length blocks
+pub proved_row : (pairs : List (ℕ × ℕ)) (prices : PricesView) (k : ℕ) (blocks : List ℕ) (count : ℕ) (worth : ℤ) → IsAscending blocks → All (λ b. b < priced_count prices) blocks → count ≡ length blocks
     → worth ≡ worth_in (λ i. worth_at prices k (number_in blocks i)) every_block (length blocks) → IsBest (mine_at pairs prices k) (holds_of blocks) → IsRowOf (mine_at pairs prices k) (record { factor = k; blocks = count; worth = worth })
 proved_row pairs prices k blocks count worth rising low counts is best = record {
   pit = holds_of blocks;
   best = best;
-  blocks_are = count_in-ascending blocks (blocks_of prices) rising low ∙ sym counts;
+  blocks_are = count_in-ascending blocks (priced_count prices) rising low ∙ sym counts;
   worth_is =
-      worth_folded (worth_at prices k) (holds_of blocks) (blocks_of prices)
-      ∙ worth_listed (holds_of blocks) every_block (worth_at prices k) (number_in blocks) (blocks_of prices) (length blocks) (listed (holds_of blocks) (blocks_of prices) blocks (own_list (blocks_of prices) blocks rising low)) ∙ sym is;
+      worth_folded (worth_at prices k) (holds_of blocks) (priced_count prices)
+      ∙ worth_listed (holds_of blocks) every_block (worth_at prices k) (number_in blocks) (priced_count prices) (length blocks) (listed (holds_of blocks) (priced_count prices) blocks (own_list (priced_count prices) blocks rising low)) ∙ sym is;
 }
 
 -- a part is taken up where it has some factor

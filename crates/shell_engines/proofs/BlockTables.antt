@@ -4,7 +4,7 @@ use Rattle.std.specs.Prelude.{Contains}
 use Rattle.std.specs.List.{find}
 use Rattle.prec_file.specs.Rests.{RestsView}
 use Rattle.closure_net.specs.Mine.{Mine, IsBest}
-use Rattle.shells.specs.Prices.{PricesView, blocks_of}
+use Rattle.shells.specs.Prices.{PricesView, priced_count}
 use Rattle.shells.specs.Series.{SeriesView, mine_at, shell_at, upto, IsSeries}
 use Rattle.bench_report.specs.BlockShells.{block_table_text}
 use Rattle.shell_engines.specs.declared.shell_rows.ShellRow.{ShellRow}
@@ -28,13 +28,13 @@ module _ (s t p : List ℕ) (prices : PricesView) (rests : RestsView) (factors :
       let V : PricesView → Type 0 = λ v. B (mine_at series.pairs v k) in
       subst B (mine_is s t p prices rests read.mine k) (subst Q settled.same_pairs (subst V settled.same_prices (is.best k held)))
 
-  count : blocks_of series.prices ≡ rests.blocks
-  count = ap blocks_of settled.same_prices ∙ read.mine.size
+  count : priced_count series.prices ≡ rests.blocks
+  count = ap priced_count settled.same_prices ∙ read.mine.size
 
-  same_text : block_table_text (shell_at series.shells) (blocks_of series.prices) ≡ block_table_text (λ b. find (λ k. upto series.shells k b) (factors_said s)) rests.blocks
+  same_text : block_table_text (shell_at series.shells) (priced_count series.prices) ≡ block_table_text (λ b. find (λ k. upto series.shells k b) (factors_said s)) rests.blocks
   same_text = λ i. block_table_text (λ b. sym (first_shell b) i) (count i)
 
-  block_table : IsBlockTable s t p (block_table_text (shell_at series.shells) (blocks_of series.prices))
+  block_table : IsBlockTable s t p (block_table_text (shell_at series.shells) (priced_count series.prices))
   block_table = record { size = rests.blocks; mine = read.mine.mine; pit = upto series.shells; best = best_is; spelled = same_text }
 
   pub has_table : (asked : Bool) (text : List ℕ) → HasTableIfAsked asked series text → IsTableIfAsked asked s t p text

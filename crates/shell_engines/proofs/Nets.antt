@@ -9,7 +9,7 @@ use Rattle.prec_file.specs.Rests.{RestsView}
 use Rattle.closure_net.specs.Network.{NetView, net_view, IsAscending, holds_of}
 use Rattle.closure_net.specs.Closure.{group_worth}
 use Rattle.closure_net.specs.Mine.{Mine, IsNetOf, IsBest}
-use Rattle.shells.specs.Prices.{PricesView, blocks_of, worth_at, worths_at}
+use Rattle.shells.specs.Prices.{PricesView, priced_count, worth_at, worths_at}
 use Rattle.shells.specs.Series.{IsOver}
 use Rattle.engines.proofs.Counted.{count_in-ascending}
 use Rattle.shell_engines.specs.ShellTable.{IsRowOf}
@@ -17,7 +17,7 @@ use Rattle.std.proofs.lemmas.Grind.{common_steps}
 
 pub over_of : (block : ℤ → ℕ → Amount) (rests : RestsView) (prices : PricesView) (k : ℕ) (net : NetView) → net ≡ net_view rests.pairs (map (λ v. block v rests.blocks) (worths_at prices k)) → rests.blocks ≡ length (worths_at prices k) → IsOver block rests.pairs prices k net
 over_of block rests prices k net is l =
-    let n = blocks_of prices in
+    let n = priced_count prices in
     let counted : length (worths_at prices k) ≡ n = length-map-range_with_len (worth_at prices k) 0 n in
     let size : length net.worths ≡ n = ap (λ (x : NetView). length x.worths) is ∙ length-map (worths_at prices k) (λ v. block v rests.blocks) ∙ counted in
     record {

@@ -5,7 +5,7 @@ use Rattle.prec_file.specs.Rests.{has_pair, numbers_passing}
 use Rattle.closure_net.specs.Network.{holds_of, IsAscending}
 use Rattle.closure_net.specs.Mine.{IsBest, RestsWithin}
 use Rattle.closure_net.proofs.Holding.{same_tests}
-use Rattle.shells.specs.Prices.{PricesView, blocks_of}
+use Rattle.shells.specs.Prices.{PricesView, priced_count}
 use Rattle.shells.specs.Series.{mine_at}
 use Rattle.shells.proofs.Rising.{mines_rise}
 use Rattle.shells.proofs.Pushes.{mine_is_own}
@@ -92,11 +92,11 @@ module _ (pairs : List (ℕ × ℕ)) (prices : PricesView) (factors : List ℕ) 
   abbrev pub outside : List ℕ
   outside = map (number_in kept) (numbers_passing (difference_of every_block (holds_of s)) (length kept))
 
-  image : IsImage (blocks_of prices) (length kept) (number_in kept) (holds_of s) (holds_of inside)
-  image = list_image (blocks_of prices) kept s part.are_kept.ascending places
+  image : IsImage (priced_count prices) (length kept) (number_in kept) (holds_of s) (holds_of inside)
+  image = list_image (priced_count prices) kept s part.are_kept.ascending places
 
-  is_listed : IsListed (difference_of part.high (holds_of low)) (blocks_of prices) (length kept) (number_in kept)
-  is_listed = listed (difference_of part.high (holds_of low)) (blocks_of prices) kept part.are_kept
+  is_listed : IsListed (difference_of part.high (holds_of low)) (priced_count prices) (length kept) (number_in kept)
+  is_listed = listed (difference_of part.high (holds_of low)) (priced_count prices) kept part.are_kept
 
   own : (j : ℕ) → RestsWithin (mine_at pairs prices j)
   own j = mine_is_own pairs prices j h.rests
@@ -116,14 +116,14 @@ module _ (pairs : List (ℕ × ℕ)) (prices : PricesView) (factors : List ℕ) 
   at_kept : (i : ℕ) → i < length kept → (part.high (number_in kept i) && not (holds_of low (number_in kept i))) ≡ true
   at_kept i l = is_listed.held i l
 
-  pub inside_kept : IsKept (difference_of (union_of (holds_of low) (holds_of inside)) (holds_of low)) (blocks_of prices) inside
-  inside_kept = kept_again (difference_of part.high (holds_of low)) (holds_of s) (difference_of (union_of (holds_of low) (holds_of inside)) (holds_of low)) (blocks_of prices) kept s part.are_kept (own_list (length kept) s ascending places)
+  pub inside_kept : IsKept (difference_of (union_of (holds_of low) (holds_of inside)) (holds_of low)) (priced_count prices) inside
+  inside_kept = kept_again (difference_of part.high (holds_of low)) (holds_of s) (difference_of (union_of (holds_of low) (holds_of inside)) (holds_of low)) (priced_count prices) kept s part.are_kept (own_list (length kept) s ascending places)
       (λ i l. lower_test (holds_of low (number_in kept i)) (holds_of inside (number_in kept i)) (not_beside (part.high (number_in kept i)) (holds_of low (number_in kept i)) (at_kept i l)) ∙ image.same i l)
       (λ b l t. lower_within (part.high b) (holds_of low b) (holds_of inside b) t
       (λ held. let x = image.only b l held in ap (difference_of part.high (holds_of low)) (sym x.2) ∙ at_kept x.0 x.1))
 
-  pub outside_kept : IsKept (difference_of part.high (union_of (holds_of low) (holds_of inside))) (blocks_of prices) outside
-  outside_kept = kept_again (difference_of part.high (holds_of low)) (difference_of every_block (holds_of s)) (difference_of part.high (union_of (holds_of low) (holds_of inside))) (blocks_of prices) kept
+  pub outside_kept : IsKept (difference_of part.high (union_of (holds_of low) (holds_of inside))) (priced_count prices) outside
+  outside_kept = kept_again (difference_of part.high (holds_of low)) (difference_of every_block (holds_of s)) (difference_of part.high (union_of (holds_of low) (holds_of inside))) (priced_count prices) kept
       (numbers_passing (difference_of every_block (holds_of s)) (length kept)) part.are_kept (passing_is_kept (difference_of every_block (holds_of s)) (length kept))
       (λ i l. higher_test (part.high (number_in kept i)) (holds_of low (number_in kept i)) (holds_of inside (number_in kept i)) (at_kept i l) ∙ ap (λ x. true && not x) (image.same i l))
       (λ b l t. higher_within (part.high b) (holds_of low b) (holds_of inside b) t)
@@ -143,7 +143,7 @@ module _ (pairs : List (ℕ × ℕ)) (prices : PricesView) (factors : List ℕ) 
       ceiling = λ i l m.
           let up : get_or factors i 0 < k = h.rising i place m (omega (arith, last, part.inside)) in
           best_is_ceiling (mine_at pairs prices (get_or factors i 0)) (mine_at pairs prices k) (holds_of blocks) (mines_rise (has_pair pairs) prices (get_or factors i 0) k h.known (omega (arith, up))) lifted_best;
-      are_kept = subst (λ e. IsKept (difference_of e (holds_of low)) (blocks_of prices) inside) same inside_kept;
+      are_kept = subst (λ e. IsKept (difference_of e (holds_of low)) (priced_count prices) inside) same inside_kept;
     }
 
     pub higher_part : LiesBetweenLists pairs prices factors (place + 1) to blocks outside
@@ -154,7 +154,7 @@ module _ (pairs : List (ℕ × ℕ)) (prices : PricesView) (factors : List ℕ) 
           let up : k < get_or factors i 0 = h.rising place i (omega (arith, l)) (omega (arith, m, part.inside)) in
           best_is_floor (mine_at pairs prices k) (mine_at pairs prices (get_or factors i 0)) (holds_of blocks) (mines_rise (has_pair pairs) prices k (get_or factors i 0) h.known (omega (arith, up))) lifted_best;
       ceiling = λ i l m. part.ceiling i (omega (arith, l, first)) m;
-      are_kept = subst (λ e. IsKept (difference_of part.high e) (blocks_of prices) outside) same outside_kept;
+      are_kept = subst (λ e. IsKept (difference_of part.high e) (priced_count prices) outside) same outside_kept;
     }
 
 -- ---- other parts
@@ -170,13 +170,13 @@ fewer_factors pairs prices factors from to first last low kept a b h = record {
 }
 
 -- every factor, and every block
-pub whole_part : (pairs : List (ℕ × ℕ)) (prices : PricesView) (factors : List ℕ) → LiesBetweenLists pairs prices factors 0 (length factors) [] (numbers_passing every_block (blocks_of prices))
+pub whole_part : (pairs : List (ℕ × ℕ)) (prices : PricesView) (factors : List ℕ) → LiesBetweenLists pairs prices factors 0 (length factors) [] (numbers_passing every_block (priced_count prices))
 whole_part pairs prices factors = record {
   high = every_block;
   inside = omega arith;
   floor = λ i l m. none_is_floor (mine_at pairs prices (get_or factors i 0));
   ceiling = λ i l m. all_is_ceiling (mine_at pairs prices (get_or factors i 0));
-  are_kept = passing_is_kept every_block (blocks_of prices);
+  are_kept = passing_is_kept every_block (priced_count prices);
 }
 
 -- the best pits lie between two lists where they lie between lists that equal these

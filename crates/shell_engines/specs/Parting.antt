@@ -5,7 +5,7 @@ use Rattle.ordered_group.specs.Amount.{Amount}
 use Rattle.prec_file.specs.Rests.{IsRests, has_pair}
 use Rattle.closure_net.specs.Network.{NetView, holds_of, IsAscending}
 use Rattle.closure_net.specs.Mine.{Mine, IsBest, IsNetOf}
-use Rattle.shells.specs.Prices.{PricesView, blocks_of, worth_at, NoRevenueNegative}
+use Rattle.shells.specs.Prices.{PricesView, priced_count, worth_at, NoRevenueNegative}
 use Rattle.shells.specs.Series.{mine_at}
 use Rattle.sub_mines.specs.Parts.{union_of, difference_of}
 use Rattle.sub_mines.specs.Bounds.{IsFloor, IsCeiling}
@@ -18,9 +18,9 @@ use Rattle.shell_engines.specs.PitsAtFactors.{IsProved}
 
 -- pairs and prices of the same blocks, at most `MOST_BLOCKS`, no revenue negative, and factors that rise
 pub record ArePriced (pairs : List (ℕ × ℕ)) (prices : PricesView) (factors : List ℕ) : Type 0 where
-  pub rests : IsRests (record { blocks = blocks_of prices; pairs = pairs })
+  pub rests : IsRests (record { blocks = priced_count prices; pairs = pairs })
   pub known : NoRevenueNegative prices
-  pub few : blocks_of prices ≤ MOST_BLOCKS
+  pub few : priced_count prices ≤ MOST_BLOCKS
   pub rising : IsAscending factors
 
 -- The best pit at each of the factors from one place to another has the blocks of one list, and beside them none but those of
@@ -30,7 +30,7 @@ pub record LiesBetweenLists (pairs : List (ℕ × ℕ)) (prices : PricesView) (f
   pub inside : to ≤ length factors
   pub floor : (i : ℕ) → from ≤ i → i < to → IsFloor (mine_at pairs prices (slice_index factors i)) (holds_of low)
   pub ceiling : (i : ℕ) → from ≤ i → i < to → IsCeiling (mine_at pairs prices (slice_index factors i)) high
-  pub are_kept : IsKept (difference_of high (holds_of low)) (blocks_of prices) kept
+  pub are_kept : IsKept (difference_of high (holds_of low)) (priced_count prices) kept
 
 -- the best pit at each factor of a part has the part's low blocks, and beside them none except its kept ones
 abbrev pub IsPart : List (ℕ × ℕ) → PricesView → List ℕ → Part → Type 0

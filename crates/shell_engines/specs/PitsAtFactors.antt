@@ -3,7 +3,7 @@ use Rattle.std.specs.Prelude.{◌≡◌, ℕ, ℤ, ◌++◌, ◌∷◌, [], Bool
 use Rattle.ordered_group.specs.Amount.{Amount}
 use Rattle.prec_file.specs.Rests.{RestsView}
 use Rattle.engines.specs.declared.effort.Effort.{Effort}
-use Rattle.shells.specs.Prices.{PricesView, blocks_of}
+use Rattle.shells.specs.Prices.{PricesView, priced_count}
 use Rattle.shells.specs.Series.{SeriesView, mine_at, shell_at}
 use Rattle.bench_report.specs.BlockShells.{block_table_text}
 use Rattle.closure_net.specs.Network.{NetView, holds_of}
@@ -64,5 +64,5 @@ IsFaultOf none.Memory e = e ≡ engine.Memory
 
 -- the text has the shell of each block of a series where that is asked for, and otherwise it is empty
 abbrev pub HasTableIfAsked : Bool → SeriesView → List ℕ → Type 0
-HasTableIfAsked true series text = text ≡ block_table_text (shell_at series.shells) (blocks_of series.prices)
+HasTableIfAsked true series text = text ≡ block_table_text (shell_at series.shells) (priced_count series.prices)
 HasTableIfAsked false series text = text ≡ []

@@ -2,7 +2,7 @@
 use Rattle.std.specs.Prelude.{◌≡◌, ℕ, Bool, All, List, [], ◌∷◌, ◌++◌, map, codes, decimal}
 use Rattle.std.specs.List.{flat_map}
 use Rattle.fixed_worth.specs.Printed.{amount_text}
-use Rattle.closure_net.specs.Mine.{Mine, worth_of, count_of, IsBest}
+use Rattle.closure_net.specs.Mine.{Mine, worth_of, block_count_of, IsBest}
 use Rattle.engines.specs.declared.solvers.Unsolved.{Unsolved}
 use Rattle.engines.specs.declared.solvers.Unsolved.TheVariants.{Unsettled, GaveUp, TooLarge}
 use Rattle.shell_engines.specs.declared.shell_rows.ShellRow.{ShellRow}
@@ -11,7 +11,7 @@ use Rattle.shell_engines.specs.declared.shell_rows.ShellRow.{ShellRow}
 pub record IsRowOf (mine : Mine) (row : ShellRow) : Type 0 where
   pub pit : ℕ → Bool
   pub best : IsBest mine pit
-  pub blocks_are : count_of mine pit ≡ row.blocks
+  pub blocks_are : block_count_of mine pit ≡ row.blocks
   pub worth_is : worth_of mine pit ≡ row.worth
 
 -- a row for each of these factors, in their order, where the mine depends on the factor

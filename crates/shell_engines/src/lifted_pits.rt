@@ -7,7 +7,7 @@ ghost use Rattle.ordered_group.specs.Sets.{worth_in};
 ghost use Rattle.prec_file.specs.Rests.{numbers_passing};
 ghost use Rattle.closure_net.specs.Network.{holds_of};
 ghost use Rattle.closure_net.specs.Mine.{IsBest};
-ghost use Rattle.shells.specs.Prices.{blocks_of, worth_at};
+ghost use Rattle.shells.specs.Prices.{priced_count, worth_at};
 ghost use Rattle.shells.specs.Series.{mine_at};
 ghost use Rattle.sub_mines.specs.Parts.{union_of, difference_of, every_block};
 ghost use Rattle.sub_mines.specs.Renumbered.{number_in};
@@ -106,7 +106,7 @@ pub fn merged(alloc: Global, first: &[u32], second: &[u32]) -> Result<Vec<u32>, 
 fn worth_of(prices: &Prices, blocks: &[u32], factor: Factor) -> Option<i128>
     ensures { IfSome result (λ w. (w ≡ worth_in
         (λ i. worth_at prices.now factor (number_in blocks.now i)) every_block (length blocks.now))
-        × All (λ b. b < blocks_of prices.now) blocks.now) }
+        × All (λ b. b < priced_count prices.now) blocks.now) }
 {
     let mut sum: i128 = 0;
     for b in blocks {

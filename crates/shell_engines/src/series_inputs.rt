@@ -4,7 +4,7 @@
 ghost use Rattle.std.specs.Prelude.{◌≡◌, ◌≤◌, ◌+◌, ◌⊎◌, ◌∷◌, [], None, unwrap_or, All, IfOk, IfErr, MatchResult, IsErrOf};
 ghost use Rattle.settings_file.specs.Settings.{first_missing};
 ghost use Rattle.settings_file.specs.Values.{AreFactors};
-ghost use Rattle.shells.specs.Prices.{blocks_of};
+ghost use Rattle.shells.specs.Prices.{priced_count};
 ghost use Rattle.mine_inputs.specs.Inputs.{IsMissing};
 ghost use Rattle.shell_engines.specs.Devices.{ForSeries, InputsCanCount, input_failures, NoInputFailed};
 ghost use Rattle.shell_engines.specs.SeriesTexts.{IsSeriesRead, SeriesMineFails};
@@ -39,7 +39,7 @@ pub struct SeriesMine {
     /// The factors, rising.
     pub factors: Vec<Factor>,
     ghost form: { AreFactors factors.items },
-    ghost sizes: { predecessors.blocks ≡ blocks_of prices },
+    ghost sizes: { predecessors.blocks ≡ priced_count prices },
 }
 
 // The factors of so many thousandths each.

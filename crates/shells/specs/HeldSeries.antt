@@ -3,7 +3,7 @@ use Rattle.std.specs.Prelude.{◌≡◌, ℕ, ◌≤◌}
 use Rattle.fixed_worth.specs.declared.limits.TheConstants.{MOST_FACTORS}
 use Rattle.shells.specs.declared.costs.Costs.{Costs}
 use Rattle.shells.specs.declared.costs.Costs.TheVariants.{Plain, Mill}
-use Rattle.shells.specs.Prices.{CostsView, plain_costs, mill_costs, blocks_of}
+use Rattle.shells.specs.Prices.{CostsView, plain_costs, mill_costs, priced_count}
 use Rattle.shells.specs.Series.{SeriesView, IsSeries}
 
 -- what the type of the charges shows
@@ -15,4 +15,4 @@ shown_costs (Mill processing mining) = mill_costs processing.items mining.items
 pub record IsHeldSeries (s : SeriesView) (room blocks : ℕ) : Type 0 where
   pub series : IsSeries s
   pub reserved : MOST_FACTORS ≤ room
-  pub sized : blocks ≡ blocks_of s.prices
+  pub sized : blocks ≡ priced_count s.prices

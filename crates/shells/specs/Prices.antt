@@ -20,8 +20,8 @@ pub record PricesView : Type 0 where
   pub costs : CostsView
 
 -- how many blocks a table prices
-abbrev pub blocks_of : PricesView → ℕ
-blocks_of table = length table.revenue
+abbrev pub priced_count : PricesView → ℕ
+priced_count table = length table.revenue
 
 -- the number at a place of a list, zero past its end
 abbrev pub number_at : List ℤ → ℕ → ℤ
@@ -44,11 +44,11 @@ price_of (mill_costs processing mining) k = Mill k
 
 -- the worths of all blocks, in their order
 abbrev pub worths_at : PricesView → ℕ → List ℤ
-worths_at table k = map (worth_at table k) (range_with_len 0 (blocks_of table))
+worths_at table k = map (worth_at table k) (range_with_len 0 (priced_count table))
 
 -- no revenue is negative
 abbrev pub NoRevenueNegative : PricesView → Type 0
-NoRevenueNegative table = (b : ℕ) → b < blocks_of table → pos 0 ≤ℤ number_at table.revenue b
+NoRevenueNegative table = (b : ℕ) → b < priced_count table → pos 0 ≤ℤ number_at table.revenue b
 
 -- each charge is there for n blocks
 abbrev pub AreCharged : CostsView → ℕ → Type 0
@@ -58,7 +58,7 @@ AreCharged (mill_costs processing mining) n = (length processing ≡ n) × (leng
 -- as many of each charge as revenues, at most `MOST_BLOCKS`, and no revenue is negative
 pub record IsTable (table : PricesView) : Type 0 where
   pub charged : AreCharged table.costs (length table.revenue)
-  pub blocks : blocks_of table ≤ MOST_BLOCKS
+  pub blocks : priced_count table ≤ MOST_BLOCKS
   pub revenues : NoRevenueNegative table
 
 -- b is the first block with a negative revenue

@@ -9,11 +9,11 @@ use Rattle.closure_net.specs.Network.{IsAscending, NetView}
 use Rattle.closure_net.specs.Mine.{Mine, IsBest}
 use Rattle.shells.specs.declared.series_fault.SeriesFault.{SeriesFault}
 use Rattle.shells.specs.declared.series_fault.SeriesFault.TheVariants.{NotHigher, WrongModel, Full, NoMemory}
-use Rattle.shells.specs.Prices.{PricesView, blocks_of, worth_at, IsTable}
+use Rattle.shells.specs.Prices.{PricesView, priced_count, worth_at, IsTable}
 
 -- the mine of these prices at so many thousandths of the revenues, whose blocks rest on each other in this way
 abbrev pub mine_of_prices : (ℕ → ℕ → Bool) → PricesView → ℕ → Mine
-mine_of_prices above table k = record { blocks = blocks_of table; rests = above; worth = worth_at table k }
+mine_of_prices above table k = record { blocks = priced_count table; rests = above; worth = worth_at table k }
 
 -- the mine of these pairs and prices
 abbrev pub mine_at : List (ℕ × ℕ) → PricesView → ℕ → Mine
@@ -28,7 +28,7 @@ pub record SeriesView : Type 0 where
 
 -- who rests on whom
 abbrev pub rests_in : SeriesView → RestsView
-rests_in s = record { blocks = blocks_of s.prices; pairs = s.pairs }
+rests_in s = record { blocks = priced_count s.prices; pairs = s.pairs }
 
 -- the shell of block b
 abbrev pub shell_at : List (Option ℕ) → ℕ → Option ℕ
@@ -45,9 +45,9 @@ upto shells k b = is_upto (shell_at shells b) k
 
 -- What every series is. At each of its factors the blocks with a shell of at most that factor are the best pit.
 pub record IsSeries (s : SeriesView) : Type 0 where
-  pub rests : IsRests (record { blocks = blocks_of s.prices; pairs = s.pairs })
+  pub rests : IsRests (record { blocks = priced_count s.prices; pairs = s.pairs })
   pub prices : IsTable s.prices
-  pub shells : length s.shells ≡ blocks_of s.prices
+  pub shells : length s.shells ≡ priced_count s.prices
   pub rising : IsAscending s.factors
   pub few : length s.factors ≤ MOST_FACTORS
   pub known : (b x : ℕ) → shell_at s.shells b ≡ Some x → Contains s.factors x
@@ -55,14 +55,14 @@ pub record IsSeries (s : SeriesView) : Type 0 where
 
 -- the series before the first push: no block has a shell
 abbrev pub opened_series : List (ℕ × ℕ) → PricesView → SeriesView
-opened_series pairs table = record { pairs = pairs; prices = table; factors = []; shells = replicate (blocks_of table) None }
+opened_series pairs table = record { pairs = pairs; prices = table; factors = []; shells = replicate (priced_count table) None }
 
 -- why there is no series of n blocks and these prices; want of memory is told only where the lengths agree
 abbrev pub OpenFaultStands : ℕ → PricesView → SeriesFault → Type 0
 OpenFaultStands n table NotHigher = ⊥
-OpenFaultStands n table WrongModel = n ≢ blocks_of table
+OpenFaultStands n table WrongModel = n ≢ priced_count table
 OpenFaultStands n table Full = ⊥
-OpenFaultStands n table NoMemory = n ≡ blocks_of table
+OpenFaultStands n table NoMemory = n ≡ priced_count table
 
 -- k is above every factor
 abbrev pub IsAboveAll : List ℕ → ℕ → Type 0
@@ -95,7 +95,7 @@ HasWorths block table k net = (b : ℕ) → b < length net.worths → amount_at 
 
 -- the net has these pairs, and the amounts of the table's worths at k
 pub record IsOver (block : ℤ → ℕ → Amount) (ps : List (ℕ × ℕ)) (table : PricesView) (k : ℕ) (net : NetView) : Type 0 where
-  pub blocks : length net.worths ≡ blocks_of table
+  pub blocks : length net.worths ≡ priced_count table
   pub pairs : net.pairs ≡ ps
   pub worths : HasWorths block table k net
 

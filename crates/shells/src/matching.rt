@@ -1,7 +1,7 @@
 //! Whether a net is that of pairs and prices at a factor.
 
 ghost use Rattle.std.specs.Prelude.{◌≡◌, ◌↔◌, length, IsTrue};
-ghost use Rattle.shells.specs.Prices.{blocks_of};
+ghost use Rattle.shells.specs.Prices.{priced_count};
 ghost use Rattle.shells.specs.Series.{HasWorths, IsOver};
 
 use crate::factor::Factor;
@@ -24,7 +24,7 @@ fn is_block<G: OrderedGroup>(nanos: i128, blocks: u32, amount: G) -> bool
 
 // Whether each block of the net is worth what it is by the prices.
 fn has_worths<G: OrderedGroup>(prices: &Prices, factor: Factor, net: &Net<G>) -> bool
-    requires { length net.now.worths ≡ blocks_of prices.now }
+    requires { length net.now.worths ≡ priced_count prices.now }
     ensures { IsTrue result ↔ HasWorths G.block_parts prices.now factor net.now }
 {
     let blocks = net.len();

@@ -3,7 +3,7 @@
 
 ghost use Rattle.std.specs.Prelude.{◌≡◌, ◌≢◌, ◌<◌, ◌≤◌, ◌≤ℤ◌, ℕ, pos, length, IfOk, MatchOption, MatchResult};
 ghost use Rattle.certificate_file.specs.ReadBack.{IsPrice};
-ghost use Rattle.shells.specs.Prices.{plain_costs, mill_costs, blocks_of, price_of, worth_at, worths_at, number_at, IsTable, IsFirstNegative, PricesFaultStands};
+ghost use Rattle.shells.specs.Prices.{plain_costs, mill_costs, priced_count, price_of, worth_at, worths_at, number_at, IsTable, IsFirstNegative, PricesFaultStands};
 ghost use Rattle.shells.specs.HeldSeries.{shown_costs};
 
 use crate::costs::{Costs, thousandths_of};
@@ -101,7 +101,7 @@ impl Prices {
 
     /// How many blocks there are.
     pub fn len(&self) -> u32
-        ensures is { result ≡ blocks_of self.now }
+        ensures is { result ≡ priced_count self.now }
         ensures table { IsTable self.now }
     {
         self.revenue.len() as u32
@@ -131,7 +131,7 @@ impl Prices {
     /// What block b is worth at a factor, in billionths: the factor times its revenue, less its cost. Where there is a
     /// mill: the greater of the factor times its revenue less its processing, and zero; less its mining.
     pub fn worth(&self, b: u32, factor: Factor) -> i128
-        requires { b < blocks_of self.now }
+        requires { b < priced_count self.now }
         ensures { result ≡ worth_at self.now factor b }
     {
         self.worth_of(b as usize, factor)
@@ -139,7 +139,7 @@ impl Prices {
 
     // What the block at this place is worth.
     fn worth_of(&self, b: usize, factor: Factor) -> i128
-        requires { b < blocks_of self.now }
+        requires { b < priced_count self.now }
         ensures { result ≡ worth_at self.now factor b }
     {
         let earned = thousandths_of(factor.get(), self.revenue[b].get());
@@ -164,7 +164,7 @@ impl Prices {
             .into_par_iter()
             .map(
                 |b: usize| -> i128
-                    requires { b < blocks_of self.now }
+                    requires { b < priced_count self.now }
                     ensures { result ≡ worth_at self.entry.now factor b }
                 { self.worth_of(b, factor) },
             )

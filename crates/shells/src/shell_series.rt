@@ -4,7 +4,7 @@
 ghost use Rattle.std.specs.Prelude.{◌≡◌, ◌<◌, ◌≤◌, ◌↔◌, length, IsTrue, OnOk, IfErr, MatchResult};
 ghost use Rattle.closure_net.specs.Mine.{IsBest};
 ghost use Rattle.closure_net.specs.Network.{holds_of};
-ghost use Rattle.shells.specs.Prices.{blocks_of};
+ghost use Rattle.shells.specs.Prices.{priced_count};
 ghost use Rattle.shells.specs.Series.{mine_at, rests_in, shell_at, opened_series, OpenFaultStands, IsAboveAll, IsOver, IsPushed, IsShell, IsSeries, PushFaultStands};
 
 use crate::factor::Factor;
@@ -53,7 +53,7 @@ impl Series {
     /// `WrongModel` where there are more or fewer prices than blocks; then `NoMemory`.
     pub fn open(alloc: Global, rests: Rests, prices: Prices) -> Result<Series, SeriesFault>
         ensures { MatchResult result
-            (λ s. (s ≡ opened_series rests.pairs prices) × (rests.blocks ≡ blocks_of prices))
+            (λ s. (s ≡ opened_series rests.pairs prices) × (rests.blocks ≡ priced_count prices))
             (λ e. OpenFaultStands rests.blocks prices e) }
     {
         let blocks = prices.len();
@@ -153,7 +153,7 @@ impl Series {
     /// The shell of block b, in thousandths: the lowest factor whose best pit holds it, or `None`
     /// where none does.
     pub fn shell_of(&self, b: u32) -> Option<u32>
-        requires { b < blocks_of self.now.prices }
+        requires { b < priced_count self.now.prices }
         ensures is { result ≡ shell_at self.now.shells b }
         ensures shell { IsShell self.now b result }
     {
@@ -164,7 +164,7 @@ impl Series {
 
     // What is kept as the block's shell.
     fn shell(&self, b: u32) -> Option<u32>
-        requires { b < blocks_of self.now.prices }
+        requires { b < priced_count self.now.prices }
         ensures { result ≡ shell_at self.now.shells b }
     {
         self.shells[b as usize]

@@ -5,7 +5,7 @@ use Rattle.std.proofs.lemmas.Bool.{and_from, or_left}
 use Rattle.ordered_group.specs.Sets.{worth_in, count_in}
 use Rattle.ordered_group.proofs.BlockSets.{worth_in-same, count_in-same, count_in-within, worth_of_two, lead_rises}
 use Rattle.sub_mines.proofs.BlockSets.{count_of_two}
-use Rattle.closure_net.specs.Mine.{Mine, IsPit, worth_of, count_of, AreSame, IsBest, LiesWithin, RisesTo}
+use Rattle.closure_net.specs.Mine.{Mine, IsPit, worth_of, block_count_of, AreSame, IsBest, LiesWithin, RisesTo}
 use Rattle.closure_net.proofs.BestPits.{union_is_pit, intersection_is_pit, pit_of_later, pit_of_earlier}
 use Rattle.ordered_group.proofs.Totals.{within_first, within_second}
 use Rattle.sub_mines.specs.Parts.{union_of, intersection_of, no_block, every_block, IsAsGood, LiesBetween}
@@ -79,7 +79,7 @@ all_is_ceiling mine = grind (arith, common_steps)
 later_worth : (mine later : Mine) (e : ℕ → Bool) → RisesTo mine later → worth_of later e ≡ worth_in later.worth e mine.blocks
 later_worth mine later e r = ap (worth_in later.worth e) r.blocks
 
-later_count : (mine later : Mine) (e : ℕ → Bool) → RisesTo mine later → count_of later e ≡ count_in e mine.blocks
+later_count : (mine later : Mine) (e : ℕ → Bool) → RisesTo mine later → block_count_of later e ≡ count_in e mine.blocks
 later_count mine later e r = ap (count_in e) r.blocks
 
 pub best_is_floor : (mine later : Mine) (e : ℕ → Bool) → RisesTo mine later → IsBest mine e → IsFloor later e

@@ -4,7 +4,7 @@ use Rattle.std.proofs.lemmas.Int.{ints}
 use Rattle.std.proofs.lemmas.Bool.{and_parts, and_from, or_cases, or_left, or_right, cases_lt}
 use Rattle.ordered_group.specs.Sets.{worth_in, count_in}
 use Rattle.ordered_group.proofs.BlockSets.{count_in-same, count_in-within}
-use Rattle.closure_net.specs.Mine.{Mine, IsPit, worth_of, count_of, AreSame, IsBest, LiesWithin, RestsWithin}
+use Rattle.closure_net.specs.Mine.{Mine, IsPit, worth_of, block_count_of, AreSame, IsBest, LiesWithin, RestsWithin}
 use Rattle.closure_net.proofs.BestPits.{best_from_fewest, agree, best_of_same}
 use Rattle.sub_mines.specs.Parts.{union_of, intersection_of, difference_of, part, LiesBetween}
 use Rattle.std.proofs.lemmas.Grind.{common_steps}
@@ -12,7 +12,7 @@ use Rattle.std.proofs.lemmas.Grind.{common_steps}
 -- ---- of best pits
 
 -- of the pits that are worth the same the best has the fewest blocks
-pub fewest_of : (mine : Mine) (e c : ℕ → Bool) → IsBest mine e → IsPit mine c → worth_of mine c ≡ worth_of mine e → count_of mine e ≤ count_of mine c
+pub fewest_of : (mine : Mine) (e c : ℕ → Bool) → IsBest mine e → IsPit mine c → worth_of mine c ≡ worth_of mine e → block_count_of mine e ≤ block_count_of mine c
 fewest_of mine e c h p same = grind (arith, common_steps, cases_lt, count_in-same)
 
 -- ---- of tests

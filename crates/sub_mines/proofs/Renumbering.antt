@@ -4,7 +4,7 @@ use Rattle.std.proofs.lemmas.Int.{ints}
 use Rattle.std.proofs.lemmas.Bool.{and_parts, and_from, cases_lt, cases_Bool}
 use Rattle.ordered_group.specs.Sets.{worth_in, count_in}
 use Rattle.ordered_group.proofs.BlockSets.{worth_in-same, count_in-same, count_in-within}
-use Rattle.closure_net.specs.Mine.{Mine, IsPit, worth_of, count_of, IsBest, RestsWithin}
+use Rattle.closure_net.specs.Mine.{Mine, IsPit, worth_of, block_count_of, IsBest, RestsWithin}
 use Rattle.closure_net.proofs.BestPits.{best_from_fewest}
 use Rattle.ordered_group.proofs.Totals.{within_first}
 use Rattle.sub_mines.specs.Parts.{union_of, intersection_of, difference_of, part}
@@ -188,7 +188,7 @@ joined_worth v low high t (suc n) h = omega (arith, ints, joined_worth v low hig
 
 pub row_by_small : (mine small : Mine) (low high : ℕ → Bool) (at : ℕ → ℕ) (s t : ℕ → Bool) → RestsWithin mine → IsListed (difference_of high low) mine.blocks small.blocks at → IsRenumbered mine small at
     → IsImage mine.blocks small.blocks at s t
-    → (worth_of mine (union_of low t) ≡ worth_of mine low +ℤ worth_of small s) × (count_of mine (union_of low t) ≡ count_of mine low + count_of small s)
+    → (worth_of mine (union_of low t) ≡ worth_of mine low +ℤ worth_of small s) × (block_count_of mine (union_of low t) ≡ block_count_of mine low + block_count_of small s)
 row_by_small mine small low high at s t own listed is im =
     let n = mine.blocks in
     let set = difference_of high low in

@@ -1,7 +1,7 @@
 -- The laws of best pits that are found in parts of a mine.
 use Rattle.std.specs.Prelude.{◌≡◌, ◌↔◌, ℕ, ◌+◌, ◌+ℤ◌, Bool, List, All, ◌<◌, length, map}
 use Rattle.closure_net.specs.Network.{holds_of, IsAscending}
-use Rattle.closure_net.specs.Mine.{Mine, IsPit, worth_of, count_of, IsBest, LiesWithin, RisesTo, RestsWithin}
+use Rattle.closure_net.specs.Mine.{Mine, IsPit, worth_of, block_count_of, IsBest, LiesWithin, RisesTo, RestsWithin}
 use Rattle.sub_mines.specs.Parts.{union_of, difference_of, no_block, every_block, part, LiesBetween}
 use Rattle.sub_mines.specs.Bounds.{IsFloor, IsCeiling}
 use Rattle.prec_file.specs.Rests.{numbers_passing}
@@ -59,7 +59,7 @@ BestBySmallMine = (mine small : Mine) (low high : ℕ → Bool) (at : ℕ → �
 abbrev pub RowBySmallMine : Type 0
 RowBySmallMine = (mine small : Mine) (low high : ℕ → Bool) (at : ℕ → ℕ) (s t : ℕ → Bool) → RestsWithin mine → IsListed (difference_of high low) mine.blocks small.blocks at → IsRenumbered mine small at
     → IsImage mine.blocks small.blocks at s t
-    → (worth_of mine (union_of low t) ≡ worth_of mine low +ℤ worth_of small s) × (count_of mine (union_of low t) ≡ count_of mine low + count_of small s)
+    → (worth_of mine (union_of low t) ≡ worth_of mine low +ℤ worth_of small s) × (block_count_of mine (union_of low t) ≡ block_count_of mine low + block_count_of small s)
 
 -- The blocks at the places of a list, where each is the place of one.
 abbrev pub ListsMakeImages : Type 0

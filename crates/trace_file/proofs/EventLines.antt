@@ -18,7 +18,7 @@ use Rattle.machine_law.specs.declared.events.Kind.{Kind}
 use Rattle.machine_law.specs.declared.events.Kind.TheVariants.{ReadExcess, ReadCapacity, ReadLabel, TakeCapacity, GiveCapacity, TakeExcess, GiveExcess, RaiseLabel}
 use Rattle.machine_law.specs.declared.events.Event.{Event}
 use Rattle.fixed_worth.specs.Text.{parts}
-use Rattle.trace_file.specs.Lines.{kind_of, block_within, block_of, event_with, event_of_words, event_of}
+use Rattle.trace_file.specs.Lines.{kind_of_word, block_within, block_of_word, event_with, event_of_words, event_of}
 use Rattle.trace_file.specs.Written.{kind_word, event_line}
 use Rattle.trace_file.proofs.Parts.{digits_alone}
 use Rattle.std.proofs.lemmas.Grind.{common_steps}
@@ -28,7 +28,7 @@ use Rattle.std.proofs.lemmas.Grind.{common_steps}
 below_read : (b : ℕ) → b < 2 ^ 32 → block_within (Ok (pos b)) ≡ Some b
 below_read b h = let t : ltb b (2 ^ 32) ≡ true = grind (arith, nat_tests) in rw t refl
 
-block_read : (b : ℕ) → b < 2 ^ 32 → block_of (decimal b) ≡ Some b
+block_read : (b : ℕ) → b < 2 ^ 32 → block_of_word (decimal b) ≡ Some b
 block_read b h =
     let fits : FitsSigned w128 (pos b) = omega (arith, ints) in
     ap block_within (printed_is_plain (pos b) fits) ∙ below_read b h
@@ -43,7 +43,7 @@ words_read TakeExcess b = refl
 words_read GiveExcess b = refl
 words_read RaiseLabel b = refl
 
-kind_read : (k : Kind) → kind_of (kind_word k) ≡ Some k
+kind_read : (k : Kind) → kind_of_word (kind_word k) ≡ Some k
 kind_read ReadExcess = refl
 kind_read ReadCapacity = refl
 kind_read ReadLabel = refl
@@ -103,7 +103,7 @@ kind_at word k false false false false false false false false p q r s t u v w i
 same : (word key : List ℕ) → bytes_eq word key ≡ true → word ≡ key
 same word key = (bytes_eq-Decides word key).0
 
-kind_spelled : (word : List ℕ) (k : Kind) → kind_of word ≡ Some k → word ≡ kind_word k
+kind_spelled : (word : List ℕ) (k : Kind) → kind_of_word word ≡ Some k → word ≡ kind_word k
 kind_spelled word k h = grind (arith, common_steps, kind_at, same)
 
 block_at : (word : List ℕ) (j k : ℕ) (t : Bool) → ltb j (2 ^ 32) ≡ t → plain_of word ≡ Ok (pos j) → cond t (Some j) None ≡ Some k → (word ≡ decimal k) × (k < 2 ^ 32)
@@ -117,7 +117,7 @@ block_read_as word k (Ok (pos j)) e h = block_at word j k (ltb j (2 ^ 32)) refl 
 block_read_as word k (Ok (negsuc j)) e h = absurd cc
 block_read_as word k (Err x) e h = absurd cc
 
-block_spelled : (word : List ℕ) (k : ℕ) → block_of word ≡ Some k → (word ≡ decimal k) × (k < 2 ^ 32)
+block_spelled : (word : List ℕ) (k : ℕ) → block_of_word word ≡ Some k → (word ≡ decimal k) × (k < 2 ^ 32)
 block_spelled word k h = block_read_as word k (plain_of word) refl h
 
 -- The line is the event's, whose block is a number of 32 bits.
@@ -125,7 +125,7 @@ pub record Spelled (line : List ℕ) (e : Event) : Type 0 where
   pub written : line ≡ event_line e
   pub fits : e.block < 2 ^ 32
 
-two_words : (word number : List ℕ) (e : Event) (o : Option Kind) (p : Option ℕ) → kind_of word ≡ o → block_of number ≡ p → event_with o p ≡ Some e → Spelled (word ++ (32 ∷ number)) e
+two_words : (word number : List ℕ) (e : Event) (o : Option Kind) (p : Option ℕ) → kind_of_word word ≡ o → block_of_word number ≡ p → event_with o p ≡ Some e → Spelled (word ++ (32 ∷ number)) e
 two_words word number e (Some kind) (Some block) h i is = grind (arith, common_steps, kind_spelled, block_spelled)
 two_words word number e (Some kind) None h i is = absurd cc
 two_words word number e None p h i is = absurd cc
@@ -133,7 +133,7 @@ two_words word number e None p h i is = absurd cc
 words_spelled : (words : List (List ℕ)) (e : Event) → event_of_words words ≡ Some e → Spelled (join_with_byte 32 words) e
 words_spelled [] e h = absurd cc
 words_spelled (a ∷ []) e h = absurd cc
-words_spelled (a ∷ b ∷ []) e h = two_words a b e (kind_of a) (block_of b) refl refl h
+words_spelled (a ∷ b ∷ []) e h = two_words a b e (kind_of_word a) (block_of_word b) refl refl h
 words_spelled (a ∷ b ∷ c ∷ cs) e h = absurd cc
 
 pub event_spelled : (line : List ℕ) (e : Event) → event_of line ≡ Some e → Spelled line e

@@ -9,8 +9,8 @@ use Rattle.machine_law.specs.declared.events.Kind.TheVariants.{ReadExcess, ReadC
 use Rattle.machine_law.specs.declared.events.Event.{Event}
 
 -- the kind of step that a word names
-abbrev pub kind_of : List ℕ → Option Kind
-kind_of word =
+abbrev pub kind_of_word : List ℕ → Option Kind
+kind_of_word word =
     cond (bytes_eq word (codes "RE")) (Some ReadExcess)
     (cond (bytes_eq word (codes "RC")) (Some ReadCapacity)
     (cond (bytes_eq word (codes "RL")) (Some ReadLabel)
@@ -28,8 +28,8 @@ block_within (Ok (negsuc k)) = None
 block_within (Err e) = None
 
 -- the block that a word is in its one spelling
-abbrev pub block_of : List ℕ → Option ℕ
-block_of word = block_within (plain_of word)
+abbrev pub block_of_word : List ℕ → Option ℕ
+block_of_word word = block_within (plain_of word)
 
 -- the event of a kind and a block, where both are there
 abbrev pub event_with : Option Kind → Option ℕ → Option Event
@@ -39,7 +39,7 @@ event_with None block = None
 
 -- two words, a kind and a block, say an event
 abbrev pub event_of_words : List (List ℕ) → Option Event
-event_of_words (kind ∷ block ∷ []) = event_with (kind_of kind) (block_of block)
+event_of_words (kind ∷ block ∷ []) = event_with (kind_of_word kind) (block_of_word block)
 event_of_words _ = None
 
 -- the event that a line says, whose words single spaces (32) divide

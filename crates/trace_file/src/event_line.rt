@@ -28,7 +28,7 @@ const GIVE_EXCESS: &[u8] = b"GE";
 const RAISE_LABEL: &[u8] = b"RA";
 
 fn kind_of(word: &[u8]) -> Option<Kind>
-    ensures { result ≡ spec.kind_of word.now }
+    ensures { result ≡ spec.kind_of_word word.now }
 {
     if word == READ_EXCESS {
         Some(Kind::ReadExcess)
@@ -67,7 +67,7 @@ fn kind_word(kind: Kind) -> &'static [u8]
 }
 
 fn block_of(word: &[u8]) -> Option<u32>
-    ensures { result ≡ spec.block_of word.now }
+    ensures { result ≡ spec.block_of_word word.now }
 {
     let number = plain_signed(word).ok()?;
     if number >= 0 && number < 1 << 32 {

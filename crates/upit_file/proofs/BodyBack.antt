@@ -13,7 +13,7 @@ use Rattle.fixed_worth.specs.Printed.{amount_text}
 use Rattle.fixed_worth.specs.Record.{Line, numbered_lines, is_skipped}
 use Rattle.fixed_worth.specs.Text.{is_separator, fields_of}
 use Rattle.fixed_worth.proofs.Lengths.{printed_micros_short}
-use Rattle.upit_file.specs.Header.{is_long, fields_in, is_end}
+use Rattle.upit_file.specs.Header.{is_long, fields_in, is_eof}
 use Rattle.upit_file.specs.Body.{block_of, value_of_record, shape_fault, line_fault, is_record_of, has_record, value_among, first_fault, before_end}
 use Rattle.upit_file.specs.Writing.{record_line, record_lines}
 use Rattle.fixed_worth.proofs.Joined.{is_one_line, is_word, fields_cut}
@@ -49,7 +49,7 @@ record_short b v h s =
 -- The line is the record of block b with the value v.
 record IsRecordOf (b : ℕ) (v : ℤ) (l : Line) : Type 0 where
   small : is_long l ≡ false
-  open_so : is_end (fields_in l) ≡ false
+  open_so : is_eof (fields_in l) ≡ false
   kept : is_skipped (fields_in l) ≡ false
   shape : shape_fault l.number (fields_in l) ≡ None
   block : block_of (fields_in l) ≡ b
@@ -70,7 +70,7 @@ is_record k b v h s =
     let f : fields_in (line k (record_line b v)) ≡ decimal b ∷ amount_text 6 v ∷ [] = rw t (record_fields b v h s) in
     record {
       small = t;
-      open_so = ap is_end f;
+      open_so = ap is_eof f;
       kept = ap is_skipped f ∙ decimal_is_no_remark b (omega arith);
       shape = ap (shape_fault k) f ∙ two_shape k b v h s;
       block = ap block_of f ∙ two_block b v h;

@@ -10,7 +10,7 @@ use Rattle.fixed_worth.specs.declared.limits.TheConstants.{LINE_BYTES}
 use Rattle.fixed_worth.specs.Text.{Left, fields_of}
 use Rattle.fixed_worth.specs.Record.{Line, numbered_lines, is_skipped}
 use Rattle.upit_file.specs.declared.upit_fault.UpitFault.TheVariants.{UnknownBlock, Repeated}
-use Rattle.upit_file.specs.Header.{is_end, fields_in}
+use Rattle.upit_file.specs.Header.{is_eof, fields_in}
 use Rattle.upit_file.specs.Body.{block_of, value_of_record, shape_fault, block_fault, record_fault, is_record_of, has_record, value_among, first_fault, before_end}
 use Rattle.fixed_worth.proofs.NextLine.{line, short, Next}
 use Rattle.std.proofs.lemmas.Grind.{common_steps}
@@ -52,7 +52,7 @@ known n seen before k block m e =
     block_same n (has_record before) (λ b. get_or seen b false) k block (λ b i. sym (m b i)) (nat_le n block) refl ∙ ap (λ (c : ℕ). block_fault c (λ b. get_or seen b false) k block) (sym e)
 
 -- The line has no fault, and joins those before.
-joins : (n : ℕ) (all : List Line) (seen : List Bool) (values : List ℤ) (left next : Left) (k : ℕ) (text : List ℕ) (g : Kept n all seen values left) → Next left next k text → is_end (fields_of text) ≡ false
+joins : (n : ℕ) (all : List Line) (seen : List Bool) (values : List ℤ) (left next : Left) (k : ℕ) (text : List ℕ) (g : Kept n all seen values left) → Next left next k text → is_eof (fields_of text) ≡ false
     → record_fault n (has_record g.before) k (fields_of text) ≡ None
     → (first_fault n (g.before ++ line k text ∷ []) (before_end (numbered_lines next.number next.lines)) ≡ first_fault n [] (before_end all)) × ((g.before ++ line k text ∷ []) ++ before_end (numbered_lines next.number next.lines) ≡ before_end all)
 joins n all seen values left next k text g h e none = grind (arith, common_steps)
@@ -60,7 +60,7 @@ joins n all seen values left next k text g h e none = grind (arith, common_steps
 no_record : (k : ℕ) (text : List ℕ) (b : ℕ) → nat_lt LINE_BYTES (length text) ≡ false → is_skipped (fields_of text) ≡ true → is_record_of b (fields_in (line k text)) ≡ false
 no_record k text b s e = rw (s, e) refl
 
-pub passes : (n : ℕ) (all : List Line) (seen : List Bool) (values : List ℤ) (left next : Left) (k : ℕ) (text : List ℕ) → Kept n all seen values left → Next left next k text → is_end (fields_of text) ≡ false → is_skipped (fields_of text) ≡ true → Kept n all seen values next
+pub passes : (n : ℕ) (all : List Line) (seen : List Bool) (values : List ℤ) (left next : Left) (k : ℕ) (text : List ℕ) → Kept n all seen values left → Next left next k text → is_eof (fields_of text) ≡ false → is_skipped (fields_of text) ≡ true → Kept n all seen values next
 passes n all seen values left next k text g h e s = grind (arith, common_steps, line, joins, no_record, short, has-push, or-false, value_other)
 
 record_is : (k : ℕ) (text : List ℕ) (b : ℕ) → nat_lt LINE_BYTES (length text) ≡ false → is_skipped (fields_of text) ≡ false → is_record_of b (fields_in (line k text)) ≡ eqb (block_of (fields_of text)) b
@@ -81,7 +81,7 @@ worth_at : (values : List ℤ) (before : List Line) (block b : ℕ) (v : ℤ) (l
 worth_at values before block b v l i h r new is true e = grind (arith, common_steps, pos, get_or-set_same, value_first)
 worth_at values before block b v l i h r new is false e = grind (arith, common_steps, get_or-set_other, pos, value_other)
 
-pub keeps : (n block : ℕ) (v : ℤ) (all : List Line) (seen marked : List Bool) (values others : List ℤ) (left next : Left) (k : ℕ) (text : List ℕ) → Kept n all seen values left → Next left next k text → is_end (fields_of text) ≡ false
+pub keeps : (n block : ℕ) (v : ℤ) (all : List Line) (seen marked : List Bool) (values others : List ℤ) (left next : Left) (k : ℕ) (text : List ℕ) → Kept n all seen values left → Next left next k text → is_eof (fields_of text) ≡ false
     → is_skipped (fields_of text) ≡ false → shape_fault k (fields_of text) ≡ None → block ≡ block_of (fields_of text) → v ≡ value_of_record (fields_of text) → block_fault (length seen) (λ b. get_or seen b false) k block ≡ None
     → marked ≡ set seen block true → others ≡ set values block v → Kept n all marked others next
 keeps n block v all seen marked values others left next k text g h e s f is worth w m o = grind (arith, common_steps, line, short, known, joins, fault_none, eqb, record_is, mark_at, ℤ, pos, worth_at, length-set)

@@ -21,9 +21,9 @@ pub record Going (n : ℕ) (all : List Line) (name : List ℕ) (wanted counted :
   pub rest : after_header (numbered_lines left.number left.lines) ≡ after_header all
   pub total : left.number + length left.lines ≡ length all
 
-pub length-numbered : (k : ℕ) (lines : List (List ℕ)) → length (numbered_lines k lines) ≡ length lines
-length-numbered k [] = refl
-length-numbered k (l ∷ ls) = ap suc (length-numbered (k + 1) ls)
+pub length-numbered_lines : (k : ℕ) (lines : List (List ℕ)) → length (numbered_lines k lines) ≡ length lines
+length-numbered_lines k [] = refl
+length-numbered_lines k (l ∷ ls) = ap suc (length-numbered_lines (k + 1) ls)
 
 pub begins : (n : ℕ) (wanted : Option ℕ) (left : Left) → left.number ≡ 0 → n ≡ unwrap_or wanted (blocks_declared (numbered_lines 0 left.lines)) → Going n (numbered_lines 0 left.lines) [] wanted None left
-begins n wanted left z e = grind (arith, common_steps, length-numbered)
+begins n wanted left z e = grind (arith, common_steps, length-numbered_lines)

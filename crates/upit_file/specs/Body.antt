@@ -6,7 +6,7 @@ pub use Rattle.fixed_worth.specs.Decimal.{value_read}
 use Rattle.fixed_worth.specs.Record.{Line, reads, number_of, is_skipped}
 use Rattle.upit_file.specs.declared.upit_fault.UpitFault.{UpitFault}
 use Rattle.upit_file.specs.declared.upit_fault.UpitFault.TheVariants.{Text, Number, UnknownBlock, Repeated}
-use Rattle.upit_file.specs.Header.{is_long, fields_in, is_end, after_header}
+use Rattle.upit_file.specs.Header.{is_long, fields_in, is_eof, after_header}
 
 -- The block that a record is for: its first field.
 abbrev pub block_of : List (List ℕ) → ℕ
@@ -56,7 +56,7 @@ first_fault n before (l ∷ ls) = option_or (line_fault n (has_record before) l)
 -- The lines before the one that ends the text.
 abbrev pub before_end : List Line → List Line
 before_end [] = []
-before_end (l ∷ ls) = cond (is_end (fields_in l)) [] (l ∷ before_end ls)
+before_end (l ∷ ls) = cond (is_eof (fields_in l)) [] (l ∷ before_end ls)
 
 -- The lines between the header's last and the end.
 abbrev pub body : List Line → List Line

@@ -29,15 +29,15 @@ key_of word =
     Other)))
 
 -- EOF alone
-abbrev pub is_end : List (List ℕ) → Bool
-is_end [] = false
-is_end (word ∷ []) = bytes_eq word (codes "EOF")
-is_end (word ∷ field ∷ fields) = false
+abbrev pub is_eof : List (List ℕ) → Bool
+is_eof [] = false
+is_eof (word ∷ []) = bytes_eq word (codes "EOF")
+is_eof (word ∷ field ∷ fields) = false
 
 -- The key of a record. Lines that are skipped have none of the keys, which do not begin with a percent sign.
 abbrev pub key_in : List (List ℕ) → Key
 key_in [] = Other
-key_in (word ∷ fields) = cond (is_end (word ∷ fields)) End (key_of word)
+key_in (word ∷ fields) = cond (is_eof (word ∷ fields)) End (key_of word)
 
 -- The header ends at OBJECTIVE_FUNCTION or EOF.
 abbrev pub ends_header : Key → Bool
@@ -81,14 +81,14 @@ last_name name [] = name
 last_name name (l ∷ ls) = last_name (name_behind name (key_in (fields_in l)) l.text) ls
 
 -- The number of blocks that an NBLOCKS record names; 0 where it names none.
-abbrev pub count_of : List (List ℕ) → ℕ
-count_of [] = 0
-count_of (key ∷ []) = 0
-count_of (key ∷ count ∷ fields) = number_of count
+abbrev pub nblocks_of : List (List ℕ) → ℕ
+nblocks_of [] = 0
+nblocks_of (key ∷ []) = 0
+nblocks_of (key ∷ count ∷ fields) = number_of count
 
 -- The number of blocks that a record names, where its key is NBLOCKS.
 abbrev pub count_at : Key → List (List ℕ) → Option ℕ
-count_at Blocks fields = Some (count_of fields)
+count_at Blocks fields = Some (nblocks_of fields)
 count_at _ fields = None
 
 -- The number of blocks that the first NBLOCKS record names, if there is one.

@@ -16,10 +16,10 @@ use fixed_worth::{Fields, LINE_BYTES, Lines, MOST_BLOCKS, whole};
 fn read_count(text: &[u8], wanted: Option<u32>, line: u64) -> Result<u32, UpitFault>
     requires { length text.now ≤ LINE_BYTES }
     ensures { MatchResult result
-        (λ n. (spec.count_fault (unwrap_or wanted (spec.count_of (fields_of text.now))) line
+        (λ n. (spec.count_fault (unwrap_or wanted (spec.nblocks_of (fields_of text.now))) line
         (fields_of text.now) ≡ None)
-        × (n ≡ unwrap_or wanted (spec.count_of (fields_of text.now))) × (n ≤ MOST_BLOCKS))
-        (λ e. spec.count_fault (unwrap_or wanted (spec.count_of (fields_of text.now))) line
+        × (n ≡ unwrap_or wanted (spec.nblocks_of (fields_of text.now))) × (n ≤ MOST_BLOCKS))
+        (λ e. spec.count_fault (unwrap_or wanted (spec.nblocks_of (fields_of text.now))) line
         (fields_of text.now) ≡ Some e) }
 {
     let mut fields = Fields::new(text);

@@ -28,7 +28,7 @@ pub(crate) fn read_record(text: &[u8], line: u64) -> Result<Record, UpitFault>
     ensures { MatchResult result
         (λ read. IsRecord line (fields_of text.now) read)
         (λ e. (is_skipped (fields_of text.now) ≡ false)
-        × (header.is_end (fields_of text.now) ≡ false)
+        × (header.is_eof (fields_of text.now) ≡ false)
         × (spec.shape_fault line (fields_of text.now) ≡ Some e)) }
 {
     let mut fields = Fields::new(text);
@@ -52,7 +52,7 @@ fn read_any_record(text: &[u8], line: u64) -> Result<Record, UpitFault>
     ensures { MatchResult result
         (λ read. IsRecord line (fields_of text.now) read)
         (λ e. (is_skipped (fields_of text.now) ≡ false)
-        × (header.is_end (fields_of text.now) ≡ false)
+        × (header.is_eof (fields_of text.now) ≡ false)
         × (spec.shape_fault line (fields_of text.now) ≡ Some e)) }
 {
     let mut fields = Fields::new(text);

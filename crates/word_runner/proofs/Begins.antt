@@ -20,7 +20,7 @@ use Rattle.machine_law.specs.Operations.{operation_as}
 use Rattle.machine_law.specs.States as law
 use Rattle.word_runner.specs.declared.view.View.{View}
 use Rattle.word_runner.specs.Layout.{count, units, Cells, excess_at, label_at, source_at, room_at, flow_at}
-use Rattle.word_runner.specs.Views.{of_block, Ruled, Sees, IsSeatsOwn, first_view, start_words, IsStart, IsMadeBy}
+use Rattle.word_runner.specs.Views.{of_block, IsRuled, Sees, IsSeatsOwn, first_view, start_words, IsStart, IsMadeBy}
 use Rattle.word_runner.specs.Halves.{IsSole, IsHalf, half, left_half, right_half, joined_view, spent_view}
 use Rattle.word_runner.proofs.SeatViews.{free_operation, seats_set}
 use Rattle.word_runner.proofs.Units.{units_same, by_one}
@@ -82,7 +82,7 @@ only : (v w : View) (P : ℕ → View → Type 0) → P 0 v → (j : ℕ) → ge
 only v w P h zero e = subst (P 0) (some-injective v w e) h
 only v w P h (suc j) e = absurd (some-ne-none w (sym e))
 
-pub begins : (key : NetView) (gain loss : List ℕ) → IsStart key gain loss → Ruled key (opening (start_words gain loss (count key) (length key.pairs)) [] (first_view key))
+pub begins : (key : NetView) (gain loss : List ℕ) → IsStart key gain loss → IsRuled key (opening (start_words gain loss (count key) (length key.pairs)) [] (first_view key))
 begins key gain loss q =
     let net = key in
     let v = first_view key in
@@ -114,7 +114,7 @@ at_end [] a b (suc j) e = absurd (some-ne-none b (sym e))
 at_end (x ∷ xs) a b zero e = inl e
 at_end (x ∷ xs) a b (suc j) e = ⊎_elim inl (λ t. inr (ap suc t.0, t.1)) (at_end xs a b j e)
 
-pub splits : (key : NetView) (id : ℕ) (v : View) → IsSole v → Splits (Ruled key) id v (left_half v) (right_half v)
+pub splits : (key : NetView) (id : ℕ) (v : View) → IsSole v → Splits (IsRuled key) id v (left_half v) (right_half v)
 splits key id v q s r at =
     let net = key in
     let mine = r.seats id v at in
@@ -157,7 +157,7 @@ splits key id v q s r at =
           (at_end (set s.views id (left_half v)) (right_half v) w j e);
     }
 
-pub joins : (key : NetView) (id o : ℕ) (v w : View) → IsHalf 0 v → IsHalf 1 w → Joins (Ruled key) id v o w (joined_view v w) spent_view
+pub joins : (key : NetView) (id o : ℕ) (v w : View) → IsHalf 0 v → IsHalf 1 w → Joins (IsRuled key) id v o w (joined_view v w) spent_view
 joins key id o v w q p s r at ne at' =
     let net = key in
     let mine = r.seats id v at in

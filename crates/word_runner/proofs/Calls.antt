@@ -10,7 +10,7 @@ use Rattle.machine_law.specs.declared.operations.Operation.TheVariants.{Idle, Sc
 use Rattle.word_runner.specs.declared.view.View.{View}
 use Rattle.word_runner.specs.Layout.{width}
 use Rattle.word_runner.specs.StepWords.{word_after, push_units, word_after_push}
-use Rattle.word_runner.specs.Views.{Ruled}
+use Rattle.word_runner.specs.Views.{IsRuled}
 use Rattle.word_runner.specs.Turns.{Sat, view_after_turn, TurnsSeat, block_of_view}
 use Rattle.word_runner.specs.Seats.{IsNextAt, StepReads, StepAdds, Subtracts, Stores}
 use Rattle.word_runner.proofs.Writes.{Fits, push_fits}
@@ -66,20 +66,20 @@ unread b v k x y h = grind (arith, common_steps)
 
 -- what a seat's next step may do at its word, among the words of a table whose key is the seat's net
 module _ (key : NetView) (slots id b i : ℕ) (me : Sat) (e : me.0.net ≡ key) (n : IsNextAt me.0 b i) where
-  pub allows : (a : ℕ) (f : ℕ → ℕ) → ((x : ℕ) → x < 2 ^ 64 → Fits me.0.operation x → f x ≡ word_after me.0.operation x) → Allows (Ruled key) slots id me i f (TurnsSeat (step slots i a 0 none) me)
-  allows a f h = subst (λ (z : NetView × ℕ). Allows (Ruled z.0) slots id me z.1 f (TurnsSeat (step slots z.1 a 0 none) me)) (λ k. (e k, sym n.word k)) (turns slots id a b me f n.may h)
+  pub allows : (a : ℕ) (f : ℕ → ℕ) → ((x : ℕ) → x < 2 ^ 64 → Fits me.0.operation x → f x ≡ word_after me.0.operation x) → Allows (IsRuled key) slots id me i f (TurnsSeat (step slots i a 0 none) me)
+  allows a f h = subst (λ (z : NetView × ℕ). Allows (IsRuled z.0) slots id me z.1 f (TurnsSeat (step slots z.1 a 0 none) me)) (λ k. (e k, sym n.word k)) (turns slots id a b me f n.may h)
 
-  pub loads : StepReads me.0.operation → Allows (Ruled key) slots id me i (λ n. n) (TurnsSeat (step slots i 0 0 none) me)
+  pub loads : StepReads me.0.operation → Allows (IsRuled key) slots id me i (λ n. n) (TurnsSeat (step slots i 0 0 none) me)
   loads h = allows 0 (λ n. n) (λ x l f. reads me.0.operation x h)
 
-  pub gives : (k : ℕ) → StepAdds me.0.operation k → Allows (Ruled key) slots id me i (λ n. (n + k) % 2 ^ 64) (TurnsSeat (step slots i k 0 none) me)
+  pub gives : (k : ℕ) → StepAdds me.0.operation k → Allows (IsRuled key) slots id me i (λ n. (n + k) % 2 ^ 64) (TurnsSeat (step slots i k 0 none) me)
   gives k h = allows k (λ n. (n + k) % 2 ^ 64) (λ x l f. adds me.0.operation k x h f)
 
-  pub takes : (k : ℕ) → Subtracts me.0.operation k → Allows (Ruled key) slots id me i (λ n. (n + (2 ^ 64 - k)) % 2 ^ 64) (TurnsSeat (step slots i k 0 none) me)
+  pub takes : (k : ℕ) → Subtracts me.0.operation k → Allows (IsRuled key) slots id me i (λ n. (n + (2 ^ 64 - k)) % 2 ^ 64) (TurnsSeat (step slots i k 0 none) me)
   takes k h = allows k (λ n. (n + (2 ^ 64 - k)) % 2 ^ 64) (λ x l f. subtracts me.0.operation k x h l f)
 
   -- a step that stores doesn't tell what the word was
-  pub puts : (k : ℕ) → Stores me.0.operation k → Allows (Ruled key) slots id me i (λ _. k) (λ _. TurnsSeat (step slots i k 0 none) me k)
+  pub puts : (k : ℕ) → Stores me.0.operation k → Allows (IsRuled key) slots id me i (λ _. k) (λ _. TurnsSeat (step slots i k 0 none) me k)
   puts k h s r homes at small =
       let g = allows k (λ _. k) (λ x l f. stores me.0.operation k x h) s r homes at small in
       let x : ℕ = get_or s.words i 0 in

@@ -16,7 +16,7 @@ use Rattle.closure_net.specs.declared.net.NetFault.TheVariants.{WrongLength, Too
 use Rattle.ordered_group.proofs.Totals.{total-same}
 use Rattle.machine_law.specs.Conservation.{all_given}
 use Rattle.word_runner.specs.Layout.{units}
-use Rattle.word_runner.specs.CutNets.{scaled_parts, IsCut, AreCut, AreWithin, AreGains, IsCutNet, net_with}
+use Rattle.word_runner.specs.CutNets.{scaled_parts, IsCut, AreCut, AreWithin, AreGains, IsCutNet, net_with_worths}
 
 pub pushed_all : (P : ℕ → Amount → Type 0) (xs ys : List Scaled) (x : Scaled) (n : ℕ) → ys ≡ xs ++ x ∷ [] → length xs ≡ n → ((j : ℕ) → j < n → P j (amount_at (map scaled_parts xs) j)) → P n (scaled_parts x) → (j : ℕ) → j < n + 1 → P j (amount_at (map scaled_parts ys) j)
 pushed_all P xs ys x n is size old new j l =
@@ -44,12 +44,12 @@ cuts_from net k ws a e = record {
 -- ---- the net that is cut
 
 -- what the source gives is the same
-pub cut_gives : (net : NetView) (ws : List Amount) → IsCut net ws → all_given (net_with net ws) ≡ all_given net
+pub cut_gives : (net : NetView) (ws : List Amount) → IsCut net ws → all_given (net_with_worths net ws) ≡ all_given net
 unfolding all_given
 cut_gives net ws c = ap (λ (n : ℕ). total (λ b. positive (amount_at ws b)) n) c.size ∙ total-same (λ b. positive (amount_at ws b)) (λ b. positive (amount_at net.worths b)) (length net.worths) c.positives
 
 -- and the sinks take no more than that
-pub cut_within : (net : NetView) (k : ℕ) (ws : List Amount) → AreCut net k ws → AreWithin (net_with net ws) k
+pub cut_within : (net : NetView) (k : ℕ) (ws : List Amount) → AreCut net k ws → AreWithin (net_with_worths net ws) k
 cut_within net k ws a b l = let z = a.size in (a.each b (omega (arith, l, z))).within
 
 units_fit : (k : ℕ) → k < 2 ^ 63 → FitsPair (minus zero_amount (record { w = pos 0 -ℤ pos k; c = pos 0 }))

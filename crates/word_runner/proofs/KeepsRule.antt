@@ -19,21 +19,21 @@ use Rattle.machine_law.specs.States as law
 use Rattle.machine_law.specs.States.{with_value_at, opening}
 use Rattle.machine_law.specs.Steps.{Step, Run, advance_by, next_of}
 use Rattle.machine_law.specs.Amounts.{IsOperation}
-use Rattle.machine_law.proofs.Points.{put-same, put-other}
+use Rattle.machine_law.proofs.Points.{with_value_at-same, with_value_at-other}
 use Rattle.machine_law.proofs.Law.{runs_keep_law}
 use Rattle.machine_law.proofs.Runs.{run_more}
 use Rattle.machine_law.proofs.Conserved.{runs_conserve}
 use Rattle.word_runner.specs.declared.view.View.{View}
 use Rattle.word_runner.specs.Layout.{units, count, Cells, flow_at}
 use Rattle.word_runner.specs.StepWords.{word_of, word_after, after, capacity_word, push_units, word_after_push}
-use Rattle.word_runner.specs.Views.{Ruled, Sees, IsSeatsOwn}
-use Rattle.word_runner.specs.Turns.{Sat, stopped_after, event_of_operation, view_after_turn, TurnsSeat, IsPlaced, CanTurn, overfull, RaisesTooFar, SomeFlowIsTooLarge, SomeLabelIsTooLarge, IsLargeBy}
+use Rattle.word_runner.specs.Views.{IsRuled, Sees, IsSeatsOwn}
+use Rattle.word_runner.specs.Turns.{Sat, stopped_after, event_of_operation, view_after_turn, TurnsSeat, IsPlaced, CanTurn, is_word_overfull, RaisesTooFar, SomeFlowIsTooLarge, SomeLabelIsTooLarge, IsLargeBy}
 use Rattle.word_runner.proofs.Units.{units_above}
 use Rattle.word_runner.proofs.Shows.{operation_shown, labels_shown, labels_else}
 use Rattle.word_runner.proofs.Writes.{Fits, fits, placed, cells_shown, flow_shown}
 use Rattle.word_runner.proofs.SeatViews.{seats_set, operation_here, operation_else, shown_here, shown_else, block_is, made_more}
 
-module _ (s : State (Unit {0}) View) (id b : ℕ) (v : View) (q : CanTurn v b) (r : Ruled v.net s) (at : get_elem? s.views id ≡ some v) where
+module _ (s : State (Unit {0}) View) (id b : ℕ) (v : View) (q : CanTurn v b) (r : IsRuled v.net s) (at : get_elem? s.views id ≡ some v) where
   abbrev net : NetView
   net = v.net
 
@@ -84,7 +84,7 @@ module _ (s : State (Unit {0}) View) (id b : ℕ) (v : View) (q : CanTurn v b) (
 
   pub placed_after : IsPlaced net b (view_after_turn b v x).operation
   placed_after = placed net u b (view_after_turn b v x).operation
-      (subst (IsOperation net u b) (ap (λ (f : ℕ → _). f b) operation_is ∙ put-same t.operation b _) ((runs_keep_law net (r.events ++ e ∷ []) u runs).amounts.operation b))
+      (subst (IsOperation net u b) (ap (λ (f : ℕ → _). f b) operation_is ∙ with_value_at-same t.operation b _) ((runs_keep_law net (r.events ++ e ∷ []) u runs).amounts.operation b))
 
   apart : (j : ℕ) (y : View) → j ≢ id → get_elem? s.views j ≡ some y → (c : ℕ) → c < count net → IsSeatsOwn y c → c ≢ b
   apart j y ne at' c l own is = ne (sym ((r.seats j y at').owns c l own) ∙ ap r.owner is ∙ mine.owns b q.block q.own)
@@ -93,9 +93,9 @@ module _ (s : State (Unit {0}) View) (id b : ℕ) (v : View) (q : CanTurn v b) (
   sees_mine = record {
     owns = λ c l own. mine.owns c l (record { live = own.live; serves = own.serves });
     operation = λ c l own. elim (cases_eq c b) [
-      | inl is ↦ ap (λ (f : ℕ → _). f c) operation_is ∙ ap (with_value_at t.operation b _) is ∙ put-same t.operation b _ ∙ ap (operation_as units) (sym (operation_here (view_after_turn b v x) c (sym is)))
+      | inl is ↦ ap (λ (f : ℕ → _). f c) operation_is ∙ ap (with_value_at t.operation b _) is ∙ with_value_at-same t.operation b _ ∙ ap (operation_as units) (sym (operation_here (view_after_turn b v x) c (sym is)))
       | inr ne ↦
-          ap (λ (f : ℕ → _). f c) operation_is ∙ put-other t.operation b _ c ne ∙ mine.operation c l (record { live = own.live; serves = own.serves })
+          ap (λ (f : ℕ → _). f c) operation_is ∙ with_value_at-other t.operation b _ c ne ∙ mine.operation c l (record { live = own.live; serves = own.serves })
           ∙ ap (operation_as units) (shown_else v b c q ne ∙ sym (operation_else (view_after_turn b v x) c (λ h. ne (sym h))))
     ];
     label = λ c l own run. labels_shown net known t s.words r.cells b q.block o v.labels (let w = q.wide in let lb = q.block in omega (arith, w, lb)) c (mine.label c l (record { live = own.live; serves = own.serves }) q.runs);
@@ -107,12 +107,12 @@ module _ (s : State (Unit {0}) View) (id b : ℕ) (v : View) (q : CanTurn v b) (
       let old = r.seats j y at' in
       record {
         owns = old.owns;
-        operation = λ c l own. ap (λ (f : ℕ → _). f c) operation_is ∙ put-other t.operation b _ c (apart j y ne at' c l own) ∙ old.operation c l own;
+        operation = λ c l own. ap (λ (f : ℕ → _). f c) operation_is ∙ with_value_at-other t.operation b _ c (apart j y ne at' c l own) ∙ old.operation c l own;
         label = λ c l own run. labels_else net known t s.words r.cells b q.block o c (apart j y ne at' c l own) ∙ old.label c l own run;
         flow = λ k l own run. flow_shown net known t s.words r.cells b q.block o (placed net t b o lawful) k l (inr (apart j y ne at' (from_at net.pairs k) (known k (0, 0) l).0 own)) (old.flow k l own run);
       }
 
-  pub keeps_rule : (homes : List _) → Ruled net (record { words = set s.words i (word_after o x); homes = homes; views = set s.views id (view_after_turn b v x) })
+  pub keeps_rule : (homes : List _) → IsRuled net (record { words = set s.words i (word_after o x); homes = homes; views = set s.views id (view_after_turn b v x) })
   keeps_rule homes = record {
     events = r.events ++ e ∷ [];
     machine = u;
@@ -126,7 +126,7 @@ module _ (s : State (Unit {0}) View) (id b : ℕ) (v : View) (q : CanTurn v b) (
   }
 
   -- the state after the step, where its numbers are too large
-  pushed_far : (have : ℕ) (p : Port) (kind : PortKind) (k : ℕ) → IsEnd net b kind p.other p.slot → overfull kind have (get_or s.words (capacity_word net b kind p.slot) 0) ≡ true → (v' : law.State) → Run net (opening net) (r.events ++ e ∷ []) v'
+  pushed_far : (have : ℕ) (p : Port) (kind : PortKind) (k : ℕ) → IsEnd net b kind p.other p.slot → is_word_overfull kind have (get_or s.words (capacity_word net b kind p.slot) 0) ≡ true → (v' : law.State) → Run net (opening net) (r.events ++ e ∷ []) v'
       → Cells net v' (set s.words (capacity_word net b kind p.slot) (word_after_push kind (push_units have kind k) (get_or s.words (capacity_word net b kind p.slot) 0))) → SomeFlowIsTooLarge net
   pushed_far have p Sink k h f v' run c = absurd cc
   pushed_far have p Forward k h f v' run c =
@@ -160,12 +160,12 @@ module _ (s : State (Unit {0}) View) (id b : ℕ) (v : View) (q : CanTurn v b) (
   pub large_by : IsLargeBy net (view_after_turn b v x).stopped (view_after_turn b v x).operation
   large_by = record {
     flow = flow_far o refl (placed net t b o lawful);
-    label = label_far (view_after_turn b v x).operation (ap (λ (f : ℕ → _). f b) operation_is ∙ put-same t.operation b _);
+    label = label_far (view_after_turn b v x).operation (ap (λ (f : ℕ → _). f b) operation_is ∙ with_value_at-same t.operation b _);
   }
 
 -- any operation on the word that writes what the step writes
 pub turns : (slots id a b : ℕ) (me : Sat) (f : ℕ → ℕ) → CanTurn me.0 b → ((x : ℕ) → x < 2 ^ 64 → Fits me.0.operation x → f x ≡ word_after me.0.operation x)
-    → Allows (Ruled me.0.net) slots id me (word_of me.0.net b me.0.operation) f (TurnsSeat (step slots (word_of me.0.net b me.0.operation) a 0 none) me)
+    → Allows (IsRuled me.0.net) slots id me (word_of me.0.net b me.0.operation) f (TurnsSeat (step slots (word_of me.0.net b me.0.operation) a 0 none) me)
 turns slots id a b me f q writes s r _ at small =
     let v = me.0 in
     let i = word_of v.net b v.operation in
@@ -175,6 +175,6 @@ turns slots id a b me f q writes s r _ at small =
       view_after_turn b v x,
       keeps,
       tt,
-      subst (λ (z : ℕ). Ruled v.net (stepped s i z id me.1 (view_after_turn b v x) keeps)) (sym is) (keeps_rule s id b v q r at s.homes),
+      subst (λ (z : ℕ). IsRuled v.net (stepped s i z id me.1 (view_after_turn b v x) keeps)) (sym is) (keeps_rule s id b v q r at s.homes),
       (ap (λ (c : ℕ). view_after_turn c v x) (sym block), subst (λ (c : ℕ). IsPlaced v.net c (view_after_turn b v x).operation) (sym block) (placed_after s id b v q r at), refl, large_by s id b v q r at),
     )

@@ -7,18 +7,18 @@ use Rattle.atomic_table.specs.Table.{State, step, keeps, Allows}
 use Rattle.closure_net.specs.Network.{NetView}
 use Rattle.machine_law.proofs.Conserved.{runs_conserve}
 use Rattle.word_runner.specs.declared.view.View.{View}
-use Rattle.word_runner.specs.Views.{Ruled, Sees, IsSeatsOwn, IsMadeBy}
+use Rattle.word_runner.specs.Views.{IsRuled, Sees, IsSeatsOwn, IsMadeBy}
 use Rattle.word_runner.specs.Turns.{Sat}
 use Rattle.word_runner.specs.Halves.{LooksUp}
 use Rattle.word_runner.proofs.SeatViews.{seats_set}
 use Rattle.word_runner.proofs.Units.{fits_in}
 use Rattle.std.proofs.lemmas.Grind.{common_steps}
 
-arrived_small : (net : NetView) (s : State (Unit {0}) View) → Ruled net s → (i : ℕ) → i < 2 → get_or s.words i 0 < 2 ^ 63
+arrived_small : (net : NetView) (s : State (Unit {0}) View) → IsRuled net s → (i : ℕ) → i < 2 → get_or s.words i 0 < 2 ^ 63
 arrived_small net s r i l = grind (arith, common_steps, runs_conserve, fits_in)
 
 -- a view that differs in what was loaded alone
-loaded_more : (net : NetView) (s : State (Unit {0}) View) (id : ℕ) (v : View) (l : List (ℕ × ℕ)) → Ruled net s → get_elem? s.views id ≡ some v → Ruled net (record { words = s.words; homes = s.homes; views = set s.views id (record v { loaded = l }) })
+loaded_more : (net : NetView) (s : State (Unit {0}) View) (id : ℕ) (v : View) (l : List (ℕ × ℕ)) → IsRuled net s → get_elem? s.views id ≡ some v → IsRuled net (record { words = s.words; homes = s.homes; views = set s.views id (record v { loaded = l }) })
 loaded_more net s id v l r at =
     let mine = r.seats id v at in
     let made = r.made id v at in
@@ -38,12 +38,12 @@ loaded_more net s id v l r at =
           (λ j x ne e. r.seats j x e);
     }
 
-pub looks_up : (net : NetView) (slots id i : ℕ) (me : Sat) → Allows (Ruled net) slots id me i (λ n. n) (LooksUp (step slots i 0 0 none) me)
+pub looks_up : (net : NetView) (slots id i : ℕ) (me : Sat) → Allows (IsRuled net) slots id me i (λ n. n) (LooksUp (step slots i 0 0 none) me)
 looks_up net slots id i me s r _ at _ =
     let l = me.0.loaded ++ (i, get_or s.words i 0) ∷ [] in (
       record me.0 { loaded = l },
       keeps,
       tt,
-      subst (λ (z : List ℕ). Ruled net (record { words = z; homes = s.homes; views = set s.views id (record me.0 { loaded = l }) })) (sym (set-get_or s.words i 0)) (loaded_more net s id me.0 l r at),
+      subst (λ (z : List ℕ). IsRuled net (record { words = z; homes = s.homes; views = set s.views id (record me.0 { loaded = l }) })) (sym (set-get_or s.words i 0)) (loaded_more net s id me.0 l r at),
       (refl, refl, λ m. arrived_small net s r i m),
     )

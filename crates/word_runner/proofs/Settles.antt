@@ -21,7 +21,7 @@ use Rattle.machine_law.proofs.Conserved.{runs_conserve}
 use Rattle.machine_law.proofs.Quiet.{quiet_solves}
 use Rattle.word_runner.specs.declared.view.View.{View}
 use Rattle.word_runner.specs.Layout.{units, count, room_at}
-use Rattle.word_runner.specs.Views.{Ruled}
+use Rattle.word_runner.specs.Views.{IsRuled}
 use Rattle.word_runner.specs.Seats.{IsFlowOfWords, IsWorker}
 use Rattle.word_runner.specs.CutNets.{scaled_parts, AreRooms}
 use Rattle.word_runner.specs.Runs.{IsRunOf, IsOpenRunOf}
@@ -32,10 +32,10 @@ turned_round : (n s r : Amount) → minus n s ≡ r → s ≡ minus n r
 turned_round n s r e = let h = same e in equal (record { w = omega (arith, ints, h); c = omega (arith, ints, h) })
 
 -- no room at the sink is more than what may be given there
-pub rooms_of : (net : NetView) (s : State (Unit {0}) View) → Ruled net s → AreRooms net s.words
+pub rooms_of : (net : NetView) (s : State (Unit {0}) View) → IsRuled net s → AreRooms net s.words
 rooms_of net s r b l = subst (λ (a : Amount). AtMost a (negative (amount_at net.worths b))) (r.cells.room b l) (AtMost-minus (negative (amount_at net.worths b)) (r.machine.sink b) ((runs_keep_law net r.events r.machine r.run).amounts.sink b))
 
-module _ (net : NetView) (s : State (Unit {0}) View) (r : Ruled net s) (sum : ℕ) (all : all_given net ≡ units sum) where
+module _ (net : NetView) (s : State (Unit {0}) View) (r : IsRuled net s) (sum : ℕ) (all : all_given net ≡ units sum) where
   abbrev t : law.State
   t = r.machine
 
@@ -91,9 +91,9 @@ module _ (net : NetView) (ws : List ℕ) (b from word : ℕ) (l : b < count net)
   given_is x y e d = equal (let s = same e in let w = room_is in record { w = omega (arith, ints, s, w, d); c = omega (arith, ints, s) })
 
 -- ---- the same of words that are closed
-module _ (net key : NetView) (id : ℕ) (v : View) (ws : List ℕ) (xs : List (Unit {0})) (is : key ≡ net) (f : Final (Seen (Ruled key) id v) ws xs) where
-  ruled : Ruled net f.0
-  ruled = subst (λ (n : NetView). Ruled n f.0) is f.1.0
+module _ (net key : NetView) (id : ℕ) (v : View) (ws : List ℕ) (xs : List (Unit {0})) (is : key ≡ net) (f : Final (Seen (IsRuled key) id v) ws xs) where
+  ruled : IsRuled net f.0
+  ruled = subst (λ (n : NetView). IsRuled n f.0) is f.1.0
 
   pub rooms_closed : AreRooms net ws
   rooms_closed = subst (AreRooms net) f.2 (rooms_of net f.0 ruled)

@@ -20,13 +20,13 @@ use Rattle.machine_law.specs.States.{with_value_at}
 use Rattle.machine_law.specs.Residual.{IsEnd, label_beyond}
 use Rattle.machine_law.specs.Reads.{operation_begun_with, after_capacity, after_label}
 use Rattle.machine_law.specs.Steps.{after_look, after_look_by, after_label_at, push_amount, after_push_by, after_give_by, advance_by}
-use Rattle.machine_law.proofs.Points.{put-same, put-other}
+use Rattle.machine_law.proofs.Points.{with_value_at-same, with_value_at-other}
 use Rattle.machine_law.proofs.Naturality.{after_label-as}
 use Rattle.machine_law.proofs.PortLists.{port_with, port-at}
 use Rattle.word_runner.specs.Layout.{units, count, Cells}
 use Rattle.word_runner.specs.StepWords.{look_word, look_word_at, label_word_at, word_of, operation_begun_by_word, after_capacity_word, after_look_word, after_look_word_if, after_label_word_if, after, push_units}
 use Rattle.word_runner.specs.Turns.{labels_after}
-use Rattle.word_runner.proofs.Units.{least_units}
+use Rattle.word_runner.proofs.Units.{lesser_amount_units}
 use Rattle.std.proofs.lemmas.Grind.{common_steps}
 
 -- ---- reads over units
@@ -37,10 +37,10 @@ seen_units : (n label have place : ℕ) (best : Option (Best ℕ)) (x : ℕ) →
 seen_units n label have place best x = grind (arith, common_steps)
 
 pub push_of_units : (have : ℕ) (kind : PortKind) (read : ℕ) → push_amount (units have) kind (units read) ≡ units (push_units have kind read)
-push_of_units have Sink read = least_units have read
+push_of_units have Sink read = lesser_amount_units have read
 push_of_units have Forward read = refl
-push_of_units have Backward read = least_units have read
-push_of_units have Source read = least_units have read
+push_of_units have Backward read = lesser_amount_units have read
+push_of_units have Source read = lesser_amount_units have read
 
 -- the other end of a port is a block
 pub other_within : (net : NetView) (b : ℕ) (kind : PortKind) (other slot : ℕ) → All (IsKnown (count net)) net.pairs → b < count net → IsEnd net b kind other slot → other < count net
@@ -117,8 +117,8 @@ module _ (net : NetView) (known : All (IsKnown (count net)) net.pairs) (t : law.
   labels_shown (TakeDue d p) labels l x e = e
   labels_shown (GiveDue d p) labels l x e = ap (λ f. f x) (given_label (units d) p p.kind) ∙ e
   labels_shown (RaiseDue have best) labels l x e = elim (cases_eq x b) [
-    | inl at ↦ subst (λ z. with_value_at t.label b (best.label + 1) z ≡ get_or (set labels b (best.label + 1)) z 0) (sym at) (put-same t.label b (best.label + 1) ∙ sym (get_or-set_same labels b (best.label + 1) 0 l))
-    | inr ne ↦ put-other t.label b (best.label + 1) x ne ∙ e ∙ sym (get_or-set_other labels b x (best.label + 1) 0 ne)
+    | inl at ↦ subst (λ z. with_value_at t.label b (best.label + 1) z ≡ get_or (set labels b (best.label + 1)) z 0) (sym at) (with_value_at-same t.label b (best.label + 1) ∙ sym (get_or-set_same labels b (best.label + 1) 0 l))
+    | inr ne ↦ with_value_at-other t.label b (best.label + 1) x ne ∙ e ∙ sym (get_or-set_other labels b x (best.label + 1) 0 ne)
   ]
 
   pub labels_else : (o : Operation ℕ) (x : ℕ) → x ≢ b → (advance_by net t b (operation_as units o)).label x ≡ t.label x
@@ -128,4 +128,4 @@ module _ (net : NetView) (known : All (IsKnown (count net)) net.pairs) (t : law.
   labels_else (PushDue have best) x ne = ap (λ f. f x) (pushed_label (push_amount (units have) best.port.kind (units best.capacity)) best.port best.port.kind)
   labels_else (TakeDue d p) x ne = refl
   labels_else (GiveDue d p) x ne = ap (λ f. f x) (given_label (units d) p p.kind)
-  labels_else (RaiseDue have best) x ne = put-other t.label b (best.label + 1) x ne
+  labels_else (RaiseDue have best) x ne = with_value_at-other t.label b (best.label + 1) x ne

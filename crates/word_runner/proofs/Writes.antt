@@ -24,10 +24,10 @@ use Rattle.machine_law.specs.Amounts.{IsOperation, IsBestIfAny, IsWithinBy}
 use Rattle.machine_law.specs.Steps.{after_look, after_label_at, after_push_by, after_give_by, advance_by}
 use Rattle.machine_law.specs.Reads.{operation_begun_with}
 use Rattle.machine_law.specs.Conservation.{all_given, IsWhole}
-use Rattle.machine_law.proofs.Points.{put-same}
+use Rattle.machine_law.proofs.Points.{with_value_at-same}
 use Rattle.word_runner.specs.Layout.{units, count, Cells, excess_at, flow_at}
 use Rattle.word_runner.specs.StepWords.{capacity_word, landing_word, word_of, word_after, push_units, word_after_push}
-use Rattle.word_runner.specs.Turns.{overfull, stopped_after, IsBestPlaced, IsPlaced}
+use Rattle.word_runner.specs.Turns.{is_word_overfull, stopped_after, IsBestPlaced, IsPlaced}
 use Rattle.word_runner.proofs.Units.{units_most, units_minus, units_plus, less_room, fits_in, smaller_right}
 use Rattle.word_runner.proofs.Cells.{cells_op, cells_excess, cells_flow, cells_label, cells_source, cells_room, cells_at_source, cells_at_sink}
 use Rattle.word_runner.proofs.Shows.{push_of_units, other_within}
@@ -106,11 +106,11 @@ module _ (net : NetView) (known : All (IsKnown (count net)) net.pairs) (t : law.
   landed d p Sink q m w = let l = fits_in 9223372036854775807 _ (plus t.at_sink (units d)) (all_given net) (units_plus _ d t.at_sink c.at_sink) w.sink_most m in omega (arith, l)
   landed d p Forward q m w =
       let lo = other_within net b Forward p.other p.slot known lb q in
-      let l = fits_in 9223372036854775807 _ (with_value_at t.excess p.other (plus (t.excess p.other) (units d)) p.other) (all_given net) (put-same t.excess p.other (plus (t.excess p.other) (units d)) ∙ units_plus _ d (t.excess p.other) (c.excess p.other lo)) (w.excess_most p.other lo) m in
+      let l = fits_in 9223372036854775807 _ (with_value_at t.excess p.other (plus (t.excess p.other) (units d)) p.other) (all_given net) (with_value_at-same t.excess p.other (plus (t.excess p.other) (units d)) ∙ units_plus _ d (t.excess p.other) (c.excess p.other lo)) (w.excess_most p.other lo) m in
       omega (arith, l)
   landed d p Backward q m w =
       let lo = other_within net b Backward p.other p.slot known lb q in
-      let l = fits_in 9223372036854775807 _ (with_value_at t.excess p.other (plus (t.excess p.other) (units d)) p.other) (all_given net) (put-same t.excess p.other (plus (t.excess p.other) (units d)) ∙ units_plus _ d (t.excess p.other) (c.excess p.other lo)) (w.excess_most p.other lo) m in
+      let l = fits_in 9223372036854775807 _ (with_value_at t.excess p.other (plus (t.excess p.other) (units d)) p.other) (all_given net) (with_value_at-same t.excess p.other (plus (t.excess p.other) (units d)) ∙ units_plus _ d (t.excess p.other) (c.excess p.other lo)) (w.excess_most p.other lo) m in
       omega (arith, l)
   landed d p Source q m w = let l = fits_in 9223372036854775807 _ (plus t.at_source (units d)) (all_given net) (units_plus _ d t.at_source c.at_source) w.source_most m in omega (arith, l)
 
@@ -146,7 +146,7 @@ module _ (net : NetView) (known : All (IsKnown (count net)) net.pairs) (t : law.
   abbrev Excused : Bool → ℕ → Type 0
   Excused stopped k = (stopped ≡ false) ⊎ (from_at net.pairs k ≢ b)
 
-  pushed_flow : (have read : ℕ) (kind : PortKind) (other slot k : ℕ) → IsEnd net b kind other slot → k < length net.pairs → Excused (overfull kind have (get_or ws (capacity_word net b kind slot) 0)) k → get_or ws (flow_at net k) 0 < 2 ^ 63
+  pushed_flow : (have read : ℕ) (kind : PortKind) (other slot k : ℕ) → IsEnd net b kind other slot → k < length net.pairs → Excused (is_word_overfull kind have (get_or ws (capacity_word net b kind slot) 0)) k → get_or ws (flow_at net k) 0 < 2 ^ 63
       → get_or (set ws (capacity_word net b kind slot) (word_after_push kind (push_units have kind read) (get_or ws (capacity_word net b kind slot) 0))) (flow_at net k) 0 < 2 ^ 63
   pushed_flow have read Sink other slot k q l x h = elsewhere _ _ k (λ e. omega (arith, e, lb)) h
   pushed_flow have read Forward other slot k q l x h = elim (cases_eq k slot) [

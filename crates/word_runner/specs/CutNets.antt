@@ -40,8 +40,8 @@ pub record AreSinks (net : NetView) (ws : List ℕ) (amounts : List Amount) : Ty
   pub each : (b : ℕ) → b < count net → amount_at amounts b ≡ minus (negative (amount_at net.worths b)) (units (slice_index ws (room_at net b)))
 
 -- the net with these worths
-abbrev pub net_with : NetView → List Amount → NetView
-net_with net ws = record { pairs = net.pairs; worths = ws }
+abbrev pub net_with_worths : NetView → List Amount → NetView
+net_with_worths net ws = record { pairs = net.pairs; worths = ws }
 
 -- the worths are the net's, but for negative ones, which may be nearer to zero where they take all that the source gives
 pub record IsCut (net : NetView) (ws : List Amount) : Type 0 where
@@ -65,5 +65,5 @@ pub record AreCut (net : NetView) (k : ℕ) (ws : List Amount) : Type 0 where
 -- the net is this one with its worths cut
 pub record IsCutNet (net cut : NetView) : Type 0 where
   pub worths : List Amount
-  pub is : cut ≡ net_with net worths
+  pub is : cut ≡ net_with_worths net worths
   pub cuts : IsCut net worths

@@ -51,15 +51,15 @@ word_of net b (GiveDue d port) = landing_word net port.kind port.other
 word_of net b (RaiseDue have best) = label_at net b
 
 -- ---- what the word becomes
-abbrev pub smaller : ℕ → ℕ → ℕ
-smaller have capacity = if nat_lt capacity have then capacity else have
+abbrev pub smaller_of : ℕ → ℕ → ℕ
+smaller_of have capacity = if nat_lt capacity have then capacity else have
 
 -- the units of a push over a port of this kind
 abbrev pub push_units : ℕ → PortKind → ℕ → ℕ
-push_units have Sink read = smaller have read
+push_units have Sink read = smaller_of have read
 push_units have Forward read = have
-push_units have Backward read = smaller have read
-push_units have Source read = smaller have read
+push_units have Backward read = smaller_of have read
+push_units have Source read = smaller_of have read
 
 abbrev pub word_after_push : PortKind → ℕ → ℕ → ℕ
 word_after_push Sink d x = x - d

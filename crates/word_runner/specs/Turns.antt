@@ -37,16 +37,16 @@ labels_after labels b (GiveDue d port) = labels
 labels_after labels b (RaiseDue have best) = slice_set labels b (best.label + 1)
 
 -- whether the word that a push raised has reached 2^63
-abbrev pub overfull : PortKind → ℕ → ℕ → Bool
-overfull Sink d x = false
-overfull Forward d x = nat_lt 9223372036854775807 (x + d)
-overfull Backward d x = false
-overfull Source d x = false
+abbrev pub is_word_overfull : PortKind → ℕ → ℕ → Bool
+is_word_overfull Sink d x = false
+is_word_overfull Forward d x = nat_lt 9223372036854775807 (x + d)
+is_word_overfull Backward d x = false
+is_word_overfull Source d x = false
 
 abbrev pub stopped_after : Operation ℕ → ℕ → Bool
 stopped_after Idle x = false
 stopped_after (Scan have place read best) x = false
-stopped_after (PushDue have best) x = overfull best.port.kind have x
+stopped_after (PushDue have best) x = is_word_overfull best.port.kind have x
 stopped_after (TakeDue d port) x = false
 stopped_after (GiveDue d port) x = false
 stopped_after (RaiseDue have best) x = false

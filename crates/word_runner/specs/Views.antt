@@ -50,7 +50,7 @@ IsMade net es vs = (j : ℕ) (v : View) → get_elem? vs j ≡ some v → IsMade
 
 -- The rule that the words keep between any two operations on them: they show the state of some run of the machine over the net, of
 -- which each seat sees what its own blocks do and made their steps.
-pub record Ruled (net : NetView) (s : State (Unit {0}) View) : Type 0 where
+pub record IsRuled (net : NetView) (s : State (Unit {0}) View) : Type 0 where
   pub events : List Event
   pub machine : law.State
   pub owner : ℕ → ℕ

@@ -4,7 +4,7 @@ ghost use Rattle.std.specs.Prelude.{◌≡◌, ◌<◌, length};
 ghost use Rattle.closure_net.specs.Ports.{ports};
 ghost use Rattle.machine_law.specs.Residual.{label_beyond};
 ghost use Rattle.machine_law.specs.Reads.{after_port as operation_after_port, after_label as operation_after_label};
-ghost use Rattle.word_runner.specs.StepWords.{after_capacity_word, after_look_word, smaller as smaller_of, push_units as units_of_push, after as after_step};
+ghost use Rattle.word_runner.specs.StepWords.{after_capacity_word, after_look_word, smaller_of, push_units as units_of_push, after as after_step};
 ghost use Rattle.word_runner.specs.Turns.{IsPlaced};
 
 use closure_net::{Net, Port, PortKind};

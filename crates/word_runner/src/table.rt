@@ -11,9 +11,9 @@ use std::alloc::Global;
 pub struct Rule;
 
 impl TableRule<(), View, Net<Scaled>> for Rule {
-    ghost use Rattle.word_runner.specs.Views.{Ruled, first_view};
+    ghost use Rattle.word_runner.specs.Views.{IsRuled, first_view};
 
-    ghost holds = { λ net. Ruled net };
+    ghost holds = { λ net. IsRuled net };
 
     ghost first = { first_view };
 }

@@ -7,7 +7,7 @@ use Rattle.machine_law.specs.States.{opening, IsQuiet}
 use Rattle.boards.specs.Runs.{SomeNextOverflows, IsReplayedTo}
 use Rattle.boards.specs.Boards.{shown_state, HasSettled}
 use Rattle.boards.specs.Ends.{IsCutOffAt}
-use Rattle.boards.specs.Audits.{AuditView, IsAudited, IsAuditFilled, AuditGoesOn, HasAuditSettled}
+use Rattle.boards.specs.Audits.{AuditView, IsAudited, IsHistoryFull, AuditGoesOn, HasAuditSettled}
 use Rattle.workers.specs.Runs.{most_steps, Settles}
 use Rattle.workers.specs.Solving.{AreBadWorkers}
 use Rattle.workers.specs.Auditing.{most_room, IsHistory, IsSomeHistory, IsAudit, IsAuditLeft, IsAuditLoss, lost_by, AuditRunFaultStands, AuditFaultStands}
@@ -66,7 +66,7 @@ module _ (first new : AuditView) (limit steps : ℕ) (e : steps ≡ most_steps l
   pub overflows : (why : AuditEnd) (events : List Event) → why ≡ NoFlow TooLarge → events ≡ new.history → SomeNextOverflows new.board.net (shown_state new.board) → AuditRunFaultStands first.board.net limit room why events
   overflows why events w h next = told (NoFlow TooLarge) why events w h (record { state = shown_state new.board; is_history = is_history; next = subst (λ (n : NetView). SomeNextOverflows n (shown_state new.board)) same next })
 
-  pub fills : (why : AuditEnd) (events : List Event) → why ≡ HistoryFull → events ≡ new.history → IsAuditFilled new steps → AuditRunFaultStands first.board.net limit room why events
+  pub fills : (why : AuditEnd) (events : List Event) → why ≡ HistoryFull → events ≡ new.history → IsHistoryFull new steps → AuditRunFaultStands first.board.net limit room why events
   fills why events w h at =
       let full : length new.history ≡ most_room room = at.full ∙ goes.room ∙ r in
       let below : new.room < most_steps limit = subst (λ (k : ℕ). new.room < k) e at.below in

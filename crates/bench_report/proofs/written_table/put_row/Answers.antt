@@ -5,7 +5,7 @@ use Rattle.std.specs.Fmt.{decimal, signed_decimal}
 use Rattle.std.proofs.lemmas.Int.{ints}
 use Rattle.csv.specs.Writing.{default_writer, row_text}
 use Rattle.fixed_worth.specs.Printed.{amount_text}
-use Rattle.bench_report.specs.Written.{row_of_fields}
+use Rattle.bench_report.specs.Written.{fields_line}
 use Rattle.bench_report.proofs.Plain.{decimal_plain, signed_plain, printed_plain}
 use Rattle.bench_report.proofs.Lines.{five_fields}
 use Rattle.bench_report.proofs.written_table.put_row.Goals as goal
@@ -26,7 +26,7 @@ returns-clause-text c =
     let height : unsigned_abs row.z < 10 ^ 64 = omega (arith, ints, z.sfits) in
     let mass : unsigned_abs row.tonnes < 10 ^ 64 = omega (arith, ints, tonnes.sfits) in
     let value : unsigned_abs row.worth < 10 ^ 64 = omega (arith, ints, worth.sfits) in
-    let line : row_text default_writer (c.as_bytes.result.now ∷ c.as_bytes-2.result.now ∷ c.as_bytes-3.result.now ∷ c.as_bytes-4.result.now ∷ c.as_bytes-5.result.now ∷ []) ≡ row_of_fields row.z row.shell row.blocks row.tonnes row.worth =
+    let line : row_text default_writer (c.as_bytes.result.now ∷ c.as_bytes-2.result.now ∷ c.as_bytes-3.result.now ∷ c.as_bytes-4.result.now ∷ c.as_bytes-5.result.now ∷ []) ≡ fields_line row.z row.shell row.blocks row.tonnes row.worth =
     rw (a, b, d, e, f) (five_fields (signed_decimal row.z) (decimal row.shell) (decimal row.blocks) (amount_text 6 row.tonnes) (amount_text 9 row.worth)
     (signed_plain row.z height) (decimal_plain row.shell (omega (arith, shell.fits))) (decimal_plain row.blocks (omega (arith, blocks.fits)))
     (printed_plain 6 row.tonnes (omega (arith, mass)) (omega arith)) (printed_plain 9 row.worth (omega (arith, value)) (omega arith))) in

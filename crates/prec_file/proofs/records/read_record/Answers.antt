@@ -1,5 +1,5 @@
 use Rattle.std.proofs.Common.{length, Some, sym, ap, ◌∙◌, arith}
-use Rattle.prec_file.specs.Records.{block_of, count_of, predecessors_of}
+use Rattle.prec_file.specs.Records.{block_of, predecessor_count_of, predecessors_of}
 use Rattle.std.proofs.lemmas.Result.{err_from_is_err_and}
 use Rattle.prec_file.proofs.Shapes.{one_read, two_read, reads_ok, reads_err, too_few, bad_second, bad_rest, unknown, sound, known, texts_length, texts}
 use Rattle.fixed_worth.proofs.FirstNumbers.{number_no_remark}
@@ -41,7 +41,7 @@ returns c =
         sound = s.1;
         block = sym (ap block_of e ∙ q.value);
         known = known c.args.n c.in-Ok.block _ no;
-        count = sym (ap count_of e ∙ k.1);
+        count = sym (ap predecessor_count_of e ∙ k.1);
         found = c.in_ok-listed.ensures.2 ∙ sym (texts_length c.next_whole-2.new.self) ∙ sym (ap (λ fs. length (predecessors_of fs)) e);
         few = omega (arith, q.fewer, c.new-fields.ensures.few, c.requires.short, c.in_ok-listed.ensures.2);
       },

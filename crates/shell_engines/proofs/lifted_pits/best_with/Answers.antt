@@ -4,7 +4,7 @@ use Rattle.std.proofs.lemmas.Int.{to_z-of_z}
 use Rattle.closure_net.specs.Network.{holds_of}
 use Rattle.closure_net.specs.Mine.{IsBest}
 use Rattle.ordered_group.specs.Sets.{worth_in}
-use Rattle.shells.specs.Prices.{blocks_of, worth_at}
+use Rattle.shells.specs.Prices.{priced_count, worth_at}
 use Rattle.shells.specs.Series.{mine_at}
 use Rattle.engines.proofs.Counted.{ascending_short}
 use Rattle.sub_mines.specs.Parts.{every_block}
@@ -15,7 +15,7 @@ use Rattle.shell_engines.proofs.lifted_pits.best_with.Goals as goal
 
 pub overflow_cast-row : goal.overflow_cast-row
 overflow_cast-row c =
-    let n = blocks_of c.args.prices.now in
+    let n = priced_count c.args.prices.now in
     let low = subst (All (λ b. b < n)) c.as_slice.ensures.value c.in_ok-worth.ensures.1 in
     let short = ascending_short c.args.blocks.items n c.in_ok-pit.ensures.1 low in
     let size = ap (λ (xs : List ℕ). length xs) c.in_ok-pit.ensures.0 in
@@ -26,7 +26,7 @@ returns c = λ pairs best.
     let prices = c.args.prices.now in
     let xs = c.args.blocks.items in
     let k = c.args.factor in
-    let low = subst (All (λ b. b < blocks_of prices)) c.as_slice.ensures.value c.in_ok-worth.ensures.1 in
+    let low = subst (All (λ b. b < priced_count prices)) c.as_slice.ensures.value c.in_ok-worth.ensures.1 in
     let fits : FitsSigned w128 c.in_ok-worth.worth = search rules in
     let worth = to_z-of_z w128 c.in_ok-worth.worth fits ∙ c.in_ok-worth.ensures.0 ∙ ap (λ (ys : List ℕ). worth_in (λ i. worth_at prices k (number_in ys i)) every_block (length ys)) c.as_slice.ensures.value in
     let count = c.len-2.ensures ∙ ap (λ (ys : List ℕ). length ys) c.in_ok-pit.ensures.0 in

@@ -2,7 +2,7 @@ use Rattle.std.proofs.Common.{◌≡◌, ℕ, List, length, get_or, Option, IfSo
 use Rattle.std.proofs.lemmas.List.{get_or_read}
 use Rattle.ordered_group.specs.Block.{scaled_block}
 use Rattle.closure_net.specs.Network.{NetView}
-use Rattle.shells.specs.Prices.{blocks_of}
+use Rattle.shells.specs.Prices.{priced_count}
 use Rattle.engines.proofs.Counted.{ascending_short}
 use Rattle.shell_engines.specs.declared.best_pits.BestPit.{BestPit}
 use Rattle.shell_engines.specs.declared.mine_parts.Halved.{Halved}
@@ -13,7 +13,7 @@ use Rattle.shell_engines.proofs.mine_parts.solved_part.Goals as goal
 pub net_among-requires-clause-size : goal.net_among-requires-clause-size
 net_among-requires-clause-size c =
     let part = c.requires.part in
-    let short = ascending_short c.args.part.now.kept.items (blocks_of c.args.mine.now.prices) part.are_kept.ascending part.are_kept.below in
+    let short = ascending_short c.args.part.now.kept.items (priced_count c.args.mine.now.prices) part.are_kept.ascending part.are_kept.below in
     let same = ap (λ (xs : List ℕ). length xs) c.as_slice-kept.ensures.value in
     omega (arith, short, same, c.args.mine.now.sizes)
 

@@ -1,7 +1,7 @@
 use Rattle.std.proofs.Common.{rules, ◌≡◌, ◌∙◌, map, ap, sym, subst}
 use Rattle.closure_net.specs.Network.{NetView, net_view}
 use Rattle.machine_law.specs.Conservation.{all_given}
-use Rattle.word_runner.specs.CutNets.{scaled_parts, AreCut, AreWithin, net_with}
+use Rattle.word_runner.specs.CutNets.{scaled_parts, AreCut, AreWithin, net_with_worths}
 use Rattle.word_runner.proofs.Cuts.{cuts_from, cut_gives, cut_within, cut_builds}
 use Rattle.word_runner.proofs.cutting.cut_net.Goals as goal
 
@@ -12,7 +12,7 @@ returns c =
     let ws = map scaled_parts c.in_ok-worths.worths.items in
     let cuts : AreCut net k ws = search rules in
     let pairs : c.in_ok-rests.rests.pairs ≡ net.pairs = search rules in
-    let is : c.in-Ok.cut ≡ net_with net ws = c.in-Ok.ensures.0 ∙ ap (λ ps. net_view ps ws) pairs in (
+    let is : c.in-Ok.cut ≡ net_with_worths net ws = c.in-Ok.ensures.0 ∙ ap (λ ps. net_view ps ws) pairs in (
       record { worths = ws; is = is; cuts = cuts_from net k ws cuts c.requires.0 },
       subst (λ (n : NetView). AreWithin n k) (sym is) (cut_within net k ws cuts),
       ap (λ (n : NetView). all_given n) is ∙ cut_gives net ws (cuts_from net k ws cuts c.requires.0) ∙ c.requires.0,

@@ -3,7 +3,7 @@ use Rattle.atomic_table.specs.Table.{opening}
 use Rattle.ordered_group.specs.Amount.{Amount, AtMost}
 use Rattle.closure_net.specs.Network.{NetView}
 use Rattle.word_runner.specs.Layout.{units, count, width}
-use Rattle.word_runner.specs.Views.{start_words, first_view, Ruled}
+use Rattle.word_runner.specs.Views.{start_words, first_view, IsRuled}
 use Rattle.word_runner.specs.CutNets.{AreGains}
 use Rattle.word_runner.proofs.Begins.{begins, widths}
 use Rattle.word_runner.proofs.Cuts.{cut_gains}
@@ -22,7 +22,7 @@ of_words-requires c =
     let gain = c.args.gain.now in
     let loss = c.in_ok-loss.loss.items in
     let words = first_words gain loss c.deref.result.now c.deref-2.result.now _ c.len-blocks.result c.pairs-pairs.result net c.deref-2.ensures.value c.in_ok-words.ensures c.deref.ensures.value c.len-blocks.ensures (c.pairs-pairs.ensures ∙ ap (λ z. length z) c.rests.ensures.pairs) in
-    subst (λ (w : List ℕ). Ruled net (opening w [] (first_view net))) (sym words) (begins net gain loss (record {
+    subst (λ (w : List ℕ). IsRuled net (opening w [] (first_view net))) (sym words) (begins net gain loss (record {
       is_net = c.worths-cut.ensures.net;
       small = subst (λ (a : Amount). AtMost a (units 9223372036854775807)) (sym g.all) (let small = g.small in units_above c.args.total 9223372036854775807 (omega (arith, small)));
       gains = g.size;

@@ -4,7 +4,7 @@ use Rattle.ordered_group.specs.Amount.{Amount}
 use Rattle.machine_law.specs.declared.operations.Operation.{Operation}
 use Rattle.async_step.specs.Views.{StateView, view_of, IsState, operation_at}
 use Rattle.async_step.specs.Scans.{after_label_by}
-use Rattle.machine_law.specs.Reads.{IsScan}
+use Rattle.machine_law.specs.Reads.{LooksAtPort}
 use Rattle.async_step.proofs.Changes.{state_works}
 use Rattle.async_step.proofs.Scanning.{scan_works, chosen_works, scan_in_place, step_in_place, becomes}
 use Rattle.async_step.proofs.state.State.choose_port.Goals as goal
@@ -24,7 +24,7 @@ invariant_of-self g c =
     let b = c.args.b in
     let step : ℕ → Operation Amount → Operation Amount = λ n o. after_label_by c.args.ports n c.args.port c.args.label o in
     let s = step_in_place f v c.args.self.now m.operation.items b c.index_mut.result.now refl c.self.view_is c.requires.block c.index_mut.ensures.value step c.index-own.result.now c.choose.new.operation c.self.invariant.sized.label c.index-own.ensures c.choose.ensures in
-    let scan : IsScan c.args.ports (operation_at v.operation b) = subst (λ (w : StateView). IsScan c.args.ports (operation_at w.operation b)) (sym c.self.view_is) c.requires.scan in
+    let scan : LooksAtPort c.args.ports (operation_at v.operation b) = subst (λ (w : StateView). LooksAtPort c.args.ports (operation_at w.operation b)) (sym c.self.view_is) c.requires.scan in
     subst (λ (xs : List (Operation Amount)). IsState (record v { operation = xs; steps = m.steps + 1 }) m.waiting m.busy) (sym s.list)
     (state_works v m.waiting m.busy c.self.invariant b (step (slice_index v.label b) (operation_at v.operation b)) (m.steps + 1) s.within (scan_works c.args.ports (operation_at v.operation b) scan)
     (chosen_works c.args.ports (slice_index v.label b) c.args.port c.args.label (operation_at v.operation b) scan))

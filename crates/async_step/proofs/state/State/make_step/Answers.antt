@@ -2,7 +2,7 @@ use Rattle.std.proofs.Common.{◌<◌, ◌+◌, ◌∙◌, ap, subst, sym, refl,
 use Rattle.ordered_group.specs.Amount.{Amount}
 use Rattle.machine_law.specs.declared.operations.Operation.{Operation}
 use Rattle.machine_law.specs.Operations.{operation_as}
-use Rattle.machine_law.specs.Steps.{becomes}
+use Rattle.machine_law.specs.Steps.{with_operation}
 use Rattle.async_step.specs.declared.limits.TheConstants.{MOST_STEPS}
 use Rattle.async_step.specs.Views.{StateView, state_of}
 use Rattle.async_step.specs.Answers.{GoesTo}
@@ -25,6 +25,6 @@ returns g c =
     let change : Change Amount = change_as f c.args.change in
     let v : StateView = c.args.self.now in
     let few : v.steps < MOST_STEPS = not_full c.is_full.result v.steps MOST_STEPS c.is_full.ensures c.if-is_full.false in
-    subst (GoesTo c.args.net.now v (after_change (becomes (state_of v) c.args.b o) c.args.b change))
+    subst (GoesTo c.args.net.now v (after_change (with_operation (state_of v) c.args.b o) c.args.b change))
     (sym (c.go_on.ensures ∙ ap (λ (w : StateView). record w { operation = set w.operation c.args.b o; steps = w.steps + 1 }) c.change.ensures))
     (goes c.args.net.now v c.requires.over c.args.b c.requires.block o few c.len-sized.ensures.sized change c.requires.can)

@@ -2,7 +2,7 @@ use Rattle.std.proofs.Common.{◌≡◌, ◌∙◌, ap, subst, sym, rules}
 use Rattle.ordered_group.specs.Amount.{Amount, plus, minus, negative, FitsPair}
 use Rattle.ordered_group.specs.Sums.{amount_at}
 use Rattle.async_step.specs.Views.{state_of}
-use Rattle.async_step.proofs.Becoming.{put_here, room_here, too_large}
+use Rattle.async_step.proofs.Becoming.{fits_value, room_here, too_large}
 use Rattle.async_step.proofs.state.State.move_to_sink.Goals as goal
 
 pub returns-in_err-_room : goal.returns-in_err-_room
@@ -23,4 +23,4 @@ returns-in_err-more g c =
     let d = g.G.OrderedGroup.parts_of c.args.amount in
     let f = (state_of c.args.self.now).sink in
     let large = rw c.in_err-more.ensures.ok_part at c.try_add.ensures in
-    too_large _ _ _ _ c.from_residual.result (search rules) (λ h. large (subst (λ (a : Amount). FitsPair (plus a d)) (sym c.sink.ensures) (put_here f c.args.block (plus (f c.args.block) d) (h.sink c.args.block))))
+    too_large _ _ _ _ c.from_residual.result (search rules) (λ h. large (subst (λ (a : Amount). FitsPair (plus a d)) (sym c.sink.ensures) (fits_value f c.args.block (plus (f c.args.block) d) (h.sink c.args.block))))

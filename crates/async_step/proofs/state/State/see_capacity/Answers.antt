@@ -5,7 +5,7 @@ use Rattle.ordered_group.specs.Amount.{Amount, zero_amount, is_zero}
 use Rattle.ordered_group.specs.Sums.{amount_at}
 use Rattle.machine_law.specs.declared.operations.Operation.{Operation}
 use Rattle.machine_law.specs.Operations.{is_idle}
-use Rattle.machine_law.specs.Reads.{is_positive, IsScan}
+use Rattle.machine_law.specs.Reads.{is_positive, LooksAtPort}
 use Rattle.async_step.specs.Views.{StateView, view_of, IsState, operation_at, is_waiting, is_busy}
 use Rattle.async_step.specs.Scans.{after_capacity_by}
 use Rattle.async_step.proofs.Changes.{state_operation, state_works}
@@ -46,7 +46,7 @@ invariant_of-self-else-is_idle g c =
     let step : ℕ → Operation Amount → Operation Amount = λ n o. after_capacity_by c.args.ports n (f c.args.capacity) o in
     let s = step_in_place f v c.args.self.now m.operation.items b c.index_mut.result.now refl c.self.view_is c.requires.block c.index_mut.ensures.value step c.index-label.result.now c.see.new.operation c.self.invariant.sized.label c.index-label.ensures c.see.ensures in
     let o : Operation Amount = step (slice_index v.label b) (operation_at v.operation b) in
-    let scan : IsScan c.args.ports (operation_at v.operation b) = subst (λ (w : StateView). IsScan c.args.ports (operation_at w.operation b)) (sym c.self.view_is) c.requires.scan in
+    let scan : LooksAtPort c.args.ports (operation_at v.operation b) = subst (λ (w : StateView). LooksAtPort c.args.ports (operation_at w.operation b)) (sym c.self.view_is) c.requires.scan in
     subst (λ (xs : List (Operation Amount)). IsState (record v { operation = xs; steps = m.steps + 1 }) m.waiting m.busy) (sym s.list)
     (state_works v m.waiting m.busy c.self.invariant b o (m.steps + 1) s.within (scan_works c.args.ports (operation_at v.operation b) scan)
     (sym (idle_now f v m.operation.items b c.see.new.operation c.index.result.now o c.is_idle.result s c.index.ensures c.is_idle.ensures) ∙ c.if-is_idle.false))

@@ -2,7 +2,7 @@ use Rattle.std.proofs.Common.{◌≡◌, ◌≤◌, List, true, ap, sym, subst, 
 use Rattle.std.specs.Prelude.{vec_capacity}
 use Rattle.machine_law.specs.declared.events.Event.{Event}
 use Rattle.boards.specs.Turns.{IsTurn}
-use Rattle.boards.specs.Records.{RecordView, record_view, IsRecordBoard, written_by, events_after, Writes}
+use Rattle.boards.specs.Records.{RecordView, record_view, RecordsTurns, written_by, events_after, Writes}
 use Rattle.boards.proofs.Ends.{turn_of_step}
 use Rattle.boards.proofs.Records.{room_due, written_is, recorded}
 use Rattle.boards.proofs.recorded_board.Recorded.turn.Goals as goal
@@ -23,7 +23,7 @@ invariant_of-self g c =
     let events : c.write_down.new.events.items ≡ events_after old c.serve-turn.result =
     c.write_down.ensures.events ∙ ap (λ e. written_by m.records m.events.items e c.serve-turn.result) c.next_event-event.ensures ∙ written_is old c.in-Ok.block c.serve-turn.new.self c.serve-turn.result c.serve-turn.ensures.turn in
     let new : RecordView = record_view c.serve-turn.new.self c.write_down.new.events.items m.records m.room in
-    subst (λ k. IsRecordBoard new k) (sym c.write_down.ensures.room)
+    subst (λ k. RecordsTurns new k) (sym c.write_down.ensures.room)
     (recorded old new c.args.own c.args.from c.args.steps c.serve-turn.result (vec_capacity m.events) c.self.invariant c.serve-turn.ensures.board turn
     (ap (λ (xs : List Event). record_view c.serve-turn.new.self xs m.records m.room) events))
 
