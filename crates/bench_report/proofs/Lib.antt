@@ -3,4 +3,3 @@ pub mod Plain
 pub mod Sums
 pub mod Tables
 pub mod Tallies
-pub mod Unique

@@ -13,7 +13,7 @@ use Rattle.bench_report.specs.declared.bench_row.BenchRow.{BenchRow}
 use Rattle.bench_report.specs.declared.report_fault.ReportFault.{ReportFault}
 use Rattle.bench_report.specs.declared.report_fault.ReportFault.TheVariants.{WrongModel, TooLarge, NoMemory}
 use Rattle.bench_report.specs.Benches.{ReportedBlocks, blocks_at, by_bench}
-use Rattle.bench_report.specs.FaultStands.{BenchSumsFit, SomeBenchSumOverflows}
+use Rattle.bench_report.specs.Faults.{BenchSumsFit, SomeBenchSumOverflows}
 use Rattle.bench_report.specs.GrowingRows.{row_below, no_blocks, with_block, row_at, if_some, RowTakesBlock, AddFaultStands, IsTallied, TallyFaultStands}
 use Rattle.bench_report.proofs.Sums.{plus-none, worth_of_none}
 use Rattle.std.proofs.lemmas.Grind.{common_steps}

@@ -6,7 +6,7 @@ use Rattle.bench_report.specs.declared.bench_row.BenchRow.{BenchRow}
 use Rattle.bench_report.specs.declared.report_fault.ReportFault.{ReportFault}
 use Rattle.bench_report.specs.declared.report_fault.ReportFault.TheVariants.{WrongModel, TooLarge, NoMemory}
 use Rattle.bench_report.specs.Benches.{ReportedBlocks, blocks_at}
-use Rattle.bench_report.specs.FaultStands.{BenchSumsFit, SomeBenchSumOverflows}
+use Rattle.bench_report.specs.Faults.{BenchSumsFit, SomeBenchSumOverflows}
 
 -- the row of a bench and a shell, of the blocks below n
 abbrev pub row_below : ReportedBlocks → ℤ → ℕ → ℕ → BenchRow

@@ -3,7 +3,6 @@ pub mod Benches
 pub mod Written
 pub mod BlockShells
 -- when there is no table, and how that prints
-pub mod FaultStands
-pub mod FaultText
+pub mod Faults
 -- for this crate alone: rows as they grow
 pub mod GrowingRows

@@ -5,7 +5,7 @@ ghost use Rattle.std.specs.Prelude.{◌≡◌, ◌<◌, ◌↔◌, [], pos, leng
 ghost use Rattle.std.specs.BTreeMap.{get, values, IsOrdered};
 ghost use Rattle.blocks_file.specs.Denotes.{origin};
 ghost use Rattle.bench_report.specs.Benches.{reported_blocks, by_bench, IsBenchTable};
-ghost use Rattle.bench_report.specs.FaultStands.{SameLengths, AllSumsFit, ReportFaultStands};
+ghost use Rattle.bench_report.specs.Faults.{SameLengths, AllSumsFit, ReportFaultStands};
 ghost use Rattle.bench_report.specs.GrowingRows.{IsTallied, TallyFaultStands};
 
 use crate::bench_row::BenchRow;

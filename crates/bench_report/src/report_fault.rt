@@ -2,7 +2,7 @@
 //! memory; and how each is printed.
 
 ghost use Rattle.std.specs.Prelude.{Some};
-ghost use Rattle.bench_report.specs.FaultText.{report_fault_text};
+ghost use Rattle.bench_report.specs.Faults.{report_fault_text};
 
 use std::alloc::AllocError;
 use std::error::Error;

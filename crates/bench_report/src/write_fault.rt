@@ -1,7 +1,7 @@
 //! Why a bench table isn't written whole, and how each fault is printed.
 
 ghost use Rattle.std.specs.Prelude.{Some};
-ghost use Rattle.bench_report.specs.FaultText.{report_write_fault_text};
+ghost use Rattle.bench_report.specs.Faults.{report_write_fault_text};
 
 use std::alloc::AllocError;
 use std::error::Error;

@@ -1,5 +1,5 @@
 -- Reading the records line after line.
-use Rattle.std.proofs.Common.{◌≡◌, ℕ, ℤ, pos, ◌+◌, ◌*◌, ◌<◌, ◌≤◌, ◌≢◌, Bool, true, false, cond, eqb, List, [], ◌∷◌, ◌++◌, length, get_or, set, replicate, Option, Some, None, refl, sym, ap, ◌∙◌, arith, append-nil, true≢false}
+use Rattle.std.proofs.Common.{◌≡◌, ℕ, ℤ, pos, ◌+◌, ◌*◌, ◌<◌, ◌≤◌, ◌≢◌, Bool, true, false, cond, eqb, List, [], ◌∷◌, ◌++◌, length, get_or, set, replicate, Option, Some, None, refl, sym, ap, ◌∙◌, arith, append-nil, true≢false, zero, suc}
 use Rattle.std.specs.Prelude.{◌||◌, nat_le}
 use Rattle.std.specs.Option.{option_or}
 use Rattle.std.proofs.lemmas.Bool.{or_parts}
@@ -19,10 +19,37 @@ use Rattle.blocks_file.specs.Denotes.{origin}
 use Rattle.blocks_file.specs.RowReading.{HoldsValues, ArePut, AreKept}
 use Rattle.fixed_worth.proofs.NextLine.{line, Next, next_is}
 use Rattle.blocks_file.proofs.Counts.{moved, still_long, push_skipped, push_record, longer}
-use Rattle.blocks_file.proofs.Marks.{marked, marked-replicate, marked-set, all_marked}
 use Rattle.blocks_file.proofs.Slots.{blocks_apart}
 use Rattle.blocks_file.proofs.Rows.{value_small}
 use Rattle.std.proofs.lemmas.Grind.{common_steps}
+
+abbrev pub marked : List Bool → ℕ
+marked [] = 0
+marked (true ∷ bs) = marked bs + 1
+marked (false ∷ bs) = marked bs
+
+pub marked-replicate : (n : ℕ) → marked (replicate n false) ≡ 0
+marked-replicate zero = refl
+marked-replicate (suc n) = marked-replicate n
+
+pub marked-set : (bs : List Bool) (b : ℕ) → b < length bs → get_or bs b false ≡ false → marked (set bs b true) ≡ marked bs + 1
+marked-set [] b h e = absurd (omega arith)
+marked-set (true ∷ bs) zero h e = absurd (true≢false e)
+marked-set (false ∷ bs) zero h e = refl
+marked-set (true ∷ bs) (suc b) h e = ap (λ (n : ℕ). n + 1) (marked-set bs b (omega arith) e)
+marked-set (false ∷ bs) (suc b) h e = marked-set bs b (omega arith) e
+
+marked_most : (bs : List Bool) → marked bs ≤ length bs
+marked_most [] = omega arith
+marked_most (true ∷ bs) = omega (arith, marked_most bs)
+marked_most (false ∷ bs) = omega (arith, marked_most bs)
+
+-- As many marks as blocks leave none without.
+pub all_marked : (bs : List Bool) (b : ℕ) → marked bs ≡ length bs → b < length bs → get_or bs b false ≡ true
+all_marked [] b e h = absurd (omega arith)
+all_marked (true ∷ bs) zero e h = refl
+all_marked (true ∷ bs) (suc b) e h = all_marked bs b (omega arith) (omega arith)
+all_marked (false ∷ bs) b e h = absurd (omega (arith, marked_most bs, e))
 
 -- What has been read, and what is left.
 pub record ReadSoFar (n : ℕ) (chosen : List ℕ) (all : List Line) (seen : List Bool) (places : List Place) (values : List ℤ) (left : Left) : Type 0 where

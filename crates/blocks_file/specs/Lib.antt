@@ -1,4 +1,3 @@
 pub mod Records
 pub mod Denotes
-pub mod FaultText
 pub mod RowReading

@@ -1,5 +1,5 @@
 -- What a text of blocks says, over its list of lines.
-use Rattle.std.specs.Prelude.{ℕ, ℤ, pos, negsuc, ◌^◌, ◌==◌, ◌||◌, ◌&&◌, Bool, not, cond, List, [], ◌∷◌, ◌++◌, length, nat_lt, nat_le, int_lt, Option, Some, None, is_some, unwrap_or, Result, Ok, Err, slice_index_or}
+use Rattle.std.specs.Prelude.{ℕ, ℤ, pos, negsuc, ◌^◌, ◌==◌, ◌||◌, ◌&&◌, Bool, not, cond, List, [], ◌∷◌, ◌++◌, length, nat_lt, nat_le, int_lt, Option, Some, None, is_some, unwrap_or, Result, Ok, Err, slice_index_or, codes}
 use Rattle.std.specs.Option.{option_or}
 use Rattle.std.specs.List.{list_all, list_any, flat_map}
 use Rattle.fixed_worth.specs.declared.limits.TheConstants.{MOST_BLOCKS, LINE_BYTES}
@@ -7,11 +7,11 @@ use Rattle.fixed_worth.specs.declared.numerals.NumberFault.{NumberFault}
 use Rattle.fixed_worth.specs.Numeral.{signed_of}
 pub use Rattle.fixed_worth.specs.Decimal.{value_read}
 use Rattle.fixed_worth.specs.Text.{fields_of}
-use Rattle.fixed_worth.specs.Record.{Line, reads, is_skipped}
-pub use Rattle.fixed_worth.specs.Record.{lines_in, number_of}
+pub use Rattle.fixed_worth.specs.Record.{Line, reads, is_skipped, lines_in, number_of, block_of, is_record_of}
 use Rattle.blocks_file.specs.declared.place.Place.{Place}
 use Rattle.blocks_file.specs.declared.blocks_fault.BlocksFault.{BlocksFault}
 use Rattle.blocks_file.specs.declared.blocks_fault.BlocksFault.TheVariants.{Text, Number, NoColumn, UnknownBlock, Repeated, TooMany, NoMemory}
+pub use Rattle.fixed_worth.specs.FaultText.{at_line}
 
 -- A whole number of 32 bits; -(2 ^ 31) - 1 and 2 ^ 31 are the nearest that are none.
 abbrev pub in_range : Result ℤ NumberFault → Option ℤ
@@ -21,11 +21,6 @@ in_range (Err e) = None
 -- The coordinate that a field is.
 abbrev pub coordinate_read : List ℕ → Option ℤ
 coordinate_read field = in_range (signed_of field)
-
--- A record's first field is its block.
-abbrev pub block_of : List (List ℕ) → ℕ
-block_of [] = 0
-block_of (block ∷ fields) = number_of block
 
 -- The place that three fields are; a coordinate is 0 where its field is none.
 abbrev pub place_at : List ℕ → List ℕ → List ℕ → Place
@@ -73,10 +68,6 @@ block_fault n had line block = cond (nat_le n block) (Some (UnknownBlock line)) 
 abbrev pub record_fault : ℕ → List ℕ → (ℕ → Bool) → ℕ → List (List ℕ) → Option BlocksFault
 record_fault n chosen had line fields = cond (is_skipped fields) None (option_or (shape_fault line chosen fields) (block_fault n had line (block_of fields)))
 
--- The line is a record of block b.
-abbrev pub is_record_of : ℕ → List (List ℕ) → Bool
-is_record_of b fields = not (is_skipped fields) && (block_of fields == b)
-
 -- A record of block b is among the lines.
 abbrev pub has_record : List Line → ℕ → Bool
 has_record lines b = list_any (λ l. is_record_of b (fields_of l.text)) lines
@@ -100,13 +91,11 @@ long_fault (l ∷ lines) = cond (nat_lt LINE_BYTES (length l.text)) (Some (Text 
 abbrev pub record_line_numbers : List Line → List ℕ
 record_line_numbers lines = flat_map (λ l. cond (is_skipped (fields_of l.text)) [] (l.number ∷ [])) lines
 
--- The fault of the record after so many, if there is one.
-abbrev pub extra_fault : ℕ → List ℕ → Option BlocksFault
-extra_fault most records = cond (nat_lt most (length records)) (Some (TooMany (slice_index_or records most 0))) None
-
--- More than 2^24 records are too many.
+-- More than 2^24 records are too many: the first after so many is the fault.
 abbrev pub many_fault : List Line → Option BlocksFault
-many_fault lines = extra_fault MOST_BLOCKS (record_line_numbers lines)
+many_fault lines =
+    let records = record_line_numbers lines in
+    cond (nat_lt MOST_BLOCKS (length records)) (Some (TooMany (slice_index_or records MOST_BLOCKS 0))) None
 
 -- The faults that come before all that is wrong with single records.
 abbrev pub early_fault : List Line → Option BlocksFault
@@ -124,3 +113,13 @@ fault_of chosen text = option_or (early_fault (lines_in text)) (first_fault (rec
 abbrev pub UnlessMemory : BlocksFault → Type 0 → Type 0
 UnlessMemory NoMemory claim = Unit {0}
 UnlessMemory _ claim = claim
+
+-- The fault's name, with its line number in parentheses where it has one.
+abbrev pub blocks_fault_text : BlocksFault → List ℕ
+blocks_fault_text (Text line) = at_line (codes "Text") line
+blocks_fault_text (Number line) = at_line (codes "Number") line
+blocks_fault_text (NoColumn line) = at_line (codes "NoColumn") line
+blocks_fault_text (UnknownBlock line) = at_line (codes "UnknownBlock") line
+blocks_fault_text (Repeated line) = at_line (codes "Repeated") line
+blocks_fault_text (TooMany line) = at_line (codes "TooMany") line
+blocks_fault_text NoMemory = codes "NoMemory"

@@ -26,7 +26,7 @@ pub enum BlocksFault {
 
 impl fmt::Display for BlocksFault {
     ghost use Rattle.std.specs.Prelude.{Some};
-    ghost use Rattle.blocks_file.specs.FaultText.{blocks_fault_text};
+    ghost use Rattle.blocks_file.specs.Records.{blocks_fault_text};
 
     ghost output = { λ fault. Some (blocks_fault_text fault) };
 

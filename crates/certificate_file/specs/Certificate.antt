@@ -1,5 +1,5 @@
 -- What a certificate's text says, and what is wrong with it.
-use Rattle.std.specs.Prelude.{◌≡◌, ℕ, ◌<◌, ◌==◌, ◌&&◌, Bool, true, false, cond, List, [], ◌∷◌, length, drop, slice_index_or, All, Option, Some, None, Result, Ok, Err}
+use Rattle.std.specs.Prelude.{◌≡◌, ℕ, ◌<◌, ◌==◌, ◌&&◌, Bool, true, false, cond, List, [], ◌∷◌, length, drop, slice_index_or, All, Option, Some, None, Result, Ok, Err, codes}
 use Rattle.ordered_group.specs.declared.groups.Group.{Group}
 use Rattle.ordered_group.specs.Amount.{Amount, zero_amount}
 use Rattle.ordered_group.specs.Sums.{amount_at}
@@ -9,7 +9,7 @@ use Rattle.certificate_file.specs.declared.header.Header.{Header}
 use Rattle.certificate_file.specs.declared.header.Wanted.{Wanted}
 use Rattle.certificate_file.specs.declared.header.Price.{Price}
 use Rattle.certificate_file.specs.declared.cert_fault.CertFault.{CertFault}
-use Rattle.certificate_file.specs.declared.cert_fault.CertFault.TheVariants.{NoMemory}
+use Rattle.certificate_file.specs.declared.cert_fault.CertFault.TheVariants.{NoMemory, Text, Number, OutOfOrder, UnknownPair, Truncated}
 use Rattle.certificate_file.specs.declared.body_lines.LineKind.{LineKind}
 use Rattle.certificate_file.specs.declared.body_lines.LineKind.TheVariants.{Pit, Source, Rest, Sink, End}
 use Rattle.certificate_file.specs.declared.body_lines.BodyLine.{BodyLine}
@@ -17,6 +17,7 @@ use Rattle.certificate_file.specs.Pieces.{Piece, pieces_of}
 use Rattle.certificate_file.specs.Header.{header_for}
 use Rattle.certificate_file.specs.BodyLines.{body_fault, lines_of_pieces}
 use Rattle.certificate_file.specs.Written.{header_with, text_of}
+use Rattle.fixed_worth.specs.FaultText.{at_line}
 
 -- the lines behind the header
 abbrev pub body_of : List ℕ → List Piece
@@ -124,3 +125,12 @@ pub record IsRead (counts : Bool) (name : Group) (n : ℕ) (pairs : List (ℕ ×
 abbrev pub UnlessMemory : CertFault → Type 0 → Type 0
 UnlessMemory NoMemory P = Unit {0}
 UnlessMemory _ P = P
+
+-- of a text that is no certificate: the fault's name, and the line's number in parentheses where there is one
+abbrev pub fault_text : CertFault → List ℕ
+fault_text (Text k) = at_line (codes "Text") k
+fault_text (Number k) = at_line (codes "Number") k
+fault_text (OutOfOrder k) = at_line (codes "OutOfOrder") k
+fault_text (UnknownPair k) = at_line (codes "UnknownPair") k
+fault_text Truncated = codes "Truncated"
+fault_text NoMemory = codes "NoMemory"

@@ -2,11 +2,9 @@
 pub mod Pieces
 pub mod Header
 pub mod BodyLines
--- the text of a certificate, and what it says
+-- the text of a certificate, what it says, and how faults print
 pub mod Written
 pub mod Certificate
 pub mod ReadBack
--- how faults print
-pub mod FaultText
 -- for this crate alone: a pit and a flow while their lines are read
 pub mod Gathered

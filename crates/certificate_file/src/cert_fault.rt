@@ -21,7 +21,7 @@ pub enum CertFault {
 
 impl fmt::Display for CertFault {
     ghost use Rattle.std.specs.Prelude.{Some};
-    ghost use Rattle.certificate_file.specs.FaultText.{fault_text};
+    ghost use Rattle.certificate_file.specs.Certificate.{fault_text};
 
     ghost output = { λ fault. Some (fault_text fault) };
 

@@ -1,7 +1,7 @@
 -- How faults are printed.
 use Rattle.std.specs.Prelude.{ℕ, List, ◌++◌, codes, decimal}
 pub use Rattle.fixed_worth.specs.FaultText.{at_line}
-use Rattle.certificate_file.specs.FaultText.{fault_text}
+use Rattle.certificate_file.specs.Certificate.{fault_text}
 use Rattle.check_pit.specs.declared.pit_fault.PitFault.{PitFault}
 use Rattle.check_pit.specs.declared.pit_fault.PitFault.TheVariants.{WrongSize, NotClosed, Negative, OverCapacity, Unbalanced, NotTight, TooLarge}
 use Rattle.check_pit.specs.declared.stream_fault.StreamFault.{StreamFault}

@@ -7,7 +7,7 @@ use Rattle.std.proofs.lemmas.Bool.{cases_eq, cases_lt, cases_Bool}
 use Rattle.std.proofs.lemmas.List.Sorted.{searched}
 use Rattle.prec_file.proofs.Parts.{length-part, get_or-part}
 use Rattle.closure_net.specs.Network.{IsAscending, holds_of}
-use Rattle.closure_net.specs.Places.{StandsFrom, StandsBelow}
+use Rattle.closure_net.specs.Searches.{StandsFrom, StandsBelow}
 use Rattle.closure_net.proofs.Holding.{holds_at, place_of}
 use Rattle.std.proofs.lemmas.Grind.{common_steps}
 

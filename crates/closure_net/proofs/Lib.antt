@@ -1,10 +1,7 @@
 pub mod Holding
 pub mod Places
 pub mod Ascending
-pub mod SameLists
 pub mod Views
-pub mod Nets
-pub mod Finds
 pub mod Marks
 pub mod Spreads
 pub mod Reach

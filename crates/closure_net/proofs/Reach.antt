@@ -1,15 +1,25 @@
 -- A search that has passed over all that it found has reached the least set.
-use Rattle.std.proofs.Common.{◌≡◌, ℕ, ◌+◌, ◌<◌, ◌≤◌, ◌==◌, nat_lt, Bool, true, inl, inr, List, length, get_or, sym, ap, subst, ◌∙◌, arith, All}
-use Rattle.std.proofs.lemmas.Bool.{cases_eq, eq-eqb, eqb-true, ltb-true}
-use Rattle.std.proofs.lemmas.List.{get_or-map, get_or_default, length-map}
+use Rattle.std.proofs.Common.{◌≡◌, ℕ, ◌+◌, ◌<◌, ◌≤◌, ◌==◌, nat_lt, Bool, true, inl, inr, List, length, get_or, sym, ap, subst, ◌∙◌, arith, All, length-append}
+use Rattle.std.proofs.lemmas.Bool.{cases_eq, eq-eqb, eqb-true, ltb-true, or_left}
+use Rattle.std.proofs.lemmas.List.{get_or-map, get_or_default, length-map, get_or_append_left}
 use Rattle.prec_file.specs.Rests.{from_at, to_at, numbers_passing, numbers, above_of, below_of, IsKnown}
 use Rattle.prec_file.proofs.Passing.{passing_at, passing_here, passing_after, passing_grows}
 use Rattle.closure_net.specs.Reached.{HasSourceResidual, Carries, Reaches, IsReached}
 use Rattle.closure_net.specs.Network.{NetView, FlowView, holds_of, IsAscending}
-use Rattle.closure_net.specs.Searches.{PassedPlaces, Always, above_at, sender_at, SendsAt}
-use Rattle.closure_net.proofs.Finds.{holds_grows, get_grows, length_grows}
+use Rattle.closure_net.specs.Searches.{PassedPlaces, Always, above_at, sender_at, SendsAt, Extends}
 use Rattle.closure_net.proofs.Holding.{holds_at, place_of}
 use Rattle.std.proofs.lemmas.Grind.{common_steps}
+use Rattle.std.proofs.lemmas.List.Folds.{list_any-append}
+
+-- a list that becomes longer keeps what it holds, and where
+pub holds_grows : (old new : List ℕ) (x : ℕ) → Extends old new → holds_of old x ≡ true → holds_of new x ≡ true
+holds_grows old new x e h = ap (λ xs. holds_of xs x) e.is ∙ list_any-append (λ y. y == x) old e.more ∙ or_left _ _ h
+
+pub get_grows : (old new : List ℕ) (i : ℕ) → Extends old new → i < length old → get_or new i 0 ≡ get_or old i 0
+get_grows old new i e h = ap (λ xs. get_or xs i 0) e.is ∙ get_or_append_left old e.more 0 i h
+
+pub length_grows : (old new : List ℕ) → Extends old new → length old ≤ length new
+length_grows old new e = omega (arith, ap length e.is, length-append old e.more)
 
 -- the blocks before place h were looked at: what is beside them is found, and nothing that a set of this kind could lack
 pub record Searched (net : NetView) (flow : FlowView) (found : List ℕ) (h : ℕ) : Type 0 where

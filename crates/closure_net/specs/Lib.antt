@@ -8,8 +8,6 @@ pub mod Ports
 -- what the source reaches by a flow, and the search for it
 pub mod Reached
 pub mod Searches
-pub mod Places
 pub mod Carrying
 -- when there is no net, and how that prints
-pub mod FaultStands
-pub mod FaultText
+pub mod Faults

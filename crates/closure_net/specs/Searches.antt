@@ -55,3 +55,11 @@ sender_at ps b j = from_at ps (slice_index (below_of ps b) j)
 -- that pair carries something
 abbrev pub SendsAt : List (ℕ × ℕ) → List Amount → ℕ → ℕ → Type 0
 SendsAt ps fs b j = Carries fs (slice_index (below_of ps b) j)
+
+-- wherever b stands, it is at this place or behind it
+abbrev pub StandsFrom : List ℕ → ℕ → ℕ → Type 0
+StandsFrom xs b from = (i : ℕ) → i < length xs → slice_index xs i ≡ b → from ≤ i
+
+-- wherever b stands from a place on, it is before another
+abbrev pub StandsBelow : List ℕ → ℕ → ℕ → ℕ → Type 0
+StandsBelow xs b from to = (i : ℕ) → i < length xs → from ≤ i → slice_index xs i ≡ b → i < to

@@ -5,7 +5,7 @@ ghost use Rattle.std.specs.Prelude.{◌≡◌, ◌<◌, length, map, MatchResult
 ghost use Rattle.ordered_group.specs.Amount.{positive, negative};
 ghost use Rattle.ordered_group.specs.Sums.{amount_at};
 ghost use Rattle.closure_net.specs.Network.{net_view, IsNet, IsNetParts};
-ghost use Rattle.closure_net.specs.FaultStands.{WorthsFaultStands};
+ghost use Rattle.closure_net.specs.Faults.{WorthsFaultStands};
 
 use crate::net::NetFault;
 use crate::worths::{opposite_part, worths_of_blocks};

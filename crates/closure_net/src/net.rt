@@ -5,8 +5,7 @@ ghost use Rattle.std.specs.Prelude.{◌≡◌, ◌↔◌, ◌<◌, IsTrue, Some,
 ghost use Rattle.ordered_group.specs.Amount.{positive, negative};
 ghost use Rattle.ordered_group.specs.Sums.{amount_at};
 ghost use Rattle.closure_net.specs.Network.{net_view, IsNet};
-ghost use Rattle.closure_net.specs.FaultStands.{NetFaultStands, WorthsFaultStands};
-ghost use Rattle.closure_net.specs.FaultText.{net_fault_text};
+ghost use Rattle.closure_net.specs.Faults.{NetFaultStands, WorthsFaultStands, net_fault_text};
 
 use crate::equality::{same_amounts, same_pairs};
 use crate::graph::GraphRef;

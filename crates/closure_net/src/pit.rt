@@ -3,7 +3,7 @@
 
 ghost use Rattle.std.specs.Prelude.{◌≡◌, ◌↔◌, ℕ, ◌<◌, ◌≤◌, ◌+◌, ◌-◌, ◌^◌, false, IsTrue, List, length, slice_index, MatchBool, MatchOption};
 ghost use Rattle.closure_net.specs.Network.{IsAscending, holds_of};
-ghost use Rattle.closure_net.specs.Places.{StandsFrom, StandsBelow};
+ghost use Rattle.closure_net.specs.Searches.{StandsFrom, StandsBelow};
 
 use std::marker::Model;
 

@@ -4,7 +4,7 @@
 ghost use Rattle.std.specs.Prelude.{◌≡◌, ◌<◌, length, map, MatchBool, MatchResult};
 ghost use Rattle.ordered_group.specs.Amount.{negative};
 ghost use Rattle.ordered_group.specs.Sums.{amount_at};
-ghost use Rattle.closure_net.specs.FaultStands.{OppositesFit, OppositeOverflows, PositivesFit, PositivesOverflow, WorthsFit, WorthsOverflow, WorthsFaultStands};
+ghost use Rattle.closure_net.specs.Faults.{OppositesFit, OppositeOverflows, PositivesFit, PositivesOverflow, WorthsFit, WorthsOverflow, WorthsFaultStands};
 
 use crate::net::NetFault;
 use ordered_group::{OrderedGroup, negative_part, positive_part};

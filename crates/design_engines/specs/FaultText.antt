@@ -1,6 +1,6 @@
 -- The line of what is wrong with a design.
 use Rattle.std.specs.Prelude.{ℕ, List, [], ◌∷◌, ◌++◌, codes}
-use Rattle.design_file.specs.FaultText.{design_fault_text}
+use Rattle.design_file.specs.Records.{design_fault_text}
 use Rattle.design_engines.specs.declared.value_fault.DesignProblem.{DesignProblem}
 use Rattle.design_engines.specs.declared.value_fault.DesignProblem.TheVariants as problem
 

@@ -4,7 +4,7 @@ ghost use Rattle.std.specs.Prelude.{◌≡◌, ◌+◌, ◌-◌, ◌^◌, ◌<�
 ghost use Rattle.std.specs.Io.KnownBytes.{Appends};
 ghost use Rattle.fixed_worth.specs.Device.{ReceivedPrefix};
 ghost use Rattle.fixed_worth.specs.FaultText.{at_line};
-ghost use Rattle.design_file.specs.FaultText.{design_fault_text};
+ghost use Rattle.design_file.specs.Records.{design_fault_text};
 ghost use Rattle.design_engines.specs.FaultText.{design_problem_text, design_problem_words, design_problem_line};
 
 use crate::value_fault::DesignProblem;

@@ -1,5 +1,5 @@
 -- Reading line after line.
-use Rattle.std.proofs.Common.{◌≡◌, ℕ, ◌+◌, ◌<◌, ◌≤◌, Bool, false, List, [], ◌∷◌, ◌++◌, length, get_or, Some, None, refl, subst, arith, append_assoc, append-nil}
+use Rattle.std.proofs.Common.{◌≡◌, ℕ, ◌+◌, ◌<◌, ◌≤◌, Bool, false, List, [], ◌∷◌, ◌++◌, length, get_or, Some, None, refl, subst, arith, append_assoc, append-nil, true, cond, Option, sym, ap, ◌∙◌}
 use Rattle.std.specs.Option.{option_or}
 use Rattle.std.proofs.lemmas.List.Concat.{flat_map-append}
 use Rattle.fixed_worth.specs.Text.{Left, fields_of}
@@ -7,9 +7,24 @@ use Rattle.fixed_worth.specs.declared.limits.TheConstants.{LINE_BYTES}
 use Rattle.fixed_worth.specs.Record.{Line, numbered_lines, lines_in}
 use Rattle.design_file.specs.declared.design_fault.DesignFault.{DesignFault}
 use Rattle.design_file.specs.declared.design_fault.DesignFault.TheVariants.{Text, Number, UnknownBlock, Repeated, NoMemory}
-use Rattle.design_file.specs.Records.{record_fault, line_fault, blocks_of, has, first_fault, fault_of, marks_after, UnlessMemory}
-use Rattle.design_file.proofs.Marks.{mark}
+use Rattle.design_file.specs.Records.{record_fault, line_fault, blocks_of, has, first_fault, fault_of, marks_after, UnlessMemory, is_passed, block_word, named_fault, block_in, blocks_of_fields, set_in}
 use Rattle.std.proofs.lemmas.Grind.{common_steps}
+
+-- ---- marks
+
+mark_word : (n : ℕ) (g : ℕ → Bool) (line : ℕ) (marks : List Bool) (bs : List ℕ) (o : Option (List ℕ)) → length marks ≡ n → named_fault n g line o ≡ None → ((k : ℕ) → k < n → get_or marks k false ≡ has bs k)
+    → (k : ℕ) → k < n → get_or (set_in marks o) k false ≡ has (bs ++ block_in o) k
+mark_word n g line marks bs None e w h k j = cc
+mark_word n g line marks bs (Some word) e w h k j = grind (arith, common_steps)
+
+mark_by : (s : Bool) (n : ℕ) (g : ℕ → Bool) (line : ℕ) (marks : List Bool) (bs : List ℕ) (o : Option (List ℕ)) → length marks ≡ n → cond s None (named_fault n g line o) ≡ None → ((k : ℕ) → k < n → get_or marks k false ≡ has bs k)
+    → (k : ℕ) → k < n → get_or (cond s marks (set_in marks o)) k false ≡ has (bs ++ cond s [] (block_in o)) k
+mark_by true n g line marks bs o e w h k j = h k j ∙ ap (λ (xs : List ℕ). has xs k) (sym (append-nil bs))
+mark_by false n g line marks bs o e w h k j = mark_word n g line marks bs o e w h k j
+
+pub mark : (n : ℕ) (g : ℕ → Bool) (line : ℕ) (marks : List Bool) (bs : List ℕ) (fs : List (List ℕ)) → length marks ≡ n → record_fault n g line fs ≡ None → ((k : ℕ) → k < n → get_or marks k false ≡ has bs k)
+    → (k : ℕ) → k < n → get_or (marks_after fs marks) k false ≡ has (bs ++ blocks_of_fields fs) k
+mark n g line marks bs fs e w h k j = mark_by (is_passed fs) n g line marks bs (block_word fs) e w h k j
 
 -- What has been read, and what is left.
 pub record ReadSoFar (n : ℕ) (text : List ℕ) (marks : List Bool) (left : Left) : Type 0 where

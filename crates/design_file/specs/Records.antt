@@ -4,10 +4,12 @@ use Rattle.std.specs.Option.{option_or}
 use Rattle.std.specs.List.{list_any, flat_map}
 use Rattle.fixed_worth.specs.declared.limits.TheConstants.{LINE_BYTES}
 use Rattle.fixed_worth.specs.Text.{fields_of}
-use Rattle.fixed_worth.specs.Record.{Line, lines_in, reads, number_of, is_remark}
+pub use Rattle.fixed_worth.specs.Record.{Line, lines_in, reads, number_of, is_remark, has}
 use Rattle.design_file.specs.declared.design_fault.DesignFault.{DesignFault}
 use Rattle.design_file.specs.declared.design_fault.DesignFault.TheVariants.{Text, Number, UnknownBlock, Repeated, NoMemory}
 use Rattle.std.specs.Str.{bytes_eq}
+use Rattle.fixed_worth.specs.FaultText.{at_line}
+use Rattle.design_file.specs.declared.design_fault.DesignFault.TheVariants as design
 
 -- A certificate has lines that begin with this word, and they name no block of its pit.
 abbrev pub is_beside_pit : List ℕ → Bool
@@ -27,17 +29,14 @@ block_word (field ∷ []) = Some field
 block_word (first ∷ second ∷ []) = cond (bytes_eq first (codes "PIT")) (Some second) None
 block_word (first ∷ second ∷ third ∷ fields) = None
 
--- What is wrong with this field as the block of a line, given which blocks were named before.
-abbrev pub word_fault : ℕ → (ℕ → Bool) → ℕ → List ℕ → Option DesignFault
-word_fault n had line word =
+-- What is wrong with this field as the block of a line, if there is one, given which blocks were named before.
+abbrev pub named_fault : ℕ → (ℕ → Bool) → ℕ → Option (List ℕ) → Option DesignFault
+named_fault n had line None = Some (Text line)
+named_fault n had line (Some word) =
     cond (not (reads word)) (Some (Number line))
     (cond (nat_le n (number_of word)) (Some (UnknownBlock line))
     (cond (had (number_of word)) (Some (Repeated line))
     None))
-
-abbrev pub named_fault : ℕ → (ℕ → Bool) → ℕ → Option (List ℕ) → Option DesignFault
-named_fault n had line None = Some (Text line)
-named_fault n had line (Some word) = word_fault n had line word
 
 -- The fault of a line's fields: one that is passed over has none.
 abbrev pub record_fault : ℕ → (ℕ → Bool) → ℕ → List (List ℕ) → Option DesignFault
@@ -58,10 +57,6 @@ blocks_of_fields fields = cond (is_passed fields) [] (block_in (block_word field
 -- The blocks that the lines name, in their order.
 abbrev pub blocks_of : List Line → List ℕ
 blocks_of lines = flat_map (λ l. blocks_of_fields (fields_of l.text)) lines
-
--- The block is among these.
-abbrev pub has : List ℕ → ℕ → Bool
-has blocks b = list_any (λ x. x == b) blocks
 
 -- The fault of the first faulty line, if any, behind these lines.
 abbrev pub first_fault : ℕ → List Line → List Line → Option DesignFault
@@ -94,3 +89,11 @@ marks_after fields marks = cond (is_passed fields) marks (set_in marks (block_wo
 abbrev pub UnlessMemory : DesignFault → Type 0 → Type 0
 UnlessMemory NoMemory claim = Unit {0}
 UnlessMemory _ claim = claim
+
+-- The fault's name, and its line in brackets.
+abbrev pub design_fault_text : DesignFault → List ℕ
+design_fault_text (design.Text line) = at_line (codes "Text") line
+design_fault_text (design.Number line) = at_line (codes "Number") line
+design_fault_text (design.UnknownBlock line) = at_line (codes "UnknownBlock") line
+design_fault_text (design.Repeated line) = at_line (codes "Repeated") line
+design_fault_text design.NoMemory = codes "NoMemory"

@@ -1,7 +1,7 @@
 //! Why the text of a design is refused, with the number of the line, and how each fault is printed.
 
 ghost use Rattle.std.specs.Prelude.{Some};
-ghost use Rattle.design_file.specs.FaultText.{design_fault_text};
+ghost use Rattle.design_file.specs.Records.{design_fault_text};
 
 use std::fmt;
 

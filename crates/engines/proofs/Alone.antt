@@ -6,7 +6,7 @@ use Rattle.prec_file.specs.Records as prec
 use Rattle.prec_file.proofs.OneListing.{one_listing}
 use Rattle.closure_net.specs.Network.{NetView, FlowView, IsNet}
 use Rattle.closure_net.specs.Mine.{IsNetOf}
-use Rattle.closure_net.proofs.SameLists.{same_at_default}
+use Rattle.closure_net.proofs.Views.{same_at_default}
 use Rattle.certificate_file.specs.Certificate.{lines_of_text, Denotes}
 use Rattle.mine_inputs.specs.Mines.{MineTexts, precedence_of, mine_of}
 use Rattle.engines.proofs.Listed.{listed_pairs}

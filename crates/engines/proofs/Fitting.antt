@@ -11,10 +11,10 @@ use Rattle.ordered_group.proofs.Signs.{NonNeg, NonNeg-positive}
 use Rattle.ordered_group.proofs.Totals.Ranges.{total_nonneg}
 use Rattle.closure_net.specs.Network.{NetView, IsNet}
 use Rattle.closure_net.specs.Mine.{IsNetOf}
-use Rattle.closure_net.specs.FaultStands.{BlockOverflows, WorthsOverflow}
+use Rattle.closure_net.specs.Faults.{BlockOverflows, WorthsOverflow}
 use Rattle.closure_net.specs.declared.net.NetFault.{NetFault}
 use Rattle.closure_net.specs.declared.net.NetFault.TheVariants as net_fault
-use Rattle.closure_net.proofs.SameLists.{same_at_default}
+use Rattle.closure_net.proofs.Views.{same_at_default}
 use Rattle.mine_inputs.specs.Mines.{MineTexts, mine_of}
 use Rattle.mine_inputs.specs.FaultStands.{AreWorths}
 use Rattle.engines.specs.FaultStands.{ModelFails}

@@ -17,7 +17,7 @@ use Rattle.engines.specs.Readings.{IsHeader, Reads, IsGroupNamed}
 use Rattle.engines.specs.Judgements.{CertificateAccepted}
 use Rattle.mine_inputs.specs.FaultStands.{AreWorths}
 use Rattle.engines.specs.FaultStands.{BodyTextFails, NetFails, Fails}
-use Rattle.closure_net.specs.FaultStands.{WorthsFaultStands}
+use Rattle.closure_net.specs.Faults.{WorthsFaultStands}
 use Rattle.closure_net.specs.declared.net.NetFault.{NetFault}
 use Rattle.closure_net.specs.declared.net.NetFault.TheVariants as net
 use Rattle.certificate_file.specs.declared.cert_fault.CertFault.{CertFault}

@@ -1,11 +1,11 @@
 -- The reduced pairs of a pattern decide the same pits as every pair.
 use Rattle.std.proofs.Common.{ℕ, ℤ, Bool, List}
 use Rattle.std.specs.List.{Contains}
-use Rattle.slope.specs.Closing.{IsClosedBy}
+use Rattle.slope.specs.Slopes.{IsClosedBy}
 use Rattle.slope.proofs.Reduction.{closed_by_either}
 use Rattle.closure_net.specs.Mine.{IsPit, IsBest}
 use Rattle.engines.specs.Reduced.{mine_of_pairs, ReducedPairsDecide}
-use Rattle.prec_file.proofs.PairTests.{rests_of_pair, pair_of_rests}
+use Rattle.prec_file.proofs.Pairs.{rests_of_pair, pair_of_rests}
 
 -- a pit by listed pairs is closed by them
 closed_of_pit : (n : ℕ) (pairs : List (ℕ × ℕ)) (worth : ℕ → ℤ) (d : ℕ → Bool) → IsPit (mine_of_pairs n pairs worth) d → IsClosedBy (Contains pairs) d

@@ -6,7 +6,7 @@ use Rattle.ordered_group.specs.declared.groups.Group.{Group}
 use Rattle.prec_file.specs.Rests.{RestsView}
 use Rattle.closure_net.specs.Network.{NetView, net_view, IsNet, holds_of}
 use Rattle.closure_net.specs.Mine.{IsNetOf}
-use Rattle.closure_net.specs.FaultStands.{WorthsFaultStands}
+use Rattle.closure_net.specs.Faults.{WorthsFaultStands}
 use Rattle.closure_net.specs.declared.net.NetFault.{NetFault}
 use Rattle.closure_net.specs.declared.net.NetFault.TheVariants as net_fault
 use Rattle.certificate_file.specs.Pieces.{pieces_of}

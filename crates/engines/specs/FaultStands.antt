@@ -1,7 +1,7 @@
 -- When a check answers a fault: it stands in the texts, and none before it does.
 use Rattle.std.specs.Prelude.{◌≡◌, ◌≢◌, ℕ, ℤ, ◌⊎◌, List, Some, Ok, Err}
 use Rattle.ordered_group.specs.declared.groups.Group.{Group}
-use Rattle.closure_net.specs.FaultStands.{WorthsFaultStands}
+use Rattle.closure_net.specs.Faults.{WorthsFaultStands}
 use Rattle.closure_net.specs.declared.net.NetFault.{NetFault}
 use Rattle.closure_net.specs.declared.net.NetFault.TheVariants as net_fault
 use Rattle.certificate_file.specs.declared.cert_fault.CertFault.{CertFault}

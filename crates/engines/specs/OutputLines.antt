@@ -3,19 +3,19 @@ use Rattle.std.specs.Prelude.{ℕ, List, [], ◌∷◌, ◌++◌, codes, decimal
 use Rattle.fixed_worth.specs.Printed.{amount_text}
 use Rattle.ordered_group.specs.declared.groups.Group.{Group}
 use Rattle.ordered_group.specs.declared.groups.Group.TheVariants.{Worth, Pair, Scaled}
-use Rattle.closure_net.specs.FaultText.{net_fault_text}
-use Rattle.upit_file.specs.FaultText.{upit_fault_text}
-use Rattle.prec_file.specs.FaultText.{prec_fault_text}
-use Rattle.blocks_file.specs.FaultText.{blocks_fault_text}
-use Rattle.settings_file.specs.FaultText.{settings_fault_text}
+use Rattle.closure_net.specs.Faults.{net_fault_text}
+use Rattle.upit_file.specs.Records.{upit_fault_text}
+use Rattle.prec_file.specs.Faults.{prec_fault_text}
+use Rattle.blocks_file.specs.Records.{blocks_fault_text}
+use Rattle.settings_file.specs.Settings.{settings_fault_text}
 use Rattle.shells.specs.FaultText.{prices_fault_text}
 use Rattle.check_pit.specs.FaultText.{pit_fault_text}
-use Rattle.trace_file.specs.FaultText.{fault_text as trace_fault_text}
+use Rattle.trace_file.specs.Faults.{fault_text as trace_fault_text}
 use Rattle.engines.specs.declared.judgement.Judgement.{Judgement}
 use Rattle.engines.specs.declared.judgement.Judgement.TheVariants.{Accepted, Refused}
 use Rattle.mine_inputs.specs.declared.engine_fault.EngineFault.{EngineFault}
 use Rattle.mine_inputs.specs.declared.engine_fault.EngineFault.TheVariants as engine
-use Rattle.mine_inputs.specs.FaultText.{problem_text, certificate_problem_text, slope_text}
+use Rattle.mine_inputs.specs.EngineFaults.{problem_text, certificate_problem_text, slope_text}
 
 -- what follows the worth on the line: something where worth alone was counted, and otherwise nothing
 abbrev pub group_mark : Group → List ℕ

@@ -8,17 +8,17 @@ ghost use Rattle.std.specs.Prelude.{◌≡◌, ◌+◌, ◌-◌, ◌^◌, ◌<�
 ghost use Rattle.std.specs.Io.KnownBytes.{Appends};
 ghost use Rattle.std.specs.Prelude.{codes};
 ghost use Rattle.fixed_worth.specs.Device.{ReceivedPrefix};
-ghost use Rattle.blocks_file.specs.FaultText.{blocks_fault_text};
+ghost use Rattle.blocks_file.specs.Records.{blocks_fault_text};
 ghost use Rattle.slope.specs.FaultText.{pattern_fault_text, slope_fault_text};
 ghost use Rattle.fixed_worth.specs.FaultText.{at_line};
-ghost use Rattle.upit_file.specs.FaultText.{upit_fault_text};
-ghost use Rattle.prec_file.specs.FaultText.{prec_fault_text};
-ghost use Rattle.closure_net.specs.FaultText.{net_fault_text};
+ghost use Rattle.upit_file.specs.Records.{upit_fault_text};
+ghost use Rattle.prec_file.specs.Faults.{prec_fault_text};
+ghost use Rattle.closure_net.specs.Faults.{net_fault_text};
 ghost use Rattle.settings_file.specs.Keys.{key_name};
-ghost use Rattle.settings_file.specs.FaultText.{settings_fault_text};
+ghost use Rattle.settings_file.specs.Settings.{settings_fault_text};
 ghost use Rattle.shells.specs.FaultText.{prices_fault_text};
-ghost use Rattle.trace_file.specs.FaultText.{fault_text};
-ghost use Rattle.mine_inputs.specs.FaultText.{problem_text, slope_text, certificate_problem_text};
+ghost use Rattle.trace_file.specs.Faults.{fault_text};
+ghost use Rattle.mine_inputs.specs.EngineFaults.{problem_text, slope_text, certificate_problem_text};
 ghost use Rattle.engines.specs.OutputLines.{fault_line, fault_words, input_word, problem_words};
 ghost use Rattle.engines.specs.Statuses.{status_of};
 

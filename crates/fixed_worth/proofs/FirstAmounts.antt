@@ -9,8 +9,7 @@ use Rattle.std.proofs.lemmas.List.Folds.{list_all-append}
 use Rattle.std.proofs.Math.Nat.{mul-le-mul_left, pow-le-pow_right}
 use Rattle.std.proofs.Math.Seq.{drop-append_seam, take-length}
 use Rattle.fixed_worth.specs.Numeral.{is_digit, value_of, is_minus, unsigned_of}
-use Rattle.fixed_worth.specs.Decimal.{first_decimal, is_mark, is_point, whole_part, fraction_part, exponent_of, has_mark, decimal_of}
-use Rattle.fixed_worth.specs.Rounding.{rounded_of}
+use Rattle.fixed_worth.specs.Decimal.{first_decimal, is_mark, is_point, whole_part, fraction_part, exponent_of, has_mark, decimal_of, rounded_of}
 use Rattle.fixed_worth.specs.Front.{MayFollow, BeginsWithField, BeginsWithFraction}
 use Rattle.fixed_worth.specs.Text.{WordRun, is_separator}
 use Rattle.fixed_worth.specs.declared.numerals.NumberFault.{NumberFault}

@@ -4,7 +4,6 @@ pub mod Digits
 pub mod FieldLaws
 pub mod FirstNumbers
 pub mod FirstAmounts
-pub mod Fractions
 pub mod Lengths
 pub mod LineLaws
 pub mod PlainNumbers
@@ -19,5 +18,4 @@ pub mod Parts
 pub mod PrintedDigits
 pub mod Results
 pub mod Bits
-pub mod Sides
 pub mod Lent

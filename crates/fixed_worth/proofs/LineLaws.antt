@@ -7,7 +7,7 @@ use Rattle.fixed_worth.specs.Text.{lines_of}
 use Rattle.fixed_worth.specs.Laws.{with_last_line_feed, with_line_feeds, AreLines}
 use Rattle.std.proofs.lemmas.Grind.{common_steps}
 
-abbrev NoLineFeed : List ℕ → Type 0
+abbrev pub NoLineFeed : List ℕ → Type 0
 NoLineFeed line = EachIndex line (λ k. eqb (get_or line k 0) 10 ≡ false)
 
 some_line : (b : ℕ) (bs : List ℕ) (t : Bool) → eqb b 10 ≡ t → 0 < length (lines_of (b ∷ bs))

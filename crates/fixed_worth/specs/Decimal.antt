@@ -1,12 +1,15 @@
 -- Numerals with a point and an exponent, in millionths.
-use Rattle.std.specs.Prelude.{ℕ, ℤ, ◌+◌, ◌^◌, ◌==◌, ◌||◌, ◌&&◌, Bool, not, cond, List, [], ◌∷◌, ◌++◌, length, nat_lt, nat_le, Option, Some, None, Result, Ok, Err}
+use Rattle.std.specs.Prelude.{ℕ, ℤ, ◌+◌, ◌^◌, ◌==◌, ◌||◌, ◌&&◌, Bool, not, cond, List, [], ◌∷◌, ◌++◌, length, nat_lt, nat_le, Option, Some, None, Result, Ok, Err, ◌*◌, ◌/◌}
 use Rattle.std.specs.Result.{result_ok}
 use Rattle.std.specs.List.{list_all, before_first, after_first, position_or_len}
 use Rattle.fixed_worth.specs.declared.numerals.NumberFault.{NumberFault}
 use Rattle.fixed_worth.specs.declared.numerals.NumberFault.TheVariants.{NotANumber, TooLong, TooLarge}
 use Rattle.fixed_worth.specs.Numeral.{is_digit, is_number, value_of, is_minus, unsigned_of, with_sign}
-use Rattle.fixed_worth.specs.Rounding.{rounded_of}
 use Rattle.fixed_worth.specs.Text.{WordRun}
+
+-- m * 10 ^ up / 10 ^ down to the nearest whole number, and up from the middle
+unfoldable pub rounded_of : ℕ → ℕ → ℕ → ℕ
+rounded_of m up down = (2 * (m * 10 ^ up) + 10 ^ down) / (2 * 10 ^ down)
 
 -- e or E
 unfoldable pub is_mark : ℕ → Bool

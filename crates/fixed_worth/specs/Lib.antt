@@ -4,7 +4,6 @@ pub mod Record
 -- numbers as texts: read, rounded and printed
 pub mod Numeral
 pub mod Decimal
-pub mod Rounding
 pub mod Printed
 -- laws of lines, fields and numbers
 pub mod Laws

@@ -1,5 +1,6 @@
 -- Records of a text: numbered lines, whole numbers in their fields, and which lines are skipped.
-use Rattle.std.specs.Prelude.{ℕ, ◌+◌, ◌==◌, Bool, true, false, List, [], ◌∷◌, Option, Some, None, Result, is_ok}
+use Rattle.std.specs.Prelude.{ℕ, ◌+◌, ◌==◌, ◌&&◌, Bool, true, false, not, List, [], ◌∷◌, Option, Some, None, Result, is_ok}
+use Rattle.std.specs.List.{list_any}
 use Rattle.std.specs.Result.{result_unwrap_or}
 use Rattle.fixed_worth.specs.declared.numerals.NumberFault.{NumberFault}
 use Rattle.fixed_worth.specs.Numeral.{whole_of}
@@ -27,6 +28,15 @@ reads field = is_ok (whole_of field)
 abbrev pub number_of : List ℕ → ℕ
 number_of field = result_unwrap_or (whole_of field) 0
 
+-- The block that a record is for: its first field.
+abbrev pub block_of : List (List ℕ) → ℕ
+block_of [] = 0
+block_of (block ∷ fields) = number_of block
+
+-- The block is among these.
+abbrev pub has : List ℕ → ℕ → Bool
+has blocks b = list_any (λ x. x == b) blocks
+
 -- The whole number that the first of the fields is, or why it is none, where there is a field.
 abbrev pub first_whole : List WordRun → Option (Result ℕ NumberFault)
 first_whole [] = None
@@ -41,3 +51,7 @@ is_remark (b ∷ bs) = b == 37
 abbrev pub is_skipped : List (List ℕ) → Bool
 is_skipped [] = true
 is_skipped (field ∷ fields) = is_remark field
+
+-- The fields are those of a record for block b.
+abbrev pub is_record_of : ℕ → List (List ℕ) → Bool
+is_record_of b fields = not (is_skipped fields) && (block_of fields == b)

@@ -4,8 +4,7 @@
 ghost use Rattle.std.specs.Prelude.{◌≡◌, ◌+◌, ◌<◌, ◌^◌, ◌&&◌, ◌||◌, ◌++◌, not, cond, nat_lt, length, SomeIff, IsTrue, position, Err};
 ghost use Rattle.std.specs.List.{list_all, position_or_len};
 ghost use Rattle.fixed_worth.specs.Numeral.{is_digit, is_number, value_of, is_minus};
-ghost use Rattle.fixed_worth.specs.Decimal.{is_mark, is_point, whole_part, fraction_part, exponent_of, exponent_digits, has_mark, decimal_of, most};
-ghost use Rattle.fixed_worth.specs.Rounding.{rounded_of};
+ghost use Rattle.fixed_worth.specs.Decimal.{is_mark, is_point, whole_part, fraction_part, exponent_of, exponent_digits, has_mark, decimal_of, most, rounded_of};
 
 use crate::line_reader::behind_first;
 use crate::numerals::{NumberFault, are_digits, has_minus, value, with_digit, without_sign};

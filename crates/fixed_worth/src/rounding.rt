@@ -2,7 +2,7 @@
 //! number, without overflow; nothing where the result is above 10^18.
 
 ghost use Rattle.std.specs.Prelude.{◌≡◌, ◌+◌, ◌*◌, ◌/◌, ◌<◌, ◌≤◌, ◌^◌, SomeIff};
-ghost use Rattle.fixed_worth.specs.Rounding.{rounded_of};
+ghost use Rattle.fixed_worth.specs.Decimal.{rounded_of};
 
 // The largest amount of millionths that a numeral may stand for.
 const MOST: u128 = 1_000_000_000_000_000_000;

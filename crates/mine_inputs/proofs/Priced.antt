@@ -5,7 +5,7 @@ use Rattle.std.proofs.lemmas.List.FromFn.{length-map-range_with_len, get_or-map-
 use Rattle.blocks_file.specs.Records as blocks
 use Rattle.blocks_file.specs.Denotes.{BlocksView, Denotes}
 use Rattle.prec_file.specs.Rests.{RestsView}
-use Rattle.closure_net.proofs.SameLists.{same_at_default}
+use Rattle.closure_net.proofs.Views.{same_at_default}
 use Rattle.settings_file.specs.declared.settings_fault.SettingsFault.{SettingsFault}
 use Rattle.settings_file.specs.declared.settings_fault.SettingsFault.TheVariants as settings_fault
 use Rattle.settings_file.specs.Settings.{SettingsView, ReadsSettings, first_missing}

@@ -22,6 +22,12 @@ use Rattle.mine_inputs.specs.declared.engine_fault.CertificateProblem.TheVariant
 use Rattle.mine_inputs.specs.declared.engine_fault.SlopeProblem.TheVariants as slope_problem
 use Rattle.mine_inputs.specs.declared.engine_fault.EngineFault.{EngineFault}
 use Rattle.mine_inputs.specs.declared.engine_fault.EngineFault.TheVariants as engine
+use Rattle.std.specs.Prelude.{ℕ, List, codes, Option, Some}
+use Rattle.slope.specs.FaultText.{pattern_fault_text, slope_fault_text}
+use Rattle.certificate_file.specs.Certificate.{fault_text}
+use Rattle.mine_inputs.specs.declared.engine_fault.Problem.{Problem}
+use Rattle.mine_inputs.specs.declared.engine_fault.CertificateProblem.{CertificateProblem}
+use Rattle.mine_inputs.specs.declared.engine_fault.SlopeProblem.{SlopeProblem}
 
 -- ---- of the readers
 
@@ -62,3 +68,24 @@ of_slope fault = engine.Slope (slope_problem.Pairs fault)
 abbrev pub of_model : NetFault → EngineFault
 of_model net_fault.NoMemory = engine.Memory
 of_model fault = engine.Model fault
+
+-- what a problem with an input prints, by the text of its fault
+abbrev pub problem_text : {F : Type 0} → (F → List ℕ) → Problem F → List ℕ
+problem_text text problem.InputTooLong = codes "InputTooLong"
+problem_text text (problem.Fault fault) = text fault
+
+-- what a problem with an input prints, where a fault may have no text that is claimed
+abbrev pub problem_output : {F : Type 0} → (F → Option (List ℕ)) → Problem F → Option (List ℕ)
+problem_output output problem.InputTooLong = Some (codes "InputTooLong")
+problem_output output (problem.Fault fault) = output fault
+
+-- what a problem with a certificate prints
+abbrev pub certificate_problem_text : CertificateProblem → List ℕ
+certificate_problem_text certificate_problem.InputTooLong = codes "InputTooLong"
+certificate_problem_text certificate_problem.WrongPrice = codes "WrongPrice"
+certificate_problem_text (certificate_problem.Fault fault) = fault_text fault
+
+-- what a problem with slopes prints
+abbrev pub slope_text : SlopeProblem → List ℕ
+slope_text (slope_problem.Pattern fault) = pattern_fault_text fault
+slope_text (slope_problem.Pairs fault) = slope_fault_text fault

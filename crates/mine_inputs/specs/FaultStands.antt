@@ -46,17 +46,13 @@ abbrev pub TableFails : MineTexts → PricesFault → Type 0
 TableFails (mine_texts values precedence) fault = ⊥
 TableFails (priced_texts settings blocks precedence factor) fault = PricesFail settings blocks fault
 
--- a fault of the precedence, where what the blocks are worth is read
-abbrev pub PrecedenceFails : MineTexts → Problem PrecFault → Type 0
-PrecedenceFails texts p = (n : ℕ) × WorthsRead texts n × PrecFails n (precedence_of texts) p
-
 -- Why the texts of a mine aren't read: the fault stands, and none before it does. Want of memory and a failing device say nothing of them.
 abbrev pub MineFails : MineTexts → EngineFault → Type 0
 MineFails texts (engine.Upit p) = ValuesFail texts p
 MineFails texts (engine.Settings p) = SettingsFail texts p
 MineFails texts (engine.Blocks p) = BlocksFail texts p
 MineFails texts (engine.Prices fault) = TableFails texts fault
-MineFails texts (engine.Prec p) = PrecedenceFails texts p
+MineFails texts (engine.Prec p) = (n : ℕ) × WorthsRead texts n × PrecFails n (precedence_of texts) p
 MineFails texts engine.Memory = Unit {0}
 MineFails texts engine.Device = Unit {0}
 MineFails texts _ = ⊥

@@ -7,9 +7,7 @@ pub mod Limits
 pub mod MineInputs
 pub mod ReadMines
 pub mod Worths
--- what reading each input gives, and when it answers a fault
+-- what reading each input gives, when it answers a fault, and how that prints
 pub mod Inputs
 pub mod FaultStands
 pub mod EngineFaults
--- how faults print
-pub mod FaultText

@@ -6,10 +6,6 @@ use Rattle.shells.specs.Prices.{priced_count, price_of, worths_at}
 use Rattle.mine_inputs.specs.declared.worths.Worths.{Worths}
 use Rattle.mine_inputs.specs.declared.worths.Worths.TheVariants.{Values, Prices}
 
--- the billionths of numbers of millionths
-abbrev pub billionths_of : List ℤ → List ℤ
-billionths_of values = map (λ x. pos 1000 *ℤ x) values
-
 -- how many blocks have a worth
 abbrev pub blocks_valued : Worths → ℕ
 blocks_valued (Values upit) = length upit.values
@@ -17,7 +13,7 @@ blocks_valued (Prices table) = priced_count table
 
 -- what the blocks are worth in billionths: by their values, or by their prices at a factor
 abbrev pub nanos_at : Worths → ℕ → List ℤ
-nanos_at (Values upit) factor = billionths_of upit.values
+nanos_at (Values upit) factor = map (λ x. pos 1000 *ℤ x) upit.values
 nanos_at (Prices table) factor = worths_at table factor
 
 -- the price that a certificate names: values have one alone

@@ -25,7 +25,7 @@ pub enum Problem<F> {
 }
 
 impl<F: fmt::Display> fmt::Display for Problem<F> {
-    ghost use Rattle.mine_inputs.specs.FaultText.{problem_output};
+    ghost use Rattle.mine_inputs.specs.EngineFaults.{problem_output};
 
     ghost output = { problem_output F.output };
 
@@ -50,7 +50,7 @@ pub enum CertificateProblem {
 
 impl fmt::Display for CertificateProblem {
     ghost use Rattle.std.specs.Prelude.{Some};
-    ghost use Rattle.mine_inputs.specs.FaultText.{certificate_problem_text};
+    ghost use Rattle.mine_inputs.specs.EngineFaults.{certificate_problem_text};
 
     ghost output = { λ problem. Some (certificate_problem_text problem) };
 
@@ -74,7 +74,7 @@ pub enum SlopeProblem {
 
 impl fmt::Display for SlopeProblem {
     ghost use Rattle.std.specs.Prelude.{Some};
-    ghost use Rattle.mine_inputs.specs.FaultText.{slope_text};
+    ghost use Rattle.mine_inputs.specs.EngineFaults.{slope_text};
 
     ghost output = { λ problem. Some (slope_text problem) };
 

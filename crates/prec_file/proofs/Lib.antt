@@ -3,7 +3,6 @@ pub mod Parts
 pub mod Pairs
 pub mod Slots
 pub mod Starts
-pub mod Below
 pub mod Order
 pub mod Firsts
 pub mod Sorting
@@ -14,7 +13,6 @@ pub mod RowSteps
 pub mod RowChecks
 pub mod Shapes
 pub mod History
-pub mod KnownPairs
 pub mod RowReading
 pub mod Marks
 pub mod Progress
@@ -23,4 +21,3 @@ pub mod WrittenPieces
 pub mod WrittenLines
 pub mod OneListing
 pub mod WrittenRecords
-pub mod PairTests

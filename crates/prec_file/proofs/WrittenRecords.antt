@@ -17,8 +17,7 @@ use Rattle.fixed_worth.specs.declared.limits.TheConstants.{LINE_BYTES}
 use Rattle.prec_file.specs.declared.limits.TheConstants.{MOST_PAIRS}
 use Rattle.prec_file.specs.Rests.{RestsView, IsRests, ArePairsOf, from_at, to_at, numbers, above_of, first_of}
 use Rattle.prec_file.specs.Records.{pairs_in, blocks_of_fields, shape_fault, record_fault, fault_behind, has, blocks_of, pairs_of, first_fault, pairs_of_text}
-use Rattle.prec_file.specs.Written.{prec_text, AreNarrow}
-use Rattle.prec_file.specs.ReadBack.{ReadsBack}
+use Rattle.prec_file.specs.Written.{prec_text, AreNarrow, ReadsBack}
 use Rattle.prec_file.proofs.Shapes.{sound, pairs_at}
 use Rattle.prec_file.proofs.History.{no_fault}
 use Rattle.prec_file.proofs.Slots.{ending_next, ending_none, ending_most}

@@ -3,9 +3,7 @@ pub mod Rests
 -- the text of them: what it says, how it is written, and that it reads back
 pub mod Records
 pub mod Written
-pub mod ReadBack
 -- faults, and how they print
-pub mod FaultStands
-pub mod FaultText
+pub mod Faults
 -- for this crate alone: the indexes as they are built
 pub mod Indexes

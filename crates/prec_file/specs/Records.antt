@@ -5,14 +5,9 @@ use Rattle.std.specs.List.{list_all, list_any, flat_map}
 use Rattle.fixed_worth.specs.declared.limits.TheConstants.{LINE_BYTES}
 use Rattle.prec_file.specs.declared.limits.TheConstants.{MOST_PAIRS}
 use Rattle.fixed_worth.specs.Text.{fields_of}
-use Rattle.fixed_worth.specs.Record.{Line, lines_in, reads, number_of, is_skipped}
+pub use Rattle.fixed_worth.specs.Record.{Line, lines_in, reads, number_of, is_skipped, block_of, has}
 use Rattle.prec_file.specs.declared.prec_fault.PrecFault.{PrecFault}
 use Rattle.prec_file.specs.declared.prec_fault.PrecFault.TheVariants.{Text, Number, UnknownBlock, Repeated, WrongCount, TooMany, NoMemory}
-
--- A record's first field is its block.
-abbrev pub block_of : List (List ℕ) → ℕ
-block_of [] = 0
-block_of (block ∷ fields) = number_of block
 
 -- Its second field is how many predecessors it lists.
 abbrev pub predecessor_count_of : List (List ℕ) → ℕ
@@ -64,10 +59,6 @@ blocks_of lines = flat_map (λ l. blocks_of_fields (fields_of l.text)) lines
 -- The pairs that the lines list, in their order.
 abbrev pub pairs_of : List Line → List (ℕ × ℕ)
 pairs_of lines = flat_map (λ l. pairs_in (fields_of l.text)) lines
-
--- The block is among these.
-abbrev pub has : List ℕ → ℕ → Bool
-has blocks b = list_any (λ x. x == b) blocks
 
 -- The fault of a line behind other lines.
 abbrev pub fault_behind : ℕ → List Line → Line → Option PrecFault

@@ -1,12 +1,13 @@
 -- What a precedence file is, for given pairs of blocks.
-use Rattle.std.specs.Prelude.{◌≡◌, ℕ, zero, suc, ◌+◌, ◌<◌, ◌≤◌, List, [], ◌∷◌, ◌++◌, length, Option}
+use Rattle.std.specs.Prelude.{◌≡◌, ℕ, zero, suc, ◌+◌, ◌<◌, ◌≤◌, List, [], ◌∷◌, ◌++◌, length, Option, None}
 use Rattle.std.specs.List.{flat_map}
 use Rattle.std.specs.Fmt.{decimal}
 use Rattle.std.specs.Io.KnownBytes.{Keeps}
 use Rattle.fixed_worth.specs.Device.{ReceivedPrefix}
-use Rattle.prec_file.specs.Rests.{RestsView, IsFirstNot, above_of}
+use Rattle.prec_file.specs.Rests.{RestsView, IsFirstNot, above_of, ArePairsOf}
 use Rattle.prec_file.specs.declared.write_fault.PrecWriteFault.{PrecWriteFault}
 use Rattle.prec_file.specs.declared.write_fault.PrecWriteFault.TheVariants.{TooWide, Device}
+use Rattle.prec_file.specs.Records.{fault_of, pairs_of_text}
 
 -- Numbers in decimal, a space (32) before each.
 abbrev pub spaced_numbers : List ℕ → List ℕ
@@ -38,3 +39,9 @@ AreNarrow v = (b : ℕ) → b < v.blocks → IsNarrowAt v b
 abbrev pub WriteFaultStands : RestsView → Option (List ℕ) → Option (List ℕ) → ℕ → ℕ → PrecWriteFault → Type 0
 WriteFaultStands v old new failed after (TooWide b) = IsFirstNot (IsNarrowAt v) v.blocks b × Keeps old new × (after ≡ failed)
 WriteFaultStands v old new failed after Device = AreNarrow v × ReceivedPrefix old new (prec_text v) × (after ≡ failed + 1)
+
+-- The text has no fault for the value's blocks, and its pairs are the value's and no others.
+pub record ReadsBack (v : RestsView) (text : List ℕ) : Type 0 where
+  pub sound : fault_of v.blocks text ≡ None
+  pub same : ArePairsOf (pairs_of_text text) v.pairs
+  pub alone : (ps : List (ℕ × ℕ)) → ArePairsOf (pairs_of_text text) ps → ps ≡ v.pairs

@@ -2,8 +2,7 @@
 //!
 //! The function does nothing. A caller names it where its own proof needs the law.
 
-ghost use Rattle.prec_file.specs.Written.{prec_text, AreNarrow};
-ghost use Rattle.prec_file.specs.ReadBack.{ReadsBack};
+ghost use Rattle.prec_file.specs.Written.{prec_text, AreNarrow, ReadsBack};
 
 use crate::Rests;
 

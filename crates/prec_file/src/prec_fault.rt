@@ -1,7 +1,7 @@
 //! What is wrong with a precedence file.
 
 ghost use Rattle.std.specs.Prelude.{Some};
-ghost use Rattle.prec_file.specs.FaultText.{prec_fault_text};
+ghost use Rattle.prec_file.specs.Faults.{prec_fault_text};
 
 use std::fmt;
 

@@ -3,7 +3,7 @@
 ghost use Rattle.std.specs.Prelude.{◌≡◌, ◌<◌, ◌≤◌, All, IfOk, MatchResult, MatchOption, length, map, slice_index_or};
 ghost use Rattle.std.specs.List.{Contains};
 ghost use Rattle.prec_file.specs.Rests.{IsRests, IsKnown, KnownAt, IsFirstNot, ArePairsOf, first_of, above_of, below_of};
-ghost use Rattle.prec_file.specs.FaultStands.{FaultStands};
+ghost use Rattle.prec_file.specs.Faults.{FaultStands};
 
 use crate::index::{filled_by, part, starts_of};
 use crate::limits::MOST_PAIRS;

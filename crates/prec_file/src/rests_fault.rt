@@ -1,7 +1,7 @@
 //! What is wrong with a list of pairs.
 
 ghost use Rattle.std.specs.Prelude.{Some};
-ghost use Rattle.prec_file.specs.FaultText.{rests_fault_text};
+ghost use Rattle.prec_file.specs.Faults.{rests_fault_text};
 
 use std::fmt;
 

@@ -1,7 +1,7 @@
 //! Why a precedence file could not be written.
 
 ghost use Rattle.std.specs.Prelude.{Some};
-ghost use Rattle.prec_file.specs.FaultText.{write_fault_text};
+ghost use Rattle.prec_file.specs.Faults.{write_fault_text};
 
 use std::fmt;
 

@@ -4,7 +4,7 @@ use Rattle.std.specs.Prelude.{slice_get}
 use Rattle.ordered_group.specs.Amount.{zero_amount}
 use Rattle.ordered_group.specs.declared.groups.Group.{Group}
 use Rattle.closure_net.specs.Network.{NetView, FlowView}
-use Rattle.closure_net.proofs.SameLists.{same_at_default}
+use Rattle.closure_net.proofs.Views.{same_at_default}
 use Rattle.machine_law.specs.declared.events.Event.{Event}
 use Rattle.machine_law.specs.declared.events.TheConstants.{MOST_EVENTS}
 use Rattle.machine_law.specs.States.{State, opening, IsQuiet}

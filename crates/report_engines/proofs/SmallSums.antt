@@ -13,7 +13,7 @@ use Rattle.mine_inputs.specs.declared.priced_inputs.ChargeColumns.{ChargeColumns
 use Rattle.mine_inputs.specs.declared.priced_inputs.ChargeColumns.TheVariants.{Plain, Mill}
 use Rattle.mine_inputs.specs.PricedTexts.{place_beside, values_of, first_charges}
 use Rattle.bench_report.specs.Benches.{reported_blocks, blocks_at}
-use Rattle.bench_report.specs.FaultStands.{SameLengths, AllSumsFit, SomeBenchSumOverflows}
+use Rattle.bench_report.specs.Faults.{SameLengths, AllSumsFit, SomeBenchSumOverflows}
 use Rattle.report_engines.specs.ReportParts.{IsPricedModel}
 use Rattle.std.proofs.lemmas.Grind.{common_steps}
 

@@ -1,4 +1,3 @@
 pub mod ReadArrays
-pub mod Ascending
 pub mod Known
 pub mod MissingKeys

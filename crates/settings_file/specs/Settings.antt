@@ -1,5 +1,5 @@
 -- What a text says as settings: a TOML document, and what its table has at each key.
-use Rattle.std.specs.Prelude.{◌≡◌, ◌≤◌, ℕ, ◌||◌, IfSome, Bool, true, cond, ℤ, List, [], ◌∷◌, Option, Some, None, is_some, Result, Ok, Err, IsUtf8}
+use Rattle.std.specs.Prelude.{◌≡◌, ◌≤◌, ℕ, ◌||◌, IfSome, Bool, true, cond, ℤ, List, [], ◌∷◌, Option, Some, None, is_some, Result, Ok, Err, IsUtf8, ◌++◌, codes}
 use Rattle.toml.specs.Parse.{parse_document}
 use Rattle.toml.specs.Data.{Data, Members, get_member}
 use Rattle.fixed_worth.specs.declared.limits.TheConstants.{MOST_FACTOR}
@@ -147,3 +147,15 @@ names_mill s = is_said s Processing || is_said s Mining
 abbrev pub first_missing : List Key → SettingsView → Option Key
 first_missing [] s = None
 first_missing (key ∷ keys) s = cond (is_said s key) (first_missing keys s) (Some key)
+
+-- A word with a key in parentheses.
+abbrev pub at_key : List ℕ → Key → List ℕ
+at_key word key = word ++ (codes "(" ++ (key_name key ++ codes ")"))
+
+-- The fault's name, with its key in parentheses where it has one.
+abbrev pub settings_fault_text : SettingsFault → List ℕ
+settings_fault_text NotToml = codes "NotToml"
+settings_fault_text UnknownKey = codes "UnknownKey"
+settings_fault_text (BadValue key) = at_key (codes "BadValue") key
+settings_fault_text (Missing key) = at_key (codes "Missing") key
+settings_fault_text NoMemory = codes "NoMemory"

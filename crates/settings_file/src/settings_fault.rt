@@ -21,7 +21,7 @@ pub enum SettingsFault {
 
 impl fmt::Display for SettingsFault {
     ghost use Rattle.std.specs.Prelude.{Some};
-    ghost use Rattle.settings_file.specs.FaultText.{settings_fault_text};
+    ghost use Rattle.settings_file.specs.Settings.{settings_fault_text};
 
     ghost output = { λ fault. Some (settings_fault_text fault) };
 

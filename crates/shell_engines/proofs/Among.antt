@@ -9,8 +9,7 @@ use Rattle.shells.specs.Prices.{PricesView, priced_count, worth_at}
 use Rattle.shells.specs.Series.{mine_at}
 use Rattle.engines.proofs.Counted.{count_in-ascending}
 use Rattle.sub_mines.specs.Parts.{every_block}
-use Rattle.sub_mines.specs.Renumbered.{number_in}
-use Rattle.sub_mines.specs.Kept.{IsPartPairs}
+use Rattle.sub_mines.specs.Renumbered.{number_in, IsPartPairs}
 use Rattle.sub_mines.proofs.Kept.{listed}
 use Rattle.sub_mines.proofs.Renumbering.{worth_listed}
 use Rattle.shell_engines.specs.declared.mine_parts.Part.{Part}
@@ -20,7 +19,7 @@ use Rattle.shell_engines.proofs.Parting.{own_list}
 use Rattle.std.proofs.lemmas.Bool.{ltb-true}
 use Rattle.std.proofs.lemmas.List.Elements.{All-append}
 use Rattle.shell_engines.proofs.Proving.{all_one}
-use Rattle.prec_file.proofs.PairTests.{rests_of_pair, pair_of_rests}
+use Rattle.prec_file.proofs.Pairs.{rests_of_pair, pair_of_rests}
 
 pub net_among_is : (block : ℤ → ℕ → Amount) (pairs less : List (ℕ × ℕ)) (prices : PricesView) (kept : List ℕ) (k : ℕ) (net : NetView) → net ≡ net_view less (map (λ v. block v (length kept)) (map (worth_at prices k) kept)) → IsPartPairs kept pairs less
     → IsNetAmong block pairs prices kept k net

@@ -6,13 +6,13 @@ use Rattle.prec_file.specs.Rests.{RestsView, ArePairsOf, has_pair}
 use Rattle.prec_file.specs.Records as prec
 use Rattle.closure_net.specs.Network.{NetView}
 use Rattle.closure_net.specs.Mine.{Mine, IsBest, LiesWithin, IsNetOf}
-use Rattle.closure_net.specs.FaultStands.{WorthsFaultStands}
+use Rattle.closure_net.specs.Faults.{WorthsFaultStands}
 use Rattle.closure_net.specs.declared.net.NetFault.{NetFault}
 use Rattle.closure_net.specs.declared.net.NetFault.TheVariants as net_fault
 use Rattle.shells.specs.Prices.{PricesView, NoRevenueNegative, worth_at, worths_at}
 use Rattle.shells.specs.Series.{mine_at}
 use Rattle.shells.specs.Nesting.{BestPitsAreNested}
-use Rattle.shells.proofs.OverNets.{net_of_over}
+use Rattle.shells.proofs.Shells.{net_of_over}
 use Rattle.engines.specs.declared.effort.Effort.{Effort}
 use Rattle.engines.specs.declared.solvers.Unsolved.{Unsolved}
 use Rattle.engines.specs.declared.solvers.Unsolved.TheVariants.{Unsettled, TooLarge, GaveUp, NoMemory, NoThread, Stranger}

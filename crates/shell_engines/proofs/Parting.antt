@@ -10,14 +10,13 @@ use Rattle.shells.specs.Series.{mine_at}
 use Rattle.shells.proofs.Rising.{mines_rise}
 use Rattle.shells.proofs.Pushes.{mine_is_own}
 use Rattle.sub_mines.specs.Parts.{union_of, difference_of, every_block}
-use Rattle.sub_mines.specs.Renumbered.{IsListed, IsRenumbered, IsImage, number_in}
-use Rattle.sub_mines.specs.Kept.{IsKept}
+use Rattle.sub_mines.specs.Renumbered.{IsListed, IsRenumbered, IsImage, number_in, IsKept}
 use Rattle.sub_mines.proofs.Bounds.{between_by_bounds, best_is_floor, best_is_ceiling, none_is_floor, all_is_ceiling}
 use Rattle.sub_mines.proofs.Kept.{listed, list_image, same_rests, passing_is_kept}
 use Rattle.sub_mines.proofs.Together.{best_by_small_mine}
 use Rattle.shell_engines.specs.declared.mine_parts.Part.{Part}
 use Rattle.shell_engines.specs.Parting.{ArePriced, LiesBetweenLists, IsPart, mine_among, IsBestAmong}
-use Rattle.prec_file.proofs.PairTests.{pair_of_rests}
+use Rattle.prec_file.proofs.Pairs.{pair_of_rests}
 use Rattle.sub_mines.proofs.Parts.{not_beside}
 use Rattle.std.proofs.lemmas.Grind.{common_steps}
 

@@ -6,7 +6,7 @@ use Rattle.closure_net.specs.Network.{NetView, holds_of}
 use Rattle.closure_net.specs.Mine.{IsBest}
 use Rattle.shells.specs.Prices.{PricesView}
 use Rattle.shells.specs.Series.{mine_at}
-use Rattle.shells.proofs.OverNets.{net_of_over}
+use Rattle.shells.proofs.Shells.{net_of_over}
 use Rattle.shell_engines.specs.declared.best_pits.BestPit.{BestPit}
 use Rattle.shell_engines.specs.ShellTable.{IsRowOf}
 use Rattle.shell_engines.specs.SettledSeries.{IsNetAt}

@@ -7,10 +7,8 @@ use Rattle.closure_net.specs.Network.{NetView, holds_of, IsAscending}
 use Rattle.closure_net.specs.Mine.{Mine, IsBest, IsNetOf}
 use Rattle.shells.specs.Prices.{PricesView, priced_count, worth_at, NoRevenueNegative}
 use Rattle.shells.specs.Series.{mine_at}
-use Rattle.sub_mines.specs.Parts.{union_of, difference_of}
-use Rattle.sub_mines.specs.Bounds.{IsFloor, IsCeiling}
-use Rattle.sub_mines.specs.Renumbered.{number_in}
-use Rattle.sub_mines.specs.Kept.{IsKept, IsPartPairs}
+use Rattle.sub_mines.specs.Parts.{union_of, difference_of, IsFloor, IsCeiling}
+use Rattle.sub_mines.specs.Renumbered.{number_in, IsKept, IsPartPairs}
 use Rattle.shell_engines.specs.declared.mine_parts.Part.{Part}
 use Rattle.shell_engines.specs.declared.mine_parts.Halved.{Halved}
 use Rattle.shell_engines.specs.declared.mine_halves.Level.{Level}

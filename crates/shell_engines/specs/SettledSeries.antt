@@ -3,7 +3,7 @@ use Rattle.std.specs.Prelude.{◌≡◌, ◌<◌, ◌⊎◌, ℕ, ℤ, List, Con
 use Rattle.ordered_group.specs.Amount.{Amount}
 use Rattle.prec_file.specs.Rests.{RestsView}
 use Rattle.closure_net.specs.Network.{NetView, IsNet}
-use Rattle.closure_net.specs.FaultStands.{WorthsFaultStands}
+use Rattle.closure_net.specs.Faults.{WorthsFaultStands}
 use Rattle.shells.specs.Prices.{PricesView, worths_at}
 use Rattle.shells.specs.Series.{SeriesView, mine_at, IsOver}
 use Rattle.engines.specs.declared.effort.Effort.{Effort}

@@ -1,11 +1,15 @@
--- What a shell is, and that no block has one at the opening.
-use Rattle.std.proofs.Common.{◌≡◌, ℕ, ◌<◌, List, length, Option, Some, None, refl, ap, ◌∙◌, arith}
+-- What a shell is, and that no block has one at the opening; and that a net over pairs and prices is that of their mine.
+use Rattle.std.proofs.Common.{◌≡◌, ℕ, ◌<◌, List, length, Option, Some, None, refl, ap, ◌∙◌, arith, ℤ}
 use Rattle.std.proofs.lemmas.Bool.{le-leb, lt-leb}
 use Rattle.prec_file.specs.Rests.{IsRests}
 use Rattle.closure_net.proofs.BestPits.{best_is_one}
 use Rattle.shells.specs.Prices.{PricesView, IsTable}
-use Rattle.shells.specs.Series.{mine_at, SeriesView, shell_at, is_upto, upto, opened_series, IsSeries, IsShell}
+use Rattle.shells.specs.Series.{mine_at, SeriesView, shell_at, is_upto, upto, opened_series, IsSeries, IsShell, IsOver}
 use Rattle.std.proofs.lemmas.Grind.{common_steps}
+use Rattle.ordered_group.specs.Amount.{Amount}
+use Rattle.closure_net.specs.Network.{NetView}
+use Rattle.closure_net.specs.Mine.{IsNetOf}
+use Rattle.prec_file.proofs.Pairs.{rests_of_pair, pair_of_rests}
 
 shell_of_options : (s : SeriesView) (b : ℕ) (o : Option ℕ) → IsSeries s → b < length s.prices.revenue → shell_at s.shells b ≡ o → IsShell s b o
 shell_of_options s b None h l is = λ k e c best. best_is_one (mine_at s.pairs s.prices k) e (upto s.shells k) best (h.best k c) b l ∙ ap (λ o. is_upto o k) is
@@ -21,3 +25,6 @@ shell_of_series s b h l = shell_of_options s b (shell_at s.shells b) h l refl
 pub opens : (pairs : List (ℕ × ℕ)) (table : PricesView) → IsRests (record { blocks = length table.revenue; pairs = pairs }) → IsTable table
     → IsSeries (opened_series pairs table)
 opens pairs table r t = grind (arith, common_steps)
+
+pub net_of_over : (block : ℤ → ℕ → Amount) (pairs : List (ℕ × ℕ)) (table : PricesView) (k : ℕ) (net : NetView) → IsOver block pairs table k net → IsNetOf block (mine_at pairs table k) net
+net_of_over block pairs table k net o = grind (arith, common_steps, rests_of_pair, pair_of_rests)

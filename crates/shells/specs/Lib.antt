@@ -4,5 +4,3 @@ pub mod Series
 pub mod Nesting
 -- how faults print
 pub mod FaultText
--- for this crate alone: what a series holds
-pub mod HeldSeries

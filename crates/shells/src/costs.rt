@@ -5,7 +5,7 @@ ghost use Rattle.std.specs.Prelude.{◌≡◌, ◌<◌, ◌≤◌, ◌^◌, ◌*
 ghost use Rattle.std.specs.Int.{int_max};
 ghost use Rattle.certificate_file.specs.ReadBack.{IsPrice};
 ghost use Rattle.shells.specs.Prices.{AreCharged, price_of, worth_after};
-ghost use Rattle.shells.specs.HeldSeries.{shown_costs};
+ghost use Rattle.shells.specs.Series.{shown_costs};
 
 use check_pit::Price;
 use fixed_worth::{MOST_FACTOR, Micros};

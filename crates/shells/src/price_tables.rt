@@ -4,7 +4,7 @@
 ghost use Rattle.std.specs.Prelude.{◌≡◌, ◌≢◌, ◌<◌, ◌≤◌, ◌≤ℤ◌, ℕ, pos, length, IfOk, MatchOption, MatchResult};
 ghost use Rattle.certificate_file.specs.ReadBack.{IsPrice};
 ghost use Rattle.shells.specs.Prices.{plain_costs, mill_costs, priced_count, price_of, worth_at, worths_at, number_at, IsTable, IsFirstNegative, PricesFaultStands};
-ghost use Rattle.shells.specs.HeldSeries.{shown_costs};
+ghost use Rattle.shells.specs.Series.{shown_costs};
 
 use crate::costs::{Costs, thousandths_of};
 use crate::factor::Factor;
@@ -26,7 +26,7 @@ pub struct Prices {
 
 impl Model for Prices {
     ghost use Rattle.shells.specs.Prices.{PricesView, IsTable};
-    ghost use Rattle.shells.specs.HeldSeries.{shown_costs};
+    ghost use Rattle.shells.specs.Series.{shown_costs};
 
     ghost Value = { PricesView };
 

@@ -35,7 +35,7 @@ pub struct Series {
 impl Model for Series {
     ghost use Rattle.std.specs.Prelude.{vec_capacity};
     ghost use Rattle.shells.specs.Series.{SeriesView};
-    ghost use Rattle.shells.specs.HeldSeries.{IsHeldSeries};
+    ghost use Rattle.shells.specs.Series.{IsHeldSeries};
 
     ghost Value = { SeriesView };
 

@@ -5,9 +5,8 @@ use Rattle.std.proofs.lemmas.List.{get_or_default}
 use Rattle.std.proofs.lemmas.Int.{ints}
 use Rattle.blocks_file.specs.declared.place.Place.{Place}
 use Rattle.blocks_file.specs.Denotes.{BlocksView}
-use Rattle.slope.specs.Places.{place_of, AreApartBelow}
+use Rattle.slope.specs.Slopes.{place_of, AreApartBelow, upward, offset_between}
 use Rattle.slope.specs.Offsets.{Offset, OffsetBefore, AreOffsetsRising}
-use Rattle.slope.specs.Slopes.{upward, offset_between}
 use Rattle.slope.specs.Gathering.{place_key, IsIndex, IsFinding}
 use Rattle.slope.specs.declared.up.Up.{Up}
 use Rattle.slope.specs.declared.up.Up.TheVariants.{PlusZ, MinusZ}

@@ -4,13 +4,10 @@ pub mod Distances
 pub mod ConeSteps
 pub mod Finding
 pub mod PairSteps
-pub mod Narrow
 pub mod OffsetFinding
 pub mod KeyFinding
 pub mod EntryOrder
 pub mod Repeats
-pub mod Reordering
 pub mod BlockSteps
 pub mod TwoSteps
 pub mod Reduction
-pub mod Seen

@@ -11,8 +11,7 @@ use Rattle.blocks_file.specs.Denotes.{BlocksView}
 use Rattle.prec_file.specs.Rests.{RestsView}
 use Rattle.prec_file.specs.Rests.{IsRising as IsPairRising}
 use Rattle.slope.specs.Offsets.{Offset, IsPattern, AreOffsetsRising, OffsetBefore}
-use Rattle.slope.specs.Places.{place_of, AreApartBelow}
-use Rattle.slope.specs.Slopes.{upward, offset_between, IsSlopePair, IsSelected, AreSlopes, SlopeFaultStands}
+use Rattle.slope.specs.Slopes.{place_of, AreApartBelow, upward, offset_between, IsSlopePair, IsSelected, AreSlopes, SlopeFaultStands}
 use Rattle.slope.specs.declared.selection.Selection.{Selection}
 use Rattle.slope.specs.declared.selection.Selection.TheVariants.{Every, Reduced}
 use Rattle.slope.specs.Gathering.{SurroundingsView, ArePlacesOf, StandsAtOffset, StandsNone, offset_at, Collects, IsPairBelow, IsPairUpTo, PairFaultStands, PairRefusalStands}

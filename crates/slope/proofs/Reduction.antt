@@ -5,9 +5,7 @@ use Rattle.std.proofs.lemmas.List.Elements.{All-contains}
 use Rattle.blocks_file.specs.Denotes.{BlocksView}
 use Rattle.prec_file.specs.Rests.{RestsView}
 use Rattle.slope.specs.Offsets.{Offset, IsUpward, IsPattern}
-use Rattle.slope.specs.Places.{place_of}
-use Rattle.slope.specs.Slopes.{upward, offset_between, IsSlopePair, LeadsOver, AreSlopes}
-use Rattle.slope.specs.Closing.{IsClosedBy}
+use Rattle.slope.specs.Slopes.{place_of, IsClosedBy, upward, offset_between, IsSlopePair, LeadsOver, AreSlopes}
 use Rattle.slope.specs.declared.selection.Selection.TheVariants.{Reduced}
 use Rattle.slope.specs.declared.up.Up.{Up}
 use Rattle.slope.specs.declared.up.Up.TheVariants.{PlusZ, MinusZ}

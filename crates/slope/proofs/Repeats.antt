@@ -4,8 +4,7 @@ use Rattle.std.proofs.lemmas.Bool.{cases_lt, cases_order}
 use Rattle.std.proofs.lemmas.List.{get_or_default, get_or-map, length-map}
 use Rattle.blocks_file.specs.Denotes.{BlocksView}
 use Rattle.slope.specs.Offsets.{Offset, OffsetBefore}
-use Rattle.slope.specs.Places.{place_of}
-use Rattle.slope.specs.Slopes.{IsFirstRepeat}
+use Rattle.slope.specs.Slopes.{place_of, IsFirstRepeat}
 use Rattle.slope.specs.Gathering.{Entry, entry_at, entry_of, place_key, AreEntriesOf, AreEntriesInOrder, IsRepeatAt, HaveNoRepeat, IsEarliestAmong, IsEarliestRepeat, IsEarlierRepeat, IsIndex}
 use Rattle.slope.proofs.OffsetSorting.{before_itself}
 use Rattle.slope.proofs.EntryOrder.{neighbours}

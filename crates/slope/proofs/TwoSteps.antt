@@ -9,8 +9,7 @@ use Rattle.std.specs.Global.{Vec}
 use Rattle.blocks_file.specs.declared.place.Place.{Place}
 use Rattle.blocks_file.specs.Denotes.{BlocksView}
 use Rattle.slope.specs.Offsets.{Offset}
-use Rattle.slope.specs.Places.{place_of}
-use Rattle.slope.specs.Slopes.{upward, offset_between, IsSelected, LeadsOver}
+use Rattle.slope.specs.Slopes.{place_of, upward, offset_between, IsSelected, LeadsOver}
 use Rattle.slope.specs.declared.selection.Selection.TheVariants.{Reduced}
 use Rattle.slope.specs.Gathering.{offset_at, rest_after, IsFirstStep, AreFirstSteps, AreStepsOfEach, SurroundingsView, ArePlacesOf, StandsAtOffset, StandsNone, StandsAtSome, StandsAtNone}
 use Rattle.slope.specs.declared.up.Up.{Up}

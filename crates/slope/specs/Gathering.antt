@@ -11,8 +11,7 @@ use Rattle.slope.specs.Lists.{AreMoreThan}
 use Rattle.prec_file.specs.Rests.{RowsView}
 use Rattle.slope.specs.Offsets.{Offset, OffsetBefore, AreOffsetsRising}
 use Rattle.slope.specs.Patterns.{IsNear}
-use Rattle.slope.specs.Places.{place_of}
-use Rattle.slope.specs.Slopes.{IsSelected, IsFirstRepeat, offset_between}
+use Rattle.slope.specs.Slopes.{place_of, IsSelected, IsFirstRepeat, offset_between}
 use Rattle.slope.specs.declared.selection.Selection.{Selection}
 use Rattle.slope.specs.declared.sight.Sight.{Sight}
 use Rattle.slope.specs.declared.sight.Sight.TheVariants as sight

@@ -3,8 +3,6 @@ pub mod Patterns
 pub mod Offsets
 -- which block rests on which
 pub mod Slopes
-pub mod Places
-pub mod Closing
 -- how faults print
 pub mod FaultText
 -- for this crate alone: lists as they are gathered

@@ -1,18 +1,29 @@
 -- Which block rests on which, by a pattern.
-use Rattle.std.specs.Prelude.{◌≡◌, ℕ, ◌<◌, ℤ, pos, ◌-ℤ◌, List, Contains}
+use Rattle.std.specs.Prelude.{◌≡◌, ℕ, ◌<◌, ℤ, pos, ◌-ℤ◌, List, Contains, ◌≢◌, slice_index_or, Bool, IsTrue}
 use Rattle.prec_file.specs.declared.limits.TheConstants.{MOST_PAIRS}
 use Rattle.blocks_file.specs.declared.place.Place.{Place}
-use Rattle.blocks_file.specs.Denotes.{BlocksView}
+use Rattle.blocks_file.specs.Denotes.{BlocksView, origin}
 use Rattle.prec_file.specs.Rests.{RestsView, IsRising}
 use Rattle.slope.specs.Lists.{AreMoreThan}
 use Rattle.slope.specs.Offsets.{Offset}
-use Rattle.slope.specs.Places.{place_of, AreApartBelow}
 use Rattle.slope.specs.declared.selection.Selection.{Selection}
 use Rattle.slope.specs.declared.selection.Selection.TheVariants.{Every, Reduced}
 use Rattle.slope.specs.declared.up.Up.{Up}
 use Rattle.slope.specs.declared.up.Up.TheVariants.{PlusZ, MinusZ}
 use Rattle.slope.specs.declared.slope_fault.SlopeFault.{SlopeFault}
 use Rattle.slope.specs.declared.slope_fault.SlopeFault.TheVariants.{SamePlace, TooMany, NoMemory}
+
+-- Where a block is.
+abbrev pub place_of : BlocksView → ℕ → Place
+place_of m b = slice_index_or m.places b origin
+
+-- No two blocks below c have one place.
+abbrev pub AreApartBelow : BlocksView → ℕ → Type 0
+AreApartBelow m c = (i j : ℕ) → i < j → j < c → place_of m i ≢ place_of m j
+
+-- The set holds with the block of each of these pairs the one that it rests on.
+abbrev pub IsClosedBy : (ℕ × ℕ → Type 0) → (ℕ → Bool) → Type 0
+IsClosedBy P e = (pair : ℕ × ℕ) → P pair → IsTrue (e pair.0) → IsTrue (e pair.1)
 
 -- A difference of heights, counted upward.
 abbrev pub upward : Up → ℤ → ℤ

@@ -10,8 +10,7 @@ ghost use Rattle.prec_file.specs.Written.{AreNarrow};
 ghost use Rattle.slope.specs.declared.selection.Selection as selected;
 ghost use Rattle.slope.specs.declared.selection.Selection.TheVariants.{Reduced};
 ghost use Rattle.slope.specs.declared.up.Up as declared;
-ghost use Rattle.slope.specs.Slopes.{AreSlopes, IsSlopePair};
-ghost use Rattle.slope.specs.Closing.{IsClosedBy};
+ghost use Rattle.slope.specs.Slopes.{AreSlopes, IsSlopePair, IsClosedBy};
 
 use crate::Pattern;
 

@@ -1,8 +1,7 @@
 //! Finds the block that stands at an offset from a place, by a search of the index that begins at a guess.
 
 ghost use Rattle.std.specs.Prelude.{◌≡◌, ◌≢◌, ℕ, ◌<◌, ◌≤◌, IfSome, IsTrue, MatchOption, length};
-ghost use Rattle.slope.specs.Places.{place_of};
-ghost use Rattle.slope.specs.Slopes.{offset_between};
+ghost use Rattle.slope.specs.Slopes.{place_of, offset_between};
 ghost use Rattle.slope.specs.Offsets.{AreOffsetsRising};
 ghost use Rattle.slope.specs.Gathering.{IsEndOrBelow, IsStartOrAbove, IsFinding, IsIndex};
 

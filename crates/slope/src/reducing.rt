@@ -3,8 +3,7 @@
 
 ghost use Rattle.std.specs.Prelude.{◌≡◌, ◌<◌, ◌+◌, MatchResult, length};
 ghost use Rattle.slope.specs.Offsets.{IsPattern};
-ghost use Rattle.slope.specs.Places.{AreApartBelow};
-ghost use Rattle.slope.specs.Slopes.{IsSelected};
+ghost use Rattle.slope.specs.Slopes.{AreApartBelow, IsSelected};
 ghost use Rattle.slope.specs.Gathering.{ArePlacesOf, AreListedBelow, AreStepsOfEach, Collects, IsIndex, PairFaultStands};
 
 use crate::place_index::PlaceIndex;

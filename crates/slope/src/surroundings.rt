@@ -1,7 +1,7 @@
 //! Tells which block stands at each offset of a pattern from a given block, and looks each up at most once.
 
 ghost use Rattle.std.specs.Prelude.{◌≡◌, ◌<◌, ◌⊎◌, true, false, All, MatchOption, MatchResult, length};
-ghost use Rattle.slope.specs.Places.{place_of};
+ghost use Rattle.slope.specs.Slopes.{place_of};
 ghost use Rattle.slope.specs.Gathering.{ArePlacesOf, AreFirstSteps, IsIndex, StandsAtOffset, StandsNone, StandsAtSome, StandsAtNone, offset_at};
 
 use crate::guesses::Guesses;

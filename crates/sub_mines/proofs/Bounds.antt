@@ -1,17 +1,26 @@
 -- What bounds the best pit of a mine: a pit known beforehand, and the best pits of mines that are worth less and more.
-use Rattle.std.proofs.Common.{◌≡◌, ℕ, Bool, true, false, ◌&&◌, ◌||◌, sym, refl, ap, ◌∙◌, arith}
+use Rattle.std.proofs.Common.{◌≡◌, ℕ, Bool, true, false, ◌&&◌, ◌||◌, sym, refl, ap, ◌∙◌, arith, zero, suc, ◌+◌, cond}
 use Rattle.std.proofs.lemmas.Int.{ints}
 use Rattle.std.proofs.lemmas.Bool.{and_from, or_left}
 use Rattle.ordered_group.specs.Sets.{worth_in, count_in}
 use Rattle.ordered_group.proofs.BlockSets.{worth_in-same, count_in-same, count_in-within, worth_of_two, lead_rises}
-use Rattle.sub_mines.proofs.BlockSets.{count_of_two}
 use Rattle.closure_net.specs.Mine.{Mine, IsPit, worth_of, block_count_of, AreSame, IsBest, LiesWithin, RisesTo}
 use Rattle.closure_net.proofs.BestPits.{union_is_pit, intersection_is_pit, pit_of_later, pit_of_earlier}
 use Rattle.ordered_group.proofs.Totals.{within_first, within_second}
-use Rattle.sub_mines.specs.Parts.{union_of, intersection_of, no_block, every_block, IsAsGood, LiesBetween}
-use Rattle.sub_mines.specs.Bounds.{IsFloor, IsCeiling}
+use Rattle.sub_mines.specs.Parts.{union_of, intersection_of, no_block, every_block, IsAsGood, LiesBetween, IsFloor, IsCeiling}
 use Rattle.sub_mines.proofs.Parts.{fewest_of}
 use Rattle.std.proofs.lemmas.Grind.{common_steps}
+
+two_counts : (s t : Bool) → cond (s || t) 1 0 + cond (s && t) 1 0 ≡ cond s 1 0 + cond t 1 0
+two_counts true true = refl
+two_counts true false = refl
+two_counts false true = refl
+two_counts false false = refl
+
+-- the union and the intersection of two sets have together as many blocks as the two sets
+pub count_of_two : (e c : ℕ → Bool) (n : ℕ) → count_in (union_of e c) n + count_in (intersection_of e c) n ≡ count_in e n + count_in c n
+count_of_two e c zero = refl
+count_of_two e c (suc n) = omega (arith, count_of_two e c n, two_counts (e n) (c n))
 
 pub as_good_same : (mine : Mine) (c d : ℕ → Bool) → AreSame mine c d → IsAsGood mine c d
 as_good_same mine c d s = grind (arith, common_steps, worth_in-same, count_in-same)

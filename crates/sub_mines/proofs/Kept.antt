@@ -6,9 +6,8 @@ use Rattle.closure_net.proofs.Holding.{holds_at, place_of, same_tests}
 use Rattle.prec_file.specs.Rests.{has_pair, numbers_passing}
 use Rattle.prec_file.proofs.Passing.{passing_at, passing_here, passing_after}
 use Rattle.closure_net.proofs.Reach.{ascends, passing_known}
-use Rattle.sub_mines.specs.Renumbered.{IsListed, IsImage, number_in}
-use Rattle.sub_mines.specs.Kept.{IsKept, IsPartPairs}
-use Rattle.prec_file.proofs.PairTests.{rests_of_pair, pair_of_rests}
+use Rattle.sub_mines.specs.Renumbered.{IsListed, IsImage, number_in, IsKept, IsPartPairs}
+use Rattle.prec_file.proofs.Pairs.{rests_of_pair, pair_of_rests}
 use Rattle.std.proofs.lemmas.Grind.{common_steps}
 
 -- ---- the list

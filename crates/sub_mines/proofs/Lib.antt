@@ -1,4 +1,3 @@
-pub mod BlockSets
 pub mod Parts
 pub mod Bounds
 pub mod Renumbering

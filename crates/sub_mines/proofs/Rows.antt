@@ -7,7 +7,7 @@ use Rattle.std.proofs.lemmas.List.Elements.{Contains-append_left, Contains-push,
 use Rattle.prec_file.specs.Rests.{above_of, from_at, to_at, first_of, numbers, IsRising, IsRests, RestsView, ArePairsOf, AreApart, IsKnown}
 use Rattle.prec_file.proofs.Finding.{above_at, above_has}
 use Rattle.closure_net.specs.Network.{IsAscending}
-use Rattle.sub_mines.specs.Kept.{IsPartPairs}
+use Rattle.sub_mines.specs.Renumbered.{IsPartPairs}
 use Rattle.sub_mines.specs.Among.{ArePlacesAmong, IsAmong, AreRowsAmong, AreRowsAnd}
 use Rattle.std.proofs.lemmas.Grind.{common_steps}
 

@@ -2,11 +2,9 @@
 use Rattle.std.specs.Prelude.{◌≡◌, ◌↔◌, ℕ, ◌+◌, ◌+ℤ◌, Bool, List, All, ◌<◌, length, map}
 use Rattle.closure_net.specs.Network.{holds_of, IsAscending}
 use Rattle.closure_net.specs.Mine.{Mine, IsPit, worth_of, block_count_of, IsBest, LiesWithin, RisesTo, RestsWithin}
-use Rattle.sub_mines.specs.Parts.{union_of, difference_of, no_block, every_block, part, LiesBetween}
-use Rattle.sub_mines.specs.Bounds.{IsFloor, IsCeiling}
+use Rattle.sub_mines.specs.Parts.{union_of, difference_of, no_block, every_block, part, LiesBetween, IsFloor, IsCeiling}
 use Rattle.prec_file.specs.Rests.{numbers_passing}
-use Rattle.sub_mines.specs.Kept.{IsKept}
-use Rattle.sub_mines.specs.Renumbered.{IsListed, IsRenumbered, IsImage, number_in}
+use Rattle.sub_mines.specs.Renumbered.{IsKept, IsListed, IsRenumbered, IsImage, number_in}
 
 -- Where the best pit is known to lie between two pits, it is the lower one with the best pit of the blocks between them:
 -- the second makes the first, and the first gives the second.

@@ -1,9 +1,7 @@
 -- parts of a mine, and what bounds its best pit
 pub mod Parts
-pub mod Bounds
 -- a part with block numbers of its own
 pub mod Renumbered
-pub mod Kept
 -- the laws of best pits that are found in parts
 pub mod Laws
 -- for this crate alone: pairs as they are gathered

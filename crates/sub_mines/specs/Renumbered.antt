@@ -1,6 +1,7 @@
 -- Some of a mine's blocks with numbers of their own.
-use Rattle.std.specs.Prelude.{◌≡◌, ℕ, ◌<◌, Bool, List, IsTrue, slice_index_or}
+use Rattle.std.specs.Prelude.{◌≡◌, ℕ, ◌<◌, Bool, List, IsTrue, slice_index_or, ◌↔◌, All, length, Contains}
 use Rattle.closure_net.specs.Mine.{Mine, RestsWithin}
+use Rattle.closure_net.specs.Network.{holds_of, IsAscending}
 
 -- The numbers at 0, at 1 and so on to at (m - 1) are those below n that are in the set, ascending.
 pub record IsListed (set : ℕ → Bool) (n m : ℕ) (at : ℕ → ℕ) : Type 0 where
@@ -23,3 +24,14 @@ pub record IsImage (n m : ℕ) (at : ℕ → ℕ) (s t : ℕ → Bool) : Type 0 
 -- the number at a place of a list
 abbrev pub number_in : List ℕ → ℕ → ℕ
 number_in kept i = slice_index_or kept i 0
+
+-- The list is that of the blocks below n that are in the set. Block number_in kept i is block i of their mine.
+pub record IsKept (set : ℕ → Bool) (n : ℕ) (kept : List ℕ) : Type 0 where
+  pub ascending : IsAscending kept
+  pub below : All (λ b. b < n) kept
+  pub are : (b : ℕ) → b < n → holds_of kept b ≡ set b
+
+-- The pairs of which both blocks are in the list, each block by its place in it.
+pub record IsPartPairs (kept : List ℕ) (pairs less : List (ℕ × ℕ)) : Type 0 where
+  pub known : (i j : ℕ) → Contains less (i, j) → (i < length kept) × (j < length kept)
+  pub same : (i j : ℕ) → i < length kept → j < length kept → Contains less (i, j) ↔ Contains pairs (number_in kept i, number_in kept j)

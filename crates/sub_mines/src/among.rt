@@ -2,7 +2,7 @@
 
 ghost use Rattle.std.specs.Prelude.{◌≡◌, ◌<◌, ◌≤◌, ◌+◌, All, IfOk, OnOk, length};
 ghost use Rattle.closure_net.specs.Network.{IsAscending};
-ghost use Rattle.sub_mines.specs.Kept.{IsPartPairs};
+ghost use Rattle.sub_mines.specs.Renumbered.{IsPartPairs};
 ghost use Rattle.sub_mines.specs.Among.{ArePlacesAmong, AreRowsAmong};
 
 use prec_file::{ListedPairs, MOST_PAIRS, Predecessors, Rests};

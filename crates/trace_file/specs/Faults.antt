@@ -9,6 +9,7 @@ use Rattle.trace_file.specs.declared.trace_fault.TraceFault.{TraceFault}
 use Rattle.trace_file.specs.declared.trace_fault.TraceFault.TheVariants.{Text, Truncated, TooMany, NoMemory}
 use Rattle.fixed_worth.specs.Text.{parts}
 use Rattle.trace_file.specs.Lines.{event_of}
+pub use Rattle.fixed_worth.specs.FaultText.{at_line}
 
 -- the events that the lines of a text say
 abbrev pub events_of : List ℕ → List Event
@@ -52,3 +53,10 @@ fault_of text = fault_in (parts 10 text)
 abbrev pub UnlessMemory : TraceFault → Type 0 → Type 0
 UnlessMemory NoMemory P = Unit {0}
 UnlessMemory _ P = P
+
+-- the fault's name, and the line's number in parentheses where there is one
+abbrev pub fault_text : TraceFault → List ℕ
+fault_text (Text k) = at_line (codes "Text") k
+fault_text Truncated = codes "Truncated"
+fault_text TooMany = codes "TooMany"
+fault_text NoMemory = codes "NoMemory"

@@ -4,4 +4,3 @@ pub mod Written
 pub mod ReadBack
 -- what is wrong with a text, and how that prints
 pub mod Faults
-pub mod FaultText

@@ -1,7 +1,7 @@
 //! Why a text is no trace, with the number of its first faulty line, and how each fault is printed.
 
 ghost use Rattle.std.specs.Prelude.{Some};
-ghost use Rattle.trace_file.specs.FaultText.{fault_text};
+ghost use Rattle.trace_file.specs.Faults.{fault_text};
 
 use std::fmt;
 

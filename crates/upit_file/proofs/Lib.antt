@@ -1,4 +1,3 @@
-mod NumbersAlone
 pub mod HeaderLines
 pub mod BodyLines
 pub mod Names
@@ -7,4 +6,3 @@ pub mod LineFeeds
 pub mod ReadBack
 pub mod BodyBack
 pub mod HeaderBack
-pub mod RoundTrip

@@ -11,7 +11,7 @@ use Rattle.fixed_worth.specs.Text.{is_separator, WordRun, runs_from, lines_of}
 use Rattle.fixed_worth.specs.Record.{Line, numbered_lines}
 use Rattle.fixed_worth.specs.Laws.{IsField, AreInOrder}
 use Rattle.fixed_worth.proofs.FieldLaws.{fields_are}
-use Rattle.fixed_worth.proofs.LineLaws.{lines_are}
+use Rattle.fixed_worth.proofs.LineLaws.{lines_are, NoLineFeed}
 use Rattle.upit_file.specs.declared.key.Key.{Key}
 use Rattle.upit_file.specs.declared.key.Key.TheVariants.{Name, FileType, Blocks, Objective, End, Other}
 use Rattle.upit_file.specs.Header.{fields_in, key_in, ends_header, header, last_end, from_second, name_in, name_behind, last_name, header_line_fault, header_lines_fault, header_fault}
@@ -57,9 +57,6 @@ slice_byte line p e k h = get_or-drop p (take e line) k 0 ∙ get_or-take e line
 
 slice_length : (line : List ℕ) (p e : ℕ) → e ≤ length line → length (drop p (take e line)) ≡ e - p
 slice_length line p e h = omega (arith, length-drop p (take e line), length-take e line)
-
-abbrev pub NoLineFeed : List ℕ → Type 0
-NoLineFeed line = EachIndex line (λ k. eqb (get_or line k 0) 10 ≡ false)
 
 none_any : (xs : List ℕ) → ((k : ℕ) → k < length xs → eqb (get_or xs k 0) 10 ≡ false) → list_any (λ b. eqb b 10) xs ≡ false
 none_any [] h = refl

@@ -13,9 +13,8 @@ use Rattle.std.proofs.lemmas.Fmt.{length-decimal-le_wide, decimal_nonempty}
 use Rattle.fixed_worth.specs.declared.numerals.NumberFault.{NumberFault}
 use Rattle.fixed_worth.specs.declared.numerals.NumberFault.TheVariants.{NotANumber, TooLong}
 use Rattle.fixed_worth.specs.Numeral.{is_digit, is_number, value_of, is_minus, unsigned_of, with_sign}
-use Rattle.fixed_worth.specs.Decimal.{is_mark, is_point, mantissa_of, whole_part, fraction_part, exponent_of, has_mark, most, decimal_of}
+use Rattle.fixed_worth.specs.Decimal.{is_mark, is_point, mantissa_of, whole_part, fraction_part, exponent_of, has_mark, most, decimal_of, rounded_of}
 use Rattle.fixed_worth.specs.Printed.{fixed_width, digit_before, without_trailing_zeros, fraction_text, amount_text}
-use Rattle.fixed_worth.specs.Rounding.{rounded_of}
 use Rattle.fixed_worth.proofs.Digits.{value_of-append}
 use Rattle.fixed_worth.proofs.Powers.{rounds_up}
 use Rattle.fixed_worth.proofs.Joined.{all_pass_weaker, Breaks, place_of_break}

@@ -1,17 +1,14 @@
 -- The records behind the header: a block and its value each.
-use Rattle.std.specs.Prelude.{ℕ, ℤ, pos, ◌==◌, ◌&&◌, Bool, not, cond, List, [], ◌∷◌, ◌++◌, drop, nat_le, Option, Some, None, is_some, unwrap_or}
+use Rattle.std.specs.Prelude.{ℕ, ℤ, pos, ◌==◌, ◌&&◌, Bool, not, cond, List, [], ◌∷◌, ◌++◌, drop, nat_le, Option, Some, None, is_some, unwrap_or, ◌≡◌, true, false, IsTrue}
 use Rattle.std.specs.Option.{option_or}
 use Rattle.std.specs.List.{list_any}
 pub use Rattle.fixed_worth.specs.Decimal.{value_read}
-use Rattle.fixed_worth.specs.Record.{Line, reads, number_of, is_skipped}
+pub use Rattle.fixed_worth.specs.Record.{Line, reads, is_skipped, block_of, is_record_of}
 use Rattle.upit_file.specs.declared.upit_fault.UpitFault.{UpitFault}
 use Rattle.upit_file.specs.declared.upit_fault.UpitFault.TheVariants.{Text, Number, UnknownBlock, Repeated}
 use Rattle.upit_file.specs.Header.{is_long, fields_in, is_eof, after_header}
-
--- The block that a record is for: its first field.
-abbrev pub block_of : List (List ℕ) → ℕ
-block_of [] = 0
-block_of (block ∷ fields) = number_of block
+use Rattle.upit_file.specs.declared.record.Record.{Record}
+use Rattle.upit_file.specs.declared.record.Record.TheVariants.{Skipped, End, Value}
 
 -- The value that a record gives, in millionths: its second field.
 abbrev pub value_of_record : List (List ℕ) → ℤ
@@ -36,10 +33,6 @@ record_fault n had line fields = cond (is_skipped fields) None (option_or (shape
 abbrev pub line_fault : ℕ → (ℕ → Bool) → Line → Option UpitFault
 line_fault n had l = cond (is_long l) (Some (Text l.number)) (record_fault n had l.number (fields_in l))
 
--- The line is a record for block b.
-abbrev pub is_record_of : ℕ → List (List ℕ) → Bool
-is_record_of b fields = not (is_skipped fields) && (block_of fields == b)
-
 abbrev pub has_record : List Line → ℕ → Bool
 has_record ls b = list_any (λ l. is_record_of b (fields_in l)) ls
 
@@ -61,3 +54,9 @@ before_end (l ∷ ls) = cond (is_eof (fields_in l)) [] (l ∷ before_end ls)
 -- The lines between the header's last and the end.
 abbrev pub body : List Line → List Line
 body ls = before_end (drop 1 (after_header ls))
+
+-- The fields are those of such a record.
+abbrev pub IsRecord : ℕ → List (List ℕ) → Record → Type 0
+IsRecord line fields Skipped = (is_skipped fields ≡ true) × (is_eof fields ≡ false)
+IsRecord line fields End = IsTrue (is_eof fields)
+IsRecord line fields (Value block value) = (is_skipped fields ≡ false) × (is_eof fields ≡ false) × (shape_fault line fields ≡ None) × (block ≡ block_of fields) × (value ≡ value_of_record fields)

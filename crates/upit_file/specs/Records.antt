@@ -1,16 +1,16 @@
 -- What a text of block values says, over its list of lines.
-use Rattle.std.specs.Prelude.{◌≡◌, ℕ, ℤ, ◌-◌, ◌<◌, ◌==◌, ◌&&◌, ◌||◌, Bool, not, nat_le, slice_index, List, [], length, Option, Some, None, unwrap_or, Result, Ok, Err, get_or, pos}
+use Rattle.std.specs.Prelude.{◌≡◌, ℕ, ℤ, ◌-◌, ◌<◌, ◌==◌, ◌&&◌, ◌||◌, Bool, not, nat_le, slice_index, List, [], length, Option, Some, None, unwrap_or, Result, Ok, Err, get_or, pos, codes}
 use Rattle.std.specs.Option.{option_or}
 use Rattle.std.specs.List.{list_any}
 use Rattle.fixed_worth.specs.declared.limits.TheConstants.{MOST_BLOCKS}
 use Rattle.upit_file.specs.declared.limits.TheConstants.{NAME_BYTES}
 use Rattle.fixed_worth.specs.Text.{is_separator}
-use Rattle.fixed_worth.specs.Record.{Line}
-pub use Rattle.fixed_worth.specs.Record.{lines_in}
+pub use Rattle.fixed_worth.specs.Record.{Line, lines_in}
 use Rattle.upit_file.specs.declared.upit_fault.UpitFault.{UpitFault}
-use Rattle.upit_file.specs.declared.upit_fault.UpitFault.TheVariants.{NoMemory}
+use Rattle.upit_file.specs.declared.upit_fault.UpitFault.TheVariants.{NoMemory, Text, Number, NoObjective, NotUpit, WrongBlocks, UnknownBlock, Repeated}
 use Rattle.upit_file.specs.Header.{header, last_name, first_count, header_fault}
 use Rattle.upit_file.specs.Body.{body, first_fault, value_among}
+pub use Rattle.fixed_worth.specs.FaultText.{at_line}
 
 -- n where nothing is wrong, and otherwise what is.
 abbrev pub unless_fault : ℕ → Option UpitFault → Result ℕ UpitFault
@@ -33,10 +33,6 @@ fault_of n text = option_or (header_fault n (lines_in text)) (first_fault n [] (
 abbrev pub value_at : List ℕ → ℕ → ℤ
 value_at text b = value_among (body (lines_in text)) b
 
--- The name that the last NAME record of the header gives.
-abbrev pub name_of : List ℕ → List ℕ
-name_of text = last_name [] (header (lines_in text))
-
 -- What the type shows: a name, and the value of each block in millionths.
 pub record UpitView : Type 0 where
   pub name : List ℕ
@@ -57,9 +53,20 @@ is_upit name values = is_name name && nat_le (length values) MOST_BLOCKS
 pub record Denotes (n : ℕ) (text : List ℕ) (upit : UpitView) : Type 0 where
   pub count : length upit.values ≡ n
   pub worth : (b : ℕ) → b < n → get_or upit.values b (pos 0) ≡ value_at text b
-  pub named : upit.name ≡ name_of text
+  pub named : upit.name ≡ last_name [] (header (lines_in text))
 
 -- The fault is want of memory, or P holds.
 abbrev pub UnlessMemory : UpitFault → Type 0 → Type 0
 UnlessMemory NoMemory P = Unit {0}
 UnlessMemory _ P = P
+
+-- The fault's name, with its line number in parentheses where it has one.
+abbrev pub upit_fault_text : UpitFault → List ℕ
+upit_fault_text (Text line) = at_line (codes "Text") line
+upit_fault_text (Number line) = at_line (codes "Number") line
+upit_fault_text (NoObjective line) = at_line (codes "NoObjective") line
+upit_fault_text (NotUpit line) = at_line (codes "NotUpit") line
+upit_fault_text (WrongBlocks line) = at_line (codes "WrongBlocks") line
+upit_fault_text (UnknownBlock line) = at_line (codes "UnknownBlock") line
+upit_fault_text (Repeated line) = at_line (codes "Repeated") line
+upit_fault_text NoMemory = codes "NoMemory"

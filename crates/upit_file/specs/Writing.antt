@@ -1,9 +1,9 @@
 -- The one text of a name and values.
-use Rattle.std.specs.Prelude.{ℕ, ℤ, ◌+◌, List, [], ◌∷◌, ◌++◌, length, codes}
+use Rattle.std.specs.Prelude.{ℕ, ℤ, ◌+◌, List, [], ◌∷◌, ◌++◌, length, codes, ◌≡◌, None}
 use Rattle.std.specs.Fmt.{decimal}
 use Rattle.fixed_worth.specs.Laws.{with_line_feeds}
 use Rattle.fixed_worth.specs.Printed.{amount_text}
-use Rattle.upit_file.specs.Records.{UpitView}
+use Rattle.upit_file.specs.Records.{UpitView, fault_of, Denotes}
 
 -- The lines of the header for n blocks.
 abbrev pub header_lines : List ℕ → ℕ → List (List ℕ)
@@ -25,3 +25,8 @@ upit_lines u = header_lines u.name (length u.values) ++ (record_lines 0 u.values
 -- The text of a name and values: a line feed behind each line.
 abbrev pub upit_text : UpitView → List ℕ
 upit_text u = with_line_feeds (upit_lines u)
+
+-- The text of a name and values is read without a fault, and denotes them.
+pub record IsReadBack (u : UpitView) : Type 0 where
+  pub sound : fault_of (length u.values) (upit_text u) ≡ None
+  pub same : Denotes (length u.values) (upit_text u) u

@@ -2,7 +2,7 @@
 //!
 //! The function changes nothing. A caller names it where its own proof needs the law.
 
-ghost use Rattle.upit_file.specs.RoundTrip.{IsReadBack};
+ghost use Rattle.upit_file.specs.Writing.{IsReadBack};
 
 use crate::Upit;
 

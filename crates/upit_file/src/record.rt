@@ -6,7 +6,7 @@ ghost use Rattle.fixed_worth.specs.Text.{fields_of};
 ghost use Rattle.fixed_worth.specs.Record.{is_skipped};
 ghost use Rattle.upit_file.specs.Header as header;
 ghost use Rattle.upit_file.specs.Body as spec;
-ghost use Rattle.upit_file.specs.BodyRecord.{IsRecord};
+ghost use Rattle.upit_file.specs.Body.{IsRecord};
 
 use crate::upit_fault::UpitFault;
 use fixed_worth::{Fields, LINE_BYTES, Micros, is_remark, whole};

@@ -28,7 +28,7 @@ pub enum UpitFault {
 
 impl fmt::Display for UpitFault {
     ghost use Rattle.std.specs.Prelude.{Some};
-    ghost use Rattle.upit_file.specs.FaultText.{upit_fault_text};
+    ghost use Rattle.upit_file.specs.Records.{upit_fault_text};
 
     ghost output = { λ fault. Some (upit_fault_text fault) };
 

@@ -10,7 +10,7 @@ use Rattle.ordered_group.specs.Amount.{Amount, zero_amount, plus, minus, AtMost,
 use Rattle.ordered_group.specs.Sums.{amount_at, total, SumFits}
 use Rattle.ordered_group.specs.declared.scaled.Scaled.{Scaled}
 use Rattle.closure_net.specs.Network.{NetView, IsNet}
-use Rattle.closure_net.specs.FaultStands.{NetFaultStands, OppositeOverflows, PositivesOverflow}
+use Rattle.closure_net.specs.Faults.{NetFaultStands, OppositeOverflows, PositivesOverflow}
 use Rattle.closure_net.specs.declared.net.NetFault.{NetFault}
 use Rattle.closure_net.specs.declared.net.NetFault.TheVariants.{WrongLength, TooLarge, NoMemory}
 use Rattle.ordered_group.proofs.Totals.{total-same}

@@ -5,7 +5,7 @@ use Rattle.certificate_file.specs.Written.{line_at, amount_lines, body_text}
 use Rattle.certificate_file.proofs.Puts.{put_begins, line_put, line_failed, line_skipped}
 use Rattle.certificate_file.proofs.writing.put_amounts.Goals as goal
 use Rattle.certificate_file.proofs.writing.put_amounts.Goals.{then-not-is_zero+in_ok-put_line, else-not-is_zero}
-use Rattle.fixed_worth.proofs.Sides.{on_err}
+use Rattle.fixed_worth.proofs.Results.{on_err}
 
 pub loop-k-init : goal.loop-k-init
 loop-k-init g c = record {

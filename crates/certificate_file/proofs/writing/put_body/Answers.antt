@@ -3,7 +3,7 @@ use Rattle.std.proofs.lemmas.Result.{on_ok_weaker, on_err_weaker}
 use Rattle.certificate_file.specs.Written.{pit_at, body_text, flow_lines, end_text}
 use Rattle.certificate_file.proofs.Puts.{body_parts, first_failed, second_failed, third_failed, three_held}
 use Rattle.certificate_file.proofs.writing.put_body.Goals as goal
-use Rattle.fixed_worth.proofs.Sides.{on_err}
+use Rattle.fixed_worth.proofs.Results.{on_err}
 
 pub returns-in_err-put_pit-clause-prefix : goal.returns-in_err-put_pit-clause-prefix
 returns-in_err-put_pit-clause-prefix g c =

@@ -1,7 +1,7 @@
 use Rattle.std.proofs.lemmas.Result.{on_ok_weaker, on_err_weaker}
 use Rattle.certificate_file.proofs.Puts.{flow_first_failed, flow_second_failed, flow_third_failed, flow_held}
 use Rattle.certificate_file.proofs.writing.put_flow.Goals as goal
-use Rattle.fixed_worth.proofs.Sides.{on_err}
+use Rattle.fixed_worth.proofs.Results.{on_err}
 
 pub returns-in_err-put_amounts-clause-prefix : goal.returns-in_err-put_amounts-clause-prefix
 returns-in_err-put_amounts-clause-prefix g c =

@@ -2,7 +2,7 @@ use Rattle.std.proofs.Common.{◌∙◌, map}
 use Rattle.certificate_file.specs.Written.{pit_at, body_text}
 use Rattle.certificate_file.proofs.Puts.{block_put, block_failed}
 use Rattle.certificate_file.proofs.writing.put_pit.Goals as goal
-use Rattle.fixed_worth.proofs.Sides.{on_err}
+use Rattle.fixed_worth.proofs.Results.{on_err}
 
 pub returns-in_err-put_line-clause-prefix : goal.returns-in_err-put_line-clause-prefix
 returns-in_err-put_line-clause-prefix g c =

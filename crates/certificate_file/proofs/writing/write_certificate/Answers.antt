@@ -10,7 +10,7 @@ use Rattle.certificate_file.specs.ReadBack.{IsReadBack}
 use Rattle.certificate_file.proofs.Puts.{both_sent, last_failed}
 use Rattle.certificate_file.proofs.Whole.{read_back}
 use Rattle.certificate_file.proofs.writing.write_certificate.Goals as goal
-use Rattle.fixed_worth.proofs.Sides.{on_err, on_ok}
+use Rattle.fixed_worth.proofs.Results.{on_err, on_ok}
 
 -- What is put first is the header.
 first_is : (page bytes made : List ℕ) (n : ℕ) (price : Price) (given name : Group) → page ≡ [] → bytes ≡ made → made ≡ lines_text (header_words (header_with n price given)) → given ≡ name → page ++ bytes ≡ lines_text (header_words (header_with n price name))

@@ -2,7 +2,7 @@ use Rattle.std.proofs.Common.{◌<◌, length, arith, below_more, refl, ap, sym,
 use Rattle.ordered_group.specs.Amount.{zero_amount}
 use Rattle.ordered_group.specs.Sums.{amount_at}
 use Rattle.ordered_group.proofs.Lists.{at_map}
-use Rattle.closure_net.proofs.SameLists.{same_amounts_at}
+use Rattle.closure_net.proofs.Views.{same_amounts_at}
 use Rattle.closure_net.proofs.equality.same_amounts.Goals as goal
 
 pub returns-then-not-same : goal.returns-then-not-same

@@ -1,5 +1,5 @@
 use Rattle.std.proofs.Common.{arith, refl}
-use Rattle.closure_net.proofs.SameLists.{same_at_default}
+use Rattle.closure_net.proofs.Views.{same_at_default}
 use Rattle.closure_net.proofs.equality.same_pairs.Goals as goal
 
 pub returns : goal.returns

@@ -1,7 +1,7 @@
 use Rattle.std.proofs.Common.{◌∙◌, ap, subst, arith, inr, map, ℤ}
 use Rattle.std.proofs.lemmas.List.{take_all}
 use Rattle.ordered_group.specs.Amount.{Amount}
-use Rattle.closure_net.specs.FaultStands.{WorthsOverflow}
+use Rattle.closure_net.specs.Faults.{WorthsOverflow}
 use Rattle.closure_net.proofs.worths.worths_of_blocks.Goals as goal
 
 pub returns-then-not-worths_fit : goal.returns-then-not-worths_fit

@@ -5,7 +5,7 @@ use Rattle.fixed_worth.proofs.Pieces.{all_held, held_more, held_more_prefix, pre
 use Rattle.prec_file.specs.Written.{spaced_numbers}
 use Rattle.prec_file.proofs.WrittenPieces.{spaced_more, spaced_parts}
 use Rattle.prec_file.proofs.writing.put_all_spaced.Goals as goal
-use Rattle.fixed_worth.proofs.Sides.{on_err}
+use Rattle.fixed_worth.proofs.Results.{on_err}
 
 pub loop-number-init : goal.loop-number-init
 loop-number-init g c = (subst (SentOrHeld _ _ c.args.page.now) (sym (append-nil c.args.page.now)) (all_held _ c.args.page.now), refl)

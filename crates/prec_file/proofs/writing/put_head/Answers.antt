@@ -3,7 +3,7 @@ use Rattle.std.specs.Fmt.{decimal}
 use Rattle.std.proofs.lemmas.Result.{on_ok_weaker, on_err_weaker}
 use Rattle.fixed_worth.proofs.Pieces.{held_both, prefix_in_first, prefix_in_second}
 use Rattle.prec_file.proofs.writing.put_head.Goals as goal
-use Rattle.fixed_worth.proofs.Sides.{on_err}
+use Rattle.fixed_worth.proofs.Results.{on_err}
 
 pub returns-clause-held : goal.returns-clause-held
 returns-clause-held g c =

@@ -6,7 +6,7 @@ use Rattle.fixed_worth.specs.Device.{SentOrHeld, ReceivedPrefix}
 use Rattle.fixed_worth.proofs.Pieces.{held_both, prefix_in_first, prefix_in_second}
 use Rattle.prec_file.specs.Written.{spaced_numbers}
 use Rattle.prec_file.proofs.writing.put_line.Goals as goal
-use Rattle.fixed_worth.proofs.Sides.{on_err}
+use Rattle.fixed_worth.proofs.Results.{on_err}
 
 -- the line's front and back
 abbrev front : ℕ → List ℕ → List ℕ

@@ -5,7 +5,7 @@ use Rattle.fixed_worth.proofs.Pieces.{held_more, held_more_prefix, held_prefix, 
 use Rattle.prec_file.specs.Written.{prec_line, lines_below}
 use Rattle.prec_file.proofs.WrittenPieces.{lines_more, lines_front}
 use Rattle.prec_file.proofs.writing.write_lines.Goals as goal
-use Rattle.fixed_worth.proofs.Sides.{on_err}
+use Rattle.fixed_worth.proofs.Results.{on_err}
 
 pub loop-block-preserved : goal.loop-block-preserved
 loop-block-preserved g c = (

@@ -3,7 +3,7 @@ use Rattle.fixed_worth.specs.declared.limits.TheConstants.{MOST_BLOCKS, MOST_FAC
 use Rattle.shells.specs.Prices.{PricesView, worths_at}
 use Rattle.bench_report.specs.declared.report_fault.ReportFault.{ReportFault}
 use Rattle.bench_report.specs.Benches.{reported_blocks}
-use Rattle.bench_report.specs.FaultStands.{SameLengths, SomeBenchSumOverflows, ReportFaultStands}
+use Rattle.bench_report.specs.Faults.{SameLengths, SomeBenchSumOverflows, ReportFaultStands}
 use Rattle.report_engines.proofs.SmallSums.{same_lengths, none_overflows}
 use Rattle.report_engines.proofs.bench_rows.rows_at.Goals as goal
 

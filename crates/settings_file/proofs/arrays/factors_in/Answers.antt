@@ -1,9 +1,24 @@
-use Rattle.std.proofs.Common.{◌≡◌, ◌≤◌, length, true, rules}
+use Rattle.std.proofs.Common.{◌≡◌, ◌≤◌, length, true, rules, ℕ, zero, suc, ◌+◌, ◌<◌, List, [], ◌∷◌, get_or, subst, arith, ltb}
 use Rattle.std.specs.List.{All}
-use Rattle.fixed_worth.specs.declared.limits.TheConstants.{MOST_FACTOR}
-use Rattle.settings_file.specs.Values.{are_ascending}
-use Rattle.settings_file.proofs.Ascending.{are_factors}
+use Rattle.fixed_worth.specs.declared.limits.TheConstants.{MOST_FACTOR, MOST_FACTORS}
+use Rattle.settings_file.specs.Values.{are_ascending, AreFactors}
 use Rattle.settings_file.proofs.arrays.factors_in.Goals as goal
+use Rattle.std.specs.List.Sorted.{IsStrictlyIncreasing}
+use Rattle.std.proofs.lemmas.Bool.{and_parts, ltb-true}
+use Rattle.std.proofs.lemmas.List.Kept.{AllPairs-from_increasing}
+
+increasing : (ns : List ℕ) → are_ascending ns ≡ true → IsStrictlyIncreasing ns
+unfolding are_ascending
+increasing [] h k within = absurd (omega arith)
+increasing (a ∷ []) h k within = absurd (omega arith)
+increasing (a ∷ b ∷ ns) h zero within = ltb-true a b (and_parts (ltb a b) (are_ascending (b ∷ ns)) h).0
+increasing (a ∷ b ∷ ns) h (suc k) within =
+    let rest = increasing (b ∷ ns) (and_parts (ltb a b) (are_ascending (b ∷ ns)) h).1 k (omega arith) in
+    let e : suc (k + 1) ≡ suc k + 1 = omega arith in
+    subst (λ n. get_or (b ∷ ns) k 0 < get_or (a ∷ b ∷ ns) n 0) e rest
+
+are_factors : (ns : List ℕ) → 1 ≤ length ns → length ns ≤ MOST_FACTORS → are_ascending ns ≡ true → All (λ n. n ≤ MOST_FACTOR) ns → AreFactors ns
+are_factors ns some few up bounded = record { some = some; few = few; ascending = λ i j below within. AllPairs-from_increasing ns (increasing ns up) i j 0 below within; bounded = bounded }
 
 pub returns-then-is_ascending-clause-form : goal.returns-then-is_ascending-clause-form
 returns-then-is_ascending-clause-form c =

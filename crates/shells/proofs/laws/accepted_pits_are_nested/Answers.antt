@@ -2,7 +2,7 @@ use Rattle.closure_net.specs.Network.{holds_of}
 use Rattle.closure_net.proofs.NetSums.{greatest_is_best}
 use Rattle.prec_file.specs.Rests.{has_pair}
 use Rattle.shells.specs.Series.{mine_at}
-use Rattle.shells.proofs.OverNets.{net_of_over}
+use Rattle.shells.proofs.Shells.{net_of_over}
 use Rattle.shells.proofs.Rising.{best_is_nested}
 use Rattle.shells.proofs.laws.accepted_pits_are_nested.Goals as goal
 

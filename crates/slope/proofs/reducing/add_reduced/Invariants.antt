@@ -2,7 +2,7 @@ use Rattle.std.proofs.Common.{◌≡◌, ◌+◌, ◌≤◌, ◌++◌, All, leng
 use Rattle.prec_file.specs.declared.limits.TheConstants.{MOST_PAIRS}
 use Rattle.prec_file.specs.Rests.{IsOfBlock}
 use Rattle.slope.specs.declared.selection.Selection.TheVariants.{Reduced}
-use Rattle.slope.specs.Places.{place_of}
+use Rattle.slope.specs.Slopes.{place_of}
 use Rattle.slope.specs.Gathering.{ArePlacesOf, Collects, IsPairUpTo}
 use Rattle.slope.proofs.reducing.add_reduced.Given as goal
 

@@ -1,7 +1,7 @@
 use Rattle.std.proofs.Common.{arith, subst, sym}
 use Rattle.blocks_file.specs.Denotes.{BlocksView}
 use Rattle.slope.specs.declared.selection.Selection.TheVariants.{Reduced}
-use Rattle.slope.specs.Places.{AreApartBelow}
+use Rattle.slope.specs.Slopes.{AreApartBelow}
 use Rattle.slope.proofs.BlockSteps.{none_listed, all_listed}
 use Rattle.slope.proofs.Finding.{places_apart}
 use Rattle.slope.proofs.reducing.reduced_pairs.Goals as goal

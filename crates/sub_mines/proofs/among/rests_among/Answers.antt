@@ -1,7 +1,7 @@
 use Rattle.std.proofs.Common.{◌≡◌, length, ap, subst, ◌∙◌}
 use Rattle.prec_file.specs.Rests.{RestsView, ArePairsOf}
 use Rattle.std.proofs.lemmas.Result.{IfOk-weaker}
-use Rattle.sub_mines.specs.Kept.{IsPartPairs}
+use Rattle.sub_mines.specs.Renumbered.{IsPartPairs}
 use Rattle.sub_mines.proofs.Rows.{rows_known, rows_are_part}
 use Rattle.sub_mines.proofs.among.rests_among.Goals as goal
 

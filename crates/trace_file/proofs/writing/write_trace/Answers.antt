@@ -7,7 +7,7 @@ use Rattle.trace_file.specs.Written.{trace_text}
 use Rattle.trace_file.proofs.RoundTrip.{Fits, written_is_read}
 use Rattle.trace_file.proofs.Puts.{head_failed, line_failed, put_more, fit_next, end_failed, all_held}
 use Rattle.trace_file.proofs.writing.write_trace.Goals as goal
-use Rattle.fixed_worth.proofs.Sides.{on_err, on_ok}
+use Rattle.fixed_worth.proofs.Results.{on_err, on_ok}
 
 pub returns-in_err-put-clause-prefix : goal.returns-in_err-put-clause-prefix
 returns-in_err-put-clause-prefix g c =

@@ -1,8 +1,15 @@
-use Rattle.std.proofs.Common.{arith, map, length, List, ap, subst}
+use Rattle.std.proofs.Common.{arith, map, length, List, ap, subst, ◌≡◌}
 use Rattle.std.proofs.lemmas.List.{length-map}
-use Rattle.closure_net.specs.FaultStands.{WorthsFit}
-use Rattle.closure_net.proofs.Nets.{net_parts}
+use Rattle.closure_net.specs.Faults.{WorthsFit}
 use Rattle.closure_net.proofs.net.Net.build.Goals as goal
+use Rattle.ordered_group.specs.Amount.{Amount}
+use Rattle.prec_file.specs.Rests.{RestsView, IsRests}
+use Rattle.closure_net.specs.Network.{IsNetParts}
+use Rattle.std.proofs.lemmas.Grind.{common_steps}
+
+-- pairs and as many worths, all of which fit, make a net
+net_parts : (v : RestsView) (ws : List Amount) → v.blocks ≡ length ws → IsRests v → WorthsFit ws → IsNetParts v ws
+net_parts v ws e r f = grind (arith, common_steps)
 
 pub invariant_of-result : goal.invariant_of-result
 invariant_of-result g c =

@@ -1,5 +1,5 @@
 use Rattle.std.proofs.Common.{ℕ, subst}
-use Rattle.closure_net.specs.FaultStands.{WorthsFaultStands}
+use Rattle.closure_net.specs.Faults.{WorthsFaultStands}
 use Rattle.closure_net.proofs.net.Net.of_worths.Goals as goal
 
 pub returns-in-Err : goal.returns-in-Err

@@ -2,7 +2,7 @@ use Rattle.std.proofs.Common.{◌≡◌, ◌≤◌, ◌+◌, ◌<◌, ℕ, List,
 use Rattle.std.specs.List.Sorted.{IsBinarySearchResult}
 use Rattle.std.specs.Ordering.{nat_cmp}
 use Rattle.closure_net.specs.Network.{holds_of}
-use Rattle.closure_net.specs.Places.{StandsFrom, StandsBelow}
+use Rattle.closure_net.specs.Searches.{StandsFrom, StandsBelow}
 use Rattle.closure_net.proofs.Ascending.{found_in_part}
 use Rattle.closure_net.proofs.pit.Pit.place_near.Goals as goal
 

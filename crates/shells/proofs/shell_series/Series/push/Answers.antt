@@ -2,7 +2,7 @@ use Rattle.std.proofs.Common.{ℕ, List, refl, sym, subst, ◌∙◌, true≢fal
 use Rattle.closure_net.specs.Network.{holds_of}
 use Rattle.closure_net.specs.Mine.{IsBest}
 use Rattle.shells.specs.Series.{mine_at, IsAboveAll}
-use Rattle.shells.proofs.OverNets.{net_of_over}
+use Rattle.shells.proofs.Shells.{net_of_over}
 use Rattle.shells.proofs.shell_series.Series.push.Goals as goal
 
 pub returns-then-not-is_higher-clause-refused : goal.returns-then-not-is_higher-clause-refused

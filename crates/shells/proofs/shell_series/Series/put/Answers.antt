@@ -2,8 +2,7 @@ use Rattle.std.proofs.Common.{◌≡◌, ◌<◌, length, drop, sym, subst, rule
 use Rattle.std.specs.Prelude.{vec_capacity}
 use Rattle.std.proofs.Math.Seq.{take-append_seam}
 use Rattle.closure_net.specs.Network.{holds_of}
-use Rattle.shells.specs.Series.{SeriesView, mine_at, IsAboveAll, IsPushed}
-use Rattle.shells.specs.HeldSeries.{IsHeldSeries}
+use Rattle.shells.specs.Series.{SeriesView, mine_at, IsAboveAll, IsPushed, IsHeldSeries}
 use Rattle.closure_net.specs.Mine.{IsBest}
 use Rattle.shells.proofs.Pushes.{push_keeps}
 use Rattle.shells.proofs.shell_series.Series.put.Goals as goal

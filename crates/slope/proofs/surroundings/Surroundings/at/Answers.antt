@@ -1,7 +1,25 @@
-use Rattle.std.proofs.Common.{◌<◌, length, refl, ap, arith}
-use Rattle.slope.specs.Gathering.{SurroundingsView}
-use Rattle.slope.proofs.Seen.{seen_more, found_stands, sight_is}
+use Rattle.std.proofs.Common.{◌<◌, length, refl, ap, arith, ◌≡◌, ◌≢◌, ℕ, List, Option, Some, None, MatchOption, set, sym, subst, ◌∙◌}
+use Rattle.slope.specs.Gathering.{SurroundingsView, AreSeen, IsSight, StandsAtOffset, StandsNone, offset_at}
 use Rattle.slope.proofs.surroundings.Surroundings.at.Goals as goal
+use Rattle.slope.specs.Offsets.{Offset}
+use Rattle.slope.specs.Slopes.{place_of, offset_between}
+use Rattle.slope.specs.declared.sight.Sight.{Sight}
+use Rattle.slope.specs.declared.sight.Sight.TheVariants as sight
+use Rattle.std.proofs.lemmas.Grind.{common_steps}
+
+seen_more : (v : SurroundingsView) (keys : List Offset) (blocks : List ℕ) (seen : List Sight) (i : ℕ) (s : Sight) → AreSeen v keys blocks seen → i < length v.offsets → IsSight v i s → AreSeen v keys blocks (set seen i s)
+seen_more v keys blocks seen i s h l k = grind (arith, common_steps)
+
+-- what was found at the place of an offset stands there
+found_stands : (v : SurroundingsView) (i : ℕ) (found : Option ℕ) (o : Offset) → o ≡ offset_at v.offsets i →
+    MatchOption found ((p : ℕ) → p < v.model.blocks → offset_between v.up v.from (place_of v.model p) ≢ o) (λ p. (p < v.model.blocks) × (offset_between v.up v.from (place_of v.model p) ≡ o)) →
+    MatchOption found (StandsNone v i) (StandsAtOffset v i)
+found_stands v i None o e h = λ p s. h p s.known (s.there ∙ sym e)
+found_stands v i (Some p) o e h = record { known = h.0; there = h.1 ∙ e }
+
+sight_is : (v : SurroundingsView) (i : ℕ) (found : Option ℕ) (s : Sight) → MatchOption found (s ≡ sight.Nothing) (λ p. s ≡ sight.Block p) → MatchOption found (StandsNone v i) (StandsAtOffset v i) → IsSight v i s
+sight_is v i None s e h = subst (IsSight v i) (sym e) h
+sight_is v i (Some p) s e h = subst (IsSight v i) (sym e) h
 
 pub invariant_of-self : goal.invariant_of-self
 invariant_of-self c =

@@ -1,5 +1,5 @@
--- When there is no bench table, and why.
-use Rattle.std.specs.Prelude.{◌≡◌, ℕ, ◌≤◌, ℤ, List, length, FitsSigned}
+-- When there is no bench table, and how that prints.
+use Rattle.std.specs.Prelude.{◌≡◌, ℕ, ◌≤◌, ℤ, List, length, FitsSigned, codes}
 use Rattle.std.specs.Int.{w128}
 use Rattle.blocks_file.specs.Denotes.{BlocksView}
 use Rattle.ordered_group.specs.Sets.{worth_in}
@@ -8,6 +8,8 @@ use Rattle.shells.specs.Series.{SeriesView}
 use Rattle.bench_report.specs.declared.report_fault.ReportFault.{ReportFault}
 use Rattle.bench_report.specs.declared.report_fault.ReportFault.TheVariants.{WrongModel, TooLarge, NoMemory}
 use Rattle.bench_report.specs.Benches.{ReportedBlocks, blocks_at}
+use Rattle.bench_report.specs.declared.write_fault.ReportWriteFault.{ReportWriteFault}
+use Rattle.bench_report.specs.declared.write_fault.ReportWriteFault.TheVariants as write
 
 -- the series and the worths are of as many blocks as the model
 pub record SameLengths (model : BlocksView) (series : SeriesView) (worths : List ℤ) : Type 0 where
@@ -31,3 +33,14 @@ abbrev pub ReportFaultStands : BlocksView → SeriesView → List ℤ → Report
 ReportFaultStands model series worths m WrongModel = ¬ (SameLengths model series worths)
 ReportFaultStands model series worths m TooLarge = SameLengths model series worths × SomeBenchSumOverflows m
 ReportFaultStands model series worths m NoMemory = SameLengths model series worths
+
+-- the name
+abbrev pub report_fault_text : ReportFault → List ℕ
+report_fault_text WrongModel = codes "WrongModel"
+report_fault_text TooLarge = codes "TooLarge"
+report_fault_text NoMemory = codes "NoMemory"
+
+-- the name
+abbrev pub report_write_fault_text : ReportWriteFault → List ℕ
+report_write_fault_text write.Device = codes "Device"
+report_write_fault_text write.NoMemory = codes "NoMemory"

@@ -1,5 +1,5 @@
--- Faults as they are printed.
-use Rattle.std.specs.Prelude.{ℕ, List, codes}
+-- The faults of a list of pairs, and how faults print.
+use Rattle.std.specs.Prelude.{ℕ, List, codes, ◌<◌, ◌≤◌, length, All}
 pub use Rattle.fixed_worth.specs.FaultText.{at_line}
 use Rattle.prec_file.specs.declared.prec_fault.PrecFault.{PrecFault}
 use Rattle.prec_file.specs.declared.prec_fault.PrecFault.TheVariants as prec
@@ -7,6 +7,8 @@ use Rattle.prec_file.specs.declared.rests_fault.RestsFault.{RestsFault}
 use Rattle.prec_file.specs.declared.rests_fault.RestsFault.TheVariants as rests
 use Rattle.prec_file.specs.declared.write_fault.PrecWriteFault.{PrecWriteFault}
 use Rattle.prec_file.specs.declared.write_fault.PrecWriteFault.TheVariants as write
+use Rattle.prec_file.specs.declared.limits.TheConstants.{MOST_PAIRS}
+use Rattle.prec_file.specs.Rests.{IsFirstNot, IsKnown, KnownAt}
 
 -- The fault's name, and its line in brackets.
 abbrev pub prec_fault_text : PrecFault → List ℕ
@@ -28,3 +30,9 @@ rests_fault_text rests.NoMemory = codes "NoMemory"
 abbrev pub write_fault_text : PrecWriteFault → List ℕ
 write_fault_text (write.TooWide block) = at_line (codes "TooWide") block
 write_fault_text write.Device = codes "Device"
+
+-- The fault stands, and none that comes before it.
+abbrev pub FaultStands : ℕ → List (ℕ × ℕ) → RestsFault → Type 0
+FaultStands n listed (rests.UnknownBlock i) = IsFirstNot (KnownAt n listed) (length listed) i
+FaultStands n listed rests.TooMany = All (IsKnown n) listed × (MOST_PAIRS < length listed)
+FaultStands n listed rests.NoMemory = All (IsKnown n) listed × (length listed ≤ MOST_PAIRS)

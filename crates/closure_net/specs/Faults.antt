@@ -1,5 +1,5 @@
--- When a net can't be built.
-use Rattle.std.specs.Prelude.{◌≡◌, ◌≢◌, ℕ, ◌<◌, ℤ, pos, ◌⊎◌, List, length, map, slice_index_or}
+-- When a net can't be built, and how that prints.
+use Rattle.std.specs.Prelude.{◌≡◌, ◌≢◌, ℕ, ◌<◌, ℤ, pos, ◌⊎◌, List, length, map, slice_index_or, codes}
 use Rattle.ordered_group.specs.Amount.{Amount, zero_amount, minus, positive, FitsPair}
 use Rattle.ordered_group.specs.Sums.{amount_at, SumFits, SumOverflows}
 use Rattle.closure_net.specs.declared.net.NetFault.{NetFault}
@@ -45,3 +45,9 @@ abbrev pub WorthsFaultStands : (ℤ → ℕ → Amount) → ℕ → List ℤ →
 WorthsFaultStands block n vs WrongLength = n ≢ length vs
 WorthsFaultStands block n vs TooLarge = (n ≡ length vs) × (BlockOverflows block n vs ⊎ WorthsOverflow (map (λ v. block v n) vs))
 WorthsFaultStands block n vs NoMemory = n ≡ length vs
+
+-- The fault's name.
+abbrev pub net_fault_text : NetFault → List ℕ
+net_fault_text WrongLength = codes "WrongLength"
+net_fault_text TooLarge = codes "TooLarge"
+net_fault_text NoMemory = codes "NoMemory"
