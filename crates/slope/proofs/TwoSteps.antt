@@ -1,5 +1,5 @@
 -- Pairs that lead over a third block, and the steps of a pattern that add up to another.
-use Rattle.std.proofs.Common.{◌≡◌, ◌≢◌, ◌⊎◌, ℕ, ◌<◌, ℤ, ◌-ℤ◌, ◌+◌, List, [], ◌∷◌, ◌++◌, length, length-append, get_or, Contains, sym, ap, subst, ◌∙◌, arith, inl, inr}
+use Rattle.std.proofs.Common.{◌≡◌, ◌≢◌, ◌⊎◌, ℕ, ◌<◌, ℤ, ◌-ℤ◌, ◌+◌, List, [], ◌∷◌, ◌++◌, length, length-append, get_or, Contains, All, sym, ap, subst, ◌∙◌, arith, inl, inr}
 use Rattle.std.proofs.lemmas.Int.{ints}
 use Rattle.std.proofs.lemmas.Bool.{cases_lt}
 use Rattle.std.proofs.lemmas.List.Elements.{Contains-append_left, Contains-push, Contains-push_cases}
@@ -10,11 +10,12 @@ use Rattle.blocks_file.specs.declared.place.Place.{Place}
 use Rattle.blocks_file.specs.Denotes.{BlocksView}
 use Rattle.slope.specs.Offsets.{Offset}
 use Rattle.slope.specs.Slopes.{place_of, upward, offset_between, IsSelected, LeadsOver}
-use Rattle.slope.specs.declared.selection.Selection.TheVariants.{Reduced}
-use Rattle.slope.specs.Gathering.{offset_at, rest_after, IsFirstStep, AreFirstSteps, AreStepsOfEach, SurroundingsView, ArePlacesOf, StandsAtOffset, StandsNone, StandsAtSome, StandsAtNone}
+use Rattle.slope.specs.declared.selection.Selection.{Selection}
+use Rattle.slope.specs.declared.selection.Selection.TheVariants.{Every, Reduced}
+use Rattle.slope.specs.Gathering.{offset_at, rest_after, IsFirstStep, AreFirstSteps, AreStepsTo, AreStepsOfEach, SurroundingsView, ArePlacesOf, StandsAtOffset, StandsNone, StandsAtSome, StandsAtNone}
 use Rattle.slope.specs.declared.up.Up.{Up}
 use Rattle.slope.specs.declared.up.Up.TheVariants.{PlusZ, MinusZ}
-use Rattle.slope.proofs.PairSteps.{slope_at}
+use Rattle.slope.proofs.PairSteps.{slope_at, every_at, every_passed}
 use Rattle.std.proofs.lemmas.Grind.{common_steps}
 
 rest_of_height : (up : Up) (x y z : ℤ) → upward up (z -ℤ y) ≡ upward up (z -ℤ x) -ℤ upward up (y -ℤ x)
@@ -91,6 +92,24 @@ module _ (v : SurroundingsView) (m : BlocksView) (os : List Offset) (up : Up) (s
         | inr none ↦ subst (λ x. StandsNone x i) e none p stands
       ]
 
+-- by which selection there are steps
+module _ (v : SurroundingsView) (m : BlocksView) (os : List Offset) (up : Up) (same : ArePlacesOf v m os up) (b : ℕ) (known : b < m.blocks) (from : v.from ≡ place_of m b) (i : ℕ) (l : i < length os) (steps : List ℕ) where
+  -- a block that stands there, where none stands at a step, makes a selected pair
+  pub selected_by : (s : Selection) → AreStepsTo s v.offsets (offset_at v.offsets i) steps → (p : ℕ) → StandsAtOffset v i p × StandsAtNone v steps → IsSelected s m os up (b, p) × (offset_between up (place_of m b) (place_of m p) ≡ offset_at os i)
+  selected_by Every of p h = every_at v m os up same b known from i l p h.0
+  selected_by Reduced of p h = selected_at v m os up same b known from i l steps of p h
+
+  -- where a block stands at a step, or none stands there, no pair is selected
+  pub passed_by : (s : Selection) → AreStepsTo s v.offsets (offset_at v.offsets i) steps → StandsAtSome v steps ⊎ StandsNone v i → (p : ℕ) → IsSelected s m os up (b, p) → offset_between up (place_of m b) (place_of m p) ≢ offset_at os i
+  passed_by Every of (inl some) p selected at = absurd (omega (arith, ap length of, some.among.1))
+  passed_by Every of (inr none) p selected at = every_passed v m os up same b known from i l none p selected at
+  passed_by Reduced of h p selected at = passed_at v m os up same b known from i l steps of h p selected at
+
+-- the steps are offsets of the pattern
+pub steps_known : (s : Selection) (os : List Offset) (whole : Offset) (steps : List ℕ) → AreStepsTo s os whole steps → All (λ a. a < length os) steps
+steps_known Every os whole steps of k d l = absurd (omega (arith, ap length of, l))
+steps_known Reduced os whole steps of k d l = (of.only (get_or steps k d) (k, l, get_or_default steps k _ d l)).known
+
 -- ---- gathering the first steps
 
 -- none among no offsets
@@ -125,15 +144,15 @@ module _ (os : List Offset) (whole : Offset) (k : ℕ) (steps : List ℕ) (h : A
   }
 
 -- the steps to one offset more
-pub each_more : (os : List Offset) (k : ℕ) (steps : List (Vec ℕ)) (one : Vec ℕ) → AreStepsOfEach os k steps → AreFirstSteps os (offset_at os k) (length os) one.items → AreStepsOfEach os (k + 1) (steps ++ one ∷ [])
-each_more os k steps one h f = record {
+pub each_more : (s : Selection) (os : List Offset) (k : ℕ) (steps : List (Vec ℕ)) (one : Vec ℕ) → AreStepsOfEach s os k steps → AreStepsTo s os (offset_at os k) one.items → AreStepsOfEach s os (k + 1) (steps ++ one ∷ [])
+each_more s os k steps one h f = record {
   as_many = length-append steps (one ∷ []) ∙ ap (λ n. n + 1) h.as_many;
   each = λ i d l. elim (cases_lt i k) [
-    | inl below ↦ subst (λ (v : Vec ℕ). AreFirstSteps os (offset_at os i) (length os) v.items) (sym (get_or_append_left steps (one ∷ []) d i (omega (arith, below, h.as_many)))) (h.each i d below)
+    | inl below ↦ subst (λ (v : Vec ℕ). AreStepsTo s os (offset_at os i) v.items) (sym (get_or_append_left steps (one ∷ []) d i (omega (arith, below, h.as_many)))) (h.each i d below)
     | inr least ↦
         let e : i ≡ length steps = omega (arith, l, least, h.as_many) in
         let at : get_or (steps ++ one ∷ []) i d ≡ one = ap (λ j. get_or (steps ++ one ∷ []) j d) e ∙ get_or-append_seam steps one [] d in
         let same : k ≡ i = omega (arith, l, least) in
-        subst (λ (v : Vec ℕ). AreFirstSteps os (offset_at os i) (length os) v.items) (sym at) (subst (λ j. AreFirstSteps os (offset_at os j) (length os) one.items) same f)
+        subst (λ (v : Vec ℕ). AreStepsTo s os (offset_at os i) v.items) (sym at) (subst (λ j. AreStepsTo s os (offset_at os j) one.items) same f)
   ];
 }

@@ -1,6 +1,6 @@
 -- What only the functions of this crate say to one another: lists as they are gathered, a cone level by level, the index
 -- of places, and the pairs block by block.
-use Rattle.std.specs.Prelude.{◌≡◌, ◌≢◌, ℕ, ◌<◌, ◌≤◌, ◌+◌, ◌-◌, ◌*◌, ◌/◌, ℤ, pos, ◌-ℤ◌, ◌≤ℤ◌, ◌<ℤ◌, ◌⊎◌, List, length, take, AllPairs, Contains, Option, Some, None, Result, Ok, Err, FitsSigned, slice_index_or}
+use Rattle.std.specs.Prelude.{◌≡◌, ◌≢◌, ℕ, ◌<◌, ◌≤◌, ◌+◌, ◌-◌, ◌*◌, ◌/◌, ℤ, pos, ◌-ℤ◌, ◌≤ℤ◌, ◌<ℤ◌, ◌⊎◌, List, [], length, take, AllPairs, Contains, Option, Some, None, Result, Ok, Err, FitsSigned, slice_index_or}
 use Rattle.std.specs.Global.{Vec}
 use Rattle.std.specs.Int.{w32}
 use Rattle.prec_file.specs.declared.limits.TheConstants.{MOST_PAIRS}
@@ -13,6 +13,7 @@ use Rattle.slope.specs.Offsets.{Offset, OffsetBefore, AreOffsetsRising}
 use Rattle.slope.specs.Patterns.{IsNear}
 use Rattle.slope.specs.Slopes.{place_of, IsSelected, IsFirstRepeat, offset_between}
 use Rattle.slope.specs.declared.selection.Selection.{Selection}
+use Rattle.slope.specs.declared.selection.Selection.TheVariants.{Every, Reduced}
 use Rattle.slope.specs.declared.sight.Sight.{Sight}
 use Rattle.slope.specs.declared.sight.Sight.TheVariants as sight
 use Rattle.slope.specs.declared.pattern_fault.PatternFault.{PatternFault}
@@ -200,10 +201,16 @@ pub record AreFirstSteps (offsets : List Offset) (whole : Offset) (k : ℕ) (ste
   pub held : (a : ℕ) → a < k → IsFirstStep offsets whole a → Contains steps a
   pub only : (a : ℕ) → Contains steps a → IsFirstStep offsets whole a
 
--- The first steps to each of the first k offsets.
-pub record AreStepsOfEach (offsets : List Offset) (k : ℕ) (steps : List (Vec ℕ)) : Type 0 where
+-- The numbers of the offsets at which no block may stand where a pair at an offset is selected: none where every pair is, and the
+-- first steps to it where the reduced ones are.
+abbrev pub AreStepsTo : Selection → List Offset → Offset → List ℕ → Type 0
+AreStepsTo Every offsets whole steps = steps ≡ []
+AreStepsTo Reduced offsets whole steps = AreFirstSteps offsets whole (length offsets) steps
+
+-- Such numbers for each of the first k offsets.
+pub record AreStepsOfEach (selection : Selection) (offsets : List Offset) (k : ℕ) (steps : List (Vec ℕ)) : Type 0 where
   pub as_many : length steps ≡ k
-  pub each : (i : ℕ) (d : Vec ℕ) → i < k → AreFirstSteps offsets (offset_at offsets i) (length offsets) (slice_index_or steps i d).items
+  pub each : (i : ℕ) (d : Vec ℕ) → i < k → AreStepsTo selection offsets (offset_at offsets i) (slice_index_or steps i d).items
 
 -- ---- what stands around a block
 

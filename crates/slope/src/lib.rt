@@ -27,7 +27,6 @@ mod pattern;
 mod pattern_fault;
 mod place_index;
 mod place_search;
-mod reducing;
 mod selection;
 mod sight;
 mod slope_fault;

@@ -2,13 +2,13 @@
 
 ghost use Rattle.std.specs.Prelude.{◌≡◌, ◌<◌, ◌⊎◌, true, false, All, MatchOption, MatchResult, length};
 ghost use Rattle.slope.specs.Slopes.{place_of};
-ghost use Rattle.slope.specs.Gathering.{ArePlacesOf, AreFirstSteps, IsIndex, StandsAtOffset, StandsNone, StandsAtSome, StandsAtNone, offset_at};
+ghost use Rattle.slope.specs.Gathering.{ArePlacesOf, AreStepsTo, IsIndex, StandsAtOffset, StandsNone, StandsAtSome, StandsAtNone, offset_at};
 
 use crate::guesses::Guesses;
 use crate::place_index::PlaceIndex;
 use crate::place_search::block_at;
 use crate::sight::{Sight, sight_of};
-use crate::{SlopeFault, Up};
+use crate::{Selection, SlopeFault, Up};
 use blocks_file::{BlockModel, Place};
 use std::alloc::Global;
 use std::marker::Model;
@@ -122,14 +122,14 @@ impl<'a> Surroundings<'a> {
         false
     }
 
-    // The block at offset i, where none stands at a first step to it.
-    pub(crate) fn direct(&mut self, i: usize, steps: &[u32]) -> Option<u32>
+    // The block at offset i, where none stands at a step to it.
+    pub(crate) fn direct(&mut self, i: usize, steps: &[u32], _selection: Selection) -> Option<u32>
         requires known { i < length self.old.offsets }
-        requires steps { AreFirstSteps self.old.offsets
-            (offset_at self.old.offsets i) (length self.old.offsets) steps.now }
+        requires steps { AreStepsTo _selection self.old.offsets
+            (offset_at self.old.offsets i) steps.now }
         ensures same { self.new ≡ self.old }
-        ensures first { AreFirstSteps self.old.offsets
-            (offset_at self.old.offsets i) (length self.old.offsets) steps.now }
+        ensures steps { AreStepsTo _selection self.old.offsets
+            (offset_at self.old.offsets i) steps.now }
         ensures stands { MatchOption result
             (StandsAtSome self.old steps.now ⊎ StandsNone self.old i)
             (λ p. StandsAtOffset self.old i p × StandsAtNone self.old steps.now) }

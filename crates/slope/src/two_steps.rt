@@ -4,8 +4,9 @@
 ghost use Rattle.std.specs.Prelude.{◌≡◌, ◌↔◌, ◌≤◌, ◌-ℤ◌, IfOk, IsTrue, Contains, length};
 ghost use Rattle.slope.specs.declared.pattern.TheConstants.{MOST_OFFSETS};
 ghost use Rattle.slope.specs.Offsets.{AreOffsetsRising};
-ghost use Rattle.slope.specs.Gathering.{AreFirstSteps, AreStepsOfEach, rest_after};
+ghost use Rattle.slope.specs.Gathering.{AreFirstSteps, AreStepsOfEach, AreStepsTo, rest_after};
 
+use crate::Selection;
 use std::alloc::{AllocError, Global};
 
 // The number in 64 bits, which have room for the difference of two such numbers.
@@ -83,20 +84,40 @@ fn steps_to(
     Ok(steps)
 }
 
-// For each offset of a pattern the numbers of those that are a first step to it: from the place at such a one another
-// offset leads on.
-pub(crate) fn first_steps(
+// None where every pair is selected, and else the first steps.
+fn selected_steps(
     alloc: Global,
     offsets: &[(i32, i32, i32)],
+    wide: &[(i64, i64, i64)],
+    whole: (i32, i32, i32),
+    selection: Selection,
+) -> Result<Vec<u32>, AllocError>
+    requires rising { AreOffsetsRising offsets.now }
+    requires few { length offsets.now ≤ MOST_OFFSETS }
+    requires wide { wide.now ≡ offsets.now }
+    ensures { IfOk result (λ v. AreStepsTo selection offsets.now whole v.items) }
+{
+    match selection {
+        Selection::Every => Ok(Vec::new(alloc)),
+        Selection::Reduced => steps_to(alloc, offsets, wide, whole),
+    }
+}
+
+// For each offset of a pattern the numbers of those at which no block may stand where a pair at it is selected: of the
+// reduced ones each first step to it, from whose place another offset leads on.
+pub(crate) fn steps_of_each(
+    alloc: Global,
+    offsets: &[(i32, i32, i32)],
+    selection: Selection,
 ) -> Result<Vec<Vec<u32>>, AllocError>
     requires rising { AreOffsetsRising offsets.now }
     requires few { length offsets.now ≤ MOST_OFFSETS }
-    ensures { IfOk result (λ v. AreStepsOfEach offsets.now (length offsets.now) v.items) }
+    ensures { IfOk result (λ v. AreStepsOfEach selection offsets.now (length offsets.now) v.items) }
 {
     let wide = widened(alloc, offsets)?;
     let mut steps = Vec::new(alloc);
     for whole in offsets {
-        steps.push(steps_to(alloc, offsets, &wide, *whole)?)?;
+        steps.push(selected_steps(alloc, offsets, &wide, *whole, selection)?)?;
     }
     Ok(steps)
 }
