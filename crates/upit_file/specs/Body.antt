@@ -1,5 +1,5 @@
 -- The records behind the header: a block and its value each.
-use Rattle.std.specs.Prelude.{ℕ, ℤ, pos, ◌==◌, ◌&&◌, Bool, not, cond, List, [], ◌∷◌, ◌++◌, drop, nat_le, Option, Some, None, is_some, unwrap_or, ◌≡◌, true, false, IsTrue}
+use Rattle.std.specs.Prelude.{ℕ, ℤ, pos, ◌&&◌, Bool, cond, List, [], ◌∷◌, ◌++◌, drop, nat_le, Option, Some, None, is_some, unwrap_or, ◌≡◌, true, false, IsTrue}
 use Rattle.std.specs.Option.{option_or}
 use Rattle.std.specs.List.{list_any}
 pub use Rattle.fixed_worth.specs.Decimal.{value_read}
