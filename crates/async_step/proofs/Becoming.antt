@@ -100,23 +100,11 @@ module _ (net : NetView) (v : StateView) (over : IsStateOf net v) (b : ℕ) (l :
   -- as many blocks and pairs as before
   same_blocks : (change : Change Amount) → (lists_after_change v b change).operation ≡ v.operation
   same_blocks Nothing = refl
-  same_blocks (Excess at x) = refl
-  same_blocks (Label x) = refl
-  same_blocks (Source x) = refl
-  same_blocks (Sink x) = refl
-  same_blocks (Flow k x) = refl
-  same_blocks (AtSource x) = refl
-  same_blocks (AtSink x) = refl
+  same_blocks _ = refl
 
   same_pairs : (change : Change Amount) → length (lists_after_change v b change).flow ≡ length v.flow
-  same_pairs Nothing = refl
-  same_pairs (Excess at x) = refl
-  same_pairs (Label x) = refl
-  same_pairs (Source x) = refl
-  same_pairs (Sink x) = refl
   same_pairs (Flow k x) = length-set v.flow k x
-  same_pairs (AtSource x) = refl
-  same_pairs (AtSink x) = refl
+  same_pairs _ = refl
 
   pub goes : v.steps < MOST_STEPS → IsSized v → (change : Change Amount) → CanChange net b change → GoesTo net v (after_change (with_operation (state_of v) b o) b change) (gone_on change)
   goes few sized change can =

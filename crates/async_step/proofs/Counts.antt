@@ -69,10 +69,9 @@ run_more old new from width b p q f t s =
 
 -- the mark of a block is put in or taken out
 opposite : (v t : Bool) → (t ≡ v → ⊥) → (v ≡ true → t ≡ false) × (v ≡ false → t ≡ true)
-opposite true true d = absurd (d refl)
 opposite true false d = (λ e. refl, λ e. absurd cc)
 opposite false true d = (λ e. absurd cc, λ e. refl)
-opposite false false d = absurd (d refl)
+opposite _ _ d = absurd (d refl)
 
 module _ (marks : List Bool) (b : ℕ) (inside : b < length marks) where
   here : (v : Bool) → mark_at (set marks b v) b ≡ v
@@ -152,6 +151,4 @@ marks_set marks smalls middles larges count b t v x y z x' y' z' held h l e d rx
 -- two marks that the code finds to differ
 pub differ : (t v : Bool) → beq t v ≡ false → t ≡ v → ⊥
 differ true true h e = absurd cc
-differ true false h e = absurd cc
-differ false true h e = absurd cc
-differ false false h e = absurd cc
+differ _ _ h e = absurd cc

@@ -32,14 +32,12 @@ empty_tells marks count e = (λ z b p q. run_none marks 0 (length marks) (sym e 
 
 -- the marks of an empty set
 none_at : (n b : ℕ) → mark_at (replicate n false) b ≡ false
-none_at zero b = refl
-none_at (suc n) zero = refl
 none_at (suc n) (suc b) = none_at n b
+none_at _ _ = refl
 
 zeros_at : (n i : ℕ) → get_or (replicate {A = ℕ} n 0) i 0 ≡ 0
-zeros_at zero i = refl
-zeros_at (suc n) zero = refl
 zeros_at (suc n) (suc i) = zeros_at n i
+zeros_at _ _ = refl
 
 counted_none : (n width : ℕ) → 0 < width → IsCounted (replicate n false) width (replicate {A = ℕ} (n / width + 1) 0)
 counted_none n width w = grind (arith, common_steps, lt-div-mul-add, length-replicate, div-lt_iff_lt-mul, zeros_at, run_empty, replicate, none_at)

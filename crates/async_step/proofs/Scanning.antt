@@ -15,20 +15,12 @@ use Rattle.async_step.specs.Scans.{after_label_by}
 -- an operation looks at one of so many ports where it does so with its amounts turned by f
 pub scan_under : {N M : Type 0} (f : N → M) (n : ℕ) (o : Operation N) → LooksAtPort n (operation_as f o) → LooksAtPort n o
 scan_under f n Idle h = h
-scan_under f n (Scan have place read best) h = h
-scan_under f n (PushDue have best) h = h
-scan_under f n (TakeDue amount port) h = h
-scan_under f n (GiveDue amount port) h = h
-scan_under f n (RaiseDue have best) h = h
+scan_under f n _ h = h
 
 -- it isn't over while a port is looked at, nor once a port was chosen
 pub scan_works : {N : Type 0} (n : ℕ) (o : Operation N) → LooksAtPort n o → is_idle o ≡ false
 scan_works n Idle h = absurd h
-scan_works n (Scan have place read best) h = refl
-scan_works n (PushDue have best) h = refl
-scan_works n (TakeDue amount port) h = refl
-scan_works n (GiveDue amount port) h = refl
-scan_works n (RaiseDue have best) h = refl
+scan_works n _ h = refl
 
 either_works : {N : Type 0} (t : Bool) (o p : Operation N) → is_idle o ≡ false → is_idle p ≡ false → is_idle (if t then o else p) ≡ false
 either_works true o p h k = h
@@ -43,10 +35,7 @@ passed_works n label have place best = either_works (nat_lt (place + 1) n) (Scan
 pub chosen_works : (n label : ℕ) (port : Port) (beyond : ℕ) (o : Operation Amount) → LooksAtPort n o → is_idle (after_label_by n label port beyond o) ≡ false
 chosen_works n label port beyond Idle h = absurd h
 chosen_works n label port beyond (Scan have place read best) h = passed_works n label have place _
-chosen_works n label port beyond (PushDue have best) h = refl
-chosen_works n label port beyond (TakeDue amount port₁) h = refl
-chosen_works n label port beyond (GiveDue amount port₁) h = refl
-chosen_works n label port beyond (RaiseDue have best) h = refl
+chosen_works n label port beyond _ h = refl
 
 -- ---- in its place
 

@@ -33,23 +33,15 @@ pub scan_inside : (net : NetView) (v : StateView) (b : ℕ) (have : Amount) (pla
 scan_inside net v b have place read best over e = (subst (IsOperation net (state_of v) b) (sym e) ((amounts_of net v over).operation b)).inside
 
 within_of : (net : NetView) (v : StateView) (b place : ℕ) (is_read : Bool) (o : Operation Amount) → IsStateOf net v → IsScanAt place is_read o → o ≡ (state_of v).operation b → place < length (ports net b)
-within_of net v b place is_read Idle over at e = absurd at
 within_of net v b place is_read (Scan have here read best) over at e = subst (λ n. n < length (ports net b)) at.0 (scan_inside net v b have here read best over e)
-within_of net v b place is_read (PushDue have best) over at e = absurd at
-within_of net v b place is_read (TakeDue amount port) over at e = absurd at
-within_of net v b place is_read (GiveDue amount port) over at e = absurd at
-within_of net v b place is_read (RaiseDue have best) over at e = absurd at
+within_of net v b place is_read _ over at e = absurd at
 
 pub scan_within : (net : NetView) (v : StateView) (b place : ℕ) (is_read : Bool) → IsStateOf net v → IsScanAt place is_read ((state_of v).operation b) → place < length (ports net b)
 scan_within net v b place is_read over at = within_of net v b place is_read ((state_of v).operation b) over at refl
 
 pub scan_is : {N : Type 0} (n place : ℕ) (is_read : Bool) (o : Operation N) → IsScanAt place is_read o → place < n → LooksAtPort n o
-scan_is n place is_read Idle at l = at
 scan_is n place is_read (Scan have here read best) at l = subst (λ m. m < n) (sym at.0) l
-scan_is n place is_read (PushDue have best) at l = at
-scan_is n place is_read (TakeDue amount port) at l = at
-scan_is n place is_read (GiveDue amount port) at l = at
-scan_is n place is_read (RaiseDue have best) at l = at
+scan_is n place is_read _ at l = at
 
 pub push_port : (net : NetView) (v : StateView) (b : ℕ) (have : Amount) (best : Best Amount) → IsStateOf net v → PushDue have best ≡ (state_of v).operation b → IsPortOf net b best.port
 push_port net v b have best over e = (subst (IsOperation net (state_of v) b) (sym e) ((amounts_of net v over).operation b)).over.port
@@ -66,34 +58,24 @@ module _ {N : Type 0} (f : N → Amount) (net : NetView) (v w : StateView) (b : 
   pub scan_reads : (place : ℕ) (port : Port) (o : Operation Amount) → IsScanAt place true o → slice_get (ports net b) place ≡ Some port
       → LeadsTelling f net v (with_operation (state_of v) b (after_label_by (length (ports net b)) ((state_of v).label b) port (end_label net (state_of v) port) o)) (Label (end_label net (state_of v) port)) w r
       → LeadsTelling f net v (advance_by net (state_of v) b o) (answer_of net (state_of v) b o) w r
-  scan_reads place port Idle at p h = absurd at
   scan_reads place port (Scan have here None best) at p h = absurd (let q : false ≡ true = at.1 in cc)
   scan_reads place port (Scan have here (Some read) best) at p h =
       subst (λ (q : Option Port). LeadsTelling f net v (with_operation (state_of v) b (after_label_at net (state_of v) b have here best read q)) (answer_beyond net (state_of v) q) w r) (sym (ap (slice_get (ports net b)) at.0 ∙ p)) h
-  scan_reads place port (PushDue have best) at p h = absurd at
-  scan_reads place port (TakeDue amount over) at p h = absurd at
-  scan_reads place port (GiveDue amount over) at p h = absurd at
-  scan_reads place port (RaiseDue have best) at p h = absurd at
+  scan_reads place port _ at p h = absurd at
 
   looks_as : (have : Amount) (place : ℕ) (best : Option (Best Amount)) (port : Port) (k : PortKind) → operation_after_look net (state_of v) b port k (Scan have place None best) ≡ after_look_by net (state_of v) b have place best port k
   looks_as have place best port Sink = refl
-  looks_as have place best port Forward = refl
-  looks_as have place best port Backward = refl
-  looks_as have place best port Source = refl
+  looks_as have place best port _ = refl
 
   -- or isn't
   pub scan_looks : (place : ℕ) (port : Port) (o : Operation Amount) → IsScanAt place false o → slice_get (ports net b) place ≡ Some port
       → LeadsTelling f net v (with_operation (state_of v) b (operation_after_look net (state_of v) b port port.kind o)) (answer_by net (state_of v) b port port.kind) w r
       → LeadsTelling f net v (advance_by net (state_of v) b o) (answer_of net (state_of v) b o) w r
-  scan_looks place port Idle at p h = absurd at
   scan_looks place port (Scan have here None best) at p h =
       subst (λ (q : Option Port). LeadsTelling f net v (with_operation (state_of v) b (after_look net (state_of v) b have here best q)) (answer_at net (state_of v) b q) w r) (sym (ap (slice_get (ports net b)) at.0 ∙ p))
       (subst (λ (x : Operation Amount). LeadsTelling f net v (with_operation (state_of v) b x) (answer_by net (state_of v) b port port.kind) w r) (looks_as have here best port port.kind) h)
   scan_looks place port (Scan have here (Some read) best) at p h = absurd (let q : true ≡ false = at.1 in cc)
-  scan_looks place port (PushDue have best) at p h = absurd at
-  scan_looks place port (TakeDue amount over) at p h = absurd at
-  scan_looks place port (GiveDue amount over) at p h = absurd at
-  scan_looks place port (RaiseDue have best) at p h = absurd at
+  scan_looks place port _ at p h = absurd at
 
 -- a step that is made, or refused
 pub stepped : {N : Type 0} (f : N → Amount) (net : NetView) (v w : StateView) (e : Event) (r : Result (Saw N) StepRefusal) → IsStateOf net v → e.block < length net.worths → next_kind net (state_of v) e.block ≡ e.kind
@@ -112,10 +94,9 @@ stepped f net v w e (Ok saw) over l k h =
         fits = h.0.fits;
       };
     }
-stepped f net v w e (Err NoSuchBlock) over l k h = absurd h.why
-stepped f net v w e (Err (OutOfTurn kind)) over l k h = absurd h.why
 stepped f net v w e (Err TooLarge) over l k h = record { same = h.same; stands = (record { block = l; kind = k }, h.why) }
 stepped f net v w e (Err TooManySteps) over l k h = record { same = h.same; stands = (record { block = l; kind = k }, h.why.0, h.why.1) }
+stepped f net v w e _ over l k h = absurd h.why
 
 -- either way the state is one of a run
 pub still_state : {N : Type 0} (f : N → Amount) (net : NetView) (v w : StateView) (e : Event) (r : Result (Saw N) StepRefusal) → IsStateOf net v

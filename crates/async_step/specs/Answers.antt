@@ -33,10 +33,8 @@ saw_as f (Raised label) = Raised label
 
 -- at a port of this kind whose capacity isn't read: its capacity, or the label beyond a forward one
 abbrev pub answer_by : NetView → State → ℕ → Port → PortKind → Saw Amount
-answer_by net s b port Sink = Capacity (capacity net s b port)
 answer_by net s b port Forward = Label (end_label net s port)
-answer_by net s b port Backward = Capacity (capacity net s b port)
-answer_by net s b port Source = Capacity (capacity net s b port)
+answer_by net s b port _ = Capacity (capacity net s b port)
 
 -- at a place of the list of ports: what a read of that port answers, or the label 0 where the list has no such place
 abbrev pub answer_at : NetView → State → ℕ → Option Port → Saw Amount
@@ -94,10 +92,9 @@ pub record GoesTo (net : NetView) (old : StateView) (after : State) (new : State
 
 -- why it can't
 abbrev pub CannotGo : NetView → StateView → State → StepRefusal → Type 0
-CannotGo net old after NoSuchBlock = ⊥
-CannotGo net old after (OutOfTurn kind) = ⊥
 CannotGo net old after TooLarge = ¬ (Fits net after)
 CannotGo net old after TooManySteps = Fits net after × (MOST_STEPS ≤ old.steps)
+CannotGo net old after _ = ⊥
 
 -- the state stays as it is, since it can't go over to the later one
 pub record StateStays (net : NetView) (old : StateView) (after : State) (new : StateView) (refusal : StepRefusal) : Type 0 where

@@ -19,12 +19,8 @@ has_read (Some capacity) = true
 
 -- the operation looks at the port at this place, whose capacity is read or not
 abbrev pub IsScanAt : {N : Type 0} → ℕ → Bool → Operation N → Type 0
-IsScanAt at is_read Idle = ⊥
 IsScanAt at is_read (Scan have place read best) = (place ≡ at) × (has_read read ≡ is_read)
-IsScanAt at is_read (PushDue have best) = ⊥
-IsScanAt at is_read (TakeDue amount port) = ⊥
-IsScanAt at is_read (GiveDue amount port) = ⊥
-IsScanAt at is_read (RaiseDue have best) = ⊥
+IsScanAt at is_read _ = ⊥
 
 -- the capacity that was read, and zero where none was
 abbrev pub read_or_zero : Option Amount → Amount
@@ -55,7 +51,5 @@ after_label_by count label port beyond o = after_port_by count label (with_candi
 
 -- after a read at a port of this kind whose capacity isn't read: of its capacity, or of the label beyond a forward one
 abbrev pub operation_after_look : NetView → State → ℕ → Port → PortKind → Operation Amount → Operation Amount
-operation_after_look net s b port Sink o = after_capacity_by (length (ports net b)) (s.label b) (capacity net s b port) o
 operation_after_look net s b port Forward o = after_label_by (length (ports net b)) (s.label b) port (end_label net s port) o
-operation_after_look net s b port Backward o = after_capacity_by (length (ports net b)) (s.label b) (capacity net s b port) o
-operation_after_look net s b port Source o = after_capacity_by (length (ports net b)) (s.label b) (capacity net s b port) o
+operation_after_look net s b port _ o = after_capacity_by (length (ports net b)) (s.label b) (capacity net s b port) o

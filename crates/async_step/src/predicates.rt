@@ -2,7 +2,7 @@
 //! begin one or isn't done yet.
 
 ghost use Rattle.std.specs.Prelude.{◌≡◌, not, ◌&&◌, ◌||◌};
-ghost use Rattle.ordered_group.specs.Amount.{is_zero, FitsPair};
+ghost use Rattle.ordered_group.specs.Amount.{is_zero};
 ghost use Rattle.machine_law.specs.Reads.{is_positive};
 ghost use Rattle.machine_law.specs.Operations.{operation_as, is_idle};
 
@@ -35,12 +35,4 @@ pub fn is_busy<G: OrderedGroup>(excess: G, idle: bool) -> bool
     ensures { result ≡ not idle || not (is_zero (G.parts_of excess)) }
 {
     !idle || !is_zero(excess)
-}
-
-/// The numbers of a value fit their type.
-pub fn value_fits<G: OrderedGroup>(amount: G)
-    ensures { FitsPair (G.parts_of amount) }
-{
-    // proof: what `parts` returns fits its type
-    let _numbers = amount.parts();
 }

@@ -55,13 +55,11 @@ one_place ps i j q r h l e f false false x y = ltb_neither i j x y
 -- At place j, where a line gives an amount to the pair at k.
 rest_at : (ps : List (ℕ × ℕ)) (xs : List Amount) (line : BodyLine) (k j : ℕ) → IsRising ps → line.kind ≡ Rest → length xs ≡ length ps → k < length ps → get_or ps k (0, 0) ≡ (line.block, line.other) → j < length ps → (t : Bool) → eqb j k ≡ t
     → (u : Bool) → is_pair line.block line.other (get_or ps j (0, 0)) ≡ u → amount_at (set xs k (amount_of line)) j ≡ cond u (amount_of line) (amount_at xs j)
-rest_at ps xs line k j r is n h e l true s true v = grind (arith, common_steps)
-rest_at ps xs line k j r is n h e l true s false v = grind (arith, common_steps)
 rest_at ps xs line k j r is n h e l false s true v =
     let at_j : get_or ps j (0, 0) ≡ (line.block, line.other) = pair_told line.block line.other (get_or ps j (0, 0)) v in
     let same : j ≡ k = one_place ps j k (line.block, line.other) r l h at_j e (ltb j k) (ltb k j) refl refl in
     absurd (grind (arith, nat_tests))
-rest_at ps xs line k j r is n h e l false s false v = grind (arith, common_steps)
+rest_at ps xs line k j r is n h e l _ s _ v = grind (arith, common_steps)
 
 pub adds_rest : (n : ℕ) (pairs : List (ℕ × ℕ)) (line : BodyLine) (before later : Gathered) (x : Amount) (k : ℕ) → IsRising pairs → line.kind ≡ Rest → Covers n (length pairs) before.flow → k < length pairs → get_or pairs k (0, 0) ≡ (line.block, line.other)
     → x ≡ amount_of line → later ≡ with_rest k x before → Covers n (length pairs) later.flow × Adds n pairs (line ∷ []) before later

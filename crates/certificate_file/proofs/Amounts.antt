@@ -19,8 +19,7 @@ residual_here ws ss i p s r e is_s d = ap (minus (positive (amount_at ws i))) (s
 
 equal_then : (a b : Ordering) → is_eq (ordering_then a b) ≡ (is_eq a && is_eq b)
 equal_then Less b = refl
-equal_then Equal b = refl
-equal_then Greater b = refl
+equal_then _ b = refl
 
 -- an amount is zero where both its numbers are
 pub zero_numbers : (x : Amount) → is_zero x ≡ (int_eq x.w (pos 0) && int_eq x.c (pos 0))

@@ -37,9 +37,7 @@ pub record Numbered (kind : LineKind) (b o : Option ℕ) (a : Option (ℤ × ℤ
 
 pub numbered : (kind : LineKind) (b o : Option ℕ) (a : Option (ℤ × ℤ)) (line : BodyLine) → numbered_line kind b o a ≡ Ok line → Numbered kind b o a line
 numbered kind (Some b) (Some o) (Some a) line h = grind (arith, common_steps)
-numbered kind (Some b) (Some o) None line h = absurd cc
-numbered kind (Some b) None a line h = absurd cc
-numbered kind None o a line h = absurd cc
+numbered kind _ _ _ line h = absurd cc
 
 -- A count is zero where the group has none.
 abbrev pub Counted : Bool → ℤ → Type 0
@@ -48,10 +46,8 @@ Counted counts c = (counts ≡ true) ⊎ (c ≡ pos 0)
 -- A line of such a kind has an amount.
 abbrev pub carries : LineKind → Bool
 carries Pit = false
-carries Source = true
-carries Rest = true
-carries Sink = true
 carries End = false
+carries _ = true
 
 -- What a reader may rely on: where the line is not the last one, its block is one of n; only a REST line has a predecessor; and the count fits the group.
 pub record Sound (counts : Bool) (n : ℕ) (line : BodyLine) : Type 0 where
@@ -71,24 +67,16 @@ sound_amount : (counts : Bool) (n : ℕ) (kind : LineKind) (b w c : List ℕ) (o
 sound_amount counts n kind b w c o line m z y = grind (arith, common_steps)
 
 sound_pit : (counts : Bool) (n : ℕ) (words : List (List ℕ)) (line : BodyLine) → pit_line n words ≡ Ok line → Sound counts n line
-sound_pit counts n [] line h = no_line_is line h
 sound_pit counts n (b ∷ []) line h = grind (arith, common_steps)
-sound_pit counts n (b ∷ w ∷ ws) line h = no_line_is line h
+sound_pit counts n _ line h = no_line_is line h
 
 sound_block : (counts : Bool) (n : ℕ) (kind : LineKind) (words : List (List ℕ)) (line : BodyLine) → carries kind ≡ true → block_line counts n kind words ≡ Ok line → Sound counts n line
-sound_block counts n kind [] line y h = no_line_is line h
-sound_block counts n kind (b ∷ []) line y h = no_line_is line h
-sound_block counts n kind (b ∷ w ∷ []) line y h = no_line_is line h
 sound_block counts n kind (b ∷ w ∷ c ∷ []) line y h = sound_amount counts n kind b w c (Some 0) line (numbered kind (number_below n b) (Some 0) (amount_in counts w c) line h) (λ _. refl) y
-sound_block counts n kind (b ∷ w ∷ c ∷ d ∷ ds) line y h = no_line_is line h
+sound_block counts n kind _ line y h = no_line_is line h
 
 sound_rest : (counts : Bool) (n : ℕ) (words : List (List ℕ)) (line : BodyLine) → rest_line counts n words ≡ Ok line → Sound counts n line
-sound_rest counts n [] line h = no_line_is line h
-sound_rest counts n (b ∷ []) line h = no_line_is line h
-sound_rest counts n (b ∷ p ∷ []) line h = no_line_is line h
-sound_rest counts n (b ∷ p ∷ w ∷ []) line h = no_line_is line h
 sound_rest counts n (b ∷ p ∷ w ∷ c ∷ []) line h = sound_amount counts n Rest b w c (number_below n p) line (numbered Rest (number_below n b) (number_below n p) (amount_in counts w c) line h) (λ e. absurd (let z : true ≡ false = e in cc)) refl
-sound_rest counts n (b ∷ p ∷ w ∷ c ∷ d ∷ ds) line h = no_line_is line h
+sound_rest counts n _ line h = no_line_is line h
 
 sound_end : (counts : Bool) (n : ℕ) (words : List (List ℕ)) (line : BodyLine) → end_line words ≡ Ok line → Sound counts n line
 sound_end counts n [] line h = grind (arith, common_steps)
@@ -134,10 +122,7 @@ next_ok counts n has previous k p line e f = rw (e, f) refl
 
 pit_joins : (kind : LineKind) (b : ℕ) (bs : List ℕ) → block_if_pit kind b [] ++ bs ≡ block_if_pit kind b bs
 pit_joins Pit b bs = refl
-pit_joins Source b bs = refl
-pit_joins Rest b bs = refl
-pit_joins Sink b bs = refl
-pit_joins End b bs = refl
+pit_joins _ b bs = refl
 
 pub goes_on : (counts : Bool) (n : ℕ) (pairs : List (ℕ × ℕ)) (all : Unread) (start : Gathered) (previous : Option BodyLine) (left next : Unread) (so later : Gathered) (line : BodyLine) → Going counts n pairs all start previous left so → IsPieceRead (line_of counts n) left next line
     → may_follow previous line ≡ true → is_end line.kind ≡ false → is_of_model (has_pair pairs) line.kind line ≡ true → Covers n (length pairs) later.flow → Adds n pairs (line ∷ []) so later → Going counts n pairs all start (Some line) next later
@@ -162,8 +147,4 @@ goes_on counts n pairs all start previous left next so later line g p f e m c a 
 
 pub always : (e : CertFault) {P : Type 0} → P → UnlessMemory e P
 always fault.NoMemory h = tt
-always (fault.Text k) h = h
-always (fault.Number k) h = h
-always (fault.OutOfOrder k) h = h
-always (fault.UnknownPair k) h = h
-always fault.Truncated h = h
+always _ h = h

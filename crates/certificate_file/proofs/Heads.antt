@@ -32,10 +32,8 @@ behind_at key k v w true e h = ap (λ (x : List ℕ). x ∷ v ∷ []) (e refl) �
 behind_at key k v w false e h = absurd cc
 
 behind_is : (key w : List ℕ) (words : List (List ℕ)) → value_behind key words ≡ Some w → words ≡ key ∷ w ∷ []
-behind_is key w [] h = absurd cc
-behind_is key w (k ∷ []) h = absurd cc
 behind_is key w (k ∷ v ∷ []) h = behind_at key k v w (bytes_eq k key) (bytes_eq-Decides k key).0 h
-behind_is key w (k ∷ v ∷ u ∷ us) h = absurd cc
+behind_is key w _ h = absurd cc
 
 keyed : (key w text : List ℕ) → value_behind key (words_of text) ≡ Some w → text ≡ spaced_words (key ∷ w ∷ [])
 keyed key w text h = sym (words_make_line text) ∙ ap spaced_words (behind_is key w (words_of text) h)
@@ -43,15 +41,11 @@ keyed key w text h = sym (words_make_line text) ∙ ap spaced_words (behind_is k
 -- What stands behind two keys.
 both_at : (key other k o v w : List ℕ) (s t : Bool) → (s ≡ true → k ≡ key) → (t ≡ true → o ≡ other) → cond (s && t) (Some v) None ≡ Some w → k ∷ o ∷ v ∷ [] ≡ key ∷ other ∷ w ∷ []
 both_at key other k o v w true true d e h = ap (λ (x : List ℕ). x ∷ o ∷ v ∷ []) (d refl) ∙ ap (λ (x : List ℕ). key ∷ x ∷ v ∷ []) (e refl) ∙ ap (λ (x : Option (List ℕ)). key ∷ other ∷ unwrap_or x w ∷ []) h
-both_at key other k o v w true false d e h = absurd cc
-both_at key other k o v w false t d e h = absurd cc
+both_at key other k o v w _ _ d e h = absurd cc
 
 both_is : (key other w : List ℕ) (words : List (List ℕ)) → value_behind_both key other words ≡ Some w → words ≡ key ∷ other ∷ w ∷ []
-both_is key other w [] h = absurd cc
-both_is key other w (k ∷ []) h = absurd cc
-both_is key other w (k ∷ o ∷ []) h = absurd cc
 both_is key other w (k ∷ o ∷ v ∷ []) h = both_at key other k o v w (bytes_eq k key) (bytes_eq o other) (bytes_eq-Decides k key).0 (bytes_eq-Decides o other).0 h
-both_is key other w (k ∷ o ∷ v ∷ u ∷ us) h = absurd cc
+both_is key other w _ h = absurd cc
 
 -- The version.
 abbrev pub version_text : Version → List ℕ

@@ -23,8 +23,7 @@ total = then_total (on_total (λ (l : BodyLine). rank l.kind) nat_cmp_total) (th
 
 lt_less : (o : Ordering) → is_lt o ≡ true → o ≡ Less
 lt_less Less h = refl
-lt_less Equal h = absurd (let z : false ≡ true = h in cc)
-lt_less Greater h = absurd (let z : false ≡ true = h in cc)
+lt_less _ h = absurd (let z : false ≡ true = h in cc)
 
 abbrev pub Above : BodyLine → BodyLine → Type 0
 Above a b = line_cmp a b ≡ Less

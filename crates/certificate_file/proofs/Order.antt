@@ -103,17 +103,13 @@ later_pits counts n has l [] s o i h = absurd (omega arith)
 later_pits counts n has l (m ∷ ms) s o i h = later counts n l m (pit_of ms) m.kind refl s o.1.sound o.0 (later_pits counts n has m ms o.1.sound o.2) i h
 
 rising : (b : ℕ) (bs : List ℕ) → ((i : ℕ) → i < length bs → b < get_or bs i 0) → IsAscending bs → IsAscending (b ∷ bs)
-rising b bs f h zero zero i j = absurd (omega arith)
 rising b bs f h zero (suc y) i j = f y (omega arith)
-rising b bs f h (suc x) zero i j = absurd (omega arith)
 rising b bs f h (suc x) (suc y) i j = h x y (omega arith) (omega arith)
+rising b bs f h _ zero i j = absurd (omega arith)
 
 with_pit : (counts : Bool) (n : ℕ) (m : BodyLine) (bs : List ℕ) (k : LineKind) → m.kind ≡ k → ((i : ℕ) → i < length bs → (m.kind ≡ Pit) × (m.block < get_or bs i 0)) → IsAscending bs → IsAscending (block_if_pit k m.block bs)
 with_pit counts n m bs Pit e f h = rising m.block bs (λ i j. (f i j).1) h
-with_pit counts n m bs Source e f h = h
-with_pit counts n m bs Rest e f h = h
-with_pit counts n m bs Sink e f h = h
-with_pit counts n m bs End e f h = h
+with_pit counts n m bs _ e f h = h
 
 pub ascending : (counts : Bool) (n : ℕ) (has : ℕ → ℕ → Bool) (previous : Option BodyLine) (ls : List BodyLine) → InOrder (Good counts n has) previous ls → IsAscending (pit_of ls)
 ascending counts n has previous [] o = λ i j g h. absurd (omega arith)
@@ -125,10 +121,7 @@ known_on n b bs f h (suc k) d i = h k d (omega arith)
 
 known_pit : (n b : ℕ) (bs : List ℕ) (k : LineKind) → b < n → All (λ x. x < n) bs → All (λ x. x < n) (block_if_pit k b bs)
 known_pit n b bs Pit f h = known_on n b bs f h
-known_pit n b bs Source f h = h
-known_pit n b bs Rest f h = h
-known_pit n b bs Sink f h = h
-known_pit n b bs End f h = h
+known_pit n b bs _ f h = h
 
 pub known : (counts : Bool) (n : ℕ) (has : ℕ → ℕ → Bool) (previous : Option BodyLine) (ls : List BodyLine) → InOrder (Good counts n has) previous ls → All (λ x. x < n) (pit_of ls)
 known counts n has previous [] o = λ k d h. absurd (omega arith)

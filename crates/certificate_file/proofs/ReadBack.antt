@@ -53,11 +53,8 @@ abbrev pub Both : Bool → ℕ → (ℕ → ℕ → Bool) → BodyLine → Type 
 Both counts n has l = Readable counts n l × Proper n has l
 
 rank_most : (k : LineKind) → is_end k ≡ false → rank k ≤ 3
-rank_most Pit h = omega arith
-rank_most Source h = omega arith
-rank_most Rest h = omega arith
-rank_most Sink h = omega arith
 rank_most End h = absurd (let z : true ≡ false = h in cc)
+rank_most _ h = omega arith
 
 -- The text is read without a fault, and as these lines.
 pub record ReadAs (counts : Bool) (n : ℕ) (has : ℕ → ℕ → Bool) (previous : Option BodyLine) (k : ℕ) (text : List ℕ) (ls : List BodyLine) : Type 0 where

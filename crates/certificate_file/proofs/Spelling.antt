@@ -53,8 +53,7 @@ below_at word limit j k false e h = absurd cc
 
 within_is : (word : List ℕ) (limit k : ℕ) (r : Result ℤ NumberFault) → plain_of word ≡ r → within limit r ≡ Some k → word ≡ decimal k
 within_is word limit k (Ok (pos j)) e h = below_at word limit j k (ltb j limit) e h
-within_is word limit k (Ok (negsuc j)) e h = absurd cc
-within_is word limit k (Err x) e h = absurd cc
+within_is word limit k _ e h = absurd cc
 
 pub number_is : (word : List ℕ) (limit k : ℕ) → number_below limit word ≡ Some k → word ≡ decimal k
 number_is word limit k h = within_is word limit k (plain_of word) refl h
@@ -65,32 +64,22 @@ amount_at_test v w x y a false e f h = absurd cc
 
 amount_of_words : (counts : Bool) (v w : List ℕ) (a : ℤ × ℤ) (r s : Result ℤ NumberFault) → plain_of v ≡ r → plain_of w ≡ s → amount_said counts r s ≡ Some a → (v ≡ signed_decimal a.0) × (w ≡ signed_decimal a.1)
 amount_of_words counts v w a (Ok x) (Ok y) e f h = amount_at_test v w x y a (is_amount counts x y) e f h
-amount_of_words counts v w a (Ok x) (Err y) e f h = absurd cc
-amount_of_words counts v w a (Err x) (Ok y) e f h = absurd cc
-amount_of_words counts v w a (Err x) (Err y) e f h = absurd cc
+amount_of_words counts v w a _ _ e f h = absurd cc
 
 amount_is : (counts : Bool) (v w : List ℕ) (a : ℤ × ℤ) → amount_in counts v w ≡ Some a → (v ≡ signed_decimal a.0) × (w ≡ signed_decimal a.1)
 amount_is counts v w a h = amount_of_words counts v w a (plain_of v) (plain_of w) refl refl h
 
 pit_words : (n : ℕ) (words : List (List ℕ)) (l : BodyLine) → pit_line n words ≡ Ok l → key_word Pit ∷ words ≡ line_words l
-pit_words n [] l h = no_line_is l h
 pit_words n (b ∷ []) l h = grind (arith, common_steps, numbered, pos, number_is)
-pit_words n (b ∷ w ∷ ws) l h = no_line_is l h
+pit_words n _ l h = no_line_is l h
 
 block_words : (counts : Bool) (n : ℕ) (kind : LineKind) (words : List (List ℕ)) (l : BodyLine) → words_with kind l ≡ key_word kind ∷ decimal l.block ∷ signed_decimal l.worth ∷ signed_decimal l.count ∷ [] → block_line counts n kind words ≡ Ok l → key_word kind ∷ words ≡ line_words l
-block_words counts n kind [] l e h = no_line_is l h
-block_words counts n kind (b ∷ []) l e h = no_line_is l h
-block_words counts n kind (b ∷ w ∷ []) l e h = no_line_is l h
 block_words counts n kind (b ∷ w ∷ c ∷ []) l e h = grind (arith, common_steps, numbered, amount_is, key_word, number_is)
-block_words counts n kind (b ∷ w ∷ c ∷ d ∷ ds) l e h = no_line_is l h
+block_words counts n kind _ l e h = no_line_is l h
 
 rest_words : (counts : Bool) (n : ℕ) (words : List (List ℕ)) (l : BodyLine) → rest_line counts n words ≡ Ok l → key_word Rest ∷ words ≡ line_words l
-rest_words counts n [] l h = no_line_is l h
-rest_words counts n (b ∷ []) l h = no_line_is l h
-rest_words counts n (b ∷ p ∷ []) l h = no_line_is l h
-rest_words counts n (b ∷ p ∷ w ∷ []) l h = no_line_is l h
 rest_words counts n (b ∷ p ∷ w ∷ c ∷ []) l h = grind (arith, common_steps, numbered, amount_is, number_is)
-rest_words counts n (b ∷ p ∷ w ∷ c ∷ d ∷ ds) l h = no_line_is l h
+rest_words counts n _ l h = no_line_is l h
 
 end_words : (words : List (List ℕ)) (l : BodyLine) → end_line words ≡ Ok l → key_word End ∷ words ≡ line_words l
 end_words [] l h = let m = numbered End (Some 0) (Some 0) (Some (pos 0, pos 0)) l h in ap (λ (k : LineKind). words_with k l) (sym m.kind_is)
@@ -116,9 +105,8 @@ line_is counts n text l h = sym (words_make_line text) ∙ ap spaced_words (line
 
 -- A line that is read ends in a line feed.
 ends_so : (k : ℕ) (p : Piece) (long ended : Bool) → cond long (Some (fault.Text k)) (cond ended None (Some fault.Truncated)) ≡ None → ended ≡ true
-ends_so k p true ended h = absurd cc
 ends_so k p false true h = refl
-ends_so k p false false h = absurd cc
+ends_so k p _ _ h = absurd cc
 
 no_fault_of : {A : Type 0} (o : Option CertFault) (r : Result A CertFault) (x : A) → unless_fault o r ≡ Ok x → o ≡ None
 no_fault_of (Some e) r x h = absurd cc

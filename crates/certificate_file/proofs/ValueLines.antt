@@ -146,10 +146,7 @@ amount_given gives line top i o (x ∷ xs) k (suc j) l e h = grind (arith, commo
 -- The blocks of the pit.
 pub joins : (k : LineKind) (b : ℕ) (xs ys : List ℕ) → block_if_pit k b (xs ++ ys) ≡ block_if_pit k b xs ++ ys
 joins Pit b xs ys = refl
-joins Source b xs ys = refl
-joins Rest b xs ys = refl
-joins Sink b xs ys = refl
-joins End b xs ys = refl
+joins _ b xs ys = refl
 
 pub pit_append : (ls ms : List BodyLine) → pit_of (ls ++ ms) ≡ pit_of ls ++ pit_of ms
 pit_append [] ms = refl

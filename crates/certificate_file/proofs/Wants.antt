@@ -32,14 +32,12 @@ pub record Joined (a : Result Version CertFault) (b : Result ℕ CertFault) (c :
 joined_last : (x : Version) (b : ℕ) (c : Version → Result Price CertFault) (said : Result Price CertFault) (d : Result Group CertFault) (h : Header) → c x ≡ said
     → (said >>= λ price. d >>= λ group. Ok (header_with b price group)) ≡ Ok h → Joined (Ok x) (Ok b) c d h
 joined_last x b c (Ok price) (Ok group) h same e = grind (arith, common_steps)
-joined_last x b c (Ok price) (Err group) h same e = absurd cc
-joined_last x b c (Err price) d h same e = absurd cc
+joined_last x b c _ _ h same e = absurd cc
 
 pub joined : (a : Result Version CertFault) (b : Result ℕ CertFault) (c : Version → Result Price CertFault) (d : Result Group CertFault) (h : Header)
     → (a >>= λ x. b >>= λ blocks. c x >>= λ price. d >>= λ group. Ok (header_with blocks price group)) ≡ Ok h → Joined a b c d h
 joined (Ok x) (Ok b) c d h e = joined_last x b c (c x) d h refl e
-joined (Ok x) (Err b) c d h e = absurd cc
-joined (Err x) b c d h e = absurd cc
+joined _ _ c d h e = absurd cc
 
 wanted_number : (w : Wanted) (k n : ℕ) (t : Bool) → eqb k w.blocks ≡ t → or_number (cond t (Some k) None) ≡ Ok n → n ≡ w.blocks
 wanted_number w k n true e h = grind (arith, common_steps)

@@ -32,9 +32,7 @@ is_amount counts w c = cond (int_eq c (pos 0)) (not (int_eq w (pos 0))) counts
 -- the amount of two numbers that are written rightly
 abbrev pub amount_said : Bool → Result ℤ NumberFault → Result ℤ NumberFault → Option (ℤ × ℤ)
 amount_said counts (Ok w) (Ok c) = cond (is_amount counts w c) (Some (w, c)) None
-amount_said counts (Ok w) (Err e) = None
-amount_said counts (Err d) (Ok c) = None
-amount_said counts (Err d) (Err e) = None
+amount_said counts _ _ = None
 
 -- the amount that two words are
 abbrev pub amount_in : Bool → List ℕ → List ℕ → Option (ℤ × ℤ)
@@ -93,11 +91,8 @@ rank End = 4
 
 -- the last line of a certificate
 abbrev pub is_end : LineKind → Bool
-is_end Pit = false
-is_end Source = false
-is_end Rest = false
-is_end Sink = false
 is_end End = true
+is_end _ = false
 
 -- by kinds, then by blocks, and then by predecessors, a line is above another
 abbrev pub is_above : BodyLine → BodyLine → Bool
@@ -110,11 +105,8 @@ may_follow (Some previous) line = is_above previous line
 
 -- a line of a kind other than REST, or of a pair that the test has
 abbrev pub is_of_model : (ℕ → ℕ → Bool) → LineKind → BodyLine → Bool
-is_of_model has Pit line = true
-is_of_model has Source line = true
 is_of_model has Rest line = has line.block line.other
-is_of_model has Sink line = true
-is_of_model has End line = true
+is_of_model has _ line = true
 
 -- the line, where it may follow
 abbrev pub in_order : Option BodyLine → ℕ → BodyLine → Result BodyLine CertFault

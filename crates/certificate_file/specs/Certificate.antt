@@ -43,10 +43,7 @@ amount_of line = record { w = line.worth; c = line.count }
 -- blocks behind the block of a line, where that is a PIT line
 abbrev pub block_if_pit : LineKind → ℕ → List ℕ → List ℕ
 block_if_pit Pit b bs = b ∷ bs
-block_if_pit Source b bs = bs
-block_if_pit Rest b bs = bs
-block_if_pit Sink b bs = bs
-block_if_pit End b bs = bs
+block_if_pit _ b bs = bs
 
 -- the blocks of the PIT lines, in order
 abbrev pub pit_of : List BodyLine → List ℕ
@@ -55,27 +52,18 @@ pit_of (l ∷ ls) = block_if_pit l.kind l.block (pit_of ls)
 
 -- a SOURCE line
 abbrev pub is_source : LineKind → Bool
-is_source Pit = false
 is_source Source = true
-is_source Rest = false
-is_source Sink = false
-is_source End = false
+is_source _ = false
 
 -- a REST line
 abbrev pub is_rest : LineKind → Bool
-is_rest Pit = false
-is_rest Source = false
 is_rest Rest = true
-is_rest Sink = false
-is_rest End = false
+is_rest _ = false
 
 -- a SINK line
 abbrev pub is_sink : LineKind → Bool
-is_sink Pit = false
-is_sink Source = false
-is_sink Rest = false
 is_sink Sink = true
-is_sink End = false
+is_sink _ = false
 
 -- whether a line gives the amount from the source for a block
 abbrev pub gives_source : ℕ → BodyLine → Bool

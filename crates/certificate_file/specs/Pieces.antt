@@ -59,8 +59,7 @@ read_line f k p = unless_fault (piece_fault k p) (in_line k (f p.text))
 -- a number that is at least 0 and below the limit
 abbrev pub within : ℕ → Result ℤ NumberFault → Option ℕ
 within limit (Ok (pos k)) = cond (nat_lt k limit) (Some k) None
-within limit (Ok (negsuc k)) = None
-within limit (Err e) = None
+within limit _ = None
 
 -- the word is such a number in its one spelling
 abbrev pub number_below : ℕ → List ℕ → Option ℕ

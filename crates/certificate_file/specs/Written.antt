@@ -28,9 +28,8 @@ lines_text (words ∷ lines) = spaced_words words ++ (10 ∷ lines_text lines)
 
 -- the version of a text with this price: the second one exactly where there is a mill
 abbrev pub version_for : Price → Version
-version_for Objective = One
-version_for (Factor k) = One
 version_for (Mill k) = Two
+version_for _ = One
 
 -- the number of a version
 abbrev pub version_word : Version → List ℕ

@@ -32,10 +32,7 @@ first_all (l ∷ ls) a = rw a.0 (ap (λ (xs : List BodyLine). l ∷ xs) (first_a
 
 kind_is : (kind : LineKind) → is_pit kind ≡ true → kind ≡ Pit
 kind_is Pit h = refl
-kind_is Source h = absurd (let z : false ≡ true = h in cc)
-kind_is Rest h = absurd (let z : false ≡ true = h in cc)
-kind_is Sink h = absurd (let z : false ≡ true = h in cc)
-kind_is End h = absurd (let z : false ≡ true = h in cc)
+kind_is _ h = absurd (let z : false ≡ true = h in cc)
 
 -- Where PIT lines are not left for others, the lines so far are PIT lines alone.
 module _ (P : BodyLine → Type 0) (pit_behind : (previous : Option BodyLine) (line : BodyLine) → may_follow previous line ≡ true → line.kind ≡ Pit → is_behind_pits previous ≡ false) where

@@ -56,11 +56,8 @@ exchanged gives e at m (l ∷ ls) f sum none more =
 
 -- What one line gives, summed over all blocks: at its own block alone.
 source_line : (kind : LineKind) (c n : ℕ) (x : Amount) → c < n → total (λ b. where_so true (where_so (is_source kind && (eqb c b)) x)) n ≡ source_by kind x
-source_line Pit c n x h = total-zero n
 source_line Source c n x h = total-one (λ b. true) c x n h
-source_line Rest c n x h = total-zero n
-source_line Sink c n x h = total-zero n
-source_line End c n x h = total-zero n
+source_line _ c n x h = total-zero n
 
 -- what the SOURCE lines give, summed over the blocks
 pub sources_of_lines : (n : ℕ) (ls : List BodyLine) → ((l : BodyLine) → Has l ls → l.block < n) → total (λ b. sum_giving (gives_source b) ls) n ≡ source_sum ls
@@ -68,8 +65,6 @@ sources_of_lines n ls f = exchanged gives_source (λ b. true) (λ l. source_by l
 
 -- a pair that stands at j is told from the others by its place
 told_by_place : (b p : ℕ) (ps : List (ℕ × ℕ)) (j k : ℕ) → IsRising ps → j < length ps → get_or ps j (0, 0) ≡ (b, p) → k < length ps → (t u : Bool) → eqb j k ≡ t → is_pair b p (get_or ps k (0, 0)) ≡ u → is_pair b p (get_or ps k (0, 0)) ≡ eqb j k
-told_by_place b p ps j k r h e l true true v w = w ∙ sym v
-told_by_place b p ps j k r h e l false false v w = w ∙ sym v
 told_by_place b p ps j k r h e l true false v w =
     let same : j ≡ k = eqb-true j k v in
     let here : is_pair b p (get_or ps k (0, 0)) ≡ true = tells_pair b p (get_or ps k (0, 0)) (ap (λ (i : ℕ). get_or ps i (0, 0)) (sym same) ∙ e) in
@@ -77,14 +72,12 @@ told_by_place b p ps j k r h e l true false v w =
 told_by_place b p ps j k r h e l false true v w =
     let same : j ≡ k = one_place ps j k (b, p) r h l e (pair_told b p (get_or ps k (0, 0)) w) (ltb j k) (ltb k j) refl refl in
     absurd (let z : true ≡ false = sym (eq-eqb j k same) ∙ v in cc)
+told_by_place b p ps j k r h e l _ _ v w = w ∙ sym v
 
 -- an amount of a line at one end of its pair, where that is a REST line
 abbrev pub end_by : LineKind → ℕ → ℕ → Amount → Amount
-end_by Pit c b x = zero_amount
-end_by Source c b x = zero_amount
 end_by Rest c b x = where_so (eqb c b) x
-end_by Sink c b x = zero_amount
-end_by End c b x = zero_amount
+end_by _ c b x = zero_amount
 
 abbrev pub end_sum : (BodyLine → ℕ) → ℕ → List BodyLine → Amount
 end_sum end b [] = zero_amount
@@ -96,16 +89,13 @@ none_at_ends end b ps m = total-none _ m (λ k h. where_so-zero (eqb (end (get_o
 -- what one line carries, summed over the pairs with an end at b: over its own pair alone
 rest_line : (kind : LineKind) (end : ℕ × ℕ → ℕ) (b c p : ℕ) (ps : List (ℕ × ℕ)) (line : BodyLine) (x : Amount) → IsRising ps → line.block ≡ c → line.other ≡ p → is_of_model (has_pair ps) kind line ≡ true
     → total (λ k. where_so (eqb (end (get_or ps k (0, 0))) b) (where_so (is_rest kind && is_pair c p (get_or ps k (0, 0))) x)) (length ps) ≡ end_by kind (end (c, p)) b x
-rest_line Pit end b c p ps line x r e f h = none_at_ends end b ps (length ps)
-rest_line Source end b c p ps line x r e f h = none_at_ends end b ps (length ps)
 rest_line Rest end b c p ps line x r e f h =
     let j = pair_place c p ps (ap (λ (i : ℕ). has_pair ps i p) (sym e) ∙ ap (has_pair ps line.block) (sym f) ∙ h) in
     total-same _ (λ k. where_so (eqb (end (get_or ps k (0, 0))) b) (where_so (eqb j.0 k) x)) (length ps)
     (λ k l. ap (λ (t : Bool). where_so (eqb (end (get_or ps k (0, 0))) b) (where_so t x)) (told_by_place c p ps j.0 k r j.1 j.2 l (eqb j.0 k) (is_pair c p (get_or ps k (0, 0))) refl refl))
     ∙ total-one (λ k. eqb (end (get_or ps k (0, 0))) b) j.0 x (length ps) j.1
     ∙ ap (λ (q : ℕ × ℕ). where_so (eqb (end q) b) x) j.2
-rest_line Sink end b c p ps line x r e f h = none_at_ends end b ps (length ps)
-rest_line End end b c p ps line x r e f h = none_at_ends end b ps (length ps)
+rest_line _ end b c p ps line x r e f h = none_at_ends end b ps (length ps)
 
 -- what the REST lines carry, summed over the pairs with an end at b
 pub ends_of_lines : (end : ℕ × ℕ → ℕ) (b : ℕ) (ps : List (ℕ × ℕ)) (ls : List BodyLine) → IsRising ps → ((l : BodyLine) → Has l ls → is_of_model (has_pair ps) l.kind l ≡ true)
@@ -118,10 +108,9 @@ ends_of_lines end b ps ls r f =
 one_balance : (kind : LineKind) (l : BodyLine) (b : ℕ) → brings_by kind l b
     ≡ minus (plus (where_so (is_source kind && (eqb l.block b)) (amount_of l)) (end_by kind l.other b (amount_of l))) (plus (where_so (is_sink kind && (eqb l.block b)) (amount_of l)) (end_by kind l.block b (amount_of l)))
 one_balance Pit l b = refl
-one_balance Source l b = let x = where_so (eqb l.block b) (amount_of l) in Amount_eq _ _ (omega (arith, ints)) (omega (arith, ints))
 one_balance Rest l b = let x = where_so (eqb l.other b) (amount_of l) in let y = where_so (eqb l.block b) (amount_of l) in Amount_eq _ _ (omega (arith, ints)) (omega (arith, ints))
-one_balance Sink l b = let x = where_so (eqb l.block b) (amount_of l) in Amount_eq _ _ (omega (arith, ints)) (omega (arith, ints))
 one_balance End l b = refl
+one_balance _ l b = let x = where_so (eqb l.block b) (amount_of l) in Amount_eq _ _ (omega (arith, ints)) (omega (arith, ints))
 
 joined : (p s i t o s' i' t' o' q : Amount) → p ≡ minus (plus s i) (plus t o) → q ≡ minus (plus s' i') (plus t' o') → plus p q ≡ minus (plus (plus s s') (plus i i')) (plus (plus t t') (plus o o'))
 joined p s i t o s' i' t' o' q e f =

@@ -29,12 +29,9 @@ use Rattle.check_pit.proofs.HeldLines.{line_held}
 
 -- Only a piece that is no line is cut off, and memory is refused to none.
 abbrev IsOutside : CertFault → Type 0
-IsOutside (fault.Text k) = ⊥
-IsOutside (fault.Number k) = ⊥
-IsOutside (fault.OutOfOrder k) = ⊥
-IsOutside (fault.UnknownPair k) = ⊥
 IsOutside fault.Truncated = Unit {0}
 IsOutside fault.NoMemory = Unit {0}
+IsOutside _ = ⊥
 
 other_fault : {A : Type 0} (x e : CertFault) → (IsOutside x → ⊥) → IsOutside e → (let r : Result A CertFault = Err x in r ≡ Err e) → ⊥
 other_fault {A = A} x e f o h = f (subst IsOutside (sym (ap (λ (r : Result A CertFault). unwrap_or (result_err r) x) h)) o)
@@ -94,11 +91,7 @@ next_reads counts n has previous = record { none = no_line_next counts n has pre
 -- A fault of the line that is held, whatever follows it.
 stays : {R A : Type 0} (left : Option (List ℕ)) (f : ℕ → Piece → Result A CertFault) (s : LineView R) (e : CertFault) → (e ≡ fault.Truncated → ⊥) → ((future : List ℕ) → f (s.number + 1) (piece_at (pieces_of (s.held ++ future)) 0) ≡ Err e) → NoNextLine left f s (Cert e)
 stays left f s fault.Truncated g h = absurd (g refl)
-stays left f s (fault.Text k) g h = h
-stays left f s (fault.Number k) g h = h
-stays left f s (fault.OutOfOrder k) g h = h
-stays left f s (fault.UnknownPair k) g h = h
-stays left f s fault.NoMemory g h = h
+stays left f s _ g h = h
 
 pub line_wrong : {R A : Type 0} (left : Option (List ℕ)) (f : ℕ → Piece → Result A CertFault) (s : LineView R) (count : ℕ) (e : CertFault) → ReadsLines f → IsLine s.held count → f (s.number + 1) (held_piece count s.held) ≡ Err e → NoNextLine left f s (Cert e)
 line_wrong left f s count e r h bad =
@@ -115,17 +108,10 @@ memory_at k false false h = cc
 
 -- That there is no further line is no want of memory.
 pub lacks_no_memory : {R T : Type 0} (left : Option (List ℕ)) (counts : Bool) (n : ℕ) (has : ℕ → ℕ → Bool) (previous : Option BodyLine) (s : LineView R) (e : StreamFault) → NoNextLine left (next_line counts n has previous) s e → (let r : Result T StreamFault = Err e in r ≡ Err (Cert fault.NoMemory)) → ⊥
-lacks_no_memory left counts n has previous s Device h z = cc
-lacks_no_memory left counts n has previous s InputTooLong h z = cc
-lacks_no_memory left counts n has previous s (Cert (fault.Text k)) h z = cc
-lacks_no_memory left counts n has previous s (Cert (fault.Number k)) h z = cc
-lacks_no_memory left counts n has previous s (Cert (fault.OutOfOrder k)) h z = cc
-lacks_no_memory left counts n has previous s (Cert (fault.UnknownPair k)) h z = cc
-lacks_no_memory left counts n has previous s (Cert fault.Truncated) h z = cc
 lacks_no_memory left counts n has previous s (Cert fault.NoMemory) h z =
     let p = piece_at (pieces_of (s.held ++ [])) 0 in
     next_whole fault.NoMemory counts n has previous (s.number + 1) p tt (memory_at (s.number + 1) (nat_lt LINE_BYTES (length p.text)) p.ended) (h [])
-lacks_no_memory left counts n has previous s (Pit x) h z = cc
+lacks_no_memory left counts n has previous s _ h z = cc
 
 -- A fault of one thing, as one of another.
 pub fault_as : (left : Option (List ℕ)) (taken : ℕ) (has had : List ℕ → CertFault → Type 0) (p q : PitFault → Type 0) (e : StreamFault) → ((future : List ℕ) (x : CertFault) → has future x → had future x) → ((x : PitFault) → p x → q x) → FaultIs left taken has p e → FaultIs left taken had q e

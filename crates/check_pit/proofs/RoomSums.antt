@@ -64,10 +64,7 @@ refused_more : (net : NetView) (l : BodyLine) (P Q : Type 0) → (P → Q) → (
 refused_more net l P Q f Negative h = h
 refused_more net l P Q f (OverCapacity b) h = h
 refused_more net l P Q f TooLarge h = (h.0, f h.1)
-refused_more net l P Q f WrongSize h = absurd h
-refused_more net l P Q f (NotClosed b p) h = absurd h
-refused_more net l P Q f (Unbalanced b) h = absurd h
-refused_more net l P Q f NotTight h = absurd h
+refused_more net l P Q f _ h = absurd h
 
 pub refuses_line : (net : NetView) (l : BodyLine) (room : RoomView) (e : PitFault) → RefusedWhere net l (SumOverflowsWith net room l) e → RefusesLine net l room e
 refuses_line net l room e h = λ ls s. refused_more net l (SumOverflowsWith net room l) (SomeLineSumOverflows net (ls ++ l ∷ [])) (overflows net ls l room s) e h

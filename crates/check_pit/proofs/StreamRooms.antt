@@ -59,10 +59,7 @@ met_sound counts net previous line m = sound counts (length net.worths) m.1.text
 -- A PIT line stands behind PIT lines alone.
 kind_behind : (kind : LineKind) (o : Ordering) → is_lt (ordering_then (nat_cmp (rank kind) 0) o) ≡ true → not (is_pit kind) ≡ false
 kind_behind Pit o h = refl
-kind_behind Source o h = absurd cc
-kind_behind Rest o h = absurd cc
-kind_behind Sink o h = absurd cc
-kind_behind End o h = absurd cc
+kind_behind _ o h = absurd cc
 
 pit_behind : (previous : Option BodyLine) (line : BodyLine) → may_follow previous line ≡ true → line.kind ≡ Pit → is_behind_pits previous ≡ false
 pit_behind None line h e = refl
@@ -107,10 +104,7 @@ other_known net line r m e =
 
 takes_at : (net : NetView) (line : BodyLine) (room : RoomView) (ls : List BodyLine) (kind : LineKind) → line.kind ≡ kind → room.is_pit ≡ not (is_pit kind) → room.blocks ≡ pit_of ls → IsAscending (pit_of (ls ++ line ∷ [])) → TakesBlock kind room line.block
 takes_at net line room ls Pit e m b a = (m, subst IsAscending (pit_more ls line ∙ ap (λ (k : LineKind). pit_of ls ++ block_if_pit k line.block []) e ∙ ap (λ (bs : List ℕ). bs ++ line.block ∷ []) (sym b)) a)
-takes_at net line room ls Source e m b a = tt
-takes_at net line room ls Rest e m b a = tt
-takes_at net line room ls Sink e m b a = tt
-takes_at net line room ls End e m b a = tt
+takes_at net line room ls _ e m b a = tt
 
 pub may_put : (counts : Bool) (net : NetView) (previous : Option BodyLine) (line : BodyLine) (before later : RoomView) (ls : List BodyLine) → IsRests (record { blocks = length net.worths; pairs = net.pairs }) → Summed net previous before ls → ClosesPit net previous line.kind before later → MetNext counts net previous line
     → is_end line.kind ≡ false → InOrder (Good counts (length net.worths) (has_pair net.pairs)) None (ls ++ line ∷ []) → MayPut net later line
@@ -125,10 +119,7 @@ may_put counts net previous line before later ls r s c m e o =
 
 no_block : (kind : LineKind) (b : ℕ) → is_pit kind ≡ false → block_if_pit kind b [] ≡ []
 no_block Pit b h = absurd (let z : true ≡ false = h in cc)
-no_block Source b h = refl
-no_block Rest b h = refl
-no_block Sink b h = refl
-no_block End b h = refl
+no_block _ b h = refl
 
 pub same_pit : (ls : List BodyLine) (line : BodyLine) → is_pit line.kind ≡ false → pit_of (ls ++ line ∷ []) ≡ pit_of ls
 same_pit ls line h = pit_more ls line ∙ ap (λ (bs : List ℕ). pit_of ls ++ bs) (no_block line.kind line.block h) ∙ append-nil (pit_of ls)
@@ -149,13 +140,10 @@ summed_on counts net previous line before mid later ls s c m p k i = record {
 
 -- A line that is refused.
 pub refused_as : (left : Option (List ℕ)) (taken : ℕ) (counts : Bool) (net : NetView) (body : List ℕ) (ls : List BodyLine) (line : BodyLine) (e : PitFault) → LinesBegin counts net body (ls ++ line ∷ []) → KeepLimits net.worths ls → LineRefused net ls line e → BodyRefused left taken counts net body e
-refused_as left taken counts net body ls line pit_fault.WrongSize b k h = absurd h
-refused_as left taken counts net body ls line (pit_fault.NotClosed x y) b k h = absurd h
 refused_as left taken counts net body ls line pit_fault.Negative b k h = (ls, line, b, k, h)
 refused_as left taken counts net body ls line (pit_fault.OverCapacity x) b k h = (ls, line, b, k, h)
-refused_as left taken counts net body ls line (pit_fault.Unbalanced x) b k h = absurd h
-refused_as left taken counts net body ls line pit_fault.NotTight b k h = absurd h
 refused_as left taken counts net body ls line pit_fault.TooLarge b k h = (ls, line, b, k, h)
+refused_as left taken counts net body ls line _ b k h = absurd h
 
 pub line_refused : {R : Type 0} (remaining : R → Option (List ℕ)) (counts : Bool) (net : NetView) (start now later : LineView R) (previous : Option BodyLine) (bytes : List ℕ) (ls : List BodyLine) (line : BodyLine) (before mid : RoomView) (e : PitFault) → Reading remaining counts net start now previous bytes ls
     → Summed net previous before ls → ClosesPit net previous line.kind before mid → TakesLine remaining (next_of counts net previous) now later line → is_end line.kind ≡ false → RefusesLine net line mid e → Fails remaining counts net start later (stream.Pit e)
@@ -199,13 +187,8 @@ pit_at_end remaining counts net start later bytes ls q a = record {
 }
 
 open_as : (left : Option (List ℕ)) (taken : ℕ) (counts : Bool) (net : NetView) (body pit : List ℕ) (previous : Option BodyLine) (kind : LineKind) (e : PitFault) → (is_behind_pits previous ≡ false → is_pit kind ≡ false → HasPit counts net body pit) → IsOpenPit net previous kind pit e → BodyRefused left taken counts net body e
-open_as left taken counts net body pit previous kind pit_fault.WrongSize p h = absurd h
 open_as left taken counts net body pit previous kind (pit_fault.NotClosed x y) p h = (pit, p h.0 h.1, h.2)
-open_as left taken counts net body pit previous kind pit_fault.Negative p h = absurd h
-open_as left taken counts net body pit previous kind (pit_fault.OverCapacity x) p h = absurd h
-open_as left taken counts net body pit previous kind (pit_fault.Unbalanced x) p h = absurd h
-open_as left taken counts net body pit previous kind pit_fault.NotTight p h = absurd h
-open_as left taken counts net body pit previous kind pit_fault.TooLarge p h = absurd h
+open_as left taken counts net body pit previous kind _ p h = absurd h
 
 -- Up to the first line of another kind they are PIT lines alone.
 pits_so_far : {R : Type 0} (remaining : R → Option (List ℕ)) (counts : Bool) (net : NetView) (start now : LineView R) (previous : Option BodyLine) (bytes : List ℕ) (ls : List BodyLine) → Reading remaining counts net start now previous bytes ls → is_behind_pits previous ≡ false → AllPits ls
@@ -272,17 +255,13 @@ proves_at left taken counts net body room ls r w same a s =
 
 -- They don't.
 fails_at : (left : Option (List ℕ)) (taken : ℕ) (counts : Bool) (net : NetView) (body : List ℕ) (room : RoomView) (e : PitFault) → LinesTell net (lines_of_body counts net body) → IsWholeBody left taken counts net body → AreSumsOf net (lines_of_body counts net body) room → SumsFail net room e → BodyRefused left taken counts net body e
-fails_at left taken counts net body room pit_fault.WrongSize t w s h = absurd h
-fails_at left taken counts net body room (pit_fault.NotClosed x y) t w s h = absurd h
-fails_at left taken counts net body room pit_fault.Negative t w s h = absurd h
-fails_at left taken counts net body room (pit_fault.OverCapacity x) t w s h = absurd h
 fails_at left taken counts net body room (pit_fault.Unbalanced b) t w s h =
     let ls = lines_of_body counts net body in
     (w, (h.0, λ k l. balance_zero net room ls k t s (let i = h.0 in omega (arith, l, i)) (h.1 k l), balance_not net room ls b t s h.0 h.2))
 fails_at left taken counts net body room pit_fault.NotTight t w s h =
     let ls = lines_of_body counts net body in
     (w, λ b l. balance_zero net room ls b t s l (h.0 b l), λ f. h.1 (s.worth ∙ t.tight.0 f ∙ sym s.left))
-fails_at left taken counts net body room pit_fault.TooLarge t w s h = absurd h
+fails_at left taken counts net body room _ t w s h = absurd h
 
 end_fails : {R : Type 0} (remaining : R → Option (List ℕ)) (counts : Bool) (net : NetView) (start now : LineView R) (bytes : List ℕ) (ls : List BodyLine) (room : RoomView) (e : StreamFault) → IsRests (record { blocks = length net.worths; pairs = net.pairs }) → Ended remaining counts net start now bytes ls → AreSumsOf net ls room
     → EndFails (remaining now.from) net room now e → BodyFails (remaining now.from) now.taken counts net (start.held ++ bytes) e
@@ -331,10 +310,7 @@ answered_at remaining counts net start later bytes ls room (Err e) r q a h = rec
 
 end_kind : (kind : LineKind) → is_end kind ≡ true → is_pit kind ≡ false
 end_kind Pit h = absurd (let z : false ≡ true = h in cc)
-end_kind Source h = refl
-end_kind Rest h = refl
-end_kind Sink h = refl
-end_kind End h = refl
+end_kind _ h = refl
 
 pub end_answered : {R T : Type 0} (remaining : R → Option (List ℕ)) (counts : Bool) (net : NetView) (start now mid later : LineView R) (previous : Option BodyLine) (bytes : List ℕ) (ls : List BodyLine) (line : BodyLine) (before room : RoomView) (result : Result T StreamFault) → IsRests (record { blocks = length net.worths; pairs = net.pairs })
     → Reading remaining counts net start now previous bytes ls → Summed net previous before ls → ClosesPit net previous line.kind before room → TakesLine remaining (next_of counts net previous) now mid line → is_end line.kind ≡ true → ReadsSome remaining mid later

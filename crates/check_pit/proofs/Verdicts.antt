@@ -34,11 +34,7 @@ balanced_before net flow b comes over = λ k l fit. elim (cases_lt k b) [
 pub balance_fault : (net : NetView) (flow : FlowView) (pit : List ℕ) (e : PitFault) → PassesCapacities net flow pit → BalanceFault net flow e → PitFaultStands net flow pit e
 balance_fault net flow pit (Unbalanced b) passes h = record { holds = (h.0.known, h.2); first = (passes, h.0.before, h.1) }
 balance_fault net flow pit TooLarge passes h = record { holds = inl (h.0, h.1.known, h.2); first = (passes, balanced_before net flow h.0 h.1 h.2) }
-balance_fault net flow pit WrongSize passes h = absurd h
-balance_fault net flow pit (NotClosed b p) passes h = absurd h
-balance_fault net flow pit Negative passes h = absurd h
-balance_fault net flow pit (OverCapacity b) passes h = absurd h
-balance_fault net flow pit NotTight passes h = absurd h
+balance_fault net flow pit _ passes h = absurd h
 
 -- ---- no fault holds of what is sound
 

@@ -14,10 +14,9 @@ pub record CertView (R : Type 0) : Type 0 where
 
 -- until a fault is answered or the pit accepted, as many lines were passed as the header has, or none before it
 abbrev pub StandsAt : Option Header → Option StreamFault → Bool → ℕ → Type 0
-StandsAt header (Some e) is_done number = Unit {0}
 StandsAt None None is_done number = (is_done ≡ false) × (number ≡ 0)
-StandsAt (Some h) None true number = Unit {0}
 StandsAt (Some h) None false number = number ≡ 4
+StandsAt _ _ _ number = Unit {0}
 
 -- a header was read, which names so many blocks and this group; or a fault was answered
 abbrev pub IsReadFor : ℕ → Group → Option Header → Option StreamFault → Type 0

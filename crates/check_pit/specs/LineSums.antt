@@ -11,11 +11,10 @@ use Rattle.certificate_file.specs.Certificate.{pit_of, amount_of, given_amount, 
 
 -- what a line of a kind brings block b, less what it takes from it
 abbrev pub brings_by : LineKind → BodyLine → ℕ → Amount
-brings_by Pit l b = zero_amount
 brings_by Source l b = where_so (l.block == b) (amount_of l)
 brings_by Rest l b = minus (where_so (l.other == b) (amount_of l)) (where_so (l.block == b) (amount_of l))
 brings_by Sink l b = minus zero_amount (where_so (l.block == b) (amount_of l))
-brings_by End l b = zero_amount
+brings_by _ l b = zero_amount
 
 -- what lines bring block b, less what they take from it
 abbrev pub balance_of : List BodyLine → ℕ → Amount
@@ -24,11 +23,8 @@ balance_of (l ∷ ls) b = plus (brings_by l.kind l b) (balance_of ls b)
 
 -- an amount of a line, where that is a SOURCE line
 abbrev pub source_by : LineKind → Amount → Amount
-source_by Pit x = zero_amount
 source_by Source x = x
-source_by Rest x = zero_amount
-source_by Sink x = zero_amount
-source_by End x = zero_amount
+source_by _ x = zero_amount
 
 -- what the SOURCE lines give
 abbrev pub source_sum : List BodyLine → Amount
@@ -46,11 +42,10 @@ worth_of_blocks ws (b ∷ bs) = plus (amount_at ws b) (worth_of_blocks ws bs)
 
 -- a line's amount is not negative, and no more than the worth of its block lets the source give or the sink take
 abbrev pub keeps_by : LineKind → List Amount → BodyLine → Type 0
-keeps_by Pit ws l = Unit {0}
 keeps_by Source ws l = AtMost zero_amount (amount_of l) × AtMost (amount_of l) (positive (amount_at ws l.block))
 keeps_by Rest ws l = AtMost zero_amount (amount_of l)
 keeps_by Sink ws l = AtMost zero_amount (amount_of l) × AtMost (amount_of l) (negative (amount_at ws l.block))
-keeps_by End ws l = Unit {0}
+keeps_by _ ws l = Unit {0}
 
 -- each of the lines does
 abbrev pub KeepLimits : List Amount → List BodyLine → Type 0

@@ -48,10 +48,7 @@ pub record AreSumsOf (net : NetView) (ls : List BodyLine) (room : RoomView) : Ty
 -- a block of a PIT line is above those that the room holds, of which it has made no pit yet
 abbrev pub TakesBlock : LineKind → RoomView → ℕ → Type 0
 TakesBlock Pit room b = (room.is_pit ≡ false) × IsAscending (room.blocks ++ b ∷ [])
-TakesBlock Source room b = Unit {0}
-TakesBlock Rest room b = Unit {0}
-TakesBlock Sink room b = Unit {0}
-TakesBlock End room b = Unit {0}
+TakesBlock _ room b = Unit {0}
 
 -- the line has blocks of the net, and the room is one for it, which takes the block of a PIT line
 pub record MayPut (net : NetView) (room : RoomView) (line : BodyLine) : Type 0 where
@@ -79,19 +76,15 @@ SumOverflowsWith net room l =
 -- the amount of a line of this kind is negative
 abbrev pub IsNegative : LineKind → Amount → Type 0
 IsNegative Pit x = ⊥
-IsNegative Source x = ¬ (AtMost zero_amount x)
-IsNegative Rest x = ¬ (AtMost zero_amount x)
-IsNegative Sink x = ¬ (AtMost zero_amount x)
 IsNegative End x = ⊥
+IsNegative _ x = ¬ (AtMost zero_amount x)
 
 -- the amount of a line of this kind is not negative, and more than a block of this worth gets from the source or gives the
 -- sink
 abbrev pub IsOverLimit : LineKind → Amount → Amount → Type 0
-IsOverLimit Pit worth x = ⊥
 IsOverLimit Source worth x = AtMost zero_amount x × ¬ (AtMost x (positive worth))
-IsOverLimit Rest worth x = ⊥
 IsOverLimit Sink worth x = AtMost zero_amount x × ¬ (AtMost x (negative worth))
-IsOverLimit End worth x = ⊥
+IsOverLimit _ worth x = ⊥
 
 -- Why a line is refused, in this order: its amount is negative; it is more than its block may get or give; or a sum, as it
 -- is with the line, doesn't fit.
@@ -99,10 +92,7 @@ abbrev pub RefusedWhere : NetView → BodyLine → Type 0 → PitFault → Type 
 RefusedWhere net l overflows Negative = IsNegative l.kind (amount_of l)
 RefusedWhere net l overflows (OverCapacity b) = (b ≡ l.block) × IsOverLimit l.kind (amount_at net.worths l.block) (amount_of l)
 RefusedWhere net l overflows TooLarge = keeps_by l.kind net.worths l × overflows
-RefusedWhere net l overflows WrongSize = ⊥
-RefusedWhere net l overflows (NotClosed b p) = ⊥
-RefusedWhere net l overflows (Unbalanced b) = ⊥
-RefusedWhere net l overflows NotTight = ⊥
+RefusedWhere net l overflows _ = ⊥
 
 -- a line is refused after these lines, by their sums and its own amount
 abbrev pub LineRefused : NetView → List BodyLine → BodyLine → PitFault → Type 0

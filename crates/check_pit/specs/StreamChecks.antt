@@ -31,10 +31,7 @@ use Rattle.check_pit.specs.TakenLines.{FaultIs}
 -- a PIT line
 abbrev pub is_pit : LineKind → Bool
 is_pit Pit = true
-is_pit Source = false
-is_pit Rest = false
-is_pit Sink = false
-is_pit End = false
+is_pit _ = false
 
 -- a line other than PIT was read last
 abbrev pub is_behind_pits : Option BodyLine → Bool
@@ -114,13 +111,8 @@ pub record ClosesPit (net : NetView) (previous : Option BodyLine) (kind : LineKi
 
 -- the pit isn't closed, and after PIT lines alone a line of this kind, other than PIT, was read
 abbrev pub IsOpenPit : NetView → Option BodyLine → LineKind → List ℕ → PitFault → Type 0
-IsOpenPit net previous kind pit WrongSize = ⊥
 IsOpenPit net previous kind pit (NotClosed b p) = (is_behind_pits previous ≡ false) × (is_pit kind ≡ false) × IsFirstOpen net.pairs (holds_of pit) (b, p)
-IsOpenPit net previous kind pit Negative = ⊥
-IsOpenPit net previous kind pit (OverCapacity b) = ⊥
-IsOpenPit net previous kind pit (Unbalanced b) = ⊥
-IsOpenPit net previous kind pit NotTight = ⊥
-IsOpenPit net previous kind pit TooLarge = ⊥
+IsOpenPit net previous kind pit _ = ⊥
 
 -- each balance is zero
 abbrev pub AreZero : NetView → RoomView → Type 0
@@ -133,13 +125,9 @@ pub record SumsSettle (net : NetView) (room : RoomView) : Type 0 where
 
 -- why the sums don't prove the pit: a balance is not zero, or the pit is worth something else
 abbrev pub SumsFail : NetView → RoomView → PitFault → Type 0
-SumsFail net room WrongSize = ⊥
-SumsFail net room (NotClosed b p) = ⊥
-SumsFail net room Negative = ⊥
-SumsFail net room (OverCapacity b) = ⊥
 SumsFail net room (Unbalanced b) = IsFirstNot (λ k. amount_at room.balances k ≡ zero_amount) (length net.worths) b
 SumsFail net room NotTight = AreZero net room × ¬ (room.worth ≡ room.left)
-SumsFail net room TooLarge = ⊥
+SumsFail net room _ = ⊥
 
 -- the text ends here, and few enough bytes were read
 pub record IsDone {R : Type 0} (left : Option (List ℕ)) (s : LineView R) : Type 0 where

@@ -53,5 +53,4 @@ DoneOrNot left s false = 0 < length s.held
 abbrev pub NotDone : {R : Type 0} → LineView R → StreamFault → Type 0
 NotDone s Device = Unit {0}
 NotDone s InputTooLong = MOST_BYTES < s.taken
-NotDone s (Cert e) = ⊥
-NotDone s (Pit e) = ⊥
+NotDone s _ = ⊥

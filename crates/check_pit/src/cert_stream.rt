@@ -54,12 +54,7 @@ impl<R: Drop> CertStream<R> {
         ensures fault { IfOk result (λ s. s.fault ≡ None) }
         ensures done { IfOk result (λ s. s.is_done ≡ false) }
     {
-        Ok(CertStream {
-            lines: StreamLines::new(alloc, from)?,
-            header: None,
-            fault: None,
-            is_done: false,
-        })
+        Ok(CertStream::over(StreamBytes::new(alloc)?, from))
     }
 }
 

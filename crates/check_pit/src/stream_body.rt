@@ -9,8 +9,10 @@ ghost use Rattle.check_pit.specs.TakenLines.{TakesLine, LacksLine};
 
 use crate::stream_fault::StreamFault;
 use crate::stream_lines::StreamLines;
-use certificate_file::{BodyLine, CertFault, LineKind, in_line, line_of, may_follow};
+use certificate_file::{BodyLine, CertFault, LineKind, counts, in_line, line_of, may_follow};
+use closure_net::GraphRef;
 use fixed_worth::CountedRead;
+use ordered_group::OrderedGroup;
 use prec_file::Predecessors;
 
 // Whether the model has the pair of a line, where the line is of one.
@@ -47,23 +49,22 @@ fn line_behind(
     Ok(line)
 }
 
-/// The next line, which must be above the previous one and of the model.
+/// The next line of a certificate for the net, which must be above the previous one and of the model.
 ///
 /// # Errors
 /// `Device` where a read failed; `InputTooLong` where the stream gave more bytes than it may; `Cert` with the fault of
 /// the line, which isn't passed then.
-pub fn next_line<R: CountedRead>(
+pub fn next_line<R: CountedRead, G: OrderedGroup>(
     lines: &mut StreamLines<R>,
-    predecessors: &Predecessors,
-    counts: bool,
+    net: &GraphRef<'_, G>,
     previous: Option<BodyLine>,
 ) -> Result<BodyLine, StreamFault>
     requires { R.failed lines.old.from < 2 ^ 64 - 1 }
     ensures line { MatchResult result
-        (λ line. TakesLine R.remaining (spec.next_line counts predecessors.now.blocks
-        (has_pair predecessors.now.pairs) previous) lines.old lines.new line)
-        (λ e. LacksLine R.remaining (spec.next_line counts predecessors.now.blocks
-        (has_pair predecessors.now.pairs) previous) lines.old lines.new e) }
+        (λ line. TakesLine R.remaining (spec.next_line G.counts
+        (length net.now.worths) (has_pair net.now.pairs) previous) lines.old lines.new line)
+        (λ e. LacksLine R.remaining (spec.next_line G.counts
+        (length net.now.worths) (has_pair net.now.pairs) previous) lines.old lines.new e) }
     ensures device { IsErrOf result StreamFault.Device
         → R.failed lines.new.from ≡ R.failed lines.old.from + 1 }
     ensures kept { ¬ IsErrOf result StreamFault.Device
@@ -71,7 +72,9 @@ pub fn next_line<R: CountedRead>(
 {
     let count = lines.next_length()?;
     let number = lines.number() + 1;
-    let line = match line_behind(predecessors, counts, previous, number, lines.front(count)) {
+    let predecessors = net.predecessors();
+    let text = lines.front(count);
+    let line = match line_behind(predecessors, counts::<G>(), previous, number, text) {
         Ok(line) => line,
         Err(fault) => return Err(StreamFault::Cert(fault)),
     };

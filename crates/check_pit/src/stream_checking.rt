@@ -5,19 +5,16 @@ ghost use Rattle.std.specs.Prelude.{◌≡◌, ℕ, ◌+◌, ◌-◌, ◌^◌, �
 ghost use Rattle.closure_net.specs.Network.{IsAscending, holds_of};
 ghost use Rattle.closure_net.specs.Closure.{IsGreatest, group_worth};
 ghost use Rattle.check_pit.specs.declared.stream_fault.StreamFault.TheVariants as fault;
-ghost use Rattle.certificate_file.specs.BodyLines as line;
-ghost use Rattle.certificate_file.specs.Certificate.{has_pair};
 ghost use Rattle.check_pit.specs.StreamLines.{ReadsSome};
-ghost use Rattle.check_pit.specs.TakenLines.{TakesLine, LacksLine};
 ghost use Rattle.check_pit.specs.StreamChecks as spec;
-ghost use Rattle.check_pit.specs.StreamChecks.{ClosesPit, IsOpenPit, SumsSettle, SumsFail, EndFails, ReadsOn, BodyFails, BodyProves};
+ghost use Rattle.check_pit.specs.StreamChecks.{ClosesPit, IsOpenPit, SumsSettle, EndFails, ReadsOn, BodyFails, BodyProves};
 
 use crate::pit_fault::PitFault;
 use crate::room::Room;
 use crate::stream_body::next_line;
 use crate::stream_fault::StreamFault;
 use crate::stream_lines::StreamLines;
-use certificate_file::{BodyLine, CertFault, LineKind, counts, is_end};
+use certificate_file::{BodyLine, CertFault, LineKind, is_end};
 use closure_net::GraphRef;
 use fixed_worth::CountedRead;
 use ordered_group::OrderedGroup;
@@ -63,42 +60,6 @@ fn close_pit<G: OrderedGroup>(
     }
 }
 
-// The next line of a certificate for the net.
-fn line_for<R: CountedRead, G: OrderedGroup>(
-    lines: &mut StreamLines<R>,
-    net: &GraphRef<'_, G>,
-    previous: Option<BodyLine>,
-) -> Result<BodyLine, StreamFault>
-    requires { R.failed lines.old.from < 2 ^ 64 - 1 }
-    ensures line { MatchResult result
-        (λ l. TakesLine R.remaining (line.next_line G.counts
-        (length net.now.worths) (has_pair net.now.pairs) previous) lines.old lines.new l)
-        (λ e. LacksLine R.remaining (line.next_line G.counts
-        (length net.now.worths) (has_pair net.now.pairs) previous) lines.old lines.new e) }
-    ensures device { IsErrOf result StreamFault.Device
-        → R.failed lines.new.from ≡ R.failed lines.old.from + 1 }
-    ensures kept { ¬ IsErrOf result StreamFault.Device
-        → R.failed lines.new.from ≡ R.failed lines.old.from }
-{
-    next_line(lines, net.predecessors(), counts::<G>(), previous)
-}
-
-// Whether the sums after all lines prove the pit.
-fn settle<G: OrderedGroup>(net: &GraphRef<'_, G>, room: &Room<G>) -> Result<(), PitFault>
-    requires { length room.now.balances ≡ length net.now.worths }
-    ensures { MatchResult result
-        (λ _. SumsSettle net.now room.now)
-        (λ e. SumsFail net.now room.now e) }
-{
-    if let Some(block) = room.first_unbalanced(net) {
-        return Err(PitFault::Unbalanced(block));
-    }
-    if !room.is_tight() {
-        return Err(PitFault::NotTight);
-    }
-    Ok(())
-}
-
 // Whether nothing stands behind END, and the sums prove the pit.
 fn check_end<R: CountedRead, G: OrderedGroup>(
     lines: &mut StreamLines<R>,
@@ -119,10 +80,13 @@ fn check_end<R: CountedRead, G: OrderedGroup>(
     if !lines.is_done()? {
         return Err(StreamFault::Cert(CertFault::Text(lines.number() + 1)));
     }
-    match settle(net, room) {
-        Ok(()) => Ok(()),
-        Err(fault) => Err(StreamFault::Pit(fault)),
+    if let Some(block) = room.first_unbalanced(net) {
+        return Err(StreamFault::Pit(PitFault::Unbalanced(block)));
     }
+    if !room.is_tight() {
+        return Err(StreamFault::Pit(PitFault::NotTight));
+    }
+    Ok(())
 }
 
 /// Checks the lines behind the header, up to the end of the text.
@@ -165,7 +129,7 @@ pub fn check_lines<R: CountedRead, G: OrderedGroup>(
     loop {
         // proof: fewer than 2^63 lines were passed
         let _number = lines.number();
-        let line = line_for(lines, net, previous)?;
+        let line = next_line(lines, net, previous)?;
         if let Err(fault) = close_pit(net, room, previous, line.kind) {
             return Err(StreamFault::Pit(fault));
         }

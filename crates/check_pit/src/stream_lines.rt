@@ -11,7 +11,6 @@ use crate::stream_bytes::StreamBytes;
 use crate::stream_fault::StreamFault;
 use certificate_file::CertFault;
 use fixed_worth::{CountedRead, LINE_BYTES, MOST_BYTES, first_line_feed};
-use std::alloc::{AllocError, Global};
 use std::marker::Model;
 
 /// A device whose text is cut into lines. It is read only where no whole line is held.
@@ -37,25 +36,8 @@ impl<R> Model for StreamLines<R> {
         × (s.taken ≤ MOST_BYTES + (LINE_BYTES + 1)) };
 }
 
-impl<R: Drop> StreamLines<R> {
-    /// The lines of what the device gives, from the first on. Takes the memory for one line.
-    pub fn new(alloc: Global, from: R) -> Result<StreamLines<R>, AllocError>
-        ensures from { IfOk result (λ s. s.from ≡ from) }
-        ensures held { IfOk result (λ s. s.held ≡ []) }
-        ensures taken { IfOk result (λ s. s.taken ≡ 0) }
-        ensures number { IfOk result (λ s. s.number ≡ 0) }
-    {
-        Ok(StreamLines {
-            from,
-            held: StreamBytes::new(alloc)?,
-            taken: 0,
-            number: 0,
-        })
-    }
-}
-
 impl<R> StreamLines<R> {
-    /// The lines of what the device gives, from the first on, with memory that was taken before.
+    /// The lines of what the device gives, from the first on, with memory for one line that was taken before.
     pub fn over(held: StreamBytes, from: R) -> StreamLines<R>
         requires { held ≡ [] }
         ensures from { result.from ≡ from }

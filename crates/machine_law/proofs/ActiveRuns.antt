@@ -27,9 +27,7 @@ active_more allowed net s (x ∷ es) e t u h step reads fits = (h.0, h.1, h.2, h
 -- ---- the kind of step that reads an excess
 looks_no_excess : (kind : PortKind) → ¬ (read_kind kind ≡ ReadExcess)
 looks_no_excess Sink e = cc
-looks_no_excess Forward e = cc
-looks_no_excess Backward e = cc
-looks_no_excess Source e = cc
+looks_no_excess _ e = cc
 
 looks_at_no_excess : (port : Option Port) → ¬ (read_kind_at port ≡ ReadExcess)
 looks_at_no_excess None e = cc
@@ -37,16 +35,11 @@ looks_at_no_excess (Some port) e = looks_no_excess port.kind e
 
 pushes_no_excess : (kind : PortKind) → ¬ (push_kind kind ≡ ReadExcess)
 pushes_no_excess Sink e = cc
-pushes_no_excess Forward e = cc
-pushes_no_excess Backward e = cc
-pushes_no_excess Source e = cc
+pushes_no_excess _ e = cc
 
 -- only a block without an operation makes it
 pub excess_read_idle : (net : NetView) (b : ℕ) (o : Operation Amount) → next_of net b o ≡ ReadExcess → o ≡ Idle
 excess_read_idle net b Idle e = refl
 excess_read_idle net b (Scan have place None best) e = absurd (looks_at_no_excess (slice_get (ports net b) place) e)
-excess_read_idle net b (Scan have place (Some read) best) e = cc
 excess_read_idle net b (PushDue have best) e = absurd (pushes_no_excess best.port.kind e)
-excess_read_idle net b (TakeDue amount port) e = cc
-excess_read_idle net b (GiveDue amount port) e = cc
-excess_read_idle net b (RaiseDue have best) e = cc
+excess_read_idle net b _ e = cc

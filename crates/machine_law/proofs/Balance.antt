@@ -157,9 +157,7 @@ module _ (net : NetView) (s : State) (b : ℕ) (l : b < length net.worths) (k : 
 
   balance_given : (d : Amount) (p : Port) (kind : PortKind) (x : ℕ) → balance net (after_give_by s b d p kind) x ≡ balance net s x
   balance_given d p Sink x = refl
-  balance_given d p Forward x = refl
-  balance_given d p Backward x = refl
-  balance_given d p Source x = refl
+  balance_given d p _ x = refl
 
   pub balanced_given : (d : Amount) (p : Port) → s.operation b ≡ GiveDue d p → IsBalanced net (after_give s b d p)
   balanced_given d p e = balanced_given_by d p.kind p.other p.slot e (λ x.

@@ -48,10 +48,8 @@ rest_chosen count label have place best read p beyond = rest_passed count label 
 
 module _ (net : NetView) (s : State) (b : ℕ) where
   rest_looked_by : (have : Amount) (place : ℕ) (best : Option (Best Amount)) (p : Port) (kind : PortKind) → IsAtRest (after_look_by net s b have place best p kind)
-  rest_looked_by have place best p Sink = rest_seen (length (ports net b)) (s.label b) have place best (capacity net s b p)
   rest_looked_by have place best p Forward = rest_chosen (length (ports net b)) (s.label b) have place best zero_amount p (end_label net s p)
-  rest_looked_by have place best p Backward = rest_seen (length (ports net b)) (s.label b) have place best (capacity net s b p)
-  rest_looked_by have place best p Source = rest_seen (length (ports net b)) (s.label b) have place best (capacity net s b p)
+  rest_looked_by have place best p _ = rest_seen (length (ports net b)) (s.label b) have place best (capacity net s b p)
 
   pub rest_looked : (have : Amount) (place : ℕ) (best : Option (Best Amount)) (q : Option Port) → IsAtRest (after_look net s b have place best q)
   rest_looked have place best None = tt

@@ -35,20 +35,17 @@ chain_all : (x a c d g : Amount) → AtMost x (plus a g) → AtMost a c → AtMo
 chain_all x a c d g p q r = record { worths = omega (arith, ints, p, q, r); counts = λ i. omega (arith, ints, p, q, r, i) }
 
 label_by-more : (kind : PortKind) (slot read k m n : ℕ) → m ≤ n → label_by kind slot read k m ≤ label_by kind slot read k n
-label_by-more Sink slot read k m n h = h
-label_by-more Forward slot read k m n h = h
 label_by-more Backward slot read k m n h = elim (slot == k) as (λ t. cond t read m ≤ cond t read n) [ true ↦ omega arith | false ↦ h ]
-label_by-more Source slot read k m n h = h
+label_by-more _ slot read k m n h = h
 
 label_seen-more : (best : Option (Best Amount)) (k m n : ℕ) → m ≤ n → label_seen best k m ≤ label_seen best k n
 label_seen-more None k m n h = h
 label_seen-more (Some best) k m n h = label_by-more best.port.kind best.port.slot best.label k m n h
 
 label_beyond-more : (net : NetView) (kind : PortKind) (m n : ℕ) → m ≤ n → label_beyond net kind m ≤ label_beyond net kind n
-label_beyond-more net Sink m n h = omega arith
 label_beyond-more net Forward m n h = h
 label_beyond-more net Backward m n h = h
-label_beyond-more net Source m n h = omega arith
+label_beyond-more net _ m n h = omega arith
 
 is_under-less : (best : Option (Best Amount)) (m n : ℕ) → m ≤ n → is_under best n ≡ true → is_under best m ≡ true
 is_under-less None m n h e = refl
@@ -101,12 +98,10 @@ module _ (net : NetView) (s t : State) (x : ℕ) (m : IsCalm net s t x) where
   }
 
   pub operation_calm : (o : Operation Amount) → IsLevelled net s x o → IsLevelled net t x o
-  operation_calm Idle h = tt
   operation_calm (Scan have place read best) h = walk_calm have (drop place (ports net x)) best h
   operation_calm (PushDue have best) h = (walk_calm have [] (Some best) h.0, rw m.own h.1)
-  operation_calm (TakeDue d p) h = tt
-  operation_calm (GiveDue d p) h = tt
   operation_calm (RaiseDue have best) h = (walk_calm have [] (Some best) h.0, rw m.own h.1)
+  operation_calm _ h = tt
 
   pub steep_calm : AtMost (steep_capacity net s x) (supply net s x) → AtMost (steep_capacity net t x) (supply net t x)
   steep_calm h =

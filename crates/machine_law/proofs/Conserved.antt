@@ -39,12 +39,9 @@ unfolding amount_aloft
 amount_aloft-with_value_at net f k old new l e = rw (← e) (total-with_value_at (λ _ a. amount_carried a) f k new (length net.worths) l)
 
 rest_carried : (o : Operation Amount) → IsAtRest o → amount_carried o ≡ zero_amount
-rest_carried Idle h = refl
-rest_carried (Scan have place read best) h = refl
-rest_carried (PushDue have best) h = refl
 rest_carried (TakeDue d p) h = absurd h
 rest_carried (GiveDue d p) h = absurd h
-rest_carried (RaiseDue have best) h = refl
+rest_carried _ h = refl
 
 -- ---- each step
 module _ (net : NetView) (known : All (IsKnown (length net.worths)) net.pairs) (s : State) (b : ℕ) (l : b < length net.worths) (k : IsConserved net s) where
@@ -59,9 +56,7 @@ module _ (net : NetView) (known : All (IsKnown (length net.worths)) net.pairs) (
 
   conserved_pushed : (have : Amount) (best : Best Amount) (d : Amount) (p : Port) (kind : PortKind) → s.operation b ≡ PushDue have best → IsConserved net (after_push_by s b d p kind)
   conserved_pushed have best d p Sink e = stays (PushDue have best) (TakeDue d p) e refl refl
-  conserved_pushed have best d p Forward e = stays (PushDue have best) (TakeDue d p) e refl refl
-  conserved_pushed have best d p Backward e = stays (PushDue have best) (TakeDue d p) e refl refl
-  conserved_pushed have best d p Source e = stays (PushDue have best) (TakeDue d p) e refl refl
+  conserved_pushed have best d p _ e = stays (PushDue have best) (TakeDue d p) e refl refl
 
   conserved_taken : (d : Amount) (p : Port) → s.operation b ≡ TakeDue d p → IsConserved net (after_take s b d p)
   conserved_taken d p e =
@@ -119,12 +114,8 @@ conserved_run net s (e ∷ es) t known h k r =
 -- ---- what follows
 module _ (net : NetView) (s : State) (h : HasAmounts net s) (k : IsConserved net s) where
   carried_nonneg : (b : ℕ) (o : Operation Amount) → IsOperation net s b o → AtMost zero_amount (amount_carried o)
-  carried_nonneg b Idle i = AtMost-refl zero_amount
-  carried_nonneg b (Scan have place read best) i = AtMost-refl zero_amount
-  carried_nonneg b (PushDue have best) i = AtMost-refl zero_amount
-  carried_nonneg b (TakeDue d p) i = AtMost-refl zero_amount
   carried_nonneg b (GiveDue d p) i = Below-most zero_amount d i.0
-  carried_nonneg b (RaiseDue have best) i = AtMost-refl zero_amount
+  carried_nonneg b _ i = AtMost-refl zero_amount
 
   aloft_nonneg : AtMost zero_amount (amount_aloft net s.operation)
   unfolding amount_aloft

@@ -80,16 +80,12 @@ module _ (net : NetView) (s t : State) (x : ℕ) (m : IsMore net s t x) where
 
 -- ---- the amount of a push
 pub push_most : (have : Amount) (kind : PortKind) (read : Amount) → AtMost (push_amount have kind read) have
-push_most have Sink read = lesser_amount-left have read
 push_most have Forward read = AtMost-refl have
-push_most have Backward read = lesser_amount-left have read
-push_most have Source read = lesser_amount-left have read
+push_most have _ read = lesser_amount-left have read
 
 pub push_some : (net : NetView) (s : State) (b : ℕ) (have : Amount) (kind : PortKind) (slot : ℕ) (read : Amount) → Below zero_amount have → IsWithinBy net s b kind slot read → Below zero_amount (push_amount have kind read)
-push_some net s b have Sink slot read h w = Below-lesser_amount have read h w.0
 push_some net s b have Forward slot read h w = h
-push_some net s b have Backward slot read h w = Below-lesser_amount have read h w.0
-push_some net s b have Source slot read h w = Below-lesser_amount have read h w.0
+push_some net s b have _ slot read h w = Below-lesser_amount have read h w.0
 
 held_push : (net : NetView) (s : State) (b : ℕ) (have : Amount) (kind : PortKind) (slot : ℕ) (read : Amount) → IsHeld s b have → IsWithinBy net s b kind slot read → IsHeld s b (push_amount have kind read)
 held_push net s b have kind slot read h w = record { some = push_some net s b have kind slot read h.some w; held = AtMost-trans (push_amount have kind read) have (s.excess b) (push_most have kind read) h.held }

@@ -81,10 +81,9 @@ module _ (net : NetView) (s : State) (b : ℕ) (k : HasAmounts net s) (h : HasLa
 
   -- a port whose capacity was read, and is positive
   ready_read : (kind : PortKind) (slot : ℕ) (read : Amount) → IsWithinBy net s b kind slot read → IsReady net s b kind
-  ready_read Sink slot read w = Below-more w.0 w.1
   ready_read Forward slot read w = tt
   ready_read Backward slot read w = tt
-  ready_read Source slot read w = Below-more w.0 w.1
+  ready_read _ slot read w = Below-more w.0 w.1
 
   levelled_weighed : (have : Amount) (place : ℕ) (best : Option (Best Amount)) (read : Amount) (q : Option Port) → slice_get (ports net b) place ≡ q → IsReadCapacity net s b (Some read) q → IsWalk net s b have (drop place (ports net b)) best → IsLevelled net s b (after_label_at net s b have place best read q)
   levelled_weighed have place best read None e r w = tt

@@ -38,8 +38,7 @@ Below-absurd h k = absurd (omega (arith, ints, h, k))
 -- ---- the test of an amount
 below_by : (x y : Amount) (o : Ordering) → MatchOrdering o (Below x y) (x ≡ y) (Below y x) → is_lt o ≡ true → Below x y
 below_by x y Less h e = h
-below_by x y Equal h e = absurd cc
-below_by x y Greater h e = absurd cc
+below_by x y _ h e = absurd cc
 
 not_below_by : (x y : Amount) (o : Ordering) → MatchOrdering o (Below x y) (x ≡ y) (Below y x) → is_lt o ≡ false → AtMost y x
 not_below_by x y Less h e = absurd cc

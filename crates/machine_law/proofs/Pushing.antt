@@ -66,7 +66,6 @@ module _ (net : NetView) (s : State) (b : ℕ) (l : b < length net.worths) (have
 
   -- what the backward arcs of x gain
   arcs_pushed : (kind : PortKind) (x : ℕ) → IsEnd net b kind other slot → AtMost zero_amount (amount_of kind) → ((j : ℕ) → AtMost zero_amount ((after kind).flow j)) → (f g : ℕ → Bool) → ((j : ℕ) → f j ≡ true → g j ≡ true) → AtMost (arcs net f (after kind).flow x) (plus (arcs net g s.flow x) (amount_landing_by kind other x (amount_of kind)))
-  arcs_pushed Sink x q n a f g i = same_arcs net s x k f g i
   arcs_pushed Forward x q n a f g i =
       let t = after Forward in
       AtMost-trans (arcs net f t.flow x) (arcs net g t.flow x) (plus (arcs net g s.flow x) (amount_landing_by Forward other x (amount_of Forward)))
@@ -76,7 +75,7 @@ module _ (net : NetView) (s : State) (b : ℕ) (l : b < length net.worths) (have
       let t = after Backward in
       let less : (j : ℕ) → AtMost (t.flow j) (s.flow j) = with_value_at-each (λ j a. AtMost a (s.flow j)) s.flow slot (minus (s.flow slot) (amount_of Backward)) (AtMost-minus (s.flow slot) (amount_of Backward) n) (λ j _. AtMost-refl (s.flow j)) in
       joined (arcs-most net f g t.flow s.flow x (λ j _ _ y. i j y) less k.flow) (where_nonneg (other == x) (amount_of Backward) n) (record { w = omega (arith, ints); c = omega (arith, ints) })
-  arcs_pushed Source x q n a f g i = same_arcs net s x k f g i
+  arcs_pushed _ x q n a f g i = same_arcs net s x k f g i
 
   -- the arcs of b that are steep end below the best port, where the block stands at most one label above it
   steep_low : s.label b ≤ label + 1 → (j : ℕ) → is_steep j ≡ true → is_low j ≡ true
@@ -86,27 +85,19 @@ module _ (net : NetView) (s : State) (b : ℕ) (l : b < length net.worths) (have
 
   same_label : (kind : PortKind) → (after kind).label ≡ s.label
   same_label Sink = refl
-  same_label Forward = refl
-  same_label Backward = refl
-  same_label Source = refl
+  same_label _ = refl
 
   same_source : (kind : PortKind) (x : ℕ) → x ≢ b → (after kind).source x ≡ s.source x
-  same_source Sink x ne = refl
-  same_source Forward x ne = refl
-  same_source Backward x ne = refl
   same_source Source x ne = with_value_at-other s.source b (minus (s.source b) (amount_of Source)) x ne
+  same_source _ x ne = refl
 
   same_sink : (kind : PortKind) (x : ℕ) → x ≢ b → (after kind).sink x ≡ s.sink x
   same_sink Sink x ne = with_value_at-other s.sink b (plus (s.sink b) (amount_of Sink)) x ne
-  same_sink Forward x ne = refl
-  same_sink Backward x ne = refl
-  same_sink Source x ne = refl
+  same_sink _ x ne = refl
 
   same_operation : (kind : PortKind) → (after kind).operation ≡ with_value_at s.operation b (TakeDue (amount_of kind) (port_with kind other slot))
   same_operation Sink = refl
-  same_operation Forward = refl
-  same_operation Backward = refl
-  same_operation Source = refl
+  same_operation _ = refl
 
   module _ (kind : PortKind) (e : s.operation b ≡ PushDue have (best_at kind)) (q : IsEnd net b kind other slot) (w : IsWithinBy net s b kind slot read) (walk : IsWalk net s b have [] (Some (best_at kind))) (a : (j : ℕ) → AtMost zero_amount ((after kind).flow j)) where
     nonneg : AtMost zero_amount (amount_of kind)

@@ -31,10 +31,8 @@ module _ (net : NetView) (s : State) (b : ℕ) where
 
   row_pushed : (t : State) (have read : Amount) (label : ℕ) (kind : PortKind) (other slot : ℕ)
       → (let best : Best Amount = record { port = port_with kind other slot; capacity = read; label = label } in s.operation b ≡ PushDue have best → t ≡ after_push s b (push_amount have kind read) (port_with kind other slot) → Makes net s b (push_kind kind) t)
-  row_pushed t have read label Sink other slot e after = record { have = have; best = _; due = e; limited = λ h. absurd cc; after = after }
   row_pushed t have read label Forward other slot e after = record { have = have; best = _; due = e; forward = refl; after = after }
-  row_pushed t have read label Backward other slot e after = record { have = have; best = _; due = e; limited = λ h. absurd cc; after = after }
-  row_pushed t have read label Source other slot e after = record { have = have; best = _; due = e; limited = λ h. absurd cc; after = after }
+  row_pushed t have read label _ other slot e after = record { have = have; best = _; due = e; limited = λ h. absurd cc; after = after }
 
   -- the port at a place of the list
   port_here : (place : ℕ) → place < length (ports net b) → slice_get (ports net b) place ≡ Some (get_or (ports net b) place (sink_port b))
@@ -63,28 +61,20 @@ module _ (net : NetView) (s : State) (b : ℕ) where
   from_operation o kind t e n after = (ap (next_of net b) e ∙ n, after ∙ ap (advance_by net s b) (sym e))
 
   limited_kind : (kind : PortKind) → kind ≢ Forward → read_kind kind ≡ ReadCapacity
-  limited_kind Sink h = refl
   limited_kind Forward h = absurd (h refl)
-  limited_kind Backward h = refl
-  limited_kind Source h = refl
+  limited_kind _ h = refl
 
   limited_push : (kind : PortKind) → kind ≢ Forward → push_kind kind ≡ TakeCapacity
-  limited_push Sink h = refl
   limited_push Forward h = absurd (h refl)
-  limited_push Backward h = refl
-  limited_push Source h = refl
+  limited_push _ h = refl
 
   limited_amount : (have : Amount) (kind : PortKind) (read : Amount) → kind ≢ Forward → push_amount have kind read ≡ lesser_amount have read
-  limited_amount have Sink read h = refl
   limited_amount have Forward read h = absurd (h refl)
-  limited_amount have Backward read h = refl
-  limited_amount have Source read h = refl
+  limited_amount have _ read h = refl
 
   limited_looked : (have : Amount) (place : ℕ) (best : Option (Best Amount)) (p : Port) (kind : PortKind) → kind ≢ Forward → after_look_by net s b have place best p kind ≡ after_capacity (length (ports net b)) (s.label b) have place best (capacity net s b p)
-  limited_looked have place best p Sink h = refl
   limited_looked have place best p Forward h = absurd (h refl)
-  limited_looked have place best p Backward h = refl
-  limited_looked have place best p Source h = refl
+  limited_looked have place best p _ h = refl
 
   forward_looked : (have : Amount) (place : ℕ) (best : Option (Best Amount)) (p : Port) → p.kind ≡ Forward → after_look_by net s b have place best p p.kind ≡ after_label (length (ports net b)) (s.label b) have place best zero_amount p (end_label net s p)
   forward_looked have place best p f = ap (after_look_by net s b have place best p) f

@@ -23,15 +23,11 @@ run_unique net s (e ∷ es) t u h k = run_unique net h.0 es t u h.2 (subst (λ (
 -- ---- each step counts once
 steps_pushed : (s : State) (b : ℕ) (d : Amount) (p : Port) (kind : PortKind) → (after_push_by s b d p kind).steps ≡ s.steps + 1
 steps_pushed s b d p Sink = refl
-steps_pushed s b d p Forward = refl
-steps_pushed s b d p Backward = refl
-steps_pushed s b d p Source = refl
+steps_pushed s b d p _ = refl
 
 steps_given : (s : State) (b : ℕ) (d : Amount) (p : Port) (kind : PortKind) → (after_give_by s b d p kind).steps ≡ s.steps + 1
 steps_given s b d p Sink = refl
-steps_given s b d p Forward = refl
-steps_given s b d p Backward = refl
-steps_given s b d p Source = refl
+steps_given s b d p _ = refl
 
 steps_by : (net : NetView) (s : State) (b : ℕ) (o : Operation Amount) → (advance_by net s b o).steps ≡ s.steps + 1
 steps_by net s b Idle = refl

@@ -21,28 +21,18 @@ use Rattle.machine_law.proofs.Sums.{sum_on_way-with_value_at}
 
 -- an operation that has pushed nothing yet
 abbrev pub IsAtRest : Operation Amount → Type 0
-IsAtRest Idle = Unit {0}
-IsAtRest (Scan have place read best) = Unit {0}
-IsAtRest (PushDue have best) = Unit {0}
 IsAtRest (TakeDue d p) = ⊥
 IsAtRest (GiveDue d p) = ⊥
-IsAtRest (RaiseDue have best) = Unit {0}
+IsAtRest _ = Unit {0}
 
 pub rest_owed : (o : Operation Amount) → IsAtRest o → amount_owed o ≡ zero_amount
-rest_owed Idle h = refl
-rest_owed (Scan have place read best) h = refl
-rest_owed (PushDue have best) h = refl
 rest_owed (TakeDue d p) h = absurd h
-rest_owed (GiveDue d p) h = refl
-rest_owed (RaiseDue have best) h = refl
+rest_owed _ h = refl
 
 pub rest_on_way : (o : Operation Amount) (f : Port → Amount → Amount) → IsAtRest o → on_way f o ≡ zero_amount
-rest_on_way Idle f h = refl
-rest_on_way (Scan have place read best) f h = refl
-rest_on_way (PushDue have best) f h = refl
 rest_on_way (TakeDue d p) f h = absurd h
 rest_on_way (GiveDue d p) f h = absurd h
-rest_on_way (RaiseDue have best) f h = refl
+rest_on_way _ f h = refl
 
 where_nothing : (t : Bool) (a : Amount) → a ≡ zero_amount → where_so t a ≡ zero_amount
 where_nothing t a e = rw e (where_so-zero t)
@@ -91,9 +81,7 @@ module _ (net : NetView) (s : State) (b : ℕ) (l : b < length net.worths) where
 
     pub supply_pushed : (have : Amount) (best : Best Amount) (d : Amount) (p : Port) (kind : PortKind) → s.operation b ≡ PushDue have best → Same (supply net (after_push_by s b d p kind) x) (minus (plus (supply net s x) (amount_landing x p d)) (where_so (b == x) d))
     supply_pushed have best d p Sink e = hand_pushed have best d p e
-    supply_pushed have best d p Forward e = hand_pushed have best d p e
-    supply_pushed have best d p Backward e = hand_pushed have best d p e
-    supply_pushed have best d p Source e = hand_pushed have best d p e
+    supply_pushed have best d p _ e = hand_pushed have best d p e
 
     pub supply_taken : (d : Amount) (p : Port) → s.operation b ≡ TakeDue d p → Same (supply net (after_take s b d p) x) (supply net s x)
     supply_taken d p e =
@@ -119,10 +107,9 @@ module _ (net : NetView) (s : State) (b : ℕ) (l : b < length net.worths) where
         record { w = omega (arith, ints, h, v); c = omega (arith, ints, h, v) }
 
     supply_given_by : (d : Amount) (kind : PortKind) (other slot : ℕ) → (let p : Port = record { kind = kind; other = other; slot = slot } in s.operation b ≡ GiveDue d p → Same (supply net (after_give_by s b d p kind) x) (supply net s x))
-    supply_given_by d Sink other slot e = given_out d _ e refl
     supply_given_by d Forward other slot e = given_into d other slot _ e refl
     supply_given_by d Backward other slot e = given_into d other slot _ e refl
-    supply_given_by d Source other slot e = given_out d _ e refl
+    supply_given_by d _ other slot e = given_out d _ e refl
 
     pub supply_given : (d : Amount) (p : Port) → s.operation b ≡ GiveDue d p → Same (supply net (after_give s b d p) x) (supply net s x)
     supply_given d p e = supply_given_by d p.kind p.other p.slot e

@@ -26,17 +26,14 @@ use Rattle.std.proofs.lemmas.Grind.{common_steps}
 
 -- not forward
 abbrev pub IsLimited : PortKind → Type 0
-IsLimited Sink = Unit {0}
 IsLimited Forward = ⊥
-IsLimited Backward = Unit {0}
-IsLimited Source = Unit {0}
+IsLimited _ = Unit {0}
 
 -- by the kind of port: it has capacity, or is backward
 abbrev pub IsReady : NetView → State → ℕ → PortKind → Type 0
 IsReady net s b Sink = Below zero_amount (room net s b)
-IsReady net s b Forward = Unit {0}
-IsReady net s b Backward = Unit {0}
 IsReady net s b Source = Below zero_amount (s.source b)
+IsReady net s b _ = Unit {0}
 
 -- ---- two ports of one block that are the same
 module _ (net : NetView) (s : State) (b : ℕ) where
@@ -80,10 +77,8 @@ above_better (Some best) new n h = cond_both (nat_lt new.label best.label) new b
 module _ (net : NetView) (s : State) (b : ℕ) (k : HasAmounts net s) (h : HasLabels net s) where
   -- at a new best port the arcs count by their present labels
   seen_new : (kind : PortKind) (other slot j : ℕ) → IsEnd net b kind other slot → label_by kind slot (label_beyond net kind (s.label other)) j (s.label (from_at net.pairs j)) ≡ s.label (from_at net.pairs j)
-  seen_new Sink other slot j q = refl
-  seen_new Forward other slot j q = refl
   seen_new Backward other slot j q = cond_both (slot == j) (s.label other) (s.label (from_at net.pairs j)) (λ x. x ≡ s.label (from_at net.pairs j)) (λ e. ap s.label (sym q.2 ∙ ap (from_at net.pairs) (eqb-true slot j e))) (λ e. refl)
-  seen_new Source other slot j q = refl
+  seen_new _ other slot j q = refl
 
   near_new : (kind : PortKind) (other slot : ℕ) → IsEnd net b kind other slot → IsReady net s b kind → IsNearLabel net kind (s.label b) (label_beyond net kind (s.label other))
   near_new Sink other slot q r = h.sink b r

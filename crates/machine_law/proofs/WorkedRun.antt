@@ -87,9 +87,8 @@ rows =
     ∷ []
 
 abbrev watch : NetView → Option State → List Row → List (List ℤ)
-watch over o [] = []
-watch over None (r ∷ rs) = []
 watch over (Some s) (r ∷ rs) = elim (follow over s (map (λ k. record { block = r.block; kind = k }) r.kinds)) [ None ↦ [] | Some t ↦ r.see t ∷ watch over (Some t) rs ]
+watch over _ _ = []
 
 as_worked_by_hand : watch net (Some (opening net)) rows ≡ map (λ r. r.says) rows
 unfolding with_value_at arcs sum_on_way port_list

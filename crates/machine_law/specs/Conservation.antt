@@ -20,12 +20,8 @@ standing_excess net excess = total excess (length net.worths)
 
 -- what an operation has taken out of an excess and not yet given
 abbrev pub amount_carried : Operation Amount → Amount
-amount_carried Idle = zero_amount
-amount_carried (Scan have place read best) = zero_amount
-amount_carried (PushDue have best) = zero_amount
-amount_carried (TakeDue d port) = zero_amount
 amount_carried (GiveDue d port) = d
-amount_carried (RaiseDue have best) = zero_amount
+amount_carried _ = zero_amount
 
 -- what the operations of all blocks have taken out of an excess and not yet given
 unfoldable pub amount_aloft : NetView → (ℕ → Operation Amount) → Amount

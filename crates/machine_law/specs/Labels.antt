@@ -28,10 +28,8 @@ steep_capacity net s b = arcs net (λ k. nat_lt (s.label (from_at net.pairs k) +
 
 -- the label beyond the backward arc of pair k, where it has this label: at the best port the one that was read
 abbrev pub label_by : PortKind → ℕ → ℕ → ℕ → ℕ → ℕ
-label_by Sink slot read k label = label
-label_by Forward slot read k label = label
 label_by Backward slot read k label = if slot == k then read else label
-label_by Source slot read k label = label
+label_by _ slot read k label = label
 
 abbrev pub label_seen : Option (Best Amount) → ℕ → ℕ → ℕ
 label_seen None k label = label
@@ -79,10 +77,9 @@ IsAbove (Some best) label = best.label ≤ label
 
 -- by the kind of port: a block with this label falls by at most one label over it, unless it is backward; the source's label never changes
 abbrev pub IsNearLabel : NetView → PortKind → ℕ → ℕ → Type 0
-IsNearLabel net Sink own label = own ≤ label + 1
-IsNearLabel net Forward own label = own ≤ label + 1
 IsNearLabel net Backward own label = Unit {0}
 IsNearLabel net Source own label = (own ≤ label + 1) × (length net.worths + 2 ≤ label)
+IsNearLabel net _ own label = own ≤ label + 1
 
 -- the label that was read at the best port is at most the present one, and near
 pub record IsBestLabel (net : NetView) (s : State) (b : ℕ) (best : Best Amount) : Type 0 where
@@ -104,12 +101,10 @@ pub record IsWalk (net : NetView) (s : State) (b : ℕ) (have : Amount) (rest : 
 
 -- what holds of an operation of b: a push is due where the block stands above the best port, and a raise where it doesn't
 abbrev pub IsLevelled : NetView → State → ℕ → Operation Amount → Type 0
-IsLevelled net s b Idle = Unit {0}
 IsLevelled net s b (Scan have place read best) = IsWalk net s b have (drop place (ports net b)) best
 IsLevelled net s b (PushDue have best) = IsWalk net s b have [] (Some best) × (best.label < s.label b)
-IsLevelled net s b (TakeDue d port) = Unit {0}
-IsLevelled net s b (GiveDue d port) = Unit {0}
 IsLevelled net s b (RaiseDue have best) = IsWalk net s b have [] (Some best) × (s.label b ≤ best.label)
+IsLevelled net s b _ = Unit {0}
 
 -- Forward arcs, and those to the sink and the source that have capacity, fall by at most one label: the sink stands at 0, the source
 -- at n + 2. A block that has given anything back to the source stands above it. The steep backward arcs of a block hold at most what

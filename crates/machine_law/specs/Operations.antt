@@ -20,8 +20,4 @@ operation_as f (RaiseDue have best) = RaiseDue (f have) (best_as f best)
 -- whether there is no operation
 abbrev pub is_idle : {N : Type 0} → Operation N → Bool
 is_idle Idle = true
-is_idle (Scan have place read best) = false
-is_idle (PushDue have best) = false
-is_idle (TakeDue amount port) = false
-is_idle (GiveDue amount port) = false
-is_idle (RaiseDue have best) = false
+is_idle _ = false

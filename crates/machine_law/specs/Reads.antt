@@ -42,12 +42,8 @@ after_label count label have place best capacity port beyond = after_port count 
 
 -- the operation looks at one of so many ports
 abbrev pub LooksAtPort : {N : Type 0} → ℕ → Operation N → Type 0
-LooksAtPort count Idle = ⊥
 LooksAtPort count (Scan have place read best) = place < count
-LooksAtPort count (PushDue have best) = ⊥
-LooksAtPort count (TakeDue amount port) = ⊥
-LooksAtPort count (GiveDue amount port) = ⊥
-LooksAtPort count (RaiseDue have best) = ⊥
+LooksAtPort count _ = ⊥
 
 -- after the port that the operation looks at is passed
 abbrev pub after_port_by : {N : Type 0} → ℕ → ℕ → Operation N → Operation N

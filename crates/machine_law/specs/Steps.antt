@@ -20,10 +20,8 @@ use Rattle.machine_law.specs.Reads.{operation_begun_with, after_capacity, after_
 
 -- at a port whose capacity isn't read: its capacity, but for a forward port, which is unlimited
 abbrev pub read_kind : PortKind → Kind
-read_kind Sink = ReadCapacity
 read_kind Forward = ReadLabel
-read_kind Backward = ReadCapacity
-read_kind Source = ReadCapacity
+read_kind _ = ReadCapacity
 
 -- which kind of step reads at a place of the list of ports
 abbrev pub read_kind_at : Option Port → Kind
@@ -32,10 +30,8 @@ read_kind_at (Some port) = read_kind port.kind
 
 -- where a push over a port is due
 abbrev pub push_kind : PortKind → Kind
-push_kind Sink = TakeCapacity
 push_kind Forward = GiveCapacity
-push_kind Backward = TakeCapacity
-push_kind Source = TakeCapacity
+push_kind _ = TakeCapacity
 
 -- the kind that is next for b, which has this operation
 abbrev pub next_of : NetView → ℕ → Operation Amount → Kind
@@ -63,10 +59,8 @@ with_operation s b operation = record s { operation = with_value_at s.operation 
 
 -- the operation after a read at a port whose capacity isn't read: of its capacity, or of the label beyond a forward one
 abbrev pub after_look_by : NetView → State → ℕ → Amount → ℕ → Option (Best Amount) → Port → PortKind → Operation Amount
-after_look_by net s b have place best port Sink = after_capacity (length (ports net b)) (s.label b) have place best (capacity net s b port)
 after_look_by net s b have place best port Forward = after_label (length (ports net b)) (s.label b) have place best zero_amount port (end_label net s port)
-after_look_by net s b have place best port Backward = after_capacity (length (ports net b)) (s.label b) have place best (capacity net s b port)
-after_look_by net s b have place best port Source = after_capacity (length (ports net b)) (s.label b) have place best (capacity net s b port)
+after_look_by net s b have place best port _ = after_capacity (length (ports net b)) (s.label b) have place best (capacity net s b port)
 
 -- the operation after a read at a place of the list of ports: none where the list has no such place
 abbrev pub after_look : NetView → State → ℕ → Amount → ℕ → Option (Best Amount) → Option Port → Operation Amount
@@ -80,10 +74,8 @@ after_label_at net s b have place best read (Some port) = after_label (length (p
 
 -- the amount of a push over a port of this kind: what there is, at most the capacity that was read
 abbrev pub push_amount : Amount → PortKind → Amount → Amount
-push_amount have Sink read = lesser_amount have read
 push_amount have Forward read = have
-push_amount have Backward read = lesser_amount have read
-push_amount have Source read = lesser_amount have read
+push_amount have _ read = lesser_amount have read
 
 -- the capacity step of a push of d over a port of this kind
 abbrev pub after_push_by : State → ℕ → Amount → Port → PortKind → State
@@ -102,9 +94,8 @@ after_take s b d port = record (with_operation s b (GiveDue d port)) { excess = 
 -- d arrives over a port of this kind
 abbrev pub after_give_by : State → ℕ → Amount → Port → PortKind → State
 after_give_by s b d port Sink = record (with_operation s b Idle) { at_sink = plus s.at_sink d }
-after_give_by s b d port Forward = record (with_operation s b Idle) { excess = with_value_at s.excess port.other (plus (s.excess port.other) d) }
-after_give_by s b d port Backward = record (with_operation s b Idle) { excess = with_value_at s.excess port.other (plus (s.excess port.other) d) }
 after_give_by s b d port Source = record (with_operation s b Idle) { at_source = plus s.at_source d }
+after_give_by s b d port _ = record (with_operation s b Idle) { excess = with_value_at s.excess port.other (plus (s.excess port.other) d) }
 
 abbrev pub after_give : State → ℕ → Amount → Port → State
 after_give s b d port = after_give_by s b d port port.kind

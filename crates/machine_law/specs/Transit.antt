@@ -13,21 +13,14 @@ use Rattle.machine_law.specs.States.{State}
 
 -- what a block's own push has yet to take out of its excess
 abbrev pub amount_owed : Operation Amount → Amount
-amount_owed Idle = zero_amount
-amount_owed (Scan have place read best) = zero_amount
-amount_owed (PushDue have best) = zero_amount
 amount_owed (TakeDue d port) = d
-amount_owed (GiveDue d port) = zero_amount
-amount_owed (RaiseDue have best) = zero_amount
+amount_owed _ = zero_amount
 
 -- what counts of a push that has made its capacity step and has not arrived, where f says what counts of an amount over a port
 abbrev pub on_way : (Port → Amount → Amount) → Operation Amount → Amount
-on_way f Idle = zero_amount
-on_way f (Scan have place read best) = zero_amount
-on_way f (PushDue have best) = zero_amount
 on_way f (TakeDue d port) = f port d
 on_way f (GiveDue d port) = f port d
-on_way f (RaiseDue have best) = zero_amount
+on_way f _ = zero_amount
 
 -- what counts of all pushes that have made their capacity step and have not arrived, over the operations of all blocks
 unfoldable pub sum_on_way : NetView → (Port → Amount → Amount) → (ℕ → Operation Amount) → Amount
@@ -36,21 +29,16 @@ sum_on_way net f operation = total (λ b. on_way f (operation b)) (length net.wo
 -- by the kind of port, what of d goes into block x, to the sink, and to the source
 abbrev pub amount_landing_by : PortKind → ℕ → ℕ → Amount → Amount
 amount_landing_by Sink other x d = zero_amount
-amount_landing_by Forward other x d = where_so (other == x) d
-amount_landing_by Backward other x d = where_so (other == x) d
 amount_landing_by Source other x d = zero_amount
+amount_landing_by _ other x d = where_so (other == x) d
 
 abbrev pub into_sink_by : PortKind → Amount → Amount
 into_sink_by Sink d = d
-into_sink_by Forward d = zero_amount
-into_sink_by Backward d = zero_amount
-into_sink_by Source d = zero_amount
+into_sink_by _ d = zero_amount
 
 abbrev pub into_source_by : PortKind → Amount → Amount
-into_source_by Sink d = zero_amount
-into_source_by Forward d = zero_amount
-into_source_by Backward d = zero_amount
 into_source_by Source d = d
+into_source_by _ d = zero_amount
 
 -- what of d goes over a port into block x, to the sink, and to the source
 abbrev pub amount_landing : ℕ → Port → Amount → Amount

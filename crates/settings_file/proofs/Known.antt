@@ -31,7 +31,6 @@ pub table_is_text : (text : List ℕ) (ms : Members) (answer : Result SettingsVi
     → MatchResult answer (λ s. settings_in ms ≡ Ok s) (λ e. ¬ (e ≡ NoMemory) → settings_in ms ≡ Err e) → IfErr answer IsOfTable → ReadsSettings text answer
 table_is_text text ms (Ok s) d h k = (ms, d, h)
 table_is_text text ms (Err NotToml) d h k = absurd k
-table_is_text text ms (Err UnknownKey) d h k = (ms, d, h (λ e. cc))
-table_is_text text ms (Err (BadValue key)) d h k = (ms, d, h (λ e. cc))
 table_is_text text ms (Err (Missing key)) d h k = k
 table_is_text text ms (Err NoMemory) d h k = d.utf8
+table_is_text text ms _ d h k = (ms, d, h (λ e. cc))

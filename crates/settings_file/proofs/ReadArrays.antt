@@ -50,11 +50,8 @@ module _ {V : Type 0} where
 
 -- three values or none
 pub not-three : (vs : List Value) → length vs ≢ 3 → offset_of_items (Some (items_view vs)) ≡ None
-not-three [] h = refl
-not-three (a ∷ []) h = refl
-not-three (a ∷ b ∷ []) h = refl
 not-three (a ∷ b ∷ c ∷ []) h = absurd (h refl)
-not-three (a ∷ b ∷ c ∷ d ∷ vs) h = refl
+not-three _ h = refl
 
 pub below_first-Some : (a s : ℕ) (ns : List ℕ) → Some s ≡ slice_get ns 0 → is_below_first a ns ≡ nat_lt a s
 below_first-Some a s [] h = absurd cc

@@ -19,7 +19,5 @@ pub record IsGoodUpToFactors (ms : Members) : Type 0 where
 -- a fault that a table of a document can have, or want of memory
 abbrev pub IsOfTable : SettingsFault → Type 0
 IsOfTable NotToml = ⊥
-IsOfTable UnknownKey = Unit {0}
-IsOfTable (BadValue key) = Unit {0}
 IsOfTable (Missing key) = ⊥
-IsOfTable NoMemory = Unit {0}
+IsOfTable _ = Unit {0}

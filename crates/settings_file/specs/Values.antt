@@ -8,8 +8,7 @@ use Rattle.fixed_worth.specs.declared.limits.TheConstants.{MOST_FACTOR, MOST_FAC
 -- A whole number from 0 to the most, and nothing else.
 abbrev pub whole_upto : ℕ → Option ℤ → Option ℕ
 whole_upto most (Some (pos n)) = cond (nat_le n most) (Some n) None
-whole_upto most (Some (negsuc n)) = None
-whole_upto most None = None
+whole_upto most _ = None
 
 -- What a value reads as that has to be a whole number from 0 to the most.
 abbrev pub whole_value_within : ℕ → Data → Option ℕ
@@ -28,8 +27,7 @@ offset_number d = whole_in_i32 (as_integer d)
 -- What each item reads as, in order, and nothing where one doesn't read.
 abbrev pub put_first : {V : Type 0} → Option V → Option (List V) → Option (List V)
 put_first (Some v) (Some vs) = Some (v ∷ vs)
-put_first (Some v) None = None
-put_first None o = None
+put_first _ _ = None
 
 unfoldable pub all_read : {V : Type 0} → (Data → Option V) → Items → Option (List V)
 all_read reads no_items = Some []

@@ -35,49 +35,25 @@ block_read b h =
 
 words_read : (k : Kind) (b : ℕ) → parts 32 (kind_word k ++ (32 ∷ decimal b)) ≡ kind_word k ∷ parts 32 (decimal b)
 words_read ReadExcess b = refl
-words_read ReadCapacity b = refl
-words_read ReadLabel b = refl
-words_read TakeCapacity b = refl
-words_read GiveCapacity b = refl
-words_read TakeExcess b = refl
-words_read GiveExcess b = refl
-words_read RaiseLabel b = refl
+words_read _ b = refl
 
 kind_read : (k : Kind) → kind_of_word (kind_word k) ≡ Some k
 kind_read ReadExcess = refl
-kind_read ReadCapacity = refl
-kind_read ReadLabel = refl
-kind_read TakeCapacity = refl
-kind_read GiveCapacity = refl
-kind_read TakeExcess = refl
-kind_read GiveExcess = refl
-kind_read RaiseLabel = refl
+kind_read _ = refl
 
 pub event_read : (e : Event) → e.block < 2 ^ 32 → event_of (event_line e) ≡ Some e
 event_read e h = grind (arith, common_steps, words_read, digits_alone, decimal_digits, kind_read, block_read)
 
 one_line : (k : Kind) (ds : List ℕ) → is_one_line (kind_word k ++ (32 ∷ ds)) ≡ is_one_line ds
 one_line ReadExcess ds = refl
-one_line ReadCapacity ds = refl
-one_line ReadLabel ds = refl
-one_line TakeCapacity ds = refl
-one_line GiveCapacity ds = refl
-one_line TakeExcess ds = refl
-one_line GiveExcess ds = refl
-one_line RaiseLabel ds = refl
+one_line _ ds = refl
 
 pub event_is_one_line : (e : Event) → e.block < 2 ^ 32 → is_one_line (event_line e) ≡ true
 event_is_one_line e h = one_line e.kind (decimal e.block) ∙ decimal_is_one_line e.block (omega arith)
 
 no_end : (k : Kind) (ds : List ℕ) → bytes_eq (kind_word k ++ (32 ∷ ds)) (codes "END") ≡ false
 no_end ReadExcess ds = refl
-no_end ReadCapacity ds = refl
-no_end ReadLabel ds = refl
-no_end TakeCapacity ds = refl
-no_end GiveCapacity ds = refl
-no_end TakeExcess ds = refl
-no_end GiveExcess ds = refl
-no_end RaiseLabel ds = refl
+no_end _ ds = refl
 
 pub event_is_no_end : (e : Event) → bytes_eq (event_line e) (codes "END") ≡ false
 event_is_no_end e = no_end e.kind (decimal e.block)
@@ -114,8 +90,7 @@ block_at word j k false l e h = absurd cc
 
 block_read_as : (word : List ℕ) (k : ℕ) (r : Result ℤ NumberFault) → plain_of word ≡ r → block_within r ≡ Some k → (word ≡ decimal k) × (k < 2 ^ 32)
 block_read_as word k (Ok (pos j)) e h = block_at word j k (ltb j (2 ^ 32)) refl e h
-block_read_as word k (Ok (negsuc j)) e h = absurd cc
-block_read_as word k (Err x) e h = absurd cc
+block_read_as word k _ e h = absurd cc
 
 block_spelled : (word : List ℕ) (k : ℕ) → block_of_word word ≡ Some k → (word ≡ decimal k) × (k < 2 ^ 32)
 block_spelled word k h = block_read_as word k (plain_of word) refl h
@@ -127,14 +102,11 @@ pub record Spelled (line : List ℕ) (e : Event) : Type 0 where
 
 two_words : (word number : List ℕ) (e : Event) (o : Option Kind) (p : Option ℕ) → kind_of_word word ≡ o → block_of_word number ≡ p → event_with o p ≡ Some e → Spelled (word ++ (32 ∷ number)) e
 two_words word number e (Some kind) (Some block) h i is = grind (arith, common_steps, kind_spelled, block_spelled)
-two_words word number e (Some kind) None h i is = absurd cc
-two_words word number e None p h i is = absurd cc
+two_words word number e _ _ h i is = absurd cc
 
 words_spelled : (words : List (List ℕ)) (e : Event) → event_of_words words ≡ Some e → Spelled (join_with_byte 32 words) e
-words_spelled [] e h = absurd cc
-words_spelled (a ∷ []) e h = absurd cc
 words_spelled (a ∷ b ∷ []) e h = two_words a b e (kind_of_word a) (block_of_word b) refl refl h
-words_spelled (a ∷ b ∷ c ∷ cs) e h = absurd cc
+words_spelled _ e h = absurd cc
 
 pub event_spelled : (line : List ℕ) (e : Event) → event_of line ≡ Some e → Spelled line e
 event_spelled line e h =

@@ -76,10 +76,8 @@ record AreWritten (k : ℕ) (ps : List (List ℕ)) (es : List Event) : Type 0 wh
   fit : All Fits es
 
 ended : (k j : ℕ) (ps : List (List ℕ)) → k ≤ MOST_EVENTS + 1 → end_fault j ps ≡ None → AreWritten k (codes "END" ∷ ps) (filter_map event_of (codes "END" ∷ ps))
-ended k j [] few h = absurd cc
 ended k j ([] ∷ []) few h = record { spelled = refl; few = omega arith; fit = All-nil Fits }
-ended k j ([] ∷ p ∷ ps) few h = absurd cc
-ended k j ((b ∷ bs) ∷ ps) few h = absurd cc
+ended k j _ few h = absurd cc
 
 join_more : (line : List ℕ) (ps : List (List ℕ)) → 0 < length ps → join_with_byte 10 (line ∷ ps) ≡ line ++ (10 ∷ join_with_byte 10 ps)
 join_more line [] h = absurd (omega arith)
@@ -101,10 +99,9 @@ line_by k line ps true is few some ih h = subst (λ (l : List ℕ). AreWritten k
 line_by k line ps false is few some ih h = said_by k line ps (event_of line) (ltb MOST_EVENTS k) some refl refl ih h
 
 behind_written : (k : ℕ) (ps : List (List ℕ)) → k ≤ MOST_EVENTS + 1 → fault_behind k ps ≡ None → AreWritten k ps (filter_map event_of ps)
-behind_written k [] few h = absurd cc
-behind_written k (rest ∷ []) few h = absurd cc
 behind_written k (line ∷ next ∷ more) few h =
     line_by k line (next ∷ more) (bytes_eq line (codes "END")) (bytes_eq-Decides line (codes "END")).0 few (omega arith) (λ none l. behind_written (k + 1) (next ∷ more) l none) h
+behind_written k _ few h = absurd cc
 
 head_by : (line : List ℕ) (ps : List (List ℕ)) (t : Bool) → (t ≡ true → line ≡ codes "PITTRACE 1") → 0 < length ps
     → cond t (fault_behind 1 ps) (Some (Text 1)) ≡ None → IsWritten (join_with_byte 10 (line ∷ ps)) (filter_map event_of (line ∷ ps))
@@ -118,9 +115,8 @@ head_by line ps true is some h =
 head_by line ps false is some h = absurd cc
 
 all_written : (ps : List (List ℕ)) → fault_in ps ≡ None → IsWritten (join_with_byte 10 ps) (filter_map event_of ps)
-all_written [] h = absurd cc
-all_written (rest ∷ []) h = absurd cc
 all_written (line ∷ next ∷ more) h = head_by line (next ∷ more) (bytes_eq line (codes "PITTRACE 1")) (bytes_eq-Decides line (codes "PITTRACE 1")).0 (omega arith) h
+all_written _ h = absurd cc
 
 pub read_is_written : (text : List ℕ) → fault_of text ≡ None → IsWritten text (events_of text)
 read_is_written text h = subst (λ (t : List ℕ). IsWritten t (events_of text)) (join_with_byte-slice_split 10 text) (all_written (parts 10 text) h)

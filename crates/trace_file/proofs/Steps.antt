@@ -51,8 +51,7 @@ at_end text left line behind es k g e p f =
 nothing_said : (k : ℕ) (ps : List (List ℕ)) → end_fault k ps ≡ None → filter_map event_of ps ≡ []
 nothing_said k [] h = refl
 nothing_said k ([] ∷ []) h = refl
-nothing_said k ([] ∷ p ∷ ps) h = absurd cc
-nothing_said k ((b ∷ bs) ∷ ps) h = absurd cc
+nothing_said k _ h = absurd cc
 
 -- All of the text is read.
 pub all_read : (text left line behind : List ℕ) (es : List Event) (k : ℕ) → Going text left es → k ≡ length es + 2 → parts 10 left ≡ line ∷ parts 10 behind → bytes_eq line (codes "END") ≡ true → end_fault (k + 1) (parts 10 behind) ≡ None
@@ -91,10 +90,8 @@ goes_on text left line behind es e g p f o l =
 
 -- A fault of the text is answered for any reason.
 unless_memory : {P : Type 0} (e : TraceFault) → P → UnlessMemory e P
-unless_memory (Text k) h = h
-unless_memory Truncated h = h
-unless_memory TooMany h = h
 unless_memory NoMemory h = tt
+unless_memory _ h = h
 
 pub stands : {P Q : Type 0} (e : TraceFault) → P → UnlessMemory e P × (Q → P)
 stands e h = (unless_memory e h, λ q. h)

@@ -24,8 +24,7 @@ kind_of_word word =
 -- a number from 0 to 2 ^ 32 - 1
 abbrev pub block_within : Result ℤ NumberFault → Option ℕ
 block_within (Ok (pos k)) = cond (nat_lt k (2 ^ 32)) (Some k) None
-block_within (Ok (negsuc k)) = None
-block_within (Err e) = None
+block_within _ = None
 
 -- the block that a word is in its one spelling
 abbrev pub block_of_word : List ℕ → Option ℕ
@@ -34,8 +33,7 @@ block_of_word word = block_within (plain_of word)
 -- the event of a kind and a block, where both are there
 abbrev pub event_with : Option Kind → Option ℕ → Option Event
 event_with (Some kind) (Some block) = Some (record { block = block; kind = kind })
-event_with (Some kind) None = None
-event_with None block = None
+event_with _ _ = None
 
 -- two words, a kind and a block, say an event
 abbrev pub event_of_words : List (List ℕ) → Option Event

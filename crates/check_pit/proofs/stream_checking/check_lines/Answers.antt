@@ -21,11 +21,11 @@ pub returns-in_err-line-clause-checked : goal.returns-in_err-line-clause-checked
 returns-in_err-line-clause-checked g c =
     let q = c.loop-line.invariant.so_far in
     let p = err_from_is_err_and c.from_residual.result c.from_residual.ensures.1 in
-    rw (p.1, p.2) (reading_lacks g.R.Read.remaining g.G.OrderedGroup.counts c.args.net.now c.args.lines.now c.loop-line.lines c.line_for.new.lines c.loop-line.previous q.0 q.1 c.in_err-line.field-0.0 q.2 c.in_err-line.ensures.line)
+    rw (p.1, p.2) (reading_lacks g.R.Read.remaining g.G.OrderedGroup.counts c.args.net.now c.args.lines.now c.loop-line.lines c.next_line.new.lines c.loop-line.previous q.0 q.1 c.in_err-line.field-0.0 q.2 c.in_err-line.ensures.line)
 
 pub returns-in_err-line-clause-memory : goal.returns-in_err-line-clause-memory
 returns-in_err-line-clause-memory g c = λ fresh space.
-    let lines = c.line_for.new.lines in
+    let lines = c.next_line.new.lines in
     let net = c.args.net.now in
     let p = err_from_is_err_and c.from_residual.result c.from_residual.ensures.1 in
     rw (p.1, p.2) (lacks_no_memory (g.R.Read.remaining lines.from) g.G.OrderedGroup.counts (length net.worths) (has_pair net.pairs) c.loop-line.previous lines c.in_err-line.field-0.0 c.in_err-line.ensures.line.1)
@@ -38,12 +38,12 @@ close_pit-requires-clause-ascending g c κs within =
 pub returns-in-Err-clause-checked : goal.returns-in-Err-clause-checked
 returns-in-Err-clause-checked g c =
     let q = c.loop-line.invariant.so_far in
-    pit_open g.R.Read.remaining g.G.OrderedGroup.counts c.args.net.now c.args.lines.now c.loop-line.lines c.line_for.new.lines c.loop-line.previous q.0 q.1 c.in_ok-line.line c.loop-line.room c.in-Err.fault q.2 q.3 c.in_ok-line.ensures.line c.in-Err.ensures.closes
+    pit_open g.R.Read.remaining g.G.OrderedGroup.counts c.args.net.now c.args.lines.now c.loop-line.lines c.next_line.new.lines c.loop-line.previous q.0 q.1 c.in_ok-line.line c.loop-line.room c.in-Err.fault q.2 q.3 c.in_ok-line.ensures.line c.in-Err.ensures.closes
 
 pub returns-then-is_end : goal.returns-then-is_end
 returns-then-is_end g c =
     let q = c.loop-line.invariant.so_far in
-    let answered = end_answered g.R.Read.remaining g.G.OrderedGroup.counts c.args.net.now c.args.lines.now c.loop-line.lines c.line_for.new.lines c.check_end.new.lines c.loop-line.previous q.0 q.1 c.in_ok-line.line c.loop-line.room c.close_pit.new.room c.check_end.result c.worths-worths.ensures.net.rests q.2 q.3
+    let answered = end_answered g.R.Read.remaining g.G.OrderedGroup.counts c.args.net.now c.args.lines.now c.loop-line.lines c.next_line.new.lines c.check_end.new.lines c.loop-line.previous q.0 q.1 c.in_ok-line.line c.loop-line.room c.close_pit.new.room c.check_end.result c.worths-worths.ensures.net.rests q.2 q.3
     c.in_default-close_pit.ensures.closes c.in_ok-line.ensures.line (sym c.is_end.ensures ∙ c.if-is_end.true) c.check_end.ensures.reads c.check_end.ensures.end in
     record {
       size = grind (arith, common_steps);
@@ -64,18 +64,18 @@ put-requires-clause-may g c κs within =
     let net = c.args.net.now in
     let e = sym c.is_end.ensures ∙ c.if-is_end.false in
     may_put counts net c.loop-line.previous c.in_ok-line.line c.loop-line.room c.close_pit.new.room q.1 c.worths-worths.ensures.net.rests q.3 c.in_default-close_pit.ensures.closes
-    (line_met remaining counts net c.loop-line.lines c.line_for.new.lines c.loop-line.previous c.in_ok-line.line c.in_ok-line.ensures.line) e
-    (reading_on remaining counts net c.args.lines.now c.loop-line.lines c.line_for.new.lines c.loop-line.previous q.0 q.1 c.in_ok-line.line q.2 c.in_ok-line.ensures.line e).begins.order
+    (line_met remaining counts net c.loop-line.lines c.next_line.new.lines c.loop-line.previous c.in_ok-line.line c.in_ok-line.ensures.line) e
+    (reading_on remaining counts net c.args.lines.now c.loop-line.lines c.next_line.new.lines c.loop-line.previous q.0 q.1 c.in_ok-line.line q.2 c.in_ok-line.ensures.line e).begins.order
 
 pub put-requires-clause-counted : goal.put-requires-clause-counted
 put-requires-clause-counted g c κs within =
     let counts = g.G.OrderedGroup.counts in
-    (met_sound counts c.args.net.now c.loop-line.previous c.in_ok-line.line (line_met g.R.Read.remaining counts c.args.net.now c.loop-line.lines c.line_for.new.lines c.loop-line.previous c.in_ok-line.line c.in_ok-line.ensures.line)).count
+    (met_sound counts c.args.net.now c.loop-line.previous c.in_ok-line.line (line_met g.R.Read.remaining counts c.args.net.now c.loop-line.lines c.next_line.new.lines c.loop-line.previous c.in_ok-line.line c.in_ok-line.ensures.line)).count
 
 pub returns-in-Err-put-clause-checked : goal.returns-in-Err-put-clause-checked
 returns-in-Err-put-clause-checked g c =
     let q = c.loop-line.invariant.so_far in
-    line_refused g.R.Read.remaining g.G.OrderedGroup.counts c.args.net.now c.args.lines.now c.loop-line.lines c.line_for.new.lines c.loop-line.previous q.0 q.1 c.in_ok-line.line c.loop-line.room c.close_pit.new.room c.in-Err-put.fault q.2 q.3 c.in_default-close_pit.ensures.closes c.in_ok-line.ensures.line (sym c.is_end.ensures ∙ c.if-is_end.false) c.in-Err-put.ensures.fault
+    line_refused g.R.Read.remaining g.G.OrderedGroup.counts c.args.net.now c.args.lines.now c.loop-line.lines c.next_line.new.lines c.loop-line.previous q.0 q.1 c.in_ok-line.line c.loop-line.room c.close_pit.new.room c.in-Err-put.fault q.2 q.3 c.in_default-close_pit.ensures.closes c.in_ok-line.ensures.line (sym c.is_end.ensures ∙ c.if-is_end.false) c.in-Err-put.ensures.fault
 
 pub loop-line-preserved : goal.loop-line-preserved
 loop-line-preserved g c =
@@ -86,8 +86,8 @@ loop-line-preserved g c =
     let net = c.args.net.now in
     let line = c.in_ok-line.line in
     let t = c.in_ok-line.ensures.line in
-    let r = reading_on remaining counts net c.args.lines.now c.loop-line.lines c.line_for.new.lines c.loop-line.previous q.0 q.1 line q.2 t (sym c.is_end.ensures ∙ c.if-is_end.false) in
-    let s = summed_on counts net c.loop-line.previous line c.loop-line.room c.close_pit.new.room c.put.new.self q.1 q.3 c.in_default-close_pit.ensures.closes (line_met remaining counts net c.loop-line.lines c.line_for.new.lines c.loop-line.previous line t) c.in_default-put.ensures.sums c.in_default-put.ensures.limits c.in_default-put.ensures.open in
+    let r = reading_on remaining counts net c.args.lines.now c.loop-line.lines c.next_line.new.lines c.loop-line.previous q.0 q.1 line q.2 t (sym c.is_end.ensures ∙ c.if-is_end.false) in
+    let s = summed_on counts net c.loop-line.previous line c.loop-line.room c.close_pit.new.room c.put.new.self q.1 q.3 c.in_default-close_pit.ensures.closes (line_met remaining counts net c.loop-line.lines c.next_line.new.lines c.loop-line.previous line t) c.in_default-put.ensures.sums c.in_default-put.ensures.limits c.in_default-put.ensures.open in
     record {
       so_far = (q.0 ++ t.0, q.1 ++ line ∷ [], r, s);
       kept = search rules;
