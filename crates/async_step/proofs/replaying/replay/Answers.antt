@@ -1,4 +1,4 @@
-use Rattle.std.proofs.Common.{List, take, get_or, refl, sym, subst}
+use Rattle.std.proofs.Common.{List, get_or, refl, sym, subst}
 use Rattle.std.proofs.lemmas.List.{take_more}
 use Rattle.std.proofs.lemmas.Option.{slice_get-get_or}
 use Rattle.machine_law.specs.declared.events.Event.{Event}
@@ -25,11 +25,8 @@ returns-in-Err g c =
 pub loop-i-preserved : goal.loop-i-preserved
 loop-i-preserved g c =
     let d : Event = record { block = 0; kind = ReadExcess } in
-    let es = c.args.events.now in
-    let net = c.args.net.now in
-    let e : Event = get_or es c.loop-i.i d in
     record {
-      run = subst (λ (xs : List Event). Run net (opening net) xs (state_of c.step.new.self)) (sym (take_more es c.loop-i.i d c.loop-i-test.true))
-          (run_more net (opening net) (take c.loop-i.i es) e (state_of c.loop-i.state) (state_of c.step.new.self) c.loop-i.invariant.run c.in-Ok-step.ensures.made.step);
+      run = subst (λ (xs : List Event). Run c.args.net.now (opening c.args.net.now) xs (state_of c.step.new.self))
+          (sym (take_more c.args.events.now c.loop-i.i d c.loop-i-test.true)) (run_more _ _ _ _ _ _ c.loop-i.invariant.run c.in-Ok-step.ensures.made.step);
       over = c.in-Ok-step.ensures.state;
     }

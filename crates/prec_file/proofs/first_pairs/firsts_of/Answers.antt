@@ -1,4 +1,4 @@
-use Rattle.std.proofs.Common.{ℕ, ◌+◌, ◌<◌, ◌≤◌, ◌≡◌, length, vec_capacity, Vec, Global, sym, arith, subst}
+use Rattle.std.proofs.Common.{ℕ, ◌+◌, ◌<◌, ◌≤◌, length, vec_capacity, Vec, Global, sym, arith, subst}
 use Rattle.prec_file.specs.Rests.{from_at}
 use Rattle.prec_file.proofs.Firsts.{FirstsSoFar, firsts_more, firsts_same, firsts_all}
 use Rattle.prec_file.proofs.first_pairs.firsts_of.Goals as goal
@@ -25,8 +25,6 @@ loop-k-preserved c =
 
 pub returns : goal.returns
 returns c =
-    let ps = c.args.pairs.now in
-    let all : c.loop-k.k ≡ length ps = omega arith in
-    let P : ℕ → Type 0 = λ k. FirstsSoFar ps c.args.n k c.loop-k.firsts.items in
     let put = c.fill-2.ensures in
-    firsts_all ps c.args.n c.loop-k.firsts.items c.fill-2.new.list.items (subst P all c.loop-k.invariant.so_far) put.size put.kept (λ i l m. put.filled i l (omega (arith, put.size)))
+    firsts_all _ _ _ _ (subst (λ (k : ℕ). FirstsSoFar c.args.pairs.now c.args.n k c.loop-k.firsts.items) (omega arith) c.loop-k.invariant.so_far) put.size put.kept
+        (λ i l m. put.filled i l (omega (arith, put.size)))

@@ -7,12 +7,10 @@ use Rattle.prec_file.proofs.History.{told, repeated}
 use Rattle.prec_file.proofs.Marks.{marks}
 use Rattle.prec_file.proofs.RowReading.{record_pairs}
 use Rattle.prec_file.proofs.reading.read_line.Goals as goal
+use Rattle.std.proofs.lemmas.Grind.{common_steps}
 
 pub returns-then-seen-record : goal.returns-then-seen-record
-returns-then-seen-record c =
-    let q = rw c.in-Some.is at c.in_ok-record.ensures in
-    let had : ℕ → Bool = λ b. get_or c.args.seen.now b false in
-    repeated c.args.n had (length c.args.pairs.now.items) c.args.line c.in-Some.record.block (fields_of c.args.text.now) q.0.is q.0.sound q.0.block c.if-seen-record.true
+returns-then-seen-record c = grind (arith, common_steps, repeated)
 
 pub returns : goal.returns
 returns c =
@@ -31,8 +29,4 @@ returns c =
     )
 
 pub returns-in_err-record : goal.returns-in_err-record
-returns-in_err-record c =
-    let had : ℕ → Bool = λ b. get_or c.args.seen.now b false in
-    let p = err_from_is_err_and c.from_residual.result c.from_residual.ensures.1 in
-    let h = c.in_err-record.ensures in
-    rw (p.1, p.2) (told c.args.n had (length c.args.pairs.now.items) c.args.line (fields_of c.args.text.now) c.in_err-record.field-0.0 h.0 h.1)
+returns-in_err-record c = grind (arith, common_steps, err_from_is_err_and, told)

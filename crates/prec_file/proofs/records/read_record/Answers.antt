@@ -17,17 +17,14 @@ returns-in_default-second c =
 
 pub returns-then-listed : goal.returns-then-listed
 returns-then-listed c =
-    let q = two_read c.new-fields.result c.next_whole.new.self c.next_whole-2.new.self c.in-Ok.block c.in-Some-next_whole.second (ap Some (sym c.in-Ok.is) ∙ c.in-Some.ensures.value) c.in-Some.ensures.left c.in-Some-next_whole.ensures.value c.in-Some-next_whole.ensures.left in
-    let k = reads_ok q.count c.in-Ok-second.count (sym c.in-Ok-second.is ∙ q.second) in
-    unknown c.args.n c.args.line c.in-Ok.block _ q.block q.count (texts c.next_whole-2.new.self) (ap texts (sym c.new-fields.ensures.fields) ∙ q.fields) q.plain q.good q.value k.0 c.in_ok-listed.ensures.0 (sym c.in_ok-listed.ensures.1 ∙ c.if-listed.true)
+    let q = two_read _ _ _ _ _ (ap Some (sym c.in-Ok.is) ∙ c.in-Some.ensures.value) c.in-Some.ensures.left c.in-Some-next_whole.ensures.value c.in-Some-next_whole.ensures.left in
+    unknown _ _ _ _ _ _ _ (ap texts (sym c.new-fields.ensures.fields) ∙ q.fields) q.plain q.good q.value (reads_ok _ _ (sym c.in-Ok-second.is ∙ q.second)).0 c.in_ok-listed.ensures.0 (sym c.in_ok-listed.ensures.1 ∙ c.if-listed.true)
 
 pub returns-in_err-listed : goal.returns-in_err-listed
 returns-in_err-listed c =
-    let q = two_read c.new-fields.result c.next_whole.new.self c.next_whole-2.new.self c.in-Ok.block c.in-Some-next_whole.second (ap Some (sym c.in-Ok.is) ∙ c.in-Some.ensures.value) c.in-Some.ensures.left c.in-Some-next_whole.ensures.value c.in-Some-next_whole.ensures.left in
-    let k = reads_ok q.count c.in-Ok-second.count (sym c.in-Ok-second.is ∙ q.second) in
+    let q = two_read _ _ _ _ _ (ap Some (sym c.in-Ok.is) ∙ c.in-Some.ensures.value) c.in-Some.ensures.left c.in-Some-next_whole.ensures.value c.in-Some-next_whole.ensures.left in
     let p = err_from_is_err_and c.from_residual.result c.from_residual.ensures.1 in
-    let h = c.in_err-listed.ensures in
-    rw (p.1, p.2, h.0) (bad_rest c.args.n c.args.line _ q.block q.count (texts c.next_whole-2.new.self) (ap texts (sym c.new-fields.ensures.fields) ∙ q.fields) q.plain q.good k.0 h.1)
+    rw (p.1, p.2, c.in_err-listed.ensures.0) (bad_rest _ _ _ _ _ _ (ap texts (sym c.new-fields.ensures.fields) ∙ q.fields) q.plain q.good (reads_ok _ _ (sym c.in-Ok-second.is ∙ q.second)).0 c.in_err-listed.ensures.1)
 
 pub returns : goal.returns
 returns c =

@@ -1,8 +1,9 @@
-use Rattle.std.proofs.Common.{◌≡◌, ◌<◌, ◌+◌, ℕ, List, [], ◌∷◌, ◌++◌, length, get_or, map, take, sym, ap, ◌∙◌, arith}
+use Rattle.std.proofs.Common.{◌<◌, ◌+◌, ℕ, List, [], ◌∷◌, ◌++◌, length, get_or, map, take, sym, ap, ◌∙◌, arith}
 use Rattle.std.proofs.lemmas.List.{map-append}
 use Rattle.prec_file.specs.Rests.{above_of, first_of}
 use Rattle.prec_file.proofs.Rows.{none_taken, one_taken, block_taken, all_taken}
 use Rattle.prec_file.proofs.rests.blocks_of.Goals as goal
+use Rattle.std.proofs.lemmas.Grind.{common_steps}
 
 pub loop-block-init : goal.loop-block-init
 loop-block-init c = c.in_ok-blocks.ensures.items ∙ ap (λ (xs : List (ℕ × ℕ)). map (λ p. p.0) xs) (none_taken c.args.of.now.pairs)
@@ -20,12 +21,7 @@ loop-predecessor-preserved c =
     ∙ ap (λ (xs : List (ℕ × ℕ)). map (λ q. q.0) xs) one
 
 pub loop-block-preserved : goal.loop-block-preserved
-loop-block-preserved c =
-    let ps = c.args.of.now.pairs in
-    let whole : c.loop-predecessor._predecessor-index ≡ length (above_of ps c.loop-block.block) = omega (arith, c.loop-predecessor-test.false, c.loop-predecessor.auto._predecessor-index-end, ap length c.above-above.ensures) in
-    c.loop-predecessor.invariant ∙ ap (λ (xs : List (ℕ × ℕ)). map (λ q. q.0) xs) (block_taken ps c.loop-block.block c.loop-predecessor._predecessor-index whole)
+loop-block-preserved c = grind (arith, common_steps, block_taken)
 
 pub returns : goal.returns
-returns c =
-    let whole : c.loop-block.block ≡ c.args.of.now.blocks = omega (arith, c.loop-block-test.false, c.loop-block.auto.block-end, c.len-block-end.ensures.is) in
-    c.loop-block.invariant ∙ ap (λ (xs : List (ℕ × ℕ)). map (λ q. q.0) xs) (all_taken c.args.of.now.blocks c.loop-block.block c.args.of.now.pairs c.len-block-end.ensures.all.known whole)
+returns c = grind (arith, common_steps, all_taken)

@@ -1,16 +1,11 @@
-use Rattle.std.proofs.Common.{sym, subst, arith}
+use Rattle.std.proofs.Common.{arith}
 use Rattle.std.proofs.lemmas.Result.{err_from_is_err_and}
-use Rattle.prec_file.specs.Rests.{RowsView}
-use Rattle.prec_file.proofs.RisingProgress.{RisingSoFar, rising_begun, rising_on, rising_wrong}
+use Rattle.prec_file.proofs.RisingProgress.{rising_begun, rising_on, rising_wrong}
 use Rattle.prec_file.proofs.rising.read_rising.Goals as goal
+use Rattle.std.proofs.lemmas.Grind.{common_steps}
 
 pub loop-line-init : goal.loop-line-init
-loop-line-init c =
-    let P : RowsView → Type 0 = λ rows. RisingSoFar c.args.n c.args.text.now rows 0 c.new-lines.result in
-    record {
-      going = subst P (sym c.in-Ok.ensures) (rising_begun c.args.n c.args.text.now c.new-lines.result c.new-lines.ensures.lines c.new-lines.ensures.number);
-      room = omega (arith, c.in-Ok-with_capacity.ensures.capacity);
-    }
+loop-line-init c = grind (arith, common_steps, rising_begun)
 
 pub returns-in_err-read_rising_line-in-Ok-Some : goal.returns-in_err-read_rising_line-in-Ok-Some
 returns-in_err-read_rising_line-in-Ok-Some c =
@@ -21,11 +16,4 @@ returns-in_err-read_rising_line-in-Ok-Some c =
     c.number-number.ensures.value q.1 q.2 q.0 fault c.in_err-read_rising_line-in-Ok-Some.ensures)
 
 pub loop-line-preserved : goal.loop-line-preserved
-loop-line-preserved c =
-    let q = rw c.in-Ok-Some.field-0-is at c.in-Ok-Some.ensures in
-    let r = c.in_ok-read_rising_line-in-Ok-Some.ensures c.if-not-branch.false in
-    record {
-      going = rising_on c.args.n c.number-number.result c.args.text.now c.loop-line.to.rows c.loop-line.to.listed c.loop-line.lines c.next_line.new.self c.in-Ok-Some.line.now c.loop-line.invariant.going
-          c.number-number.ensures.value q.1 q.2 q.0 c.read_rising_line.new.to.rows c.read_rising_line.new.to.listed r.0;
-      room = r.1;
-    }
+loop-line-preserved c = grind (arith, common_steps, rising_on)

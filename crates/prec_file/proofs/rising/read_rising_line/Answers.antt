@@ -1,24 +1,20 @@
-use Rattle.std.proofs.Common.{◌≡◌, ℕ, ◌≤◌, List, All, length, false, refl, ◌<◌, ap, sym, subst, ◌∙◌, arith}
+use Rattle.std.proofs.Common.{ℕ, ◌≤◌, List, All, length, false, refl, ◌<◌, ap, sym, subst, ◌∙◌, arith}
 use Rattle.std.proofs.lemmas.Result.{err_from_is_err_and}
 use Rattle.fixed_worth.specs.Text.{fields_of}
 use Rattle.prec_file.specs.Rests.{RowsView}
 use Rattle.prec_file.proofs.History.{told}
 use Rattle.prec_file.proofs.RowReading.{predecessors_known, line_read}
 use Rattle.prec_file.proofs.rising.read_rising_line.Goals as goal
+use Rattle.std.proofs.lemmas.Grind.{common_steps}
 
 pub returns-in_err-record : goal.returns-in_err-record
-returns-in_err-record c =
-    let p = err_from_is_err_and c.from_residual.result c.from_residual.ensures.1 in
-    let h = c.in_err-record.ensures in
-    rw (p.1, p.2) (λ had new. told c.args.n had c.args.to.now.listed c.args.line (fields_of c.args.text.now) c.in_err-record.field-0.0 h.0 h.1)
+returns-in_err-record c = grind (arith, common_steps, err_from_is_err_and, told)
 
 pub push_row-requires-clause-known : goal.push_row-requires-clause-known
 push_row-requires-clause-known c =
     let q = rw c.in-Some.is at c.in_ok-record.ensures in
-    let P : List ℕ → Type 0 = λ xs. All (λ p. p < c.args.n) xs in
-    let known = subst P (sym (c.deref.ensures.value ∙ q.1)) (predecessors_known c.args.n c.args.line c.in-Some.record.block c.in-Some.record.count c.in-Some.record.found (fields_of c.args.text.now) q.0) in
-    let blocks : c.args.n ≡ c.skip_to.new.self.blocks = sym c.requires.blocks ∙ sym (ap (λ (v : RowsView). v.blocks) c.in-Ok.ensures) in
-    subst (λ (x : ℕ). All (λ p. p < x) c.deref.result.now) blocks known
+    subst (λ (x : ℕ). All (λ p. p < x) c.deref.result.now) (sym c.requires.blocks ∙ sym (ap (λ (v : RowsView). v.blocks) c.in-Ok.ensures))
+        (subst (λ (xs : List ℕ). All (λ p. p < c.args.n) xs) (sym (c.deref.ensures.value ∙ q.1)) (predecessors_known _ _ _ _ _ _ q.0))
 
 pub push_row-requires-clause-few : goal.push_row-requires-clause-few
 push_row-requires-clause-few c =

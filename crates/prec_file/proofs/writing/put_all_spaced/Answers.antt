@@ -1,17 +1,11 @@
-use Rattle.std.proofs.Common.{◌+◌, ◌∷◌, ◌++◌, take, drop, get_or, sym, subst, ◌∙◌, arith, append-nil, refl}
+use Rattle.std.proofs.Common.{◌+◌, ◌∷◌, ◌++◌, take, drop, get_or, subst, ◌∙◌}
 use Rattle.std.specs.Fmt.{decimal}
 use Rattle.fixed_worth.specs.Device.{SentOrHeld, ReceivedPrefix}
-use Rattle.fixed_worth.proofs.Pieces.{all_held, held_more, held_more_prefix, prefix_of_part}
+use Rattle.fixed_worth.proofs.Pieces.{held_more, held_more_prefix, prefix_of_part}
 use Rattle.prec_file.specs.Written.{spaced_numbers}
 use Rattle.prec_file.proofs.WrittenPieces.{spaced_more, spaced_parts}
 use Rattle.prec_file.proofs.writing.put_all_spaced.Goals as goal
 use Rattle.fixed_worth.proofs.Results.{on_err}
-
-pub loop-number-init : goal.loop-number-init
-loop-number-init g c = (subst (SentOrHeld _ _ c.args.page.now) (sym (append-nil c.args.page.now)) (all_held _ c.args.page.now), refl)
-
-pub put_spaced-requires : goal.put_spaced-requires
-put_spaced-requires g c = omega (arith, c.loop-number.invariant.1, c.requires)
 
 pub loop-number-preserved : goal.loop-number-preserved
 loop-number-preserved g c = (

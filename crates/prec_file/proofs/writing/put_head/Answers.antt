@@ -1,21 +1,11 @@
-use Rattle.std.proofs.Common.{◌≡◌, ◌∷◌, ◌∙◌}
-use Rattle.std.specs.Fmt.{decimal}
+use Rattle.std.proofs.Common.{◌∙◌}
 use Rattle.std.proofs.lemmas.Result.{on_ok_weaker, on_err_weaker}
-use Rattle.fixed_worth.proofs.Pieces.{held_both, prefix_in_first, prefix_in_second}
+use Rattle.fixed_worth.proofs.Pieces.{held_both, prefix_in_second}
 use Rattle.prec_file.proofs.writing.put_head.Goals as goal
 use Rattle.fixed_worth.proofs.Results.{on_err}
 
 pub returns-clause-held : goal.returns-clause-held
-returns-clause-held g c =
-    let e : c.as_bytes.result.now ≡ decimal c.args.block = c.as_bytes.ensures ∙ c.set.ensures.digits in
-    rw (← e) (on_ok_weaker _ (held_both _ _ _ c.args.page.now c.put.new.self _ c.as_bytes.result.now (32 ∷ decimal c.args.count) c.in_ok-put.ensures.held) c.put_spaced.ensures.held)
+returns-clause-held g c = rw (← (c.as_bytes.ensures ∙ c.set.ensures.digits)) (on_ok_weaker _ (held_both _ _ _ _ _ _ _ _ c.in_ok-put.ensures.held) c.put_spaced.ensures.held)
 
 pub returns-clause-prefix : goal.returns-clause-prefix
-returns-clause-prefix g c =
-    let e : c.as_bytes.result.now ≡ decimal c.args.block = c.as_bytes.ensures ∙ c.set.ensures.digits in
-    rw (← e) (on_err_weaker _ (prefix_in_second _ _ _ c.args.page.now c.put.new.self c.as_bytes.result.now (32 ∷ decimal c.args.count) c.in_ok-put.ensures.held) c.put_spaced.ensures.prefix)
-
-pub returns-in_err-put-clause-prefix : goal.returns-in_err-put-clause-prefix
-returns-in_err-put-clause-prefix g c =
-    let e : c.as_bytes.result.now ≡ decimal c.args.block = c.as_bytes.ensures ∙ c.set.ensures.digits in
-    on_err c.from_residual.result (rw (← e) (prefix_in_first _ _ c.args.page.now c.as_bytes.result.now (32 ∷ decimal c.args.count) c.in_err-put.ensures.prefix))
+returns-clause-prefix g c = rw (← (c.as_bytes.ensures ∙ c.set.ensures.digits)) (on_err_weaker _ (prefix_in_second _ _ _ _ _ _ _ c.in_ok-put.ensures.held) c.put_spaced.ensures.prefix)

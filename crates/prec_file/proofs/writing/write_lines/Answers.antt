@@ -1,19 +1,16 @@
-use Rattle.std.proofs.Common.{◌+◌, subst, ◌∙◌, arith}
+use Rattle.std.proofs.Common.{◌+◌, subst, arith}
 use Rattle.std.proofs.lemmas.Result.{on_err_weaker}
-use Rattle.fixed_worth.specs.Device.{SentOrHeld, ReceivedPrefix}
+use Rattle.fixed_worth.specs.Device.{ReceivedPrefix}
 use Rattle.fixed_worth.proofs.Pieces.{held_more, held_more_prefix, held_prefix, prefix_of_part}
 use Rattle.prec_file.specs.Written.{prec_line, lines_below}
 use Rattle.prec_file.proofs.WrittenPieces.{lines_more, lines_front}
 use Rattle.prec_file.proofs.writing.write_lines.Goals as goal
 use Rattle.fixed_worth.proofs.Results.{on_err}
+use Rattle.fixed_worth.proofs.Sides.{on_err}
+use Rattle.std.proofs.lemmas.Grind.{common_steps}
 
 pub loop-block-preserved : goal.loop-block-preserved
-loop-block-preserved g c = (
-  subst (SentOrHeld (g.W.Write.contents c.args.out.now) (g.W.Write.contents c.put_line.new.out) c.put_line.new.page)
-      (lines_more c.args.predecessors.now.pairs c.loop-block.block)
-      (held_more _ _ _ _ _ _ _ c.loop-block.invariant.0 c.in_ok-put_line.ensures.held),
-  c.in_ok-put_line.ensures.kept ∙ c.loop-block.invariant.1,
-)
+loop-block-preserved g c = grind (arith, common_steps, lines_more, held_more)
 
 pub returns-in_err-put_line-clause-prefix : goal.returns-in_err-put_line-clause-prefix
 returns-in_err-put_line-clause-prefix g c =

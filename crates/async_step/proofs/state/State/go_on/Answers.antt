@@ -8,6 +8,7 @@ use Rattle.machine_law.specs.Reads.{is_positive}
 use Rattle.async_step.specs.Views.{StateView, view_of, IsState, is_waiting, is_busy}
 use Rattle.async_step.proofs.Changes.{state_operation}
 use Rattle.async_step.proofs.state.State.go_on.Goals as goal
+use Rattle.std.proofs.lemmas.Grind.{common_steps}
 
 pub invariant_of-self : goal.invariant_of-self
 invariant_of-self g c =
@@ -27,9 +28,4 @@ invariant_of-self g c =
     (state_operation v m.waiting m.busy c.self.invariant b o (m.steps + 1) l)))
 
 pub returns : goal.returns
-returns g c =
-    let f = g.G.OrderedGroup.parts_of in
-    let m = c.self.inside in
-    let v : StateView = view_of f m.excess.items m.label.items m.source.items m.sink.items m.flow.items m.operation.items m.at_source m.at_sink m.steps in
-    ap (λ (xs : List (Operation Amount)). record v { operation = xs; steps = m.steps + 1 }) (map-set (operation_as f) m.operation.items c.args.b c.args.operation)
-    ∙ ap (λ (w : StateView). record w { operation = set w.operation c.args.b (operation_as f c.args.operation); steps = w.steps + 1 }) c.self.view_is
+returns g c = grind (arith, common_steps, map-set)

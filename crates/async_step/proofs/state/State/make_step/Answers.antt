@@ -12,11 +12,7 @@ use Rattle.async_step.proofs.Becoming.{not_full, fits_changed, goes}
 use Rattle.async_step.proofs.state.State.make_step.Goals as goal
 
 pub returns-then-is_full : goal.returns-then-is_full
-returns-then-is_full g c =
-    let f = g.G.OrderedGroup.parts_of in
-    let o : Operation Amount = operation_as f c.args.operation in
-    let change : Change Amount = change_as f c.args.change in
-    record { same = refl; why = (fits_changed c.args.net.now c.args.self.now c.requires.over c.args.b c.requires.block o change c.requires.can, c.is_full.ensures.0 c.if-is_full.true) }
+returns-then-is_full g c = record { same = refl; why = (fits_changed _ _ c.requires.over _ c.requires.block _ _ c.requires.can, c.is_full.ensures.0 c.if-is_full.true) }
 
 pub returns : goal.returns
 returns g c =

@@ -1,12 +1,9 @@
 use Rattle.std.proofs.Common.{subst, sym, rules}
 use Rattle.ordered_group.specs.Amount.{Amount, plus, FitsPair}
-use Rattle.async_step.specs.Views.{state_of}
 use Rattle.async_step.proofs.Becoming.{fits_value, too_large}
 use Rattle.async_step.proofs.state.State.move_forward.Goals as goal
 
 pub returns-in_err-more : goal.returns-in_err-more
 returns-in_err-more g c =
-    let d = g.G.OrderedGroup.parts_of c.args.amount in
-    let f = (state_of c.args.self.now).flow in
-    let large = rw c.in_err-more.ensures.ok_part at c.try_add.ensures in
-    too_large _ _ _ _ c.from_residual.result (search rules) (λ h. large (subst (λ (a : Amount). FitsPair (plus a d)) (sym c.flow.ensures) (fits_value f c.args.port.slot (plus (f c.args.port.slot) d) (h.flow c.args.port.slot))))
+    too_large _ _ _ _ c.from_residual.result (search rules)
+        (λ h. (rw c.in_err-more.ensures.ok_part at c.try_add.ensures) (subst (λ (a : Amount). FitsPair (plus a (g.G.OrderedGroup.parts_of c.args.amount))) (sym c.flow.ensures) (fits_value _ _ _ (h.flow c.args.port.slot))))

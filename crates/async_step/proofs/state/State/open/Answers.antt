@@ -31,18 +31,12 @@ invariant_of-result g c =
 
 pub returns-clause-opening : goal.returns-clause-opening
 returns-clause-opening g c =
-    let f = g.G.OrderedGroup.parts_of in
-    let n = length c.worths.result.now in
-    let v : StateView = view_of f c.in_ok-excess.excess.items c.in_ok-label.label.items c.in_ok-source.source.items c.in_ok-sink.sink.items c.in_ok-flow.flow.items c.in_ok-operation.operation.items c.zero.result c.zero-2.result 0 in
-    shows_opening c.args.net.now v n c.pairs-pairs.result c.in_ok-excess.ensures.are (c.in_ok-label.ensures.items_if_clones_equal (λ y h. search rules)) c.in_ok-source.ensures.are c.in_ok-sink.ensures c.in_ok-flow.ensures
-    (ap (map (operation_as f)) c.in_ok-operation.ensures ∙ mapped_replicate (operation_as f) n Idle) c.zero.ensures c.zero-2.ensures refl
+    shows_opening c.args.net.now _ _ _ c.in_ok-excess.ensures.are (c.in_ok-label.ensures.items_if_clones_equal (λ y h. search rules)) c.in_ok-source.ensures.are c.in_ok-sink.ensures c.in_ok-flow.ensures
+        (ap (map (operation_as g.G.OrderedGroup.parts_of)) c.in_ok-operation.ensures ∙ mapped_replicate _ _ _) c.zero.ensures c.zero-2.ensures refl
 
 pub returns-clause-state : goal.returns-clause-state
 returns-clause-state g c =
-    let f = g.G.OrderedGroup.parts_of in
-    let n = length c.worths.result.now in
-    let v : StateView = view_of f c.in_ok-excess.excess.items c.in_ok-label.label.items c.in_ok-source.source.items c.in_ok-sink.sink.items c.in_ok-flow.flow.items c.in_ok-operation.operation.items c.zero.result c.zero-2.result 0 in
-    let o : v.operation ≡ replicate n Idle = ap (map (operation_as f)) c.in_ok-operation.ensures ∙ mapped_replicate (operation_as f) n Idle in
-    let s = shows_opening c.args.net.now v n c.pairs-pairs.result c.in_ok-excess.ensures.are (c.in_ok-label.ensures.items_if_clones_equal (λ y h. search rules)) c.in_ok-source.ensures.are c.in_ok-sink.ensures c.in_ok-flow.ensures o c.zero.ensures c.zero-2.ensures refl in
-    opens c.args.net.now v n c.pairs-pairs.result c.worths.ensures.net (sym (length-map c.worths.result.now f) ∙ ap length c.worths.ensures.is) (c.pairs-pairs.ensures ∙ ap length c.rests-rests.ensures.pairs)
-    c.in_ok-excess.ensures.fit c.in_ok-excess.ensures.are c.in_ok-flow.ensures o s
+    let o : (view_of g.G.OrderedGroup.parts_of c.in_ok-excess.excess.items c.in_ok-label.label.items c.in_ok-source.source.items c.in_ok-sink.sink.items c.in_ok-flow.flow.items c.in_ok-operation.operation.items c.zero.result c.zero-2.result 0).operation ≡ replicate
+        (length c.worths.result.now) Idle = ap (map (operation_as g.G.OrderedGroup.parts_of)) c.in_ok-operation.ensures ∙ mapped_replicate _ _ _ in
+    opens _ _ _ _ c.worths.ensures.net (sym (length-map c.worths.result.now g.G.OrderedGroup.parts_of) ∙ ap length c.worths.ensures.is) (c.pairs-pairs.ensures ∙ ap length c.rests-rests.ensures.pairs) c.in_ok-excess.ensures.fit c.in_ok-excess.ensures.are
+        c.in_ok-flow.ensures o (shows_opening c.args.net.now _ _ _ c.in_ok-excess.ensures.are (c.in_ok-label.ensures.items_if_clones_equal (λ y h. search rules)) c.in_ok-source.ensures.are c.in_ok-sink.ensures c.in_ok-flow.ensures o c.zero.ensures c.zero-2.ensures refl)

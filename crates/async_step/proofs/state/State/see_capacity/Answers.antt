@@ -13,11 +13,7 @@ use Rattle.async_step.proofs.Scanning.{scan_works, scan_in_place, step_in_place,
 use Rattle.async_step.proofs.state.State.see_capacity.Goals as goal
 
 pub see-requires-after_bounds : goal.see-requires-after_bounds
-see-requires-after_bounds g c κs within =
-    let f = g.G.OrderedGroup.parts_of in
-    let m = c.self.inside in
-    let v : StateView = view_of f m.excess.items m.label.items m.source.items m.sink.items m.flow.items m.operation.items m.at_source m.at_sink m.steps in
-    scan_in_place f v c.args.self.now m.operation.items c.args.b c.index_mut.result.now refl c.self.view_is c.requires.block c.index_mut.ensures.value c.args.ports c.requires.scan
+see-requires-after_bounds g c κs within = scan_in_place _ _ _ _ _ _ refl c.self.view_is c.requires.block c.index_mut.ensures.value _ c.requires.scan
 
 pub invariant_of-self : goal.invariant_of-self
 invariant_of-self g c =
@@ -53,20 +49,10 @@ invariant_of-self-else-is_idle g c =
 
 pub returns-then-is_idle : goal.returns-then-is_idle
 returns-then-is_idle g c =
-    let f = g.G.OrderedGroup.parts_of in
-    let m = c.self.inside in
-    let v : StateView = view_of f m.excess.items m.label.items m.source.items m.sink.items m.flow.items m.operation.items m.at_source m.at_sink m.steps in
-    let b = c.args.b in
-    let step : ℕ → Operation Amount → Operation Amount = λ n o. after_capacity_by c.args.ports n (f c.args.capacity) o in
-    let s = step_in_place f v c.args.self.now m.operation.items b c.index_mut.result.now refl c.self.view_is c.requires.block c.index_mut.ensures.value step c.index-label.result.now c.see.new.operation c.self.invariant.sized.label c.index-label.ensures c.see.ensures in
-    becomes v c.args.self.now _ b step c.self.view_is s.list
+    let step : ℕ → Operation Amount → Operation Amount = λ n o. after_capacity_by c.args.ports n (g.G.OrderedGroup.parts_of c.args.capacity) o in
+    becomes _ _ _ _ step c.self.view_is (step_in_place _ _ _ _ _ _ refl c.self.view_is c.requires.block c.index_mut.ensures.value step _ _ c.self.invariant.sized.label c.index-label.ensures c.see.ensures).list
 
 pub returns-else-is_idle : goal.returns-else-is_idle
 returns-else-is_idle g c =
-    let f = g.G.OrderedGroup.parts_of in
-    let m = c.self.inside in
-    let v : StateView = view_of f m.excess.items m.label.items m.source.items m.sink.items m.flow.items m.operation.items m.at_source m.at_sink m.steps in
-    let b = c.args.b in
-    let step : ℕ → Operation Amount → Operation Amount = λ n o. after_capacity_by c.args.ports n (f c.args.capacity) o in
-    let s = step_in_place f v c.args.self.now m.operation.items b c.index_mut.result.now refl c.self.view_is c.requires.block c.index_mut.ensures.value step c.index-label.result.now c.see.new.operation c.self.invariant.sized.label c.index-label.ensures c.see.ensures in
-    becomes v c.args.self.now _ b step c.self.view_is s.list
+    let step : ℕ → Operation Amount → Operation Amount = λ n o. after_capacity_by c.args.ports n (g.G.OrderedGroup.parts_of c.args.capacity) o in
+    becomes _ _ _ _ step c.self.view_is (step_in_place _ _ _ _ _ _ refl c.self.view_is c.requires.block c.index_mut.ensures.value step _ _ c.self.invariant.sized.label c.index-label.ensures c.see.ensures).list

@@ -7,6 +7,7 @@ use Rattle.machine_law.specs.Reads.{is_positive}
 use Rattle.async_step.specs.Views.{StateView, view_of, IsState, operation_at, is_waiting, is_busy}
 use Rattle.async_step.proofs.Changes.{state_excess}
 use Rattle.async_step.proofs.state.State.set_excess.Goals as goal
+use Rattle.std.proofs.lemmas.Grind.{common_steps}
 
 pub invariant_of-self : goal.invariant_of-self
 invariant_of-self g c =
@@ -27,9 +28,4 @@ invariant_of-self g c =
     (state_excess v m.waiting m.busy c.self.invariant b x l)))
 
 pub returns : goal.returns
-returns g c =
-    let f = g.G.OrderedGroup.parts_of in
-    let m = c.self.inside in
-    let v : StateView = view_of f m.excess.items m.label.items m.source.items m.sink.items m.flow.items m.operation.items m.at_source m.at_sink m.steps in
-    ap (λ (xs : List Amount). record v { excess = xs }) (map-set f m.excess.items c.args.b c.args.amount)
-    ∙ ap (λ (w : StateView). record w { excess = set w.excess c.args.b (f c.args.amount) }) c.self.view_is
+returns g c = grind (arith, common_steps, map-set)

@@ -1,21 +1,16 @@
-use Rattle.std.proofs.Common.{◌∙◌, ap, subst, sym, set, List}
+use Rattle.std.proofs.Common.{subst, sym, List, arith}
 use Rattle.std.proofs.lemmas.List.{map-set}
 use Rattle.ordered_group.specs.Amount.{Amount}
 use Rattle.async_step.specs.Views.{StateView, view_of, IsState}
 use Rattle.async_step.proofs.Changes.{state_sink}
 use Rattle.async_step.proofs.state.State.set_sink.Goals as goal
+use Rattle.std.proofs.lemmas.Grind.{common_steps}
 
 pub invariant_of-self : goal.invariant_of-self
 invariant_of-self g c =
-    let f = g.G.OrderedGroup.parts_of in
     let m = c.self.inside in
-    let v : StateView = view_of f m.excess.items m.label.items m.source.items m.sink.items m.flow.items m.operation.items m.at_source m.at_sink m.steps in
-    subst (λ (xs : List Amount). IsState (record v { sink = xs }) m.waiting m.busy) (sym (map-set f m.sink.items c.args.b c.args.amount)) (state_sink v m.waiting m.busy c.self.invariant c.args.b (f c.args.amount))
+    let v : StateView = view_of g.G.OrderedGroup.parts_of m.excess.items m.label.items m.source.items m.sink.items m.flow.items m.operation.items m.at_source m.at_sink m.steps in
+    subst (λ (xs : List Amount). IsState (record v { sink = xs }) m.waiting m.busy) (sym (map-set g.G.OrderedGroup.parts_of m.sink.items c.args.b c.args.amount)) (state_sink v _ _ c.self.invariant _ _)
 
 pub returns : goal.returns
-returns g c =
-    let f = g.G.OrderedGroup.parts_of in
-    let m = c.self.inside in
-    let v : StateView = view_of f m.excess.items m.label.items m.source.items m.sink.items m.flow.items m.operation.items m.at_source m.at_sink m.steps in
-    ap (λ (xs : List Amount). record v { sink = xs }) (map-set f m.sink.items c.args.b c.args.amount)
-    ∙ ap (λ (w : StateView). record w { sink = set w.sink c.args.b (f c.args.amount) }) c.self.view_is
+returns g c = grind (arith, common_steps, map-set)

@@ -1,4 +1,4 @@
-use Rattle.std.proofs.Common.{◌≡◌, ◌<◌, ◌∙◌, sym, length, arith, rules}
+use Rattle.std.proofs.Common.{◌∙◌, sym, arith, rules}
 use Rattle.std.proofs.lemmas.Bool.{not-false}
 use denote.Enum.Bare.{same_true}
 use Rattle.machine_law.specs.contracts.events.Kind.{the_type}
@@ -7,12 +7,8 @@ use Rattle.async_step.proofs.state.State.step.Goals as goal
 
 pub returns-clause-made : goal.returns-clause-made
 returns-clause-made g c =
-    let l : c.args.event.block < length c.args.net.now.worths = omega arith in
-    let k : c.next_kind-next.result ≡ c.args.event.kind = same_true the_type (search rules) _ _ (not-false _ (sym c.ne.ensures ∙ c.if-ne.false)) in
-    stepped g.G.OrderedGroup.parts_of c.args.net.now c.args.self.now c.advance.new.self c.args.event c.advance.result c.requires l (sym c.next_kind-next.ensures ∙ k) c.advance.ensures
+    stepped g.G.OrderedGroup.parts_of c.args.net.now c.args.self.now c.advance.new.self c.args.event c.advance.result c.requires (omega arith)
+        (sym c.next_kind-next.ensures ∙ (same_true the_type (search rules) _ _ (not-false _ (sym c.ne.ensures ∙ c.if-ne.false)))) c.advance.ensures
 
 pub returns-clause-state : goal.returns-clause-state
-returns-clause-state g c =
-    let l : c.args.event.block < length c.args.net.now.worths = omega arith in
-    let k : c.next_kind-next.result ≡ c.args.event.kind = same_true the_type (search rules) _ _ (not-false _ (sym c.ne.ensures ∙ c.if-ne.false)) in
-    still_state g.G.OrderedGroup.parts_of c.args.net.now c.args.self.now c.advance.new.self c.args.event c.advance.result c.requires (stepped g.G.OrderedGroup.parts_of c.args.net.now c.args.self.now c.advance.new.self c.args.event c.advance.result c.requires l (sym c.next_kind-next.ensures ∙ k) c.advance.ensures)
+returns-clause-state g c = still_state _ _ _ _ _ _ c.requires (stepped _ _ _ _ _ _ c.requires (omega arith) (sym c.next_kind-next.ensures ∙ (same_true the_type (search rules) _ _ (not-false _ (sym c.ne.ensures ∙ c.if-ne.false)))) c.advance.ensures)

@@ -1,6 +1,6 @@
-use Rattle.std.proofs.Common.{◌≡◌, ℕ, ◌+◌, ◌<◌, length, arith, ap, ◌∙◌, slice_range}
+use Rattle.std.proofs.Common.{ℕ, ◌+◌, ◌<◌, length, arith, ap, ◌∙◌, slice_range}
 use Rattle.std.proofs.lemmas.List.{length-map}
-use Rattle.prec_file.specs.Rests.{from_at, above_of}
+use Rattle.prec_file.specs.Rests.{above_of}
 use Rattle.prec_file.specs.Indexes.{pairs_by}
 use Rattle.prec_file.proofs.Order.{starts_rise, above_is, at_zero}
 use Rattle.prec_file.proofs.predecessors.Predecessors.above.Goals as goal
@@ -8,10 +8,8 @@ use Rattle.prec_file.proofs.predecessors.Predecessors.above.Goals as goal
 pub part-requires : goal.part-requires
 part-requires c =
     let ps = pairs_by c.self.inside.firsts.items c.self.inside.predecessors.items in
-    let known : c.args.b < c.self.inside.blocks = omega (arith, c.requires, ap (λ v. v.blocks) c.self.view_is) in
-    let r = starts_rise (from_at ps) (length ps) c.self.inside.blocks c.args.b c.index-from.result.now c.index-to.result.now c.self.inside.firsts.items c.self.invariant.firsts known c.index-from.ensures c.index-to.ensures in
-    let len : length c.deref.result.now ≡ length ps = ap length c.deref.ensures.value ∙ ap length c.self.invariant.predecessors ∙ length-map ps (λ (p : ℕ × ℕ). p.1) in
-    record { rises = r.0; inside = omega (arith, r.1, len) }
+    let r = starts_rise _ (length ps) _ _ _ _ _ c.self.invariant.firsts (omega (arith, c.requires, ap (λ v. v.blocks) c.self.view_is)) c.index-from.ensures c.index-to.ensures in
+    record { rises = r.0; inside = omega (arith, r.1, ap length c.deref.ensures.value ∙ ap length c.self.invariant.predecessors ∙ length-map ps (λ (p : ℕ × ℕ). p.1)) }
 
 pub returns : goal.returns
 returns c =

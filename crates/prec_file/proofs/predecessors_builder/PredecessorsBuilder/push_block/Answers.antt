@@ -7,21 +7,13 @@ use Rattle.prec_file.proofs.predecessors_builder.PredecessorsBuilder.push_block.
 
 pub invariant_of-self-2 : goal.invariant_of-self-2
 invariant_of-self-2 c =
-    let n = c.self.inside.blocks in
     let next = c.self.inside.next in
-    let ps = pairs_by c.self.inside.firsts.items c.self.inside.predecessors.items in
-    let row = c.sorted_apart-added.result.items in
-    let within : next < n = subst (λ (v : RowsView). v.next < v.blocks) (sym c.self.view_is) c.requires.next in
-    let few : length ps + length c.args.pairs.items ≤ MOST_PAIRS = subst (λ (v : RowsView). length v.pairs + length c.args.pairs.items ≤ MOST_PAIRS) (sym c.self.view_is) c.requires.few in
-    let all_own : All (IsOfBlock n next) c.args.pairs.items = subst (λ (v : RowsView). All (IsOfBlock v.blocks v.next) c.args.pairs.items) (sym c.self.view_is) c.requires.own in
-    let same = c.sorted_apart-added.ensures.same in
-    let count : c.len.result ≡ length c.append.new.list.items = omega (arith, c.append.new.list.ok, c.len.ensures) in
-    pushed_rows n next ps row c.self.inside.firsts.items c.self.inside.predecessors.items c.self.invariant within
-    (omega (arith, few, c.sorted_apart-added.ensures.fewer)) same.rising c.sorted_apart-added.ensures.apart (own_kept n next c.args.pairs.items row same all_own)
-    c.push_reserved.new.self.items c.append.new.list.items c.len.result
-    (c.push_reserved.ensures.items ∙ ap (λ xs. xs ++ c.len.result ∷ []) c.in_ok-reserve.ensures.items)
-    (c.in_ok-append.ensures.added ∙ ap (λ xs. c.self.inside.predecessors.items ++ map (λ p. p.1) xs) c.deref.ensures.value)
-    count
+    pushed_rows _ _ _ _ _ _ c.self.invariant (subst (λ (v : RowsView). v.next < v.blocks) (sym c.self.view_is) c.requires.next)
+        (omega (arith, subst (λ (v : RowsView). length v.pairs + length c.args.pairs.items ≤ MOST_PAIRS) (sym c.self.view_is) c.requires.few, c.sorted_apart-added.ensures.fewer))
+        c.sorted_apart-added.ensures.same.rising c.sorted_apart-added.ensures.apart
+        (own_kept _ _ _ _ c.sorted_apart-added.ensures.same (subst (λ (v : RowsView). All (IsOfBlock v.blocks v.next) c.args.pairs.items) (sym c.self.view_is) c.requires.own))
+        c.push_reserved.new.self.items c.append.new.list.items c.len.result (c.push_reserved.ensures.items ∙ ap (λ xs. xs ++ c.len.result ∷ []) c.in_ok-reserve.ensures.items)
+        (c.in_ok-append.ensures.added ∙ ap (λ xs. c.self.inside.predecessors.items ++ map (λ p. p.1) xs) c.deref.ensures.value) (omega (arith, c.append.new.list.ok, c.len.ensures))
 
 pub returns : goal.returns
 returns c =

@@ -6,15 +6,11 @@ use Rattle.prec_file.proofs.predecessors_builder.PredecessorsBuilder.skip_to.Goa
 
 pub invariant_of-self-2 : goal.invariant_of-self-2
 invariant_of-self-2 c =
-    let b = c.args.block in
-    let l : c.self.inside.next ≤ b = subst (λ (v : RowsView). v.next ≤ b) (sym c.self.view_is) c.requires.behind in
-    let m : b ≤ c.self.inside.blocks = subst (λ (v : RowsView). b ≤ v.blocks) (sym c.self.view_is) c.requires.within in
-    let count : c.len.result ≡ length c.self.inside.predecessors.items = omega (arith, c.self.inside.predecessors.ok, c.len.ensures) in
-    let put = c.fill.ensures in
     let same = ap length c.in_ok-reserve.ensures.items in
-    skipped_rows c.self.inside.blocks c.self.inside.next b c.len.result c.self.inside.firsts.items c.fill.new.list.items c.self.inside.predecessors.items c.self.invariant l m count put.size
-    (λ i h. put.kept i (omega (arith, same)) ∙ ap (λ xs. get_or xs i 0) c.in_ok-reserve.ensures.items)
-    (λ i h k. put.filled i (omega (arith, same)) k)
+    skipped_rows c.self.inside.blocks c.self.inside.next c.args.block c.len.result c.self.inside.firsts.items c.fill.new.list.items c.self.inside.predecessors.items c.self.invariant
+        (subst (λ (v : RowsView). v.next ≤ c.args.block) (sym c.self.view_is) c.requires.behind) (subst (λ (v : RowsView). c.args.block ≤ v.blocks) (sym c.self.view_is) c.requires.within)
+        (omega (arith, c.self.inside.predecessors.ok, c.len.ensures)) c.fill.ensures.size
+        (λ i h. c.fill.ensures.kept i (omega (arith, same)) ∙ ap (λ xs. get_or xs i 0) c.in_ok-reserve.ensures.items) (λ i h k. c.fill.ensures.filled i (omega (arith, same)) k)
 
 pub returns : goal.returns
 returns c =
