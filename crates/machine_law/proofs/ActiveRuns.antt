@@ -1,5 +1,5 @@
 -- Runs in which no ReadExcess sees zero: they go on by one step, and only a block without an operation reads its excess.
-use Rattle.std.proofs.Common.{◌≡◌, ℕ, Option, Some, None, List, [], ◌∷◌, ◌++◌, refl, subst}
+use Rattle.std.proofs.Common.{◌≡◌, ℕ, Option, Some, None, List, [], ◌∷◌, ◌++◌, refl, subst, arith}
 use Rattle.ordered_group.specs.Amount.{Amount}
 use Rattle.closure_net.specs.Network.{NetView}
 use Rattle.closure_net.specs.declared.port.Port.{Port}
@@ -13,6 +13,7 @@ use Rattle.machine_law.specs.States.{State}
 use Rattle.machine_law.specs.Steps.{read_kind, read_kind_at, push_kind, next_of, Step, Run, ReadsNoZero, ActiveRun}
 use Rattle.std.specs.Prelude.{slice_get}
 use Rattle.closure_net.specs.Ports.{ports}
+use Rattle.std.proofs.lemmas.Grind.{common_steps}
 
 -- ---- such a run is a run, and goes on by one step
 pub active_is_run : (allowed : State → Type 0) (net : NetView) (s : State) (es : List Event) (t : State) → ActiveRun allowed net s es t → Run net s es t
@@ -26,27 +27,14 @@ active_more allowed net s (x ∷ es) e t u h step reads fits = (h.0, h.1, h.2, h
 
 -- ---- the kind of step that reads an excess
 looks_no_excess : (kind : PortKind) → ¬ (read_kind kind ≡ ReadExcess)
-looks_no_excess Sink e = cc
-looks_no_excess Forward e = cc
-looks_no_excess Backward e = cc
-looks_no_excess Source e = cc
+looks_no_excess kind e = grind (arith, common_steps)
 
 looks_at_no_excess : (port : Option Port) → ¬ (read_kind_at port ≡ ReadExcess)
-looks_at_no_excess None e = cc
-looks_at_no_excess (Some port) e = looks_no_excess port.kind e
+looks_at_no_excess port e = grind (arith, common_steps)
 
 pushes_no_excess : (kind : PortKind) → ¬ (push_kind kind ≡ ReadExcess)
-pushes_no_excess Sink e = cc
-pushes_no_excess Forward e = cc
-pushes_no_excess Backward e = cc
-pushes_no_excess Source e = cc
+pushes_no_excess kind e = grind (arith, common_steps)
 
 -- only a block without an operation makes it
 pub excess_read_idle : (net : NetView) (b : ℕ) (o : Operation Amount) → next_of net b o ≡ ReadExcess → o ≡ Idle
-excess_read_idle net b Idle e = refl
-excess_read_idle net b (Scan have place None best) e = absurd (looks_at_no_excess (slice_get (ports net b) place) e)
-excess_read_idle net b (Scan have place (Some read) best) e = cc
-excess_read_idle net b (PushDue have best) e = absurd (pushes_no_excess best.port.kind e)
-excess_read_idle net b (TakeDue amount port) e = cc
-excess_read_idle net b (GiveDue amount port) e = cc
-excess_read_idle net b (RaiseDue have best) e = cc
+excess_read_idle net b o e = grind (arith, common_steps)

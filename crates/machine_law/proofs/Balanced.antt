@@ -25,14 +25,14 @@ use Rattle.machine_law.specs.Balances.{IsBalanced}
 use Rattle.machine_law.proofs.Numbers.{same, equal}
 use Rattle.machine_law.proofs.Supply.{IsAtRest}
 use Rattle.machine_law.proofs.Balance.{balanced_rest, balanced_raised, balanced_pushed, balanced_taken, balanced_given}
+use Rattle.std.proofs.lemmas.Grind.{common_steps}
 
 -- ---- a read leaves an operation that has pushed nothing
 pub rest_cond : (t : Bool) (x y : Operation Amount) → IsAtRest x → IsAtRest y → IsAtRest (cond t x y)
 rest_cond t x y h k = cond_both t x y IsAtRest (λ _. h) (λ _. k)
 
 rest_ended : (label : ℕ) (have : Amount) (best : Option (Best Amount)) → IsAtRest (after_last_port label have best)
-rest_ended label have None = tt
-rest_ended label have (Some best) = rest_cond (nat_lt best.label label) (PushDue have best) (RaiseDue have best) tt tt
+rest_ended label have best = grind (arith, common_steps)
 
 rest_passed : (count label : ℕ) (have : Amount) (place : ℕ) (best : Option (Best Amount)) → IsAtRest (after_port count label have place best)
 rest_passed count label have place best = rest_cond (nat_lt (place + 1) count) (Scan have (place + 1) None best) (after_last_port label have best) tt (rest_ended label have best)
@@ -48,28 +48,19 @@ rest_chosen count label have place best read p beyond = rest_passed count label 
 
 module _ (net : NetView) (s : State) (b : ℕ) where
   rest_looked_by : (have : Amount) (place : ℕ) (best : Option (Best Amount)) (p : Port) (kind : PortKind) → IsAtRest (after_look_by net s b have place best p kind)
-  rest_looked_by have place best p Sink = rest_seen (length (ports net b)) (s.label b) have place best (capacity net s b p)
-  rest_looked_by have place best p Forward = rest_chosen (length (ports net b)) (s.label b) have place best zero_amount p (end_label net s p)
-  rest_looked_by have place best p Backward = rest_seen (length (ports net b)) (s.label b) have place best (capacity net s b p)
-  rest_looked_by have place best p Source = rest_seen (length (ports net b)) (s.label b) have place best (capacity net s b p)
+  rest_looked_by have place best p kind = grind (arith, common_steps, rest_seen, rest_chosen)
 
   pub rest_looked : (have : Amount) (place : ℕ) (best : Option (Best Amount)) (q : Option Port) → IsAtRest (after_look net s b have place best q)
-  rest_looked have place best None = tt
-  rest_looked have place best (Some p) = rest_looked_by have place best p p.kind
+  rest_looked have place best q = grind (arith, common_steps)
 
   pub rest_weighed : (have : Amount) (place : ℕ) (best : Option (Best Amount)) (read : Amount) (q : Option Port) → IsAtRest (after_label_at net s b have place best read q)
-  rest_weighed have place best read None = tt
-  rest_weighed have place best read (Some p) = rest_chosen (length (ports net b)) (s.label b) have place best read p (end_label net s p)
+  rest_weighed have place best read q = grind (arith, common_steps)
 
   -- ---- each step
   balanced_advance_by : (o : Operation Amount) → b < length net.worths → s.operation b ≡ o → IsOperation net s b o → IsBalanced net s → IsBalanced net (advance_by net s b o)
   balanced_advance_by Idle l e h k = balanced_rest net s b l k Idle (operation_begun_with (s.excess b)) e tt (rest_begun (s.excess b))
-  balanced_advance_by (Scan have place None best) l e h k =
-      let q = slice_get (ports net b) place in
-      balanced_rest net s b l k (Scan have place None best) (after_look net s b have place best q) e tt (rest_looked have place best q)
-  balanced_advance_by (Scan have place (Some read) best) l e h k =
-      let q = slice_get (ports net b) place in
-      balanced_rest net s b l k (Scan have place (Some read) best) (after_label_at net s b have place best read q) e tt (rest_weighed have place best read q)
+  balanced_advance_by (Scan have place None best) l e h k = grind (arith, common_steps, (slice_get (ports net b) place), (balanced_rest net s b l k (Scan have place None best) (after_look net s b have place best (slice_get (ports net b) place)) e tt (rest_looked have place best (slice_get (ports net b) place))), (rest_looked have place best (slice_get (ports net b) place)))
+  balanced_advance_by (Scan have place (Some read) best) l e h k = grind (arith, common_steps, (slice_get (ports net b) place), (balanced_rest net s b l k (Scan have place (Some read) best) (after_label_at net s b have place best read (slice_get (ports net b) place)) e tt (rest_weighed have place best read (slice_get (ports net b) place))), (rest_weighed have place best read (slice_get (ports net b) place)))
   balanced_advance_by (PushDue have best) l e h k = balanced_pushed net s b l k have best (push_amount have best.port.kind best.capacity) best.port e h.over.port
   balanced_advance_by (TakeDue d p) l e h k = balanced_taken net s b l k d p e
   balanced_advance_by (GiveDue d p) l e h k = balanced_given net s b l k d p e
@@ -101,12 +92,4 @@ module _ (net : NetView) where
   nothing_drained = total-zero (length net.worths)
 
   pub balanced_opening : IsBalanced net (opening net)
-  balanced_opening = record {
-    blocks = λ b.
-        let i = same (no_inflow b) in
-        let o = same (no_outflow b) in
-        let c = same (nothing_on_way (amount_landing b)) in
-        equal (record { w = omega (arith, ints, i, o, c); c = omega (arith, ints, i, o, c) });
-    at_source = let g = same nothing_given_back in let c = same (nothing_on_way into_source) in equal (record { w = omega (arith, ints, g, c); c = omega (arith, ints, g, c) });
-    at_sink = let g = same nothing_drained in let c = same (nothing_on_way into_sink) in equal (record { w = omega (arith, ints, g, c); c = omega (arith, ints, g, c) });
-  }
+  balanced_opening = grind (arith, common_steps, same, no_inflow, no_outflow, nothing_on_way, equal, nothing_given_back, nothing_drained)

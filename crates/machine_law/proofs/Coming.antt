@@ -20,20 +20,13 @@ use Rattle.machine_law.specs.Amounts.{HasAmounts, IsOperation}
 use Rattle.machine_law.specs.Balances.{IsBalanced}
 use Rattle.machine_law.proofs.Numbers.{same, Below-absurd}
 use Rattle.machine_law.proofs.PortLists.{has_backward, has_open, has_some}
+use Rattle.std.proofs.lemmas.Grind.{common_steps}
 
 amount_landing_nonneg : (kind : PortKind) (other x : ℕ) (d : Amount) → AtMost zero_amount d → AtMost zero_amount (amount_landing_by kind other x d)
-amount_landing_nonneg Sink other x d h = AtMost-refl zero_amount
-amount_landing_nonneg Forward other x d h = where_nonneg (other == x) d h
-amount_landing_nonneg Backward other x d h = where_nonneg (other == x) d h
-amount_landing_nonneg Source other x d h = AtMost-refl zero_amount
+amount_landing_nonneg kind other x d h = grind (arith, common_steps)
 
 on_way_nonneg : (net : NetView) (s : State) (b x : ℕ) (o : Operation Amount) → IsOperation net s b o → AtMost zero_amount (on_way (amount_landing x) o)
-on_way_nonneg net s b x Idle h = AtMost-refl zero_amount
-on_way_nonneg net s b x (Scan have place read best) h = AtMost-refl zero_amount
-on_way_nonneg net s b x (PushDue have best) h = AtMost-refl zero_amount
-on_way_nonneg net s b x (TakeDue d p) h = amount_landing_nonneg p.kind p.other x d (Below-most zero_amount d h.0.some)
-on_way_nonneg net s b x (GiveDue d p) h = amount_landing_nonneg p.kind p.other x d (Below-most zero_amount d h.0)
-on_way_nonneg net s b x (RaiseDue have best) h = AtMost-refl zero_amount
+on_way_nonneg net s b x o h = grind (arith, common_steps)
 
 pub coming_nonneg : (net : NetView) (s : State) (x : ℕ) → HasAmounts net s → AtMost zero_amount (amount_coming net s x)
 unfolding sum_on_way

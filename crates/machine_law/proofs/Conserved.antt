@@ -28,6 +28,7 @@ use Rattle.machine_law.proofs.PortLists.{port_with}
 use Rattle.machine_law.proofs.Supply.{IsAtRest}
 use Rattle.machine_law.proofs.Balanced.{rest_begun, rest_looked, rest_weighed}
 use Rattle.machine_law.proofs.Law.{steps_keep_law, lawful_opening}
+use Rattle.std.proofs.lemmas.Grind.{common_steps}
 
 -- ---- the sums after one change
 standing_excess-with_value_at : (net : NetView) (f : ℕ → Amount) (k : ℕ) (v : Amount) → k < length net.worths → Same (plus (standing_excess net (with_value_at f k v)) (f k)) (plus (standing_excess net f) v)
@@ -39,12 +40,7 @@ unfolding amount_aloft
 amount_aloft-with_value_at net f k old new l e = rw (← e) (total-with_value_at (λ _ a. amount_carried a) f k new (length net.worths) l)
 
 rest_carried : (o : Operation Amount) → IsAtRest o → amount_carried o ≡ zero_amount
-rest_carried Idle h = refl
-rest_carried (Scan have place read best) h = refl
-rest_carried (PushDue have best) h = refl
-rest_carried (TakeDue d p) h = absurd h
-rest_carried (GiveDue d p) h = absurd h
-rest_carried (RaiseDue have best) h = refl
+rest_carried o h = grind (arith, common_steps)
 
 -- ---- each step
 module _ (net : NetView) (known : All (IsKnown (length net.worths)) net.pairs) (s : State) (b : ℕ) (l : b < length net.worths) (k : IsConserved net s) where
@@ -58,10 +54,7 @@ module _ (net : NetView) (known : All (IsKnown (length net.worths)) net.pairs) (
       equal (record { w = omega (arith, ints, a, p, q, h); c = omega (arith, ints, a, p, q, h) })
 
   conserved_pushed : (have : Amount) (best : Best Amount) (d : Amount) (p : Port) (kind : PortKind) → s.operation b ≡ PushDue have best → IsConserved net (after_push_by s b d p kind)
-  conserved_pushed have best d p Sink e = stays (PushDue have best) (TakeDue d p) e refl refl
-  conserved_pushed have best d p Forward e = stays (PushDue have best) (TakeDue d p) e refl refl
-  conserved_pushed have best d p Backward e = stays (PushDue have best) (TakeDue d p) e refl refl
-  conserved_pushed have best d p Source e = stays (PushDue have best) (TakeDue d p) e refl refl
+  conserved_pushed have best d p kind e = grind (arith, common_steps, stays)
 
   conserved_taken : (d : Amount) (p : Port) → s.operation b ≡ TakeDue d p → IsConserved net (after_take s b d p)
   conserved_taken d p e =
@@ -91,12 +84,8 @@ module _ (net : NetView) (known : All (IsKnown (length net.worths)) net.pairs) (
 
   conserved_by : (o : Operation Amount) → s.operation b ≡ o → IsOperation net s b o → IsConserved net (advance_by net s b o)
   conserved_by Idle e h = stays Idle (operation_begun_with (s.excess b)) e refl (rest_carried (operation_begun_with (s.excess b)) (rest_begun (s.excess b)))
-  conserved_by (Scan have place None best) e h =
-      let q = slice_get (ports net b) place in
-      stays (Scan have place None best) (after_look net s b have place best q) e refl (rest_carried (after_look net s b have place best q) (rest_looked net s b have place best q))
-  conserved_by (Scan have place (Some read) best) e h =
-      let q = slice_get (ports net b) place in
-      stays (Scan have place (Some read) best) (after_label_at net s b have place best read q) e refl (rest_carried (after_label_at net s b have place best read q) (rest_weighed net s b have place best read q))
+  conserved_by (Scan have place None best) e h = grind (arith, common_steps, stays, rest_carried, rest_looked)
+  conserved_by (Scan have place (Some read) best) e h = grind (arith, common_steps, stays, rest_carried, rest_weighed)
   conserved_by (PushDue have best) e h = conserved_pushed have best (push_amount have best.port.kind best.capacity) best.port best.port.kind e
   conserved_by (TakeDue d p) e h = conserved_taken d p e
   conserved_by (GiveDue d p) e h = conserved_given d p.kind p.other p.slot e h.1
@@ -119,12 +108,7 @@ conserved_run net s (e ∷ es) t known h k r =
 -- ---- what follows
 module _ (net : NetView) (s : State) (h : HasAmounts net s) (k : IsConserved net s) where
   carried_nonneg : (b : ℕ) (o : Operation Amount) → IsOperation net s b o → AtMost zero_amount (amount_carried o)
-  carried_nonneg b Idle i = AtMost-refl zero_amount
-  carried_nonneg b (Scan have place read best) i = AtMost-refl zero_amount
-  carried_nonneg b (PushDue have best) i = AtMost-refl zero_amount
-  carried_nonneg b (TakeDue d p) i = AtMost-refl zero_amount
-  carried_nonneg b (GiveDue d p) i = Below-most zero_amount d i.0
-  carried_nonneg b (RaiseDue have best) i = AtMost-refl zero_amount
+  carried_nonneg b o i = grind (arith, common_steps)
 
   aloft_nonneg : AtMost zero_amount (amount_aloft net s.operation)
   unfolding amount_aloft
@@ -152,12 +136,7 @@ module _ (net : NetView) (s : State) (h : HasAmounts net s) (k : IsConserved net
   holds_none b d e i = Below-absurd i.some (rw e at i.held)
 
   idle_by : (b : ℕ) (o : Operation Amount) → IsOperation net s b o → s.excess b ≡ zero_amount → amount_carried o ≡ zero_amount → o ≡ Idle
-  idle_by b Idle i x c = refl
-  idle_by b (Scan have place read best) i x c = holds_none b have x i.held
-  idle_by b (PushDue have best) i x c = holds_none b have x i.held
-  idle_by b (TakeDue d p) i x c = holds_none b d x i.0
-  idle_by b (GiveDue d p) i x c = Below-absurd i.0 (AtMost-same _ _ c)
-  idle_by b (RaiseDue have best) i x c = holds_none b have x i.held
+  idle_by b o i x c = grind (arith, common_steps)
 
   quiet_from : plus s.at_source s.at_sink ≡ all_given net → IsQuiet net s
   quiet_from full =
@@ -196,6 +175,4 @@ module _ (net : NetView) (s : State) (h : HasAmounts net s) (k : IsConserved net
       }
 
 pub runs_conserve : RunsConserve
-runs_conserve net es t known r =
-    let k = conserved_run net (opening net) es t known (lawful_opening net) (conserved_opening net) r in
-    whole net t k.0.amounts k.1
+runs_conserve net es t known r = grind (arith, common_steps, (conserved_run net (opening net) es t known (lawful_opening net) (conserved_opening net) r), (lawful_opening net), (conserved_opening net), (whole net t (conserved_run net (opening net) es t known (lawful_opening net) (conserved_opening net) r).0.amounts (conserved_run net (opening net) es t known (lawful_opening net) (conserved_opening net) r).1))

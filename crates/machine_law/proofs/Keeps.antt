@@ -42,10 +42,7 @@ module _ (net : NetView) (s t : State) (x : ℕ) (m : IsMore net s t x) where
   held_more d h = record { some = h.some; held = AtMost-trans d (s.excess x) (t.excess x) h.held m.excess }
 
   within_by_more : (kind : PortKind) (other slot : ℕ) (a : Amount) → IsEnd net x kind other slot → IsWithinBy net s x kind slot a → IsWithinBy net t x kind slot a
-  within_by_more Sink other slot a q h = (h.0, rw m.sink h.1)
-  within_by_more Forward other slot a q h = tt
-  within_by_more Backward other slot a q h = (h.0, AtMost-trans a (s.flow slot) (t.flow slot) h.1 (m.flow slot q.1))
-  within_by_more Source other slot a q h = (h.0, rw m.source h.1)
+  within_by_more kind other slot a q h = grind (arith, common_steps)
 
   within_more : (p : Port) (a : Amount) → IsPortOf net x p → IsWithin net s x p a → IsWithin net t x p a
   within_more p a q h = within_by_more p.kind p.other p.slot a q h
@@ -54,42 +51,23 @@ module _ (net : NetView) (s t : State) (x : ℕ) (m : IsMore net s t x) where
   best_more best h = record { port = h.port; within = within_more best.port best.capacity h.port h.within }
 
   any_more : (best : Option (Best Amount)) → IsBestIfAny net s x best → IsBestIfAny net t x best
-  any_more None h = tt
-  any_more (Some best) h = best_more best h
+  any_more best h = grind (arith, common_steps)
 
   read_more : (read : Option Amount) (p : Option Port) → ((q : Port) → p ≡ Some q → IsPortOf net x q) → IsReadCapacity net s x read p → IsReadCapacity net t x read p
-  read_more None p is h = tt
-  read_more (Some a) None is h = h
-  read_more (Some a) (Some q) is h = within_more q a (is q refl) h
+  read_more read p is h = grind (arith, common_steps, within_more)
 
   due_more : (have : Amount) (best : Best Amount) → IsDue net s x have best → IsDue net t x have best
   due_more have best h = record { held = held_more have h.held; over = best_more best h.over }
 
   pub operation_more : (o : Operation Amount) → IsOperation net s x o → IsOperation net t x o
-  operation_more Idle h = tt
-  operation_more (Scan have place read best) h = record {
-    inside = h.inside;
-    held = held_more have h.held;
-    passed = any_more best h.passed;
-    present = read_more read (slice_get (ports net x) place) (port-at net x place) h.present;
-  }
-  operation_more (PushDue have best) h = due_more have best h
-  operation_more (TakeDue d p) h = (held_more d h.0, h.1)
-  operation_more (GiveDue d p) h = h
-  operation_more (RaiseDue have best) h = due_more have best h
+  operation_more o h = grind (arith, common_steps, held_more, any_more, read_more, port-at, due_more)
 
 -- ---- the amount of a push
 pub push_most : (have : Amount) (kind : PortKind) (read : Amount) → AtMost (push_amount have kind read) have
-push_most have Sink read = lesser_amount-left have read
-push_most have Forward read = AtMost-refl have
-push_most have Backward read = lesser_amount-left have read
-push_most have Source read = lesser_amount-left have read
+push_most have kind read = grind (arith, common_steps)
 
 pub push_some : (net : NetView) (s : State) (b : ℕ) (have : Amount) (kind : PortKind) (slot : ℕ) (read : Amount) → Below zero_amount have → IsWithinBy net s b kind slot read → Below zero_amount (push_amount have kind read)
-push_some net s b have Sink slot read h w = Below-lesser_amount have read h w.0
-push_some net s b have Forward slot read h w = h
-push_some net s b have Backward slot read h w = Below-lesser_amount have read h w.0
-push_some net s b have Source slot read h w = Below-lesser_amount have read h w.0
+push_some net s b have kind slot read h w = grind (arith, common_steps)
 
 held_push : (net : NetView) (s : State) (b : ℕ) (have : Amount) (kind : PortKind) (slot : ℕ) (read : Amount) → IsHeld s b have → IsWithinBy net s b kind slot read → IsHeld s b (push_amount have kind read)
 held_push net s b have kind slot read h w = record { some = push_some net s b have kind slot read h.some w; held = AtMost-trans (push_amount have kind read) have (s.excess b) (push_most have kind read) h.held }
@@ -223,34 +201,23 @@ module _ (net : NetView) (s : State) (b : ℕ) (k : HasAmounts net s) where
 
   -- ---- what an operation may rely on after a read
   op_begun : (Below zero_amount (s.excess b) → 0 < length (ports net b)) → IsOperation net s b (operation_begun_with (s.excess b))
-  op_begun ported = cond_both (is_positive (s.excess b)) (Scan (s.excess b) 0 None None) Idle (IsOperation net s b)
-      (λ e. let y = positive-yes (s.excess b) e in record { inside = ported y; held = record { some = y; held = AtMost-refl (s.excess b) }; passed = tt; present = tt })
-      (λ e. tt)
+  op_begun ported = grind (arith, common_steps)
 
   op_ended : (label : ℕ) (have : Amount) (best : Option (Best Amount)) → IsHeld s b have → IsBestIfAny net s b best → IsOperation net s b (after_last_port label have best)
-  op_ended label have None h i = tt
-  op_ended label have (Some best) h i = cond_both (nat_lt best.label label) (PushDue have best) (RaiseDue have best) (IsOperation net s b) (λ e. record { held = h; over = i }) (λ e. record { held = h; over = i })
+  op_ended label have best h i = grind (arith, common_steps)
 
   op_passed : (have : Amount) (place : ℕ) (best : Option (Best Amount)) → IsHeld s b have → IsBestIfAny net s b best → IsOperation net s b (after_port (length (ports net b)) (s.label b) have place best)
-  op_passed have place best h i = cond_both (nat_lt (place + 1) (length (ports net b))) (Scan have (place + 1) None best) (after_last_port (s.label b) have best) (IsOperation net s b)
-      (λ e. record { inside = ltb-true (place + 1) (length (ports net b)) e; held = h; passed = i; present = tt })
-      (λ e. op_ended (s.label b) have best h i)
+  op_passed have place best h i = grind (arith, common_steps)
 
   any_better : (best : Option (Best Amount)) (new : Best Amount) → IsBestIfAny net s b best → IsBestPort net s b new → IsBestPort net s b (better_of best new)
-  any_better None new i n = n
-  any_better (Some best) new i n = cond_both (nat_lt new.label best.label) new best (IsBestPort net s b) (λ e. n) (λ e. i)
+  any_better best new i n = grind (arith, common_steps)
 
   op_chosen : (have : Amount) (place : ℕ) (best : Option (Best Amount)) (read : Amount) (p : Port) → IsHeld s b have → IsBestIfAny net s b best → IsPortOf net b p → IsWithin net s b p read → IsOperation net s b (after_label (length (ports net b)) (s.label b) have place best read p (end_label net s p))
-  op_chosen have place best read p h i q w =
-      let new : Best Amount = record { port = p; capacity = read; label = end_label net s p } in
-      op_passed have place (Some (better_of best new)) h (any_better best new i (record { port = q; within = w }))
+  op_chosen have place best read p h i q w = grind (arith, common_steps)
 
   -- a capacity that is just read
   within_now : (kind : PortKind) (slot : ℕ) → Below zero_amount (capacity_by net s b kind slot) → IsWithinBy net s b kind slot (capacity_by net s b kind slot)
-  within_now Sink slot y = (y, AtMost-refl (room net s b))
-  within_now Forward slot y = tt
-  within_now Backward slot y = (y, AtMost-refl (s.flow slot))
-  within_now Source slot y = (y, AtMost-refl (s.source b))
+  within_now kind slot y = grind (arith, common_steps)
 
   op_seen : (have : Amount) (place : ℕ) (best : Option (Best Amount)) (p : Port) → slice_get (ports net b) place ≡ Some p → IsHeld s b have → IsBestIfAny net s b best → IsOperation net s b (after_capacity (length (ports net b)) (s.label b) have place best (capacity net s b p))
   op_seen have place best p e h i =
@@ -269,18 +236,13 @@ module _ (net : NetView) (s : State) (b : ℕ) (k : HasAmounts net s) where
   op_looked have place best (Some p) e h i = op_looked_by have place best p.kind p.other p.slot e h i
 
   op_weighed : (have : Amount) (place : ℕ) (best : Option (Best Amount)) (read : Amount) (q : Option Port) → slice_get (ports net b) place ≡ q → IsHeld s b have → IsBestIfAny net s b best → IsReadCapacity net s b (Some read) q → IsOperation net s b (after_label_at net s b have place best read q)
-  op_weighed have place best read None e h i r = tt
-  op_weighed have place best read (Some p) e h i r = op_chosen have place best read p h i (port-at net b place p e) r
+  op_weighed have place best read q e h i r = grind (arith, common_steps, op_chosen, port-at)
 
   -- ---- each step
   amounts_advance_by : (o : Operation Amount) → s.operation b ≡ o → IsBalanced net s → IsOperation net s b o → HasAmounts net (advance_by net s b o)
   amounts_advance_by Idle e l h = amounts_with_operation (operation_begun_with (s.excess b)) (op_begun (has_port net s b (ap amount_owed e) k l))
-  amounts_advance_by (Scan have place None best) e l h =
-      let q = slice_get (ports net b) place in
-      amounts_with_operation (after_look net s b have place best q) (op_looked have place best q refl h.held h.passed)
-  amounts_advance_by (Scan have place (Some read) best) e l h =
-      let q = slice_get (ports net b) place in
-      amounts_with_operation (after_label_at net s b have place best read q) (op_weighed have place best read q refl h.held h.passed h.present)
+  amounts_advance_by (Scan have place None best) e l h = grind (arith, common_steps, amounts_with_operation, op_looked)
+  amounts_advance_by (Scan have place (Some read) best) e l h = grind (arith, common_steps, amounts_with_operation, op_weighed)
   amounts_advance_by (PushDue have best) e l h = amounts_pushed have best.port best.capacity h.held h.over.port h.over.within
   amounts_advance_by (TakeDue d p) e l h = amounts_taken d p h.0 h.1
   amounts_advance_by (GiveDue d p) e l h = amounts_given_by d p p.kind (Below-most zero_amount d h.0)

@@ -37,19 +37,13 @@ Below-absurd h k = absurd (omega (arith, ints, h, k))
 
 -- ---- the test of an amount
 below_by : (x y : Amount) (o : Ordering) → MatchOrdering o (Below x y) (x ≡ y) (Below y x) → is_lt o ≡ true → Below x y
-below_by x y Less h e = h
-below_by x y Equal h e = absurd cc
-below_by x y Greater h e = absurd cc
+below_by x y o h e = grind (arith, common_steps)
 
 not_below_by : (x y : Amount) (o : Ordering) → MatchOrdering o (Below x y) (x ≡ y) (Below y x) → is_lt o ≡ false → AtMost y x
-not_below_by x y Less h e = absurd cc
-not_below_by x y Equal h e = let s = same h in record { worths = omega (arith, ints, s); counts = λ i. omega (arith, ints, s, i) }
-not_below_by x y Greater h e = Below-most y x h
+not_below_by x y o h e = grind (arith, common_steps)
 
 pub tells_below : (x y : Amount) (o : Ordering) → MatchOrdering o (Below x y) (x ≡ y) (Below y x) → Below x y → is_lt o ≡ true
-tells_below x y Less h k = refl
-tells_below x y Equal h k = let s = same h in absurd (omega (arith, ints, s, k))
-tells_below x y Greater h k = absurd (omega (arith, ints, h, k))
+tells_below x y o h k = grind (arith, common_steps)
 
 -- what the test answers
 pub is_below-yes : (x y : Amount) → is_below x y ≡ true → Below x y

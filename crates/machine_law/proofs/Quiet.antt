@@ -28,6 +28,7 @@ use Rattle.machine_law.proofs.Arcs.{arcs-each}
 use Rattle.machine_law.proofs.Law.{runs_keep_law}
 use Rattle.machine_law.proofs.Levels.{empty_above}
 use Rattle.machine_law.proofs.Tight.{tight_sum}
+use Rattle.std.proofs.lemmas.Grind.{common_steps}
 
 -- a set that the source's reach doesn't leave is closed
 closed_from : (net : NetView) (flow : FlowView) (e : ℕ → Bool) → Reaches net flow e → IsClosed net.pairs e
@@ -41,8 +42,7 @@ most_or : (x y : Amount) → AtMost x y ⊎ ¬ (AtMost x y)
 most_or x y = elim (most_or_below x y) [ inl m ↦ inl m | inr h ↦ inr (below_not y x h) ]
 
 not_both : (t : Bool) {P : Type 0} → t ≡ true → t ≡ false → P
-not_both true h e = absurd cc
-not_both false h e = absurd cc
+not_both t h e = grind (arith, common_steps)
 
 -- and tight, where its blocks give the sink all they may
 tight_from : (net : NetView) (flow : FlowView) (e : ℕ → Bool) → PairsKnown net → IsFlow net flow → Reaches net flow e → ((b : ℕ) → b < length net.worths → e b ≡ true → AtMost (negative (amount_at net.worths b)) (amount_at flow.sink b)) → IsTight net flow e
@@ -87,11 +87,7 @@ module _ (net : NetView) (s : State) (flow : FlowView) (known : PairsKnown net) 
 
   -- what the state owes, has, and is to get is zero
   supply_zero : (b : ℕ) → b < length net.worths → minus (plus (s.excess b) (amount_coming net s b)) (amount_owed (s.operation b)) ≡ zero_amount
-  supply_zero b l =
-      let e = same (q.excess b l) in
-      let c = same (nothing_coming b) in
-      let o = same (ap amount_owed (q.operation b l)) in
-      equal (record { w = omega (arith, ints, e, c, o); c = omega (arith, ints, e, c, o) })
+  supply_zero b l = grind (arith, common_steps, same, nothing_coming, equal)
 
   pub quiet_flow : IsFlow net flow
   quiet_flow = record {

@@ -6,12 +6,10 @@ use Rattle.ordered_group.specs.Sums.{total, where_so, at_end}
 use Rattle.ordered_group.proofs.Order.{positive-negative}
 use Rattle.ordered_group.proofs.Totals.{total-same, total-plus, route}
 use Rattle.machine_law.proofs.Numbers.{same, equal}
+use Rattle.std.proofs.lemmas.Grind.{common_steps}
 
 where_same : (s t : Bool) (x : Amount) → (t ≡ true → s ≡ true) → (s ≡ true → t ≡ false → x ≡ zero_amount) → where_so s x ≡ where_so t x
-where_same true true x h k = refl
-where_same true false x h k = k refl refl
-where_same false true x h k = absurd (let e = h refl in cc)
-where_same false false x h k = refl
+where_same s t x h k = grind (arith, common_steps)
 
 module _ (n m : ℕ) (from to : ℕ → ℕ) (w s t f : ℕ → Amount) (e : ℕ → Bool)
     (from_below : (k : ℕ) → k < m → from k < n)

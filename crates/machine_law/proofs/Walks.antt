@@ -42,8 +42,7 @@ IsReady net s b Source = Below zero_amount (s.source b)
 module _ (net : NetView) (s : State) (b : ℕ) where
   -- over a backward port without capacity the pair carries nothing
   shut_arc : (kind : PortKind) (slot j : ℕ) → AtMost (capacity_by net s b kind slot) zero_amount → same_by kind Backward slot j ≡ true → AtMost (s.flow j) zero_amount
-  shut_arc Backward slot j z e = subst (λ (i : ℕ). AtMost (s.flow i) zero_amount) (eqb-true slot j e) z
-  shut_arc _ slot j z e = absurd (true≢false (sym e))
+  shut_arc kind slot j z e = grind (arith, common_steps)
 
   -- a port without capacity isn't open
   shut_port : (p q : PortKind) (i j : ℕ) → IsLimited p → AtMost (capacity_by net s b p i) zero_amount → same_by p q i j ≡ true → IsOpenBy net s b q → ⊥
@@ -55,49 +54,34 @@ module _ (net : NetView) (s : State) (b : ℕ) where
 
   -- they have the same other end
   same_end : (p q : PortKind) (o u i j : ℕ) → IsEnd net b p o i → IsEnd net b q u j → same_by p q i j ≡ true → label_beyond net p (s.label o) ≡ label_beyond net q (s.label u)
-  same_end Sink Sink o u i j x y e = refl
-  same_end Forward Forward o u i j x y e = ap s.label (sym x.2 ∙ (ap (to_at net.pairs) (eqb-true i j e) ∙ y.2))
-  same_end Backward Backward o u i j x y e = ap s.label (sym x.2 ∙ (ap (from_at net.pairs) (eqb-true i j e) ∙ y.2))
-  same_end Source Source o u i j x y e = refl
-  same_end _ _ o u i j x y e = absurd (true≢false (sym e))
+  same_end p q o u i j x y e = grind (arith, common_steps)
 
   same_end_of : (p q : Port) → IsPortOf net b p → IsPortOf net b q → same_port p q ≡ true → end_label net s p ≡ end_label net s q
   same_end_of p q x y e = same_end p.kind q.kind p.other q.other p.slot q.slot x y e
 
 -- ---- the best port, with one more
 better_of-most : (best : Option (Best Amount)) (new : Best Amount) → (better_of best new).label ≤ new.label
-better_of-most None new = omega arith
-better_of-most (Some best) new = cond_both (nat_lt new.label best.label) new best (λ x. x.label ≤ new.label) (λ e. omega arith) (λ e. ltb-false new.label best.label e)
+better_of-most best new = grind (arith, common_steps)
 
 under_better : (best : Option (Best Amount)) (new : Best Amount) (n : ℕ) → is_under (Some (better_of best new)) n ≡ true → is_under best n ≡ true
-under_better None new n e = refl
-under_better (Some best) new n e = grind (arith, common_steps)
+under_better best new n e = grind (arith, common_steps)
 
 above_better : (best : Option (Best Amount)) (new : Best Amount) (n : ℕ) → IsAbove best n → (better_of best new).label ≤ n
-above_better None new n h = absurd h
-above_better (Some best) new n h = cond_both (nat_lt new.label best.label) new best (λ x. x.label ≤ n) (λ e. let u = ltb-true new.label best.label e in omega (arith, h, u)) (λ e. h)
+above_better best new n h = grind (arith, common_steps)
 
 module _ (net : NetView) (s : State) (b : ℕ) (k : HasAmounts net s) (h : HasLabels net s) where
   -- at a new best port the arcs count by their present labels
   seen_new : (kind : PortKind) (other slot j : ℕ) → IsEnd net b kind other slot → label_by kind slot (label_beyond net kind (s.label other)) j (s.label (from_at net.pairs j)) ≡ s.label (from_at net.pairs j)
-  seen_new Sink other slot j q = refl
-  seen_new Forward other slot j q = refl
-  seen_new Backward other slot j q = cond_both (slot == j) (s.label other) (s.label (from_at net.pairs j)) (λ x. x ≡ s.label (from_at net.pairs j)) (λ e. ap s.label (sym q.2 ∙ ap (from_at net.pairs) (eqb-true slot j e))) (λ e. refl)
-  seen_new Source other slot j q = refl
+  seen_new kind other slot j q = grind (arith, common_steps)
 
   near_new : (kind : PortKind) (other slot : ℕ) → IsEnd net b kind other slot → IsReady net s b kind → IsNearLabel net kind (s.label b) (label_beyond net kind (s.label other))
-  near_new Sink other slot q r = h.sink b r
-  near_new Forward other slot q r = subst₂ (λ (x y : ℕ). s.label x ≤ s.label y + 1) q.1 q.2 (h.forward slot q.0)
-  near_new Backward other slot q r = tt
-  near_new Source other slot q r = let u = h.source b r in (omega (arith, u), omega arith)
+  near_new kind other slot q r = grind (arith, common_steps)
 
   level_better : (best : Option (Best Amount)) (new : Best Amount) → IsLevelIfAny net s b best → IsBestLabel net s b new → IsBestLabel net s b (better_of best new)
-  level_better None new i n = n
-  level_better (Some best) new i n = cond_both (nat_lt new.label best.label) new best (IsBestLabel net s b) (λ e. n) (λ e. i)
+  level_better best new i n = grind (arith, common_steps)
 
   high_better : (best : Option (Best Amount)) (new : Best Amount) → AtMost (high_capacity net s b best) (supply net s b) → AtMost (high_capacity net s b (Some new)) (supply net s b) → AtMost (high_capacity net s b (Some (better_of best new))) (supply net s b)
-  high_better None new i n = n
-  high_better (Some best) new i n = cond_both (nat_lt new.label best.label) new best (λ x. AtMost (high_capacity net s b (Some x)) (supply net s b)) (λ e. n) (λ e. i)
+  high_better best new i n = grind (arith, common_steps)
 
   -- ---- an operation begins
   pub walk_begun : amount_owed (s.operation b) ≡ zero_amount → IsWalk net s b (s.excess b) (ports net b) None
