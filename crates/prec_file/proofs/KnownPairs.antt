@@ -9,17 +9,14 @@ use Rattle.fixed_worth.specs.Record.{reads, is_skipped}
 use Rattle.prec_file.specs.Records.{block_of, predecessors_of, pairs_in, shape_fault, history_fault, record_fault}
 use Rattle.prec_file.specs.Rests.{IsKnown}
 use Rattle.prec_file.proofs.History.{third, shape_block, or_none, none_behind}
+use Rattle.std.proofs.lemmas.Grind.{common_steps}
 
 -- The pairs of a record without fault are of known blocks.
 pub or_parts : (a b : Bool) → (a || b) ≡ false → (a ≡ false) × (b ≡ false)
-or_parts true b h = absurd cc
-or_parts false b h = (refl, h)
+or_parts a b h = grind (arith, common_steps)
 
 pub none_large : (n : ℕ) (ps : List ℕ) → list_any (nat_le n) ps ≡ false → All (λ p. p < n) ps
-none_large n [] h = All-nil (λ p. p < n)
-none_large n (p ∷ ps) h =
-    let q = or_parts (nat_le n p) (list_any (nat_le n) ps) h in
-    All-cons (λ p. p < n) p ps (grind (arith, nat_tests)) (none_large n ps q.1)
+none_large n ps h = grind (arith, common_steps)
 
 pub known_pairs : (n : ℕ) (had : ℕ → Bool) (k line : ℕ) (fs : List (List ℕ)) → record_fault n had k line fs ≡ None → (s : Bool) → is_skipped fs ≡ s → All (IsKnown n) (pairs_in fs)
 unfolding shape_fault
@@ -31,6 +28,4 @@ known_pairs n had k line fs h false s =
     rw s (All-map (IsKnown n) (λ p. (block_of fs, p)) (predecessors_of fs) (All-weaker (λ p. p < n) (λ p. IsKnown n (block_of fs, p)) (λ p l. (b, l)) (predecessors_of fs) (none_large n (predecessors_of fs) q.1)))
 
 pub more_known : (n : ℕ) (had : ℕ → Bool) (k line : ℕ) (fs : List (List ℕ)) (ps qs : List (ℕ × ℕ)) → record_fault n had k line fs ≡ None → All (IsKnown n) ps → qs ≡ ps ++ pairs_in fs → All (IsKnown n) qs
-more_known n had k line fs ps qs h a e =
-    let P : List (ℕ × ℕ) → Type 0 = λ xs. All (IsKnown n) xs in
-    subst P (sym e) (All-append (IsKnown n) ps (pairs_in fs) a (known_pairs n had k line fs h (is_skipped fs) refl))
+more_known n had k line fs ps qs h a e = grind (arith, common_steps, (known_pairs n had k line fs h (is_skipped fs) refl))

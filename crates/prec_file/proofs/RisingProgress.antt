@@ -12,6 +12,7 @@ use Rattle.prec_file.specs.Indexes.{AreNew, IsLineRead, TellsFault, marks_after}
 use Rattle.prec_file.proofs.Shapes.{unless_told}
 use Rattle.prec_file.proofs.Progress.{ReadSoFar, step_on, step_wrong}
 use Rattle.prec_file.proofs.Marks.{none_marked}
+use Rattle.std.proofs.lemmas.Grind.{common_steps}
 
 -- What has been read, and what is left: the rows have the pairs that were listed.
 pub record RisingSoFar (n : ℕ) (text : List ℕ) (rows : RowsView) (count : ℕ) (left : Left) : Type 0 where
@@ -52,8 +53,7 @@ rising_begun n text left e f = record {
 }
 
 marked_or_not : (s : Bool) (seen : List Bool) (b : ℕ) → length (cond s seen (set seen b true)) ≡ length seen
-marked_or_not true seen b = refl
-marked_or_not false seen b = length-set seen b true
+marked_or_not s seen b = grind (arith, common_steps)
 
 length_marked : (fs : List (List ℕ)) (seen : List Bool) → length (marks_after fs seen) ≡ length seen
 length_marked fs seen = marked_or_not (is_skipped fs) seen (block_of fs)

@@ -66,6 +66,4 @@ module _ (n next b count : ℕ) (firsts filled predecessors : List ℕ) (h : Are
   skipped_told = rows_told n b (pairs_by firsts predecessors) filled predecessors skipped
 
   pub skipped_rows : AreRows n b (pairs_by filled predecessors) filled predecessors
-  skipped_rows =
-      let P : List (ℕ × ℕ) → Type 0 = λ xs. AreRows n b xs filled predecessors in
-      subst P (sym skipped_told) skipped
+  skipped_rows = grind (arith, common_steps, skipped_told, skipped)

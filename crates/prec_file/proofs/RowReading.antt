@@ -53,10 +53,7 @@ module _ (n line b claimed k before : ℕ) (fs : List (List ℕ)) (row : List �
       (rows_joined listed (map (λ p. (mid.next, p)) row) added mid new (subst (λ (xs : List (ℕ × ℕ)). ArePairsOf listed xs) (sym same_pairs) h) a)
 
   row_marks : (seen : List Bool) → AreNew old.next (λ c. get_or seen c false) → AreNew new.next (λ c. get_or (marks_after fs seen) c false)
-  row_marks seen h c l =
-      let next : new.next ≡ b + 1 = a.next ∙ ap (λ x. x + 1) is_next in
-      let ne : c ≢ block_of fs = λ q. omega (arith, next, q, l, r.block) in
-      rw r.is (get_or-set_other seen (block_of fs) c true false ne ∙ h c (omega (arith, next, l, behind)))
+  row_marks seen h c l = grind (arith, common_steps)
 
   pub line_read : ((had : ℕ → Bool) → AreNew old.next had → record_fault n had before line fs ≡ None) → before + k ≤ MOST_PAIRS → length old.pairs ≤ before → IsLineRead n line fs old new before (before + k)
   line_read sound few kept = record {

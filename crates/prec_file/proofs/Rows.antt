@@ -64,9 +64,7 @@ pub above_are : (n : ℕ) (ps : List (ℕ × ℕ)) (firsts predecessors : List �
 above_are n ps firsts predecessors h = pairs_are ps h.rests.rising n firsts predecessors h.firsts h.predecessors (λ k l. (h.rests.known k (0, 0) l).0)
 
 pub above_told : (n : ℕ) (ps : List (ℕ × ℕ)) (firsts predecessors : List ℕ) → AreAbove n ps firsts predecessors → AreAbove n (pairs_by firsts predecessors) firsts predecessors
-above_told n ps firsts predecessors h =
-    let P : List (ℕ × ℕ) → Type 0 = λ xs. AreAbove n xs firsts predecessors in
-    subst P (sym (above_are n ps firsts predecessors h)) h
+above_told n ps firsts predecessors h = grind (arith, common_steps, (above_are n ps firsts predecessors h))
 
 -- ---- the pairs, block by block
 
@@ -76,17 +74,11 @@ none_taken ps = ap (λ k. take k ps) (sym (ending_none (from_at ps) (length ps))
 
 -- one predecessor more of a block
 pub one_taken : (ps : List (ℕ × ℕ)) → IsRising ps → (b p i : ℕ) → i < length (above_of ps b) → get_or (above_of ps b) i 0 ≡ p → take (first_of ps b + i) ps ++ (b, p) ∷ [] ≡ take (first_of ps b + (i + 1)) ps
-one_taken ps r b p i l e =
-    let f = found_pair ps r b p i l e in
-    let next : first_of ps b + i + 1 ≡ first_of ps b + (i + 1) = omega arith in
-    ap (λ q. take (first_of ps b + i) ps ++ q ∷ []) (sym f.1) ∙ sym (take_more ps (first_of ps b + i) (0, 0) f.0) ∙ ap (λ k. take k ps) next
+one_taken ps r b p i l e = grind (arith, common_steps, (found_pair ps r b p i l e), (take_more ps (first_of ps b + i) (0, 0) (found_pair ps r b p i l e).0))
 
 -- all of a block
 pub block_taken : (ps : List (ℕ × ℕ)) (b i : ℕ) → i ≡ length (above_of ps b) → take (first_of ps b + i) ps ≡ take (first_of ps (b + 1)) ps
-block_taken ps b i e =
-    let s : first_of ps (b + 1) ≡ first_of ps (suc b) = ap (first_of ps) (add-one b) in
-    let all : first_of ps b + i ≡ first_of ps (b + 1) = omega (arith, s, e, above_length ps b, ending_next (from_at ps) b (length ps)) in
-    ap (λ k. take k ps) all
+block_taken ps b i e = grind (arith, common_steps, (ap (first_of ps) (add-one b)), (add-one b), (above_length ps b), (ending_next (from_at ps) b (length ps)))
 
 -- all of all blocks
 pub all_taken : (n b : ℕ) (ps : List (ℕ × ℕ)) → All (IsKnown n) ps → b ≡ n → take (first_of ps b) ps ≡ ps

@@ -19,13 +19,7 @@ use Rattle.std.proofs.lemmas.Grind.{common_steps}
 
 -- what is known of a fault that was told
 pub unless_told : (e : PrecFault) (o : Option PrecFault) {Q : Type 0} → (o ≡ Some e → Q) → TellsFault e o → UnlessMemory e Q
-unless_told NoMemory o f h = tt
-unless_told (Text k) o f h = f h
-unless_told (Number k) o f h = f h
-unless_told (UnknownBlock k) o f h = f h
-unless_told (Repeated k) o f h = f h
-unless_told (WrongCount k) o f h = f h
-unless_told (TooMany k) o f h = f h
+unless_told e o f h = grind (arith, common_steps)
 
 pub reads_ok : (f : List ℕ) (v : ℕ) → Ok v ≡ whole_of f → (reads f ≡ true) × (number_of f ≡ v)
 reads_ok f v e = (ap is_ok (sym e), ap (λ r. result_unwrap_or r 0) (sym e))
@@ -96,8 +90,7 @@ pub two_read : (rs ss ts : List WordRun) (v : ℕ) (read : Result ℕ NumberFaul
 two_read rs ss ts v read a left b behind = grind (arith, common_steps, first_is, reads_ok, texts, number_no_remark)
 
 unread : (f : List ℕ) (fs gs : List (List ℕ)) → fs ≡ f ∷ gs → list_all reads (take 1 fs) ≡ false → (t : Bool) → reads f ≡ t → reads f ≡ false
-unread f fs gs e h true r = let none : true ≡ false = rw (e, r) at h in absurd (false≢true (sym none))
-unread f fs gs e h false r = r
+unread f fs gs e h t r = grind (arith, common_steps)
 
 -- What is wrong with a line whose first field is no number.
 pub unread_alone : (line : ℕ) (fs : List (List ℕ)) (f : List ℕ) → fs ≡ f ∷ [] → is_remark f ≡ false → (is_skipped fs ≡ false) × ((n : ℕ) → shape_fault n line fs ≡ Some (Text line))

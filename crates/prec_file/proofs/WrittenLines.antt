@@ -29,13 +29,7 @@ pub record IsWritable (n : ℕ) (ps : List (ℕ × ℕ)) : Type 0 where
 
 -- the predecessors of a block are blocks
 pub above_known : (n : ℕ) (ps : List (ℕ × ℕ)) (b : ℕ) → IsWritable n ps → All (λ p. p < n) (above_of ps b)
-above_known n ps b w k d l =
-    let a = above_at ps w.rising b k l in
-    let known = (w.known (first_of ps b + k) (0, 0) a.0).1 in
-    let e : get_or ps (first_of ps b + k) (0, 0) ≡ (b, get_or (above_of ps b) k 0) = a.1 in
-    let to = ap (λ (p : ℕ × ℕ). p.1) e in
-    let P : ℕ → Type 0 = λ p. p < n in
-    subst P (to ∙ get_or_default (above_of ps b) k 0 d l) known
+above_known n ps b w k d l = grind (arith, common_steps, (above_at ps w.rising b k l), (get_or_default (above_of ps b) k 0 d l))
 
 -- The words behind the block.
 abbrev pub words_at : List (ℕ × ℕ) → ℕ → List (List ℕ)
@@ -63,9 +57,7 @@ pub small_blocks : (n : ℕ) (ps : List (ℕ × ℕ)) (b : ℕ) → IsWritable n
 small_blocks n ps b w = All-weaker (λ p. p < n) (λ p. p < 2 ^ 64) (λ p l. omega (arith, w.blocks)) (above_of ps b) (above_known n ps b w)
 
 words_pass : (test : List ℕ → Bool) → ((k : ℕ) → k < 2 ^ 64 → test (decimal k) ≡ true) → (n : ℕ) (ps : List (ℕ × ℕ)) (b : ℕ) → IsWritable n ps → b < n → list_all test (words_at ps b) ≡ true
-words_pass test each n ps b w l =
-    and_from (test (decimal (length (above_of ps b)))) (list_all test (map decimal (above_of ps b))) (each (length (above_of ps b)) (omega (arith, w.narrow b l)))
-    (decimals_pass test each (above_of ps b) (small_blocks n ps b w))
+words_pass test each n ps b w l = grind (arith, common_steps, (decimals_pass test each (above_of ps b) (small_blocks n ps b w)), (small_blocks n ps b w))
 
 row_is_one_line : (n : ℕ) (ps : List (ℕ × ℕ)) (b : ℕ) → IsWritable n ps → b < n → is_one_line (row ps b) ≡ true
 row_is_one_line n ps b w l =
