@@ -13,6 +13,7 @@ use Rattle.slope.specs.declared.selection.Selection.TheVariants.{Reduced}
 use Rattle.slope.specs.declared.up.Up.{Up}
 use Rattle.slope.specs.declared.up.Up.TheVariants.{PlusZ, MinusZ}
 use Rattle.slope.proofs.OffsetSorting.{not_both}
+use Rattle.std.proofs.lemmas.Grind.{common_steps}
 
 -- some natural number is no less
 above : ℤ → ℕ
@@ -21,12 +22,10 @@ above (negsuc n) = zero
 
 is_above : (z : ℤ) → z ≤ℤ pos (above z)
 unfolding above
-is_above (pos n) = omega (arith, ints)
-is_above (negsuc n) = omega (arith, ints)
+is_above z = grind (arith, common_steps)
 
 climbs : (up : Up) (x y : ℤ) → pos 1 ≤ℤ upward up (y -ℤ x) → upward up x <ℤ upward up y
-climbs PlusZ x y h = omega (arith, ints, h)
-climbs MinusZ x y h = omega (arith, ints, h)
+climbs up x y h = grind (arith, common_steps)
 
 module _ (m : BlocksView) (offsets : List Offset) (up : Up) (rests : RestsView) (pattern : IsPattern offsets) (slopes : AreSlopes m offsets up Reduced rests) where
   -- how high a block is

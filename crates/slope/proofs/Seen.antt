@@ -15,9 +15,7 @@ seen_more v keys blocks seen i s h l k = grind (arith, common_steps)
 pub found_stands : (v : SurroundingsView) (i : ℕ) (found : Option ℕ) (o : Offset) → o ≡ offset_at v.offsets i →
     MatchOption found ((p : ℕ) → p < v.model.blocks → offset_between v.up v.from (place_of v.model p) ≢ o) (λ p. (p < v.model.blocks) × (offset_between v.up v.from (place_of v.model p) ≡ o)) →
     MatchOption found (StandsNone v i) (StandsAtOffset v i)
-found_stands v i None o e h = λ p s. h p s.known (s.there ∙ sym e)
-found_stands v i (Some p) o e h = record { known = h.0; there = h.1 ∙ e }
+found_stands v i found o e h = grind (arith, common_steps)
 
 pub sight_is : (v : SurroundingsView) (i : ℕ) (found : Option ℕ) (s : Sight) → MatchOption found (s ≡ sight.Nothing) (λ p. s ≡ sight.Block p) → MatchOption found (StandsNone v i) (StandsAtOffset v i) → IsSight v i s
-sight_is v i None s e h = subst (IsSight v i) (sym e) h
-sight_is v i (Some p) s e h = subst (IsSight v i) (sym e) h
+sight_is v i found s e h = grind (arith, common_steps)
