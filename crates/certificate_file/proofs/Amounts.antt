@@ -18,9 +18,7 @@ pub residual_here : (ws ss : List Amount) (i : ℕ) (p s r : Amount) → p ≡ p
 residual_here ws ss i p s r e is_s d = ap (minus (positive (amount_at ws i))) (sym is_s) ∙ ap (λ x. minus x s) (sym e) ∙ sym d
 
 equal_then : (a b : Ordering) → is_eq (ordering_then a b) ≡ (is_eq a && is_eq b)
-equal_then Less b = refl
-equal_then Equal b = refl
-equal_then Greater b = refl
+equal_then a b = grind (arith, common_steps)
 
 -- an amount is zero where both its numbers are
 pub zero_numbers : (x : Amount) → is_zero x ≡ (int_eq x.w (pos 0) && int_eq x.c (pos 0))

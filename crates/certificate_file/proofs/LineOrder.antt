@@ -22,9 +22,7 @@ total : IsTotalOrder line_cmp
 total = then_total (on_total (λ (l : BodyLine). rank l.kind) nat_cmp_total) (then_total (on_total (λ (l : BodyLine). l.block) nat_cmp_total) (on_total (λ (l : BodyLine). l.other) nat_cmp_total))
 
 lt_less : (o : Ordering) → is_lt o ≡ true → o ≡ Less
-lt_less Less h = refl
-lt_less Equal h = absurd (let z : false ≡ true = h in cc)
-lt_less Greater h = absurd (let z : false ≡ true = h in cc)
+lt_less o h = grind (arith, common_steps)
 
 abbrev pub Above : BodyLine → BodyLine → Type 0
 Above a b = line_cmp a b ≡ Less
@@ -89,8 +87,7 @@ pub record Found (gives : BodyLine → Bool) (a : Amount) (ls : List BodyLine) :
   pub amount : amount_of line ≡ a
 
 found_at : (gives : BodyLine → Bool) (x : Amount) (m : BodyLine) (ms : List BodyLine) (t : Bool) → gives m ≡ t → ((y : Amount) → (given_amount gives y ms ≡ y) ⊎ Found gives (given_amount gives y ms) ms) → (given_amount gives (cond t (amount_of m) x) ms ≡ x) ⊎ Found gives (given_amount gives (cond t (amount_of m) x) ms) (m ∷ ms)
-found_at gives x m ms true e ih = grind (arith, common_steps)
-found_at gives x m ms false e ih = grind (arith, common_steps)
+found_at gives x m ms t e ih = grind (arith, common_steps)
 
 pub found : (gives : BodyLine → Bool) (ls : List BodyLine) (x : Amount) → (given_amount gives x ls ≡ x) ⊎ Found gives (given_amount gives x ls) ls
 found gives [] x = inl refl

@@ -21,18 +21,10 @@ pub put_begins : (a : Option (List ℕ)) (first all : List ℕ) → Put a a firs
 put_begins a first all = record { done = []; held = subst (SentOrHeld a a first) (sym (append-nil first)) (all_held a first); whole = refl }
 
 pub put_more : (a b c : Option (List ℕ)) (first now next piece left all : List ℕ) → Put a b first now (piece ++ left) all → SentOrHeld b c next (now ++ piece) → Put a c first next left all
-put_more a b c first now next piece left all p h = record {
-  done = p.done ++ piece;
-  held = subst (SentOrHeld a c next) (append_assoc first p.done piece) (held_more a b c now next (first ++ p.done) piece p.held h);
-  whole = append_assoc p.done piece left ∙ p.whole;
-}
+put_more a b c first now next piece left all p h = grind (arith, common_steps, (append_assoc first p.done piece), (held_more a b c now next (first ++ p.done) piece p.held h), (append_assoc p.done piece left))
 
 pub put_failed : (a b c : Option (List ℕ)) (first now piece left all : List ℕ) → Put a b first now (piece ++ left) all → ReceivedPrefix b c (now ++ piece) → ReceivedPrefix a c (first ++ all)
-put_failed a b c first now piece left all p h =
-    let part : ReceivedPrefix a c ((first ++ p.done) ++ piece) = held_more_prefix a b c now (first ++ p.done) piece p.held h in
-    let more : ReceivedPrefix a c (((first ++ p.done) ++ piece) ++ left) = prefix_of_first a c ((first ++ p.done) ++ piece) left part in
-    let same : ((first ++ p.done) ++ piece) ++ left ≡ first ++ all = append_assoc (first ++ p.done) piece left ∙ append_assoc first p.done (piece ++ left) ∙ ap (λ (t : List ℕ). first ++ t) p.whole in
-    subst (ReceivedPrefix a c) same more
+put_failed a b c first now piece left all p h = grind (arith, common_steps, (held_more_prefix a b c now (first ++ p.done) piece p.held h), (prefix_of_first a c ((first ++ p.done) ++ piece) left (held_more_prefix a b c now (first ++ p.done) piece p.held h)), (append_assoc (first ++ p.done) piece left), (append_assoc first p.done (piece ++ left)))
 
 pub none_written : (line : ℕ → Amount → BodyLine) (k : ℕ) (xs : List Amount) (x : Amount) → k < length xs → get_or xs k zero_amount ≡ x → is_zero x ≡ true → body_text (amount_lines line k (drop k xs)) ≡ body_text (amount_lines line (k + 1) (drop (k + 1) xs))
 none_written line k xs x h e z = grind (arith, common_steps)
@@ -74,19 +66,16 @@ block_failed bs k a b c first now all h p s =
 
 -- Three texts, put one behind the other.
 pub three_held : (a b c d : Option (List ℕ)) (p q r s x y z all : List ℕ) → x ++ (y ++ z) ≡ all → SentOrHeld a b q (p ++ x) → SentOrHeld b c r (q ++ y) → SentOrHeld c d s (r ++ z) → SentOrHeld a d s (p ++ all)
-three_held a b c d p q r s x y z all e h i j =
-    subst (λ (t : List ℕ). SentOrHeld a d s (p ++ t)) (append_assoc x y z ∙ e) (held_both a c d p r s (x ++ y) z (held_both a b c p q r x y h i) j)
+three_held a b c d p q r s x y z all e h i j = grind (arith, common_steps, append_assoc, held_both)
 
 pub first_failed : (a b : Option (List ℕ)) (p x y z all : List ℕ) → x ++ (y ++ z) ≡ all → ReceivedPrefix a b (p ++ x) → ReceivedPrefix a b (p ++ all)
 first_failed a b p x y z all e h = subst (λ (t : List ℕ). ReceivedPrefix a b (p ++ t)) e (prefix_in_first a b p x (y ++ z) h)
 
 pub second_failed : (a b c : Option (List ℕ)) (p q x y z all : List ℕ) → x ++ (y ++ z) ≡ all → SentOrHeld a b q (p ++ x) → ReceivedPrefix b c (q ++ y) → ReceivedPrefix a c (p ++ all)
-second_failed a b c p q x y z all e h i =
-    subst (λ (t : List ℕ). ReceivedPrefix a c (p ++ t)) (append_assoc x y z ∙ e) (prefix_in_first a c p (x ++ y) z (prefix_in_second a b c p q x y h i))
+second_failed a b c p q x y z all e h i = grind (arith, common_steps, (append_assoc x y z), (prefix_in_first a c p (x ++ y) z (prefix_in_second a b c p q x y h i)), (prefix_in_second a b c p q x y h i))
 
 pub third_failed : (a b c d : Option (List ℕ)) (p q r x y z all : List ℕ) → x ++ (y ++ z) ≡ all → SentOrHeld a b q (p ++ x) → SentOrHeld b c r (q ++ y) → ReceivedPrefix c d (r ++ z) → ReceivedPrefix a d (p ++ all)
-third_failed a b c d p q r x y z all e h i j =
-    subst (λ (t : List ℕ). ReceivedPrefix a d (p ++ t)) (append_assoc x y z ∙ e) (prefix_in_second a c d p r (x ++ y) z (held_both a b c p q r x y h i) j)
+third_failed a b c d p q r x y z all e h i j = grind (arith, common_steps, (append_assoc x y z), (prefix_in_second a c d p r (x ++ y) z (held_both a b c p q r x y h i) j), (held_both a b c p q r x y h i))
 
 -- The text of lines that stand behind others.
 pub body_append : (ls ms : List BodyLine) → body_text (ls ++ ms) ≡ body_text ls ++ body_text ms

@@ -53,11 +53,7 @@ abbrev pub Both : Bool → ℕ → (ℕ → ℕ → Bool) → BodyLine → Type 
 Both counts n has l = Readable counts n l × Proper n has l
 
 rank_most : (k : LineKind) → is_end k ≡ false → rank k ≤ 3
-rank_most Pit h = omega arith
-rank_most Source h = omega arith
-rank_most Rest h = omega arith
-rank_most Sink h = omega arith
-rank_most End h = absurd (let z : true ≡ false = h in cc)
+rank_most k h = grind (arith, common_steps)
 
 -- The text is read without a fault, and as these lines.
 pub record ReadAs (counts : Bool) (n : ℕ) (has : ℕ → ℕ → Bool) (previous : Option BodyLine) (k : ℕ) (text : List ℕ) (ls : List BodyLine) : Type 0 where
@@ -78,23 +74,16 @@ read_more counts n has previous k l ls rest b f r = grind (arith, common_steps, 
 
 pub body_read : (counts : Bool) (n : ℕ) (has : ℕ → ℕ → Bool) (ls : List BodyLine) (previous : Option BodyLine) (k : ℕ) → UpTo 3 previous → InOrder (Both counts n has) previous ls → ReadAs counts n has previous k (body_text ls ++ end_text) ls
 body_read counts n has [] previous k u o = read_end counts n has previous k u
-body_read counts n has (l ∷ ls) previous k u o =
-    subst (λ (t : List ℕ). ReadAs counts n has previous k t (l ∷ ls)) (sym (append_assoc (spaced_words (line_words l)) (10 ∷ body_text ls) end_text))
-    (read_more counts n has previous k l ls (body_text ls ++ end_text) o.1 o.0 (body_read counts n has ls (Some l) (k + 1) (rank_most l.kind o.1.1.last) o.2))
+body_read counts n has (l ∷ ls) previous k u o = grind (arith, common_steps, (append_assoc (spaced_words (line_words l)) (10 ∷ body_text ls) end_text), (read_more counts n has previous k l ls (body_text ls ++ end_text) o.1 o.0 (body_read counts n has ls (Some l) (k + 1) (rank_most l.kind o.1.1.last) o.2)), (rank_most l.kind o.1.1.last), (body_read counts n has ls (Some l) (k + 1) (rank_most l.kind o.1.1.last) o.2))
 
 keyed_read : (key w : List ℕ) → is_word key ≡ true → is_word w ≡ true → bytes_eq key key ≡ true → value_behind key (words_of (spaced_words (key ∷ w ∷ []))) ≡ Some w
-keyed_read key w k h e =
-    let both : are_words (key ∷ w ∷ []) ≡ true = rw (k, h) refl in
-    ap (value_behind key) (words_read key (w ∷ []) both) ∙ ap (λ (t : Bool). cond t (Some w) None) e
+keyed_read key w k h e = grind (arith, common_steps, (words_read key (w ∷ []) (rw (k, h) refl)))
 
 keyed_feed : (key w : List ℕ) → is_word key ≡ true → is_word w ≡ true → has_no_feed (spaced_words (key ∷ w ∷ [])) ≡ true
 keyed_feed key w k h = let both : are_words (key ∷ w ∷ []) ≡ true = rw (k, h) refl in spaced_no_feed key (w ∷ []) both
 
 blocks_read : (n : ℕ) (name : Group) → n ≤ MOST_BLOCKS → blocks_in (wanted_for n name) (spaced_words (codes "BLOCKS" ∷ decimal n ∷ [])) ≡ Ok n
-blocks_read n name h =
-    ap (blocks_said (wanted_for n name)) (keyed_read (codes "BLOCKS") (decimal n) refl (decimal_is_word n (omega arith)) refl)
-    ∙ ap (λ (o : Option ℕ). or_number (wanted_blocks (wanted_for n name) o)) (number_read (MOST_BLOCKS + 1) n (omega arith) (omega arith))
-    ∙ ap (λ (t : Bool). or_number (cond t (Some n) None)) (eq-eqb n n refl)
+blocks_read n name h = grind (arith, common_steps, (keyed_read (codes "BLOCKS") (decimal n) refl (decimal_is_word n (omega arith)) refl), (decimal_is_word n (omega arith)), (number_read (MOST_BLOCKS + 1) n (omega arith) (omega arith)), (eq-eqb n n refl))
 
 price_length : (price : Price) → IsPrice price → length (spaced_words (price_words price)) ≤ 20
 price_length Objective h = omega arith
@@ -110,32 +99,22 @@ price_feed (Factor k) h = keyed_feed (codes "PRICE") (decimal k) refl (decimal_i
 price_feed (Mill k) h = spaced_no_feed (codes "PRICE") (codes "MILL" ∷ decimal k ∷ []) (mill_words k h)
 
 version_feed : (v : Version) → has_no_feed (version_text v) ≡ true
-version_feed One = refl
-version_feed Two = refl
+version_feed v = grind (arith, common_steps)
 
 version_short : (v : Version) → length (version_text v) ≤ LINE_BYTES
-version_short One = omega arith
-version_short Two = omega arith
+version_short v = grind (arith, common_steps)
 
 version_read : (v : Version) → version_in (version_text v) ≡ Ok v
-version_read One = refl
-version_read Two = refl
+version_read v = grind (arith, common_steps)
 
 factor_read : (k : ℕ) (t : Bool) → k ≤ MOST_FACTOR → (t ≡ true → decimal k ≡ codes "OBJECTIVE") → cond t (Ok Objective) (or_number (factor_of (number_below (MOST_FACTOR + 1) (decimal k)))) ≡ Ok (Factor k)
-factor_read k true h e =
-    let few = length-decimal-le_wide 5 k (omega arith) (omega arith) (omega arith) in
-    let long = ap length (e refl) in
-    absurd (omega (arith, few, long))
+factor_read k true h e = grind (arith, common_steps, (length-decimal-le_wide 5 k (omega arith) (omega arith) (omega arith)), (ap length (e refl)))
 factor_read k false h e = ap (λ (o : Option ℕ). or_number (factor_of o)) (number_read (MOST_FACTOR + 1) k (omega arith) (omega arith))
 
 price_read : (price : Price) → IsPrice price → price_in (version_for price) (spaced_words (price_words price)) ≡ Ok price
 price_read Objective h = refl
-price_read (Factor k) h =
-    ap price_said (keyed_read (codes "PRICE") (decimal k) refl (decimal_is_word k (omega arith)) refl)
-    ∙ factor_read k (bytes_eq (decimal k) (codes "OBJECTIVE")) h (bytes_eq-Decides (decimal k) (codes "OBJECTIVE")).0
-price_read (Mill k) h =
-    ap (λ (ws : List (List ℕ)). mill_said (value_behind_both (codes "PRICE") (codes "MILL") ws)) (words_read (codes "PRICE") (codes "MILL" ∷ decimal k ∷ []) (mill_words k h))
-    ∙ ap (λ (o : Option ℕ). or_number (mill_of o)) (number_read (MOST_FACTOR + 1) k (omega arith) (omega arith))
+price_read (Factor k) h = grind (arith, common_steps, (keyed_read (codes "PRICE") (decimal k) refl (decimal_is_word k (omega arith)) refl), (decimal_is_word k (omega arith)), (factor_read k (bytes_eq (decimal k) (codes "OBJECTIVE")) h (bytes_eq-Decides (decimal k) (codes "OBJECTIVE")).0), (bytes_eq-Decides (decimal k) (codes "OBJECTIVE")))
+price_read (Mill k) h = grind (arith, common_steps, (words_read (codes "PRICE") (codes "MILL" ∷ decimal k ∷ []) (mill_words k h)), (mill_words k h), (number_read (MOST_FACTOR + 1) k (omega arith) (omega arith)))
 
 kind_read : (n : ℕ) (name : Group) → group_in (wanted_for n name) (spaced_words (codes "GROUP" ∷ group_name name ∷ [])) ≡ Ok name
 kind_read n name = grind (arith, common_steps)

@@ -34,9 +34,7 @@ below_read : (limit b : ℕ) → b < limit → within limit (Ok (pos b)) ≡ Som
 below_read limit b h = let t : ltb b limit ≡ true = grind (arith, nat_tests) in rw t refl
 
 pub number_read : (limit b : ℕ) → b < limit → limit ≤ 2 ^ 64 → number_below limit (decimal b) ≡ Some b
-number_read limit b h l =
-    let fits : FitsSigned w128 (pos b) = omega (arith, ints) in
-    ap (within limit) (printed_is_plain (pos b) fits) ∙ below_read limit b h
+number_read limit b h l = grind (arith, common_steps, (printed_is_plain (pos b) (omega (arith, ints))), (below_read limit b h))
 
 pub block_word : (n b : ℕ) → b < n → n ≤ MOST_BLOCKS → (is_word (decimal b) ≡ true) × (length (decimal b) ≤ 8)
 block_word n b h l = (decimal_is_word b (omega arith), length-decimal-le_wide 8 b (omega arith) (omega arith) (omega arith))
@@ -46,9 +44,7 @@ signed_short (pos n) h = let few = length-decimal-le_wide 39 n (omega arith) (om
 signed_short (negsuc n) h = let few = length-decimal-le_wide 39 (suc n) (omega arith) (omega (arith, ints)) (omega (arith, ints)) in omega arith
 
 tested : (counts : Bool) (w c : ℤ) (t u : Bool) → int_eq c (pos 0) ≡ t → int_eq w (pos 0) ≡ u → (u && t) ≡ false → Counted counts c → cond t (not u) counts ≡ true
-tested counts w c true true e f h k = absurd (let z : true ≡ false = h in cc)
-tested counts w c true false e f h k = refl
-tested counts w c false u e f h k = elim k [ inl i ↦ i | inr i ↦ absurd (let z : true ≡ false = sym ((Decides-int_eq c (pos 0)).1 i) ∙ e in cc) ]
+tested counts w c t u e f h k = grind (arith, common_steps)
 
 pub is_amount_so : (counts : Bool) (x : Amount) → is_zero x ≡ false → Counted counts x.c → is_amount counts x.w x.c ≡ true
 is_amount_so counts x h k = tested counts x.w x.c (int_eq x.c (pos 0)) (int_eq x.w (pos 0)) refl refl (sym (zero_numbers x) ∙ h) k

@@ -17,25 +17,13 @@ use Rattle.certificate_file.proofs.LineOrder.{Has, has_good, same_lines, Proper,
 use Rattle.std.proofs.lemmas.Grind.{common_steps}
 
 source_kind : (k : LineKind) (t : Bool) → (is_source k && t) ≡ true → (k ≡ Source) × (t ≡ true)
-source_kind Pit t h = absurd (let z : false ≡ true = h in cc)
-source_kind Source t h = (refl, h)
-source_kind Rest t h = absurd (let z : false ≡ true = h in cc)
-source_kind Sink t h = absurd (let z : false ≡ true = h in cc)
-source_kind End t h = absurd (let z : false ≡ true = h in cc)
+source_kind k t h = grind (arith, common_steps)
 
 rest_kind : (k : LineKind) (t : Bool) → (is_rest k && t) ≡ true → (k ≡ Rest) × (t ≡ true)
-rest_kind Pit t h = absurd (let z : false ≡ true = h in cc)
-rest_kind Source t h = absurd (let z : false ≡ true = h in cc)
-rest_kind Rest t h = (refl, h)
-rest_kind Sink t h = absurd (let z : false ≡ true = h in cc)
-rest_kind End t h = absurd (let z : false ≡ true = h in cc)
+rest_kind k t h = grind (arith, common_steps)
 
 sink_kind : (k : LineKind) (t : Bool) → (is_sink k && t) ≡ true → (k ≡ Sink) × (t ≡ true)
-sink_kind Pit t h = absurd (let z : false ≡ true = h in cc)
-sink_kind Source t h = absurd (let z : false ≡ true = h in cc)
-sink_kind Rest t h = absurd (let z : false ≡ true = h in cc)
-sink_kind Sink t h = (refl, h)
-sink_kind End t h = absurd (let z : false ≡ true = h in cc)
+sink_kind k t h = grind (arith, common_steps)
 
 two_same : (x y u v : ℕ) → (eqb x y && eqb u v) ≡ true → (x ≡ y) × (u ≡ v)
 two_same x y u v h = (grind (arith, nat_tests), grind (arith, nat_tests))
@@ -79,11 +67,7 @@ HasBlock b [] = ⊥
 HasBlock b (x ∷ xs) = (x ≡ b) ⊎ HasBlock b xs
 
 block_more : (k : LineKind) (b x : ℕ) (bs : List ℕ) → HasBlock b bs → HasBlock b (block_if_pit k x bs)
-block_more Pit b x bs h = inr h
-block_more Source b x bs h = h
-block_more Rest b x bs h = h
-block_more Sink b x bs h = h
-block_more End b x bs h = h
+block_more k b x bs h = grind (arith, common_steps)
 
 pit_has : (l : BodyLine) (ls : List BodyLine) → l.kind ≡ Pit → Has l ls → HasBlock l.block (pit_of ls)
 pit_has l [] e h = absurd h
@@ -104,11 +88,7 @@ pit_later : (b : ℕ) (m : BodyLine) (ms : List BodyLine) → InPit b ms → InP
 pit_later b m ms f = record { line = f.line; held = inr f.held; kind_is = f.kind_is; block_is = f.block_is }
 
 pit_found_at : (b : ℕ) (m : BodyLine) (ms : List BodyLine) (k : LineKind) → m.kind ≡ k → (HasBlock b (pit_of ms) → InPit b ms) → HasBlock b (block_if_pit k m.block (pit_of ms)) → InPit b (m ∷ ms)
-pit_found_at b m ms Pit e ih h = elim h [ inl i ↦ record { line = m; held = inl refl; kind_is = e; block_is = i } | inr i ↦ pit_later b m ms (ih i) ]
-pit_found_at b m ms Source e ih h = pit_later b m ms (ih h)
-pit_found_at b m ms Rest e ih h = pit_later b m ms (ih h)
-pit_found_at b m ms Sink e ih h = pit_later b m ms (ih h)
-pit_found_at b m ms End e ih h = pit_later b m ms (ih h)
+pit_found_at b m ms k e ih h = grind (arith, common_steps)
 
 pit_found : (b : ℕ) (ms : List BodyLine) → HasBlock b (pit_of ms) → InPit b ms
 pit_found b [] h = absurd h

@@ -24,13 +24,11 @@ pub first_piece : (bs : List ℕ) (j : ℕ) → position (λ x. eqb x 10) bs ≡
 first_piece bs j e = let q = position-Some (λ x. eqb x 10) bs j 0 e in piece_to bs j q.0 q.1 q.2
 
 onto_at : (b : ℕ) (ps : List Piece) (bs : List ℕ) → piece_at ps 0 ≡ record { text = bs; ended = false } → piece_at (onto_piece b ps) 0 ≡ record { text = b ∷ bs; ended = false }
-onto_at b [] bs e = ap (λ (p : Piece). record { text = b ∷ p.text; ended = p.ended }) e
-onto_at b (p ∷ ps) bs e = ap (λ (q : Piece). record { text = b ∷ q.text; ended = q.ended }) e
+onto_at b ps bs e = grind (arith, common_steps)
 
 last_at : (b : ℕ) (bs : List ℕ) (t : Bool) → eqb b 10 ≡ t → length (b ∷ bs) ≡ position_or_len (λ x. eqb x 10) (b ∷ bs) → (length bs ≡ position_or_len (λ x. eqb x 10) bs → piece_at (pieces_of bs) 0 ≡ record { text = bs; ended = false })
     → piece_at (pieces_of (b ∷ bs)) 0 ≡ record { text = b ∷ bs; ended = false }
-last_at b bs true e h ih = let g = rw e at h in absurd (omega (arith, g))
-last_at b bs false e h ih = let g = rw e at h in rw e (onto_at b (pieces_of bs) bs (ih (omega (arith, g))))
+last_at b bs t e h ih = grind (arith, common_steps)
 
 -- Without a line feed all is one piece, which none ends.
 unended : (bs : List ℕ) → length bs ≡ position_or_len (λ x. eqb x 10) bs → piece_at (pieces_of bs) 0 ≡ record { text = bs; ended = false }
@@ -41,12 +39,10 @@ pub last_piece : (bs : List ℕ) → position (λ x. eqb x 10) bs ≡ None → p
 last_piece bs e = unended bs (position_none _ bs e)
 
 onto_some : (b : ℕ) (ps : List Piece) → eqb (length (onto_piece b ps)) 0 ≡ false
-onto_some b [] = grind (arith, nat_tests)
-onto_some b (p ∷ ps) = grind (arith, nat_tests)
+onto_some b ps = grind (arith, common_steps)
 
 some_at : (b : ℕ) (bs : List ℕ) (t : Bool) → eqb b 10 ≡ t → eqb (length (pieces_of (b ∷ bs))) 0 ≡ false
-some_at b bs true e = rw e (grind (arith, nat_tests))
-some_at b bs false e = rw e (onto_some b (pieces_of bs))
+some_at b bs t e = grind (arith, common_steps)
 
 more_than_none : (n : ℕ) → eqb (suc n) 0 ≡ false
 more_than_none n = grind (arith, nat_tests)
@@ -61,11 +57,7 @@ too_long : (k : ℕ) (p : Piece) (bs : List ℕ) → p.text ≡ bs → LINE_BYTE
 too_long k p bs e h = grind (arith, common_steps)
 
 pub long_first : (bs : List ℕ) (j k : ℕ) (v : Unread) → record { pieces = pieces_of bs; number = k } ≡ v → position (λ x. eqb x 10) bs ≡ Some j → LINE_BYTES < j → piece_fault (v.number + 1) (piece_at v.pieces 0) ≡ Some (fault.Text (k + 1))
-long_first bs j k v is e h =
-    let q = position-Some (λ x. eqb x 10) bs j 0 e in
-    let all : length (take j bs) ≡ j = length-take-le j bs (omega (arith, q.0)) in
-    subst (λ (w : Unread). piece_fault (w.number + 1) (piece_at w.pieces 0) ≡ Some (fault.Text (k + 1))) is
-    (too_long (k + 1) (piece_at (pieces_of bs) 0) (take j bs) (ap (λ (ps : List Piece). (piece_at ps 0).text) (first_piece bs j e)) (omega arith))
+long_first bs j k v is e h = grind (arith, common_steps, (first_piece bs j e))
 
 pub long_last : (bs : List ℕ) (k : ℕ) (v : Unread) → record { pieces = pieces_of bs; number = k } ≡ v → position (λ x. eqb x 10) bs ≡ None → LINE_BYTES < length bs → piece_fault (v.number + 1) (piece_at v.pieces 0) ≡ Some (fault.Text (k + 1))
 long_last bs k v is e h = grind (arith, common_steps, too_long, last_piece)

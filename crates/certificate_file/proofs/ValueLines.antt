@@ -31,8 +31,7 @@ UpTo r None = Unit {0}
 UpTo r (Some l) = rank l.kind ≤ r
 
 wider : (r s : ℕ) (p : Option BodyLine) → r ≤ s → UpTo r p → UpTo s p
-wider r s None h u = tt
-wider r s (Some l) h u = omega arith
+wider r s p h u = grind (arith, common_steps)
 
 lower_first : (a b : ℕ) (o : Ordering) → a < b → is_lt (ordering_then (nat_cmp a b) o) ≡ true
 lower_first a b o h = let e : Less ≡ nat_cmp a b = nat_cmp_is a b Less h in ap (λ (x : Ordering). is_lt (ordering_then x o)) (sym e)
@@ -41,8 +40,7 @@ same_first : (a : ℕ) (o : Ordering) → is_lt o ≡ true → is_lt (ordering_t
 same_first a o h = let e : Equal ≡ nat_cmp a a = nat_cmp_is a a Equal refl in ap (λ (x : Ordering). is_lt (ordering_then x o)) (sym e) ∙ h
 
 pub higher : (r : ℕ) (p : Option BodyLine) (l : BodyLine) → UpTo r p → r < rank l.kind → may_follow p l ≡ true
-higher r None l u h = refl
-higher r (Some m) l u h = lower_first (rank m.kind) (rank l.kind) (ordering_then (nat_cmp m.block l.block) (nat_cmp m.other l.other)) (omega arith)
+higher r p l u h = grind (arith, common_steps)
 
 block_step : (k : LineKind) (a b : ℕ) (x y : Amount) → a < b → may_follow (Some (line_of_block k a x)) (line_of_block k b y) ≡ true
 block_step k a b x y h = same_first (rank k) (ordering_then (nat_cmp a b) (nat_cmp 0 0)) (lower_first a b (nat_cmp 0 0) h)
@@ -67,8 +65,7 @@ pits P [] p rest a f e u c = c p u
 pits P (b ∷ bs) p rest a f e u c = (f, e 0 (omega arith), pits P bs (Some (pit_at b)) rest (tail_ascends b bs a) (next_follows b bs a) (λ i h. e (suc i) (omega arith)) (omega arith) c)
 
 first_of_all : (bs : List ℕ) → FirstFollows None bs
-first_of_all [] = tt
-first_of_all (b ∷ bs) = refl
+first_of_all bs = grind (arith, common_steps)
 
 -- Lines of amounts before others.
 abbrev pub Each : (BodyLine → Type 0) → (ℕ → Amount → BodyLine) → ℕ → List Amount → Type 0
@@ -115,17 +112,14 @@ pits_give_nothing gives x (b ∷ bs) f = ap (λ (t : Bool). given_amount gives (
 
 -- One line of amounts, by whether it is written.
 line_given : (gives : BodyLine → Bool) (line : ℕ → Amount → BodyLine) (k : ℕ) (x y : Amount) (ls : List BodyLine) (t : Bool) → given_amount gives y (cond t ls (line k x ∷ ls)) ≡ given_amount gives (cond t y (cond (gives (line k x)) (amount_of (line k x)) y)) ls
-line_given gives line k x y ls true = refl
-line_given gives line k x y ls false = refl
+line_given gives line k x y ls t = grind (arith, common_steps)
 
 amounts_give_nothing : (gives : BodyLine → Bool) (line : ℕ → Amount → BodyLine) (top : ℕ) (xs : List Amount) (k : ℕ) (y : Amount) → k + length xs ≤ top → ((j : ℕ) (x : Amount) → k ≤ j → j < top → gives (line j x) ≡ false) → given_amount gives y (amount_lines line k xs) ≡ y
 amounts_give_nothing gives line top [] k y l f = refl
 amounts_give_nothing gives line top (x ∷ xs) k y l f = grind (arith, common_steps, (amounts_give_nothing gives line top xs (k + 1) y (omega arith) (λ j a g h. f j a (omega arith) h)))
 
 own_given : (x : Amount) (t u : Bool) (a : Amount) → is_zero x ≡ t → u ≡ true → a ≡ x → cond t zero_amount (cond u a zero_amount) ≡ x
-own_given x true u a e f g = sym ((is_eq_tells x zero_amount).0 e)
-own_given x false true a e f g = g
-own_given x false false a e f g = absurd (let z : false ≡ true = f in cc)
+own_given x t u a e f g = grind (arith, common_steps)
 
 -- The amount at a place is given by the line for that place, and by no other.
 pub record Owns (gives : BodyLine → Bool) (line : ℕ → Amount → BodyLine) (top i : ℕ) : Type 0 where
@@ -145,11 +139,7 @@ amount_given gives line top i o (x ∷ xs) k (suc j) l e h = grind (arith, commo
 
 -- The blocks of the pit.
 pub joins : (k : LineKind) (b : ℕ) (xs ys : List ℕ) → block_if_pit k b (xs ++ ys) ≡ block_if_pit k b xs ++ ys
-joins Pit b xs ys = refl
-joins Source b xs ys = refl
-joins Rest b xs ys = refl
-joins Sink b xs ys = refl
-joins End b xs ys = refl
+joins k b xs ys = grind (arith, common_steps)
 
 pub pit_append : (ls ms : List BodyLine) → pit_of (ls ++ ms) ≡ pit_of ls ++ pit_of ms
 pit_append [] ms = refl
@@ -160,8 +150,7 @@ pit_of_pits [] = refl
 pit_of_pits (b ∷ bs) = ap (λ (xs : List ℕ). b ∷ xs) (pit_of_pits bs)
 
 no_pit_at : (l : BodyLine) (ls : List BodyLine) (t : Bool) → block_if_pit l.kind l.block (pit_of ls) ≡ pit_of ls → pit_of (cond t ls (l ∷ ls)) ≡ pit_of ls
-no_pit_at l ls true e = refl
-no_pit_at l ls false e = e
+no_pit_at l ls t e = grind (arith, common_steps)
 
 no_pit : (line : ℕ → Amount → BodyLine) → ((k : ℕ) (x : Amount) (bs : List ℕ) → block_if_pit (line k x).kind (line k x).block bs ≡ bs) → (k : ℕ) (xs : List Amount) → pit_of (amount_lines line k xs) ≡ []
 no_pit line f k [] = refl

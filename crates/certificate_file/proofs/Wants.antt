@@ -31,42 +31,32 @@ pub record Joined (a : Result Version CertFault) (b : Result ℕ CertFault) (c :
 -- the price and the group, when the version and the number of blocks are read
 joined_last : (x : Version) (b : ℕ) (c : Version → Result Price CertFault) (said : Result Price CertFault) (d : Result Group CertFault) (h : Header) → c x ≡ said
     → (said >>= λ price. d >>= λ group. Ok (header_with b price group)) ≡ Ok h → Joined (Ok x) (Ok b) c d h
-joined_last x b c (Ok price) (Ok group) h same e = grind (arith, common_steps)
-joined_last x b c (Ok price) (Err group) h same e = absurd cc
-joined_last x b c (Err price) d h same e = absurd cc
+joined_last x b c said d h same e = grind (arith, common_steps)
 
 pub joined : (a : Result Version CertFault) (b : Result ℕ CertFault) (c : Version → Result Price CertFault) (d : Result Group CertFault) (h : Header)
     → (a >>= λ x. b >>= λ blocks. c x >>= λ price. d >>= λ group. Ok (header_with blocks price group)) ≡ Ok h → Joined a b c d h
-joined (Ok x) (Ok b) c d h e = joined_last x b c (c x) d h refl e
-joined (Ok x) (Err b) c d h e = absurd cc
-joined (Err x) b c d h e = absurd cc
+joined a b c d h e = grind (arith, common_steps)
 
 wanted_number : (w : Wanted) (k n : ℕ) (t : Bool) → eqb k w.blocks ≡ t → or_number (cond t (Some k) None) ≡ Ok n → n ≡ w.blocks
-wanted_number w k n true e h = grind (arith, common_steps)
-wanted_number w k n false e h = absurd cc
+wanted_number w k n t e h = grind (arith, common_steps)
 
 wanted_option : (w : Wanted) (o : Option ℕ) (n : ℕ) → or_number (wanted_blocks (Some w) o) ≡ Ok n → n ≡ w.blocks
-wanted_option w (Some k) n h = wanted_number w k n (eqb k w.blocks) refl h
-wanted_option w None n h = absurd cc
+wanted_option w o n h = grind (arith, common_steps)
 
 blocks_wanted : (w : Wanted) (o : Option (List ℕ)) (n : ℕ) → blocks_said (Some w) o ≡ Ok n → n ≡ w.blocks
-blocks_wanted w (Some word) n h = wanted_option w (number_below (MOST_BLOCKS + 1) word) n h
-blocks_wanted w None n h = absurd cc
+blocks_wanted w o n h = grind (arith, common_steps)
 
 same_group : (a b : Group) → is_same_group a b ≡ true → b ≡ a
 same_group a b h = sym (group_name-same a b ((bytes_eq-Decides (group_name a) (group_name b)).0 h))
 
 group_tested : (a b g : Group) (t : Bool) → is_same_group a b ≡ t → cond t (Ok b) (Err Text) ≡ Ok g → g ≡ a
-group_tested a b g true e h = sym (ap (λ (r : Result Group LineFault). result_unwrap_or r g) h) ∙ same_group a b e
-group_tested a b g false e h = absurd cc
+group_tested a b g t e h = grind (arith, common_steps)
 
 kind_wanted : (w : Wanted) (o : Option Group) (g : Group) → group_named (Some w) o ≡ Ok g → g ≡ w.group
-kind_wanted w (Some b) g h = group_tested w.group b g (is_same_group w.group b) refl h
-kind_wanted w None g h = absurd cc
+kind_wanted w o g h = grind (arith, common_steps)
 
 group_wanted : (w : Wanted) (o : Option (List ℕ)) (g : Group) → group_said (Some w) o ≡ Ok g → g ≡ w.group
-group_wanted w (Some word) g h = kind_wanted w (group_of word) g h
-group_wanted w None g h = absurd cc
+group_wanted w o g h = grind (arith, common_steps)
 
 pub header_wanted : (w : Wanted) (ps : List Piece) (h : Header) → header_for (Some w) ps ≡ Ok h → (h.blocks ≡ w.blocks) × (h.group ≡ w.group)
 header_wanted w ps h e =

@@ -52,9 +52,7 @@ body_alone : (counts : Bool) (name : Group) (n : ℕ) (pairs : List (ℕ × ℕ)
 body_alone counts name n pairs text w h left b g e p k = grind (arith, common_steps)
 
 pub none_ascends : (counts : Bool) (n : ℕ) (pairs : List (ℕ × ℕ)) (left : Unread) (start later : Gathered) → start.pit ≡ [] → body_fault counts n (has_pair pairs) None left.number left.pieces ≡ None → Adds n pairs (lines_of_pieces counts n left.pieces) start later → IsAscending later.pit
-none_ascends counts n pairs left start later e f a =
-    let is : later.pit ≡ pit_of (lines_of_pieces counts n left.pieces) = a.pit ∙ ap (λ (bs : List ℕ). bs ++ pit_of (lines_of_pieces counts n left.pieces)) e in
-    subst IsAscending (sym is) (ascending counts n (has_pair pairs) None (lines_of_pieces counts n left.pieces) (stands_in_order counts n (has_pair pairs) None left.number left.pieces f))
+none_ascends counts n pairs left start later e f a = grind (arith, common_steps, (ascending counts n (has_pair pairs) None (lines_of_pieces counts n left.pieces) (stands_in_order counts n (has_pair pairs) None left.number left.pieces f)), (stands_in_order counts n (has_pair pairs) None left.number left.pieces f))
 
 -- The amounts of a start are zero.
 pub record IsEmpty (start : Gathered) : Type 0 where
@@ -96,9 +94,7 @@ all_read counts name n pairs text w h left start later b g e p k z r f c a =
 
 -- A text gives one value.
 any_default : (xs : List Amount) (k : ℕ) (d e : Amount) → k < length xs → get_or xs k d ≡ get_or xs k e
-any_default [] k d e h = absurd (omega arith)
-any_default (x ∷ xs) zero d e h = refl
-any_default (x ∷ xs) (suc k) d e h = any_default xs k d e (omega arith)
+any_default xs k d e h = grind (arith, common_steps)
 
 same_amounts : (xs ys : List Amount) (m : ℕ) → length xs ≡ m → length ys ≡ m → ((k : ℕ) → k < m → amount_at xs k ≡ amount_at ys k) → xs ≡ ys
 same_amounts xs ys m e f h = same_lists xs ys (e ∙ sym f) (λ k d i. any_default xs k d zero_amount i ∙ h k (omega arith) ∙ any_default ys k zero_amount d (omega arith))
