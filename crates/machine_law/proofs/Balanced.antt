@@ -1,5 +1,5 @@
 -- The balances hold at the opening, and each step keeps them.
-use Rattle.std.proofs.Common.{◌≡◌, ℕ, ◌+◌, ◌<◌, ◌==◌, Bool, Option, Some, None, cond, nat_lt, length, refl, arith}
+use Rattle.std.proofs.Common.{◌≡◌, ℕ, ◌<◌, ◌==◌, Option, Some, None, length, refl, arith}
 use Rattle.std.specs.Prelude.{slice_get}
 use Rattle.std.proofs.lemmas.Int.{ints}
 use Rattle.std.proofs.lemmas.Bool.{cond_both}
@@ -10,16 +10,14 @@ use Rattle.prec_file.specs.Rests.{from_at, to_at}
 use Rattle.closure_net.specs.Network.{NetView}
 use Rattle.closure_net.specs.Ports.{ports}
 use Rattle.closure_net.specs.declared.port.Port.{Port}
-use Rattle.closure_net.specs.declared.port.PortKind.{PortKind}
-use Rattle.closure_net.specs.declared.port.PortKind.TheVariants.{Sink, Forward, Backward, Source}
 use Rattle.machine_law.specs.declared.operations.Best.{Best}
 use Rattle.machine_law.specs.declared.operations.Operation.{Operation}
 use Rattle.machine_law.specs.declared.operations.Operation.TheVariants.{Idle, Scan, PushDue, TakeDue, GiveDue, RaiseDue}
 use Rattle.machine_law.specs.States.{State, opening}
-use Rattle.machine_law.specs.Residual.{capacity, end_label}
-use Rattle.machine_law.specs.Reads.{is_positive, operation_begun_with, better_of, after_last_port, after_port, after_capacity, after_label}
-use Rattle.machine_law.specs.Steps.{after_look, after_look_by, after_label_at, push_amount, advance, advance_by}
-use Rattle.machine_law.specs.Transit.{sum_on_way, amount_landing, into_sink, into_source, inflow_at, outflow_at, amount_given_back, amount_drained}
+use Rattle.machine_law.specs.Residual.{capacity}
+use Rattle.machine_law.specs.Reads.{is_positive, operation_begun_with}
+use Rattle.machine_law.specs.Steps.{after_look, after_label_at, push_amount, advance, advance_by}
+use Rattle.machine_law.specs.Transit.{sum_on_way, inflow_at, outflow_at, amount_given_back, amount_drained}
 use Rattle.machine_law.specs.Amounts.{HasAmounts, IsOperation}
 use Rattle.machine_law.specs.Balances.{IsBalanced}
 use Rattle.machine_law.proofs.Numbers.{same, equal}
@@ -28,28 +26,11 @@ use Rattle.machine_law.proofs.Balance.{balanced_rest, balanced_raised, balanced_
 use Rattle.std.proofs.lemmas.Grind.{common_steps}
 
 -- ---- a read leaves an operation that has pushed nothing
-pub rest_cond : (t : Bool) (x y : Operation Amount) → IsAtRest x → IsAtRest y → IsAtRest (cond t x y)
-rest_cond t x y h k = cond_both t x y IsAtRest (λ _. h) (λ _. k)
-
-rest_ended : (label : ℕ) (have : Amount) (best : Option (Best Amount)) → IsAtRest (after_last_port label have best)
-rest_ended label have best = grind (arith, common_steps)
-
-rest_passed : (count label : ℕ) (have : Amount) (place : ℕ) (best : Option (Best Amount)) → IsAtRest (after_port count label have place best)
-rest_passed count label have place best = rest_cond (nat_lt (place + 1) count) (Scan have (place + 1) None best) (after_last_port label have best) tt (rest_ended label have best)
 
 pub rest_begun : (excess : Amount) → IsAtRest (operation_begun_with excess)
-rest_begun excess = rest_cond (is_positive excess) (Scan excess 0 None None) Idle tt tt
-
-rest_seen : (count label : ℕ) (have : Amount) (place : ℕ) (best : Option (Best Amount)) (read : Amount) → IsAtRest (after_capacity count label have place best read)
-rest_seen count label have place best read = rest_cond (is_positive read) (Scan have place (Some read) best) (after_port count label have place best) tt (rest_passed count label have place best)
-
-rest_chosen : (count label : ℕ) (have : Amount) (place : ℕ) (best : Option (Best Amount)) (read : Amount) (p : Port) (beyond : ℕ) → IsAtRest (after_label count label have place best read p beyond)
-rest_chosen count label have place best read p beyond = rest_passed count label have place (Some (better_of best (record { port = p; capacity = read; label = beyond })))
+rest_begun excess = cond_both (is_positive excess) (Scan excess 0 None None) Idle IsAtRest (λ _. tt) (λ _. tt)
 
 module _ (net : NetView) (s : State) (b : ℕ) where
-  rest_looked_by : (have : Amount) (place : ℕ) (best : Option (Best Amount)) (p : Port) (kind : PortKind) → IsAtRest (after_look_by net s b have place best p kind)
-  rest_looked_by have place best p kind = grind (arith, common_steps, rest_seen, rest_chosen)
-
   pub rest_looked : (have : Amount) (place : ℕ) (best : Option (Best Amount)) (q : Option Port) → IsAtRest (after_look net s b have place best q)
   rest_looked have place best q = grind (arith, common_steps)
 

@@ -1,21 +1,19 @@
 -- What a step of another block leaves of the steep bound, and of what an operation remembers of labels.
-use Rattle.std.proofs.Common.{◌≡◌, ℕ, ◌≤◌, ◌+◌, ◌==◌, Bool, true, false, not, nat_lt, ◌&&◌, cond, Option, Some, None, List, [], drop, refl, sym, subst, arith}
+use Rattle.std.proofs.Common.{◌≡◌, ℕ, ◌≤◌, ◌+◌, Bool, true, not, nat_lt, ◌&&◌, Option, List, arith}
 use Rattle.std.proofs.lemmas.Int.{ints}
 use Rattle.std.proofs.lemmas.Bool.{and_parts, and_from, ltb-true, lt-ltb}
-use Rattle.ordered_group.specs.Amount.{Amount, zero_amount, plus, minus, AtMost, Below}
+use Rattle.ordered_group.specs.Amount.{Amount, plus, minus, AtMost}
 use Rattle.prec_file.specs.Rests.{from_at}
 use Rattle.closure_net.specs.Network.{NetView}
-use Rattle.closure_net.specs.Ports.{ports, backward_port}
+use Rattle.closure_net.specs.Ports.{backward_port}
 use Rattle.closure_net.specs.declared.port.Port.{Port}
 use Rattle.closure_net.specs.declared.port.PortKind.{PortKind}
-use Rattle.closure_net.specs.declared.port.PortKind.TheVariants.{Sink, Forward, Backward, Source}
 use Rattle.machine_law.specs.declared.operations.Best.{Best}
 use Rattle.machine_law.specs.declared.operations.Operation.{Operation}
-use Rattle.machine_law.specs.declared.operations.Operation.TheVariants.{Idle, Scan, PushDue, TakeDue, GiveDue, RaiseDue}
 use Rattle.machine_law.specs.States.{State}
-use Rattle.machine_law.specs.Residual.{room, end_label, label_beyond}
+use Rattle.machine_law.specs.Residual.{end_label}
 use Rattle.machine_law.specs.Balances.{supply}
-use Rattle.machine_law.specs.Labels.{arcs, steep_capacity, label_by, label_seen, ports_have, is_under, IsOpenBy, IsAbove, IsNearLabel, IsLevelIfAny, IsWalk, IsLevelled}
+use Rattle.machine_law.specs.Labels.{arcs, steep_capacity, label_seen, ports_have, is_under, IsOpenBy, IsAbove, IsLevelIfAny, IsWalk, IsLevelled}
 use Rattle.std.proofs.lemmas.Grind.{common_steps}
 
 -- What a step from s to t leaves to x, whose label stays: labels only rise, and x's backward arcs gain at most what its supply does.
@@ -35,24 +33,15 @@ chain x a c d g h p q r = record { worths = omega (arith, ints, p, q, r); counts
 chain_all : (x a c d g : Amount) → AtMost x (plus a g) → AtMost a c → AtMost (plus c g) d → AtMost x d
 chain_all x a c d g p q r = record { worths = omega (arith, ints, p, q, r); counts = λ i. omega (arith, ints, p, q, r, i) }
 
-label_by-more : (kind : PortKind) (slot read k m n : ℕ) → m ≤ n → label_by kind slot read k m ≤ label_by kind slot read k n
-label_by-more kind slot read k m n h = grind (arith, common_steps)
-
 label_seen-more : (best : Option (Best Amount)) (k m n : ℕ) → m ≤ n → label_seen best k m ≤ label_seen best k n
 label_seen-more best k m n h = grind (arith, common_steps)
-
-label_beyond-more : (net : NetView) (kind : PortKind) (m n : ℕ) → m ≤ n → label_beyond net kind m ≤ label_beyond net kind n
-label_beyond-more net kind m n h = grind (arith, common_steps)
-
-is_under-less : (best : Option (Best Amount)) (m n : ℕ) → m ≤ n → is_under best n ≡ true → is_under best m ≡ true
-is_under-less best m n h e = grind (arith, common_steps)
 
 IsAbove-more : (best : Option (Best Amount)) (m n : ℕ) → m ≤ n → IsAbove best m → IsAbove best n
 IsAbove-more best m n h u = grind (arith, common_steps)
 
 module _ (net : NetView) (s t : State) (x : ℕ) (m : IsCalm net s t x) where
   end_more : (p : Port) → end_label net s p ≤ end_label net t p
-  end_more p = label_beyond-more net p.kind (s.label p.other) (t.label p.other) (m.labels p.other)
+  end_more p = grind (arith, common_steps)
 
   open_calm : (kind : PortKind) → IsOpenBy net t x kind → IsOpenBy net s x kind
   open_calm kind h = grind (arith, common_steps)
@@ -68,7 +57,7 @@ module _ (net : NetView) (s t : State) (x : ℕ) (m : IsCalm net s t x) where
         let g : ℕ → Bool = λ k. not (ports_have rest (backward_port (from_at net.pairs) k)) && is_under best (s.label (from_at net.pairs k)) in
         let a = m.arcs_most f g (λ k e.
         let p = and_parts (not (ports_have rest (backward_port (from_at net.pairs) k))) (is_under best (t.label (from_at net.pairs k))) e in
-        and_from (not (ports_have rest (backward_port (from_at net.pairs) k))) (is_under best (s.label (from_at net.pairs k))) p.0 (is_under-less best (s.label (from_at net.pairs k)) (t.label (from_at net.pairs k)) (m.labels (from_at net.pairs k)) p.1)) in
+        and_from (not (ports_have rest (backward_port (from_at net.pairs) k))) (is_under best (s.label (from_at net.pairs k))) p.0 (grind (arith, common_steps))) in
         chain (arcs net f t.flow x) (arcs net g s.flow x) (supply net s x) (supply net t x) m.gain have a h.low_most m.supply_more;
     high_most =
         let f : ℕ → Bool = λ k. nat_lt (label_seen best k (t.label (from_at net.pairs k)) + 1) (t.label x) in

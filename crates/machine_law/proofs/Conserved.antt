@@ -1,28 +1,25 @@
 -- Nothing is lost in any step, and so in any run.
 use Rattle.std.proofs.Common.{◌≡◌, ℕ, ◌<◌, Some, None, List, [], ◌∷◌, length, All, refl, ap, sym, subst, arith}
-use Rattle.std.specs.Prelude.{slice_get}
 use Rattle.std.proofs.lemmas.Int.{ints}
 use Rattle.ordered_group.specs.Amount.{Amount, zero_amount, plus, minus, AtMost}
-use Rattle.ordered_group.proofs.Order.{AtMost-refl, AtMost-same, AtMost-both, Below-most}
+use Rattle.ordered_group.proofs.Order.{AtMost-both}
 use Rattle.ordered_group.proofs.Totals.{total-none, total-zero, total_nonneg, total_term, total_none_each}
 use Rattle.prec_file.specs.Rests.{IsKnown}
 use Rattle.closure_net.specs.Network.{NetView}
-use Rattle.closure_net.specs.Ports.{ports}
 use Rattle.closure_net.specs.declared.port.Port.{Port}
 use Rattle.closure_net.specs.declared.port.PortKind.{PortKind}
 use Rattle.closure_net.specs.declared.port.PortKind.TheVariants.{Sink, Forward, Backward, Source}
 use Rattle.machine_law.specs.declared.events.Event.{Event}
-use Rattle.machine_law.specs.declared.operations.Best.{Best}
 use Rattle.machine_law.specs.declared.operations.Operation.{Operation}
 use Rattle.machine_law.specs.declared.operations.Operation.TheVariants.{Idle, Scan, PushDue, TakeDue, GiveDue, RaiseDue}
 use Rattle.machine_law.specs.States.{State, with_value_at, opening, IsQuiet}
 use Rattle.machine_law.specs.Residual.{IsEnd}
 use Rattle.machine_law.specs.Reads.{operation_begun_with}
-use Rattle.machine_law.specs.Steps.{after_look, after_label_at, push_amount, after_push_by, after_take, after_give_by, advance_by, Run}
-use Rattle.machine_law.specs.Amounts.{HasAmounts, IsOperation, IsHeld}
+use Rattle.machine_law.specs.Steps.{after_take, after_give_by, advance_by, Run}
+use Rattle.machine_law.specs.Amounts.{HasAmounts, IsOperation}
 use Rattle.machine_law.specs.Law.{IsLawful}
 use Rattle.machine_law.specs.Conservation.{all_given, standing_excess, amount_carried, amount_aloft, IsConserved, IsWhole, RunsConserve}
-use Rattle.machine_law.proofs.Numbers.{Same, same, equal, Below-absurd}
+use Rattle.machine_law.proofs.Numbers.{Same, same, equal}
 use Rattle.machine_law.proofs.Points.{total-with_value_at}
 use Rattle.machine_law.proofs.PortLists.{port_with}
 use Rattle.machine_law.proofs.Supply.{IsAtRest}
@@ -52,9 +49,6 @@ module _ (net : NetView) (known : All (IsKnown (length net.worths)) net.pairs) (
       let q = same y in
       let h = same k in
       equal (record { w = omega (arith, ints, a, p, q, h); c = omega (arith, ints, a, p, q, h) })
-
-  conserved_pushed : (have : Amount) (best : Best Amount) (d : Amount) (p : Port) (kind : PortKind) → s.operation b ≡ PushDue have best → IsConserved net (after_push_by s b d p kind)
-  conserved_pushed have best d p kind e = grind (arith, common_steps, stays)
 
   conserved_taken : (d : Amount) (p : Port) → s.operation b ≡ TakeDue d p → IsConserved net (after_take s b d p)
   conserved_taken d p e =
@@ -86,7 +80,7 @@ module _ (net : NetView) (known : All (IsKnown (length net.worths)) net.pairs) (
   conserved_by Idle e h = stays Idle (operation_begun_with (s.excess b)) e refl (rest_carried (operation_begun_with (s.excess b)) (rest_begun (s.excess b)))
   conserved_by (Scan have place None best) e h = grind (arith, common_steps, stays, rest_carried, rest_looked)
   conserved_by (Scan have place (Some read) best) e h = grind (arith, common_steps, stays, rest_carried, rest_weighed)
-  conserved_by (PushDue have best) e h = conserved_pushed have best (push_amount have best.port.kind best.capacity) best.port best.port.kind e
+  conserved_by (PushDue have best) e h = grind (arith, common_steps, stays)
   conserved_by (TakeDue d p) e h = conserved_taken d p e
   conserved_by (GiveDue d p) e h = conserved_given d p.kind p.other p.slot e h.1
   conserved_by (RaiseDue have best) e h = stays (RaiseDue have best) Idle e refl refl
@@ -130,10 +124,6 @@ module _ (net : NetView) (s : State) (h : HasAmounts net s) (k : IsConserved net
   none_carried : amount_aloft net s.operation ≡ zero_amount → (b : ℕ) → b < length net.worths → amount_carried (s.operation b) ≡ zero_amount
   unfolding amount_aloft
   none_carried z = total_none_each (λ b. amount_carried (s.operation b)) (length net.worths) (λ b _. carried_nonneg b (s.operation b) (h.operation b)) z
-
-  -- a block that has no excess holds nothing
-  holds_none : (b : ℕ) (d : Amount) {P : Type 0} → s.excess b ≡ zero_amount → IsHeld s b d → P
-  holds_none b d e i = Below-absurd i.some (rw e at i.held)
 
   idle_by : (b : ℕ) (o : Operation Amount) → IsOperation net s b o → s.excess b ≡ zero_amount → amount_carried o ≡ zero_amount → o ≡ Idle
   idle_by b o i x c = grind (arith, common_steps)

@@ -1,9 +1,8 @@
 -- The law on one step, and over whole runs.
-use Rattle.std.proofs.Common.{◌≡◌, ℕ, suc, ◌<◌, ◌+◌, inl, Option, Some, None, nat_lt, List, [], ◌∷◌, drop, length, refl, ap, sym, ◌∙◌, subst, arith, drop-cons, add-one}
+use Rattle.std.proofs.Common.{◌≡◌, ℕ, ◌<◌, ◌+◌, inl, Option, Some, None, nat_lt, List, [], ◌∷◌, drop, length, refl, sym, subst, arith, drop-cons, add-one}
 use Rattle.std.specs.Prelude.{slice_get}
-use Rattle.std.proofs.Math.ListN.{drop_of_length-le}
 use Rattle.std.proofs.lemmas.Int.{ints}
-use Rattle.std.proofs.lemmas.Bool.{cond_both, ltb-true, ltb-false}
+use Rattle.std.proofs.lemmas.Bool.{cond_both, ltb-true}
 use Rattle.std.proofs.lemmas.Option.{get_or_from_slice_get, slice_get_within}
 use Rattle.ordered_group.specs.Amount.{Amount, zero_amount, plus, minus, AtMost, positive}
 use Rattle.ordered_group.specs.Sums.{amount_at}
@@ -16,10 +15,10 @@ use Rattle.closure_net.specs.declared.port.PortKind.TheVariants.{Sink, Forward, 
 use Rattle.machine_law.specs.declared.events.Event.{Event}
 use Rattle.machine_law.specs.declared.operations.Best.{Best}
 use Rattle.machine_law.specs.declared.operations.Operation.{Operation}
-use Rattle.machine_law.specs.declared.operations.Operation.TheVariants.{Idle, Scan, PushDue, TakeDue, GiveDue, RaiseDue}
+use Rattle.machine_law.specs.declared.operations.Operation.TheVariants.{Idle, Scan}
 use Rattle.machine_law.specs.States.{State, opening}
 use Rattle.machine_law.specs.Residual.{capacity, end_label}
-use Rattle.machine_law.specs.Reads.{is_positive, operation_begun_with, better_of, after_last_port, after_port, after_capacity, after_label}
+use Rattle.machine_law.specs.Reads.{is_positive, operation_begun_with, after_port, after_capacity, after_label}
 use Rattle.machine_law.specs.Steps.{after_look, after_look_by, after_label_at, advance, advance_by, Run}
 use Rattle.machine_law.specs.Transit.{amount_owed, amount_coming}
 use Rattle.machine_law.specs.Amounts.{HasAmounts, IsOperation, IsWithinBy, IsReadCapacity}
@@ -48,9 +47,6 @@ module _ (net : NetView) (s : State) (b : ℕ) (k : HasAmounts net s) (h : HasLa
   -- ---- what the reads leave
   levelled_begun : amount_owed (s.operation b) ≡ zero_amount → IsLevelled net s b (operation_begun_with (s.excess b))
   levelled_begun o = cond_both (is_positive (s.excess b)) (Scan (s.excess b) 0 None None) Idle (IsLevelled net s b) (λ _. walk_begun net s b k h o) (λ _. tt)
-
-  levelled_ended : (have : Amount) (best : Option (Best Amount)) → IsWalk net s b have [] best → IsLevelled net s b (after_last_port (s.label b) have best)
-  levelled_ended have best w = grind (arith, common_steps)
 
   levelled_passed : (have : Amount) (place : ℕ) (best : Option (Best Amount)) → IsWalk net s b have (drop (place + 1) (ports net b)) best → IsLevelled net s b (after_port (length (ports net b)) (s.label b) have place best)
   levelled_passed have place best w = grind (arith, common_steps)

@@ -1,7 +1,7 @@
 -- The capacity step keeps what holds of the labels.
 use Rattle.std.proofs.Common.{◌≡◌, ◌≢◌, ℕ, ◌+◌, ◌<◌, ◌≤◌, ◌⊎◌, ◌==◌, inl, inr, Bool, true, false, not, nat_lt, ◌&&◌, Some, [], length, refl, ap, sym, subst, arith}
 use Rattle.std.proofs.lemmas.Int.{ints}
-use Rattle.std.proofs.lemmas.Bool.{cases_eq, cases_lt, ltb-true, lt-ltb, eq-eqb, ne_eqb, and_from}
+use Rattle.std.proofs.lemmas.Bool.{cases_eq, cases_lt, lt-ltb, eq-eqb, ne_eqb, and_from}
 use Rattle.ordered_group.specs.Amount.{Amount, zero_amount, plus, minus, AtMost, Below, positive, negative}
 use Rattle.ordered_group.specs.Sums.{where_so, amount_at}
 use Rattle.ordered_group.proofs.Order.{AtMost-refl, AtMost-trans, Below-most}
@@ -102,9 +102,6 @@ module _ (net : NetView) (s : State) (b : ℕ) (l : b < length net.worths) (have
     nonneg : AtMost zero_amount (amount_of kind)
     nonneg = Below-most zero_amount (amount_of kind) (push_some net s b have kind slot read some w)
 
-    low_is : AtMost (arcs net is_low s.flow b) (minus (supply net s b) have)
-    low_is = walk.low_most
-
     calm : (x : ℕ) → x ≢ b → IsCalm net s (after kind) x
     calm x ne =
         let v = supply_at kind x e in
@@ -124,7 +121,7 @@ module _ (net : NetView) (s : State) (b : ℕ) (l : b < length net.worths) (have
     steep_near near =
         room_left (steep_capacity net (after kind) b) (arcs net is_low s.flow b) (supply net s b) (supply net (after kind) b) have (amount_of kind) (amount_landing_by kind other b (amount_of kind))
         (subst (λ (u : ℕ → ℕ). AtMost (arcs net (λ j. nat_lt (u (from_at net.pairs j) + 1) (u b)) (after kind).flow b) (plus (arcs net is_low s.flow b) (amount_landing_by kind other b (amount_of kind)))) (sym (same_label kind)) (arcs_pushed kind b q nonneg a is_steep is_low (steep_low near)))
-        low_is (push_most have kind read) (supply_own kind e)
+        (walk.low_most) (push_most have kind read) (supply_own kind e)
 
     rest_of : AtMost (steep_capacity net (after kind) b) (supply net (after kind) b) → ((x : ℕ) → Below zero_amount (room net (after kind) x) → s.label x ≤ 1) → ((x : ℕ) → Below zero_amount ((after kind).source x) → s.label x ≤ length net.worths + 3) → ((x : ℕ) → ((after kind).source x ≡ positive (amount_at net.worths x)) ⊎ (length net.worths + 2 < s.label x)) → HasLabels net (after kind)
     rest_of here sink source left =

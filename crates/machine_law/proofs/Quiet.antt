@@ -14,9 +14,6 @@ use Rattle.closure_net.specs.Closure.{Stays, IsClosed}
 use Rattle.closure_net.specs.Flows.{IsFlow, IsTight}
 use Rattle.closure_net.proofs.Duality.{PairsKnown, closed_bound, greatest_flow_from_tight}
 use Rattle.closure_net.specs.Reached.{IsReached, Reaches}
-use Rattle.closure_net.specs.declared.port.Port.{Port}
-use Rattle.machine_law.specs.declared.operations.Operation.{Operation}
-use Rattle.machine_law.specs.declared.operations.Operation.TheVariants.{Idle}
 use Rattle.machine_law.specs.States.{State, IsQuiet}
 use Rattle.machine_law.specs.Residual.{room}
 use Rattle.machine_law.specs.Transit.{amount_owed, on_way, sum_on_way, amount_landing, amount_coming, inflow_at, outflow_at}
@@ -66,12 +63,9 @@ tight_from net flow e known is r full =
 
 -- ---- the flow of a quiet state
 module _ (net : NetView) (s : State) (flow : FlowView) (known : PairsKnown net) (h : IsLawful net s) (q : IsQuiet net s) (is : IsFlowOf net s flow) where
-  idle_on_way : (f : Port → Amount → Amount) (o : Operation Amount) → o ≡ Idle → on_way f o ≡ zero_amount
-  idle_on_way f o e = ap (on_way f) e
-
   nothing_coming : (b : ℕ) → amount_coming net s b ≡ zero_amount
   unfolding sum_on_way
-  nothing_coming b = total-none (λ c. on_way (amount_landing b) (s.operation c)) (length net.worths) (λ c l. idle_on_way (amount_landing b) (s.operation c) (q.operation c l))
+  nothing_coming b = total-none (λ c. on_way (amount_landing b) (s.operation c)) (length net.worths) (λ c l. ap (on_way (amount_landing b)) (q.operation c l))
 
   -- what comes in and goes out is the same by either view
   end_same : (end : ℕ → ℕ) (b : ℕ) → at_end end (amount_at flow.rest) (length net.pairs) b ≡ at_end end s.flow (length net.pairs) b

@@ -1,10 +1,10 @@
 -- What an operation remembers of labels, over its reads: how far it has looked.
-use Rattle.std.proofs.Common.{◌≡◌, ℕ, ◌≤◌, ◌+◌, ◌==◌, inl, inr, Bool, true, false, not, nat_lt, ◌&&◌, Option, Some, None, List, ◌∷◌, refl, ap, sym, ◌∙◌, subst, subst₂, arith}
+use Rattle.std.proofs.Common.{◌≡◌, ℕ, ◌≤◌, ◌+◌, inl, inr, Bool, true, false, not, nat_lt, ◌&&◌, Option, Some, None, List, ◌∷◌, refl, sym, ◌∙◌, arith}
 use Rattle.std.proofs.lemmas.Int.{ints}
-use Rattle.std.proofs.lemmas.Bool.{and_parts, and_from, cases_Bool, cond_both, eqb-true, ltb-true, ltb-false, or_from, not-true, not_from_false, true≢false}
+use Rattle.std.proofs.lemmas.Bool.{and_parts, and_from, cases_Bool, ltb-true, or_from, not-true, not_from_false, true≢false}
 use Rattle.ordered_group.specs.Amount.{Amount, zero_amount, minus, AtMost, Below}
 use Rattle.ordered_group.proofs.Order.{AtMost-refl, AtMost-trans}
-use Rattle.prec_file.specs.Rests.{from_at, to_at}
+use Rattle.prec_file.specs.Rests.{from_at}
 use Rattle.closure_net.specs.Network.{NetView}
 use Rattle.closure_net.specs.Ports.{ports, backward_port}
 use Rattle.closure_net.specs.declared.port.Port.{Port}
@@ -17,7 +17,7 @@ use Rattle.machine_law.specs.Reads.{is_positive, better_of}
 use Rattle.machine_law.specs.Transit.{amount_owed}
 use Rattle.machine_law.specs.Amounts.{HasAmounts}
 use Rattle.machine_law.specs.Balances.{supply}
-use Rattle.machine_law.specs.Labels.{arcs, steep_capacity, high_capacity, label_by, same_by, same_port, ports_have, is_under, IsOpenBy, IsAbove, IsNearLabel, IsBestLabel, IsLevelIfAny, IsWalk, HasLabels}
+use Rattle.machine_law.specs.Labels.{arcs, steep_capacity, high_capacity, label_by, same_by, same_port, ports_have, is_under, IsOpenBy, IsAbove, IsWalk, HasLabels}
 use Rattle.machine_law.proofs.Numbers.{same, shifted, positive-no, Below-absurd}
 use Rattle.machine_law.proofs.Arcs.{arcs-most, arcs-most_or, arcs-none}
 use Rattle.machine_law.proofs.PortLists.{has_backward, has_open}
@@ -52,12 +52,8 @@ module _ (net : NetView) (s : State) (b : ℕ) where
   shut_port Source Source i j c z e o = Below-absurd o z
   shut_port _ _ i j c z e o = true≢false (sym e)
 
-  -- they have the same other end
-  same_end : (p q : PortKind) (o u i j : ℕ) → IsEnd net b p o i → IsEnd net b q u j → same_by p q i j ≡ true → label_beyond net p (s.label o) ≡ label_beyond net q (s.label u)
-  same_end p q o u i j x y e = grind (arith, common_steps)
-
   same_end_of : (p q : Port) → IsPortOf net b p → IsPortOf net b q → same_port p q ≡ true → end_label net s p ≡ end_label net s q
-  same_end_of p q x y e = same_end p.kind q.kind p.other q.other p.slot q.slot x y e
+  same_end_of p q x y e = grind (arith, common_steps)
 
 -- ---- the best port, with one more
 better_of-most : (best : Option (Best Amount)) (new : Best Amount) → (better_of best new).label ≤ new.label
@@ -73,12 +69,6 @@ module _ (net : NetView) (s : State) (b : ℕ) (k : HasAmounts net s) (h : HasLa
   -- at a new best port the arcs count by their present labels
   seen_new : (kind : PortKind) (other slot j : ℕ) → IsEnd net b kind other slot → label_by kind slot (label_beyond net kind (s.label other)) j (s.label (from_at net.pairs j)) ≡ s.label (from_at net.pairs j)
   seen_new kind other slot j q = grind (arith, common_steps)
-
-  near_new : (kind : PortKind) (other slot : ℕ) → IsEnd net b kind other slot → IsReady net s b kind → IsNearLabel net kind (s.label b) (label_beyond net kind (s.label other))
-  near_new kind other slot q r = grind (arith, common_steps)
-
-  level_better : (best : Option (Best Amount)) (new : Best Amount) → IsLevelIfAny net s b best → IsBestLabel net s b new → IsBestLabel net s b (better_of best new)
-  level_better best new i n = grind (arith, common_steps)
 
   high_better : (best : Option (Best Amount)) (new : Best Amount) → AtMost (high_capacity net s b best) (supply net s b) → AtMost (high_capacity net s b (Some new)) (supply net s b) → AtMost (high_capacity net s b (Some (better_of best new))) (supply net s b)
   high_better best new i n = grind (arith, common_steps)
@@ -130,7 +120,7 @@ module _ (net : NetView) (s : State) (b : ℕ) (k : HasAmounts net s) (h : HasLa
       let most = better_of-most best new in
       let back : ℕ → Port = backward_port (from_at net.pairs) in
       record {
-        level = level_better best new w.level (record { recorded = omega arith; near = near_new p.kind p.other p.slot ip r });
+        level = grind (arith, common_steps);
         low_most =
             let f : ℕ → Bool = λ j. not (ports_have ps (back j)) && is_under (Some (better_of best new)) (s.label (from_at net.pairs j)) in
             let g : ℕ → Bool = λ j. not (ports_have (p ∷ ps) (back j)) && is_under best (s.label (from_at net.pairs j)) in
