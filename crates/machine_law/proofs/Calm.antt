@@ -7,13 +7,11 @@ use Rattle.prec_file.specs.Rests.{from_at}
 use Rattle.closure_net.specs.Network.{NetView}
 use Rattle.closure_net.specs.Ports.{backward_port}
 use Rattle.closure_net.specs.declared.port.Port.{Port}
-use Rattle.closure_net.specs.declared.port.PortKind.{PortKind}
 use Rattle.machine_law.specs.declared.operations.Best.{Best}
 use Rattle.machine_law.specs.declared.operations.Operation.{Operation}
 use Rattle.machine_law.specs.States.{State}
-use Rattle.machine_law.specs.Residual.{end_label}
 use Rattle.machine_law.specs.Balances.{supply}
-use Rattle.machine_law.specs.Labels.{arcs, steep_capacity, label_seen, ports_have, is_under, IsOpenBy, IsAbove, IsLevelIfAny, IsWalk, IsLevelled}
+use Rattle.machine_law.specs.Labels.{arcs, steep_capacity, label_seen, ports_have, is_under, IsLevelIfAny, IsWalk, IsLevelled}
 use Rattle.std.proofs.lemmas.Grind.{common_steps}
 
 -- What a step from s to t leaves to x, whose label stays: labels only rise, and x's backward arcs gain at most what its supply does.
@@ -36,16 +34,7 @@ chain_all x a c d g p q r = record { worths = omega (arith, ints, p, q, r); coun
 label_seen-more : (best : Option (Best Amount)) (k m n : ℕ) → m ≤ n → label_seen best k m ≤ label_seen best k n
 label_seen-more best k m n h = grind (arith, common_steps)
 
-IsAbove-more : (best : Option (Best Amount)) (m n : ℕ) → m ≤ n → IsAbove best m → IsAbove best n
-IsAbove-more best m n h u = grind (arith, common_steps)
-
 module _ (net : NetView) (s t : State) (x : ℕ) (m : IsCalm net s t x) where
-  end_more : (p : Port) → end_label net s p ≤ end_label net t p
-  end_more p = grind (arith, common_steps)
-
-  open_calm : (kind : PortKind) → IsOpenBy net t x kind → IsOpenBy net s x kind
-  open_calm kind h = grind (arith, common_steps)
-
   level_calm : (best : Option (Best Amount)) → IsLevelIfAny net s x best → IsLevelIfAny net t x best
   level_calm best h = grind (arith, common_steps)
 
@@ -68,7 +57,7 @@ module _ (net : NetView) (s t : State) (x : ℕ) (m : IsCalm net s t x) where
         let o = m.own in
         lt-ltb (label_seen best k (s.label (from_at net.pairs k)) + 1) (s.label x) (omega (arith, l, q, o))) in
         chain_all (arcs net f t.flow x) (arcs net g s.flow x) (supply net s x) (supply net t x) m.gain a h.high_most m.supply_more;
-    passed = λ p q o n. IsAbove-more best (end_label net s p) (end_label net t p) (end_more p) (h.passed p q (open_calm p.kind o) n);
+    passed = λ p q o n. grind (arith, common_steps);
   }
 
   pub operation_calm : (o : Operation Amount) → IsLevelled net s x o → IsLevelled net t x o

@@ -20,9 +20,9 @@ use Rattle.machine_law.specs.declared.operations.Operation.TheVariants.{Idle, Sc
 use Rattle.machine_law.specs.States.{State, with_value_at, opening}
 use Rattle.machine_law.specs.Residual.{capacity, capacity_by, end_label, IsEnd, IsPortOf}
 use Rattle.machine_law.specs.Reads.{is_positive, operation_begun_with, after_port, after_capacity, after_label}
-use Rattle.machine_law.specs.Steps.{with_operation, after_look, after_look_by, after_label_at, push_amount, after_push_by, after_take, after_give_by, after_raise, advance, advance_by}
+use Rattle.machine_law.specs.Steps.{with_operation, after_look, after_look_by, push_amount, after_push_by, after_take, after_give_by, after_raise, advance, advance_by}
 use Rattle.machine_law.specs.Transit.{amount_owed}
-use Rattle.machine_law.specs.Amounts.{HasAmounts, IsWithin, IsWithinBy, IsBestPort, IsBestIfAny, IsReadCapacity, IsHeld, IsDue, IsOperation}
+use Rattle.machine_law.specs.Amounts.{HasAmounts, IsWithin, IsWithinBy, IsBestPort, IsBestIfAny, IsReadCapacity, IsHeld, IsOperation}
 use Rattle.machine_law.specs.Balances.{IsBalanced}
 use Rattle.machine_law.proofs.Numbers.{shifted, joined, positive-yes}
 use Rattle.machine_law.proofs.Points.{with_value_at-other, with_value_at-each}
@@ -50,11 +50,8 @@ module _ (net : NetView) (s t : State) (x : ℕ) (m : IsMore net s t x) where
   read_more : (read : Option Amount) (p : Option Port) → ((q : Port) → p ≡ Some q → IsPortOf net x q) → IsReadCapacity net s x read p → IsReadCapacity net t x read p
   read_more read p is h = grind (arith, common_steps, within_more)
 
-  due_more : (have : Amount) (best : Best Amount) → IsDue net s x have best → IsDue net t x have best
-  due_more have best h = record { held = held_more have h.held; over = best_more best h.over }
-
   pub operation_more : (o : Operation Amount) → IsOperation net s x o → IsOperation net t x o
-  operation_more o h = grind (arith, common_steps, held_more, read_more, port-at, due_more)
+  operation_more o h = grind (arith, common_steps, held_more, read_more, port-at, best_more)
 
 -- ---- the amount of a push
 pub push_most : (have : Amount) (kind : PortKind) (read : Amount) → AtMost (push_amount have kind read) have
@@ -217,14 +214,11 @@ module _ (net : NetView) (s : State) (b : ℕ) (k : HasAmounts net s) where
   op_looked have place best None e h i = tt
   op_looked have place best (Some p) e h i = op_looked_by have place best p.kind p.other p.slot e h i
 
-  op_weighed : (have : Amount) (place : ℕ) (best : Option (Best Amount)) (read : Amount) (q : Option Port) → slice_get (ports net b) place ≡ q → IsHeld s b have → IsBestIfAny net s b best → IsReadCapacity net s b (Some read) q → IsOperation net s b (after_label_at net s b have place best read q)
-  op_weighed have place best read q e h i r = grind (arith, common_steps, op_chosen, port-at)
-
   -- ---- each step
   amounts_advance_by : (o : Operation Amount) → s.operation b ≡ o → IsBalanced net s → IsOperation net s b o → HasAmounts net (advance_by net s b o)
   amounts_advance_by Idle e l h = amounts_with_operation (operation_begun_with (s.excess b)) (op_begun (has_port net s b (ap amount_owed e) k l))
   amounts_advance_by (Scan have place None best) e l h = grind (arith, common_steps, amounts_with_operation, op_looked)
-  amounts_advance_by (Scan have place (Some read) best) e l h = grind (arith, common_steps, amounts_with_operation, op_weighed)
+  amounts_advance_by (Scan have place (Some read) best) e l h = grind (arith, common_steps, amounts_with_operation, op_chosen, port-at)
   amounts_advance_by (PushDue have best) e l h = amounts_pushed_by have best.port.kind best.port.other best.port.slot best.capacity h.held h.over.port h.over.within
   amounts_advance_by (TakeDue d p) e l h = amounts_taken d p h.0 h.1
   amounts_advance_by (GiveDue d p) e l h = amounts_given_by d p p.kind (Below-most zero_amount d h.0)

@@ -2,7 +2,6 @@
 use Rattle.std.proofs.Common.{◌≡◌, true, false, ap, arith}
 use Rattle.std.proofs.lemmas.Int.{ints}
 use Rattle.ordered_group.specs.Amount.{Amount, zero_amount, plus, minus, AtMost, Below, Amount_eq}
-use Rattle.closure_net.specs.Ports.{is_below}
 use Rattle.machine_law.specs.Reads.{is_positive}
 use Rattle.std.proofs.lemmas.Grind.{common_steps}
 
@@ -34,15 +33,8 @@ Below-absurd h k = absurd (omega (arith, ints, h, k))
 
 -- ---- the test of an amount
 
--- what the test answers
-pub is_below-yes : (x y : Amount) → is_below x y ≡ true → Below x y
-is_below-yes x y e = grind (arith, common_steps)
-
-pub is_below-no : (x y : Amount) → is_below x y ≡ false → AtMost y x
-is_below-no x y e = grind (arith, common_steps)
-
 pub positive-yes : (x : Amount) → is_positive x ≡ true → Below zero_amount x
-positive-yes x e = is_below-yes zero_amount x e
+positive-yes x e = grind (arith, common_steps)
 
 pub positive-no : (x : Amount) → is_positive x ≡ false → AtMost x zero_amount
-positive-no x e = is_below-no zero_amount x e
+positive-no x e = grind (arith, common_steps)

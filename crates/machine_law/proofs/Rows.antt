@@ -8,10 +8,9 @@ use Rattle.closure_net.specs.Ports.{ports, sink_port}
 use Rattle.closure_net.specs.declared.port.PortKind.{PortKind}
 use Rattle.machine_law.specs.declared.operations.Best.{Best}
 use Rattle.machine_law.specs.declared.operations.Operation.{Operation}
-use Rattle.machine_law.specs.declared.operations.Operation.TheVariants.{Scan, PushDue}
+use Rattle.machine_law.specs.declared.operations.Operation.TheVariants.{Scan}
 use Rattle.machine_law.specs.States.{State}
-use Rattle.machine_law.specs.Residual.{capacity}
-use Rattle.machine_law.specs.Steps.{next_of, read_kind, push_kind, with_operation, after_look_by, push_amount, after_push, advance_by}
+use Rattle.machine_law.specs.Steps.{next_of, read_kind, with_operation, after_look_by, advance_by}
 use Rattle.machine_law.specs.Amounts.{IsOperation}
 use Rattle.machine_law.specs.Table.{Makes, StepsAreRows}
 use Rattle.machine_law.proofs.PortLists.{port_with}
@@ -22,16 +21,12 @@ module _ (net : NetView) (s : State) (b : ℕ) where
   row_looked : (t : State) (have : Amount) (place : ℕ) (best : Option (Best Amount)) (kind : PortKind) (other slot : ℕ) → s.operation b ≡ Scan have place None best → slice_get (ports net b) place ≡ Some (port_with kind other slot) → t ≡ with_operation s b (after_look_by net s b have place best (port_with kind other slot) kind) → Makes net s b (read_kind kind) t
   row_looked t have place best kind other slot e at after = grind (arith, common_steps)
 
-  row_pushed : (t : State) (have read : Amount) (label : ℕ) (kind : PortKind) (other slot : ℕ)
-      → (let best : Best Amount = record { port = port_with kind other slot; capacity = read; label = label } in s.operation b ≡ PushDue have best → t ≡ after_push s b (push_amount have kind read) (port_with kind other slot) → Makes net s b (push_kind kind) t)
-  row_pushed t have read label kind other slot e after = grind (arith, common_steps)
-
   -- the port at a place of the list
   port_here : (place : ℕ) → place < length (ports net b) → slice_get (ports net b) place ≡ Some (get_or (ports net b) place (sink_port b))
   port_here place l = slice_get-get_or (ports net b) place (sink_port b) l
 
   row_by : (o : Operation Amount) (t : State) → s.operation b ≡ o → IsOperation net s b o → t ≡ advance_by net s b o → Makes net s b (next_of net b o) t
-  row_by o t e i after = grind (arith, common_steps, port_here, row_looked, row_pushed)
+  row_by o t e i after = grind (arith, common_steps, port_here, row_looked)
 
   -- ---- a row is the step that is next
 

@@ -17,7 +17,7 @@ use Rattle.machine_law.specs.Reads.{is_positive, better_of}
 use Rattle.machine_law.specs.Transit.{amount_owed}
 use Rattle.machine_law.specs.Amounts.{HasAmounts}
 use Rattle.machine_law.specs.Balances.{supply}
-use Rattle.machine_law.specs.Labels.{arcs, steep_capacity, high_capacity, label_by, same_by, same_port, ports_have, is_under, IsOpenBy, IsAbove, IsWalk, HasLabels}
+use Rattle.machine_law.specs.Labels.{arcs, steep_capacity, high_capacity, label_by, same_by, same_port, ports_have, is_under, IsOpenBy, IsWalk, HasLabels}
 use Rattle.machine_law.proofs.Numbers.{same, shifted, positive-no, Below-absurd}
 use Rattle.machine_law.proofs.Arcs.{arcs-most, arcs-most_or, arcs-none}
 use Rattle.machine_law.proofs.PortLists.{has_backward, has_open}
@@ -61,9 +61,6 @@ better_of-most best new = grind (arith, common_steps)
 
 under_better : (best : Option (Best Amount)) (new : Best Amount) (n : ℕ) → is_under (Some (better_of best new)) n ≡ true → is_under best n ≡ true
 under_better best new n e = grind (arith, common_steps)
-
-above_better : (best : Option (Best Amount)) (new : Best Amount) (n : ℕ) → IsAbove best n → (better_of best new).label ≤ n
-above_better best new n h = grind (arith, common_steps)
 
 module _ (net : NetView) (s : State) (b : ℕ) (k : HasAmounts net s) (h : HasLabels net s) where
   -- at a new best port the arcs count by their present labels
@@ -141,6 +138,6 @@ module _ (net : NetView) (s : State) (b : ℕ) (k : HasAmounts net s) (h : HasLa
             (h.steep_most b));
         passed = λ q iq oq n. elim (cases_Bool (same_port p q)) [
           | inl y ↦ let u = same_end_of net s b p q ip iq y in omega (arith, u, most)
-          | inr m ↦ above_better best new (end_label net s q) (w.passed q iq oq (or_from (same_port p q) (ports_have ps q) m n))
+          | inr m ↦ grind (arith, common_steps)
         ];
       }
