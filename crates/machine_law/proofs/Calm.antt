@@ -11,7 +11,7 @@ use Rattle.machine_law.specs.declared.operations.Best.{Best}
 use Rattle.machine_law.specs.declared.operations.Operation.{Operation}
 use Rattle.machine_law.specs.States.{State}
 use Rattle.machine_law.specs.Balances.{supply}
-use Rattle.machine_law.specs.Labels.{arcs, steep_capacity, label_seen, ports_have, is_under, IsLevelIfAny, IsWalk, IsLevelled}
+use Rattle.machine_law.specs.Labels.{arcs, steep_capacity, label_seen, ports_have, is_under, IsWalk, IsLevelled}
 use Rattle.std.proofs.lemmas.Grind.{common_steps}
 
 -- What a step from s to t leaves to x, whose label stays: labels only rise, and x's backward arcs gain at most what its supply does.
@@ -35,12 +35,9 @@ label_seen-more : (best : Option (Best Amount)) (k m n : ℕ) → m ≤ n → la
 label_seen-more best k m n h = grind (arith, common_steps)
 
 module _ (net : NetView) (s t : State) (x : ℕ) (m : IsCalm net s t x) where
-  level_calm : (best : Option (Best Amount)) → IsLevelIfAny net s x best → IsLevelIfAny net t x best
-  level_calm best h = grind (arith, common_steps)
-
   pub walk_calm : (have : Amount) (rest : List Port) (best : Option (Best Amount)) → IsWalk net s x have rest best → IsWalk net t x have rest best
   walk_calm have rest best h = record {
-    level = level_calm best h.level;
+    level = grind (arith, common_steps);
     low_most =
         let f : ℕ → Bool = λ k. not (ports_have rest (backward_port (from_at net.pairs) k)) && is_under best (t.label (from_at net.pairs k)) in
         let g : ℕ → Bool = λ k. not (ports_have rest (backward_port (from_at net.pairs) k)) && is_under best (s.label (from_at net.pairs k)) in

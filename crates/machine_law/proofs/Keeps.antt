@@ -22,7 +22,7 @@ use Rattle.machine_law.specs.Residual.{capacity, capacity_by, end_label, IsEnd, 
 use Rattle.machine_law.specs.Reads.{is_positive, operation_begun_with, after_port, after_capacity, after_label}
 use Rattle.machine_law.specs.Steps.{with_operation, after_look, after_look_by, push_amount, after_push_by, after_take, after_give_by, after_raise, advance, advance_by}
 use Rattle.machine_law.specs.Transit.{amount_owed}
-use Rattle.machine_law.specs.Amounts.{HasAmounts, IsWithin, IsWithinBy, IsBestPort, IsBestIfAny, IsReadCapacity, IsHeld, IsOperation}
+use Rattle.machine_law.specs.Amounts.{HasAmounts, IsWithin, IsWithinBy, IsBestIfAny, IsReadCapacity, IsHeld, IsOperation}
 use Rattle.machine_law.specs.Balances.{IsBalanced}
 use Rattle.machine_law.proofs.Numbers.{shifted, joined, positive-yes}
 use Rattle.machine_law.proofs.Points.{with_value_at-other, with_value_at-each}
@@ -44,14 +44,11 @@ module _ (net : NetView) (s t : State) (x : ℕ) (m : IsMore net s t x) where
   within_more : (p : Port) (a : Amount) → IsPortOf net x p → IsWithin net s x p a → IsWithin net t x p a
   within_more p a q h = grind (arith, common_steps)
 
-  best_more : (best : Best Amount) → IsBestPort net s x best → IsBestPort net t x best
-  best_more best h = record { port = h.port; within = within_more best.port best.capacity h.port h.within }
-
   read_more : (read : Option Amount) (p : Option Port) → ((q : Port) → p ≡ Some q → IsPortOf net x q) → IsReadCapacity net s x read p → IsReadCapacity net t x read p
   read_more read p is h = grind (arith, common_steps, within_more)
 
   pub operation_more : (o : Operation Amount) → IsOperation net s x o → IsOperation net t x o
-  operation_more o h = grind (arith, common_steps, held_more, read_more, port-at, best_more)
+  operation_more o h = grind (arith, common_steps, held_more, read_more, port-at, within_more)
 
 -- ---- the amount of a push
 pub push_most : (have : Amount) (kind : PortKind) (read : Amount) → AtMost (push_amount have kind read) have

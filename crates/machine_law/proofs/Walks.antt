@@ -59,9 +59,6 @@ module _ (net : NetView) (s : State) (b : ℕ) where
 better_of-most : (best : Option (Best Amount)) (new : Best Amount) → (better_of best new).label ≤ new.label
 better_of-most best new = grind (arith, common_steps)
 
-under_better : (best : Option (Best Amount)) (new : Best Amount) (n : ℕ) → is_under (Some (better_of best new)) n ≡ true → is_under best n ≡ true
-under_better best new n e = grind (arith, common_steps)
-
 module _ (net : NetView) (s : State) (b : ℕ) (k : HasAmounts net s) (h : HasLabels net s) where
   -- at a new best port the arcs count by their present labels
   seen_new : (kind : PortKind) (other slot j : ℕ) → IsEnd net b kind other slot → label_by kind slot (label_beyond net kind (s.label other)) j (s.label (from_at net.pairs j)) ≡ s.label (from_at net.pairs j)
@@ -129,7 +126,7 @@ module _ (net : NetView) (s : State) (b : ℕ) (k : HasAmounts net s) (h : HasLa
                   let u = same_end_of net s b p (back j) ip (l, at, refl) y in
                   let v = ltb-true (s.label (from_at net.pairs j)) (better_of best new).label q.1 in
                   absurd (omega (arith, u, v, most))
-              | inr n ↦ and_from (not (ports_have (p ∷ ps) (back j))) (is_under best (s.label (from_at net.pairs j))) (not_from_false (ports_have (p ∷ ps) (back j)) (or_from (same_port p (back j)) (ports_have ps (back j)) n (not-true (ports_have ps (back j)) q.0))) (under_better best new (s.label (from_at net.pairs j)) q.1)
+              | inr n ↦ and_from (not (ports_have (p ∷ ps) (back j))) (is_under best (s.label (from_at net.pairs j))) (not_from_false (ports_have (p ∷ ps) (back j)) (or_from (same_port p (back j)) (ports_have ps (back j)) n (not-true (ports_have ps (back j)) q.0))) (grind (arith, common_steps))
             ]) (λ j. AtMost-refl (s.flow j)) k.flow)
             w.low_most;
         high_most = high_better best new w.high_most
