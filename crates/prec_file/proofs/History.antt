@@ -25,13 +25,8 @@ pub history_same : (g h : ℕ → Bool) (k line : ℕ) (fs : List (List ℕ)) �
 unfolding history_fault
 history_same g h k line fs e = rw e refl
 
--- Only what is known of blocks below n counts.
-same_at : (n : ℕ) (g h : ℕ → Bool) (k line : ℕ) (fs : List (List ℕ)) → ((b : ℕ) → b < n → g b ≡ h b) → (o : Option PrecFault) → shape_fault n line fs ≡ o
-    → option_or (shape_fault n line fs) (history_fault g k line fs) ≡ option_or (shape_fault n line fs) (history_fault h k line fs)
-same_at n g h k line fs e o f = grind (arith, common_steps, history_same, shape_block)
-
 pub record_same : (n : ℕ) (g h : ℕ → Bool) (k line : ℕ) (fs : List (List ℕ)) → ((b : ℕ) → b < n → g b ≡ h b) → record_fault n g k line fs ≡ record_fault n h k line fs
-record_same n g h k line fs e = ap (cond (is_skipped fs) None) (same_at n g h k line fs e (shape_fault n line fs) refl)
+record_same n g h k line fs e = ap (cond (is_skipped fs) None) (grind (arith, common_steps, history_same, shape_block))
 
 pub or_none : {F : Type 0} (a b : Option F) → option_or a b ≡ None → a ≡ None
 or_none a b h = grind (arith, common_steps)

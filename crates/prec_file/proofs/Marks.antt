@@ -1,5 +1,5 @@
 -- A block is marked where it had a record.
-use Rattle.std.proofs.Common.{◌≡◌, ℕ, zero, suc, ◌<◌, Bool, true, false, cond, List, [], ◌∷◌, ◌++◌, length, get_or, set, replicate, refl, sym, ap, ◌∙◌, arith, append-nil}
+use Rattle.std.proofs.Common.{◌≡◌, ℕ, ◌<◌, Bool, true, false, cond, List, [], ◌∷◌, ◌++◌, length, get_or, set, replicate, refl, arith}
 use Rattle.fixed_worth.specs.Record.{is_skipped}
 use Rattle.prec_file.specs.Records.{block_of, has}
 use Rattle.prec_file.specs.Indexes.{marks_after}

@@ -1,15 +1,13 @@
 -- Reading line after line.
-use Rattle.std.proofs.Common.{◌≡◌, ℕ, ◌+◌, ◌<◌, ◌≤◌, Bool, false, List, [], ◌∷◌, ◌++◌, length, get_or, Option, Some, None, refl, sym, ap, ◌∙◌, subst, arith, append_assoc, append-nil}
-use Rattle.std.proofs.lemmas.List.Concat.{flat_map-append}
+use Rattle.std.proofs.Common.{◌≡◌, ℕ, ◌+◌, ◌<◌, ◌≤◌, Bool, false, List, [], ◌∷◌, ◌++◌, length, get_or, Some, None, refl, arith, append_assoc, append-nil}
 use Rattle.fixed_worth.specs.Text.{Left, fields_of}
 use Rattle.std.specs.Option.{option_or}
 use Rattle.fixed_worth.specs.declared.limits.TheConstants.{LINE_BYTES}
 use Rattle.prec_file.specs.declared.prec_fault.PrecFault.{PrecFault}
-use Rattle.fixed_worth.specs.Record.{Line, numbered_lines, is_skipped}
-use Rattle.prec_file.specs.Records.{block_of, pairs_in, blocks_of_fields, record_fault, fault_behind, has, blocks_of, pairs_of, first_fault, fault_of, pairs_of_text}
+use Rattle.fixed_worth.specs.Record.{Line, numbered_lines}
+use Rattle.prec_file.specs.Records.{pairs_in, blocks_of_fields, record_fault, fault_behind, has, blocks_of, pairs_of, first_fault, fault_of, pairs_of_text}
 use Rattle.prec_file.specs.Indexes.{marks_after}
 use Rattle.prec_file.proofs.History.{record_same, record_block}
-use Rattle.prec_file.proofs.Marks.{mark}
 use Rattle.std.proofs.lemmas.Grind.{common_steps}
 
 -- What has been read, and what is left.
@@ -29,11 +27,6 @@ pub next_fault : (n : ℕ) (before : List Line) (left next : Left) (line : List 
     → first_fault n before (numbered_lines left.number left.lines) ≡ option_or (fault_behind n before (record { number = next.number; text = line })) (first_fault n (before ++ record { number = next.number; text = line } ∷ []) (numbered_lines next.number next.lines))
 next_fault n before left next line e f = rw (e, f) refl
 
-pub goes_wrong : (n : ℕ) (text : List ℕ) (seen : List Bool) (pairs : List (ℕ × ℕ)) (left next : Left) (line : List ℕ) (x : PrecFault) → ReadSoFar n text seen pairs left
-    → left.lines ≡ line ∷ next.lines → next.number ≡ left.number + 1 → length line ≤ LINE_BYTES
-    → record_fault n (λ b. get_or seen b false) (length pairs) next.number (fields_of line) ≡ Some x → fault_of n text ≡ Some x
-goes_wrong n text seen pairs left next line x g e f h w = grind (arith, common_steps, (next_fault n g.before left next line e f), (behind n text seen pairs left g next.number line h))
-
 pub goes_on : (n : ℕ) (text : List ℕ) (seen more : List Bool) (pairs others : List (ℕ × ℕ)) (left next : Left) (line : List ℕ) → ReadSoFar n text seen pairs left → length seen ≡ n
     → left.lines ≡ line ∷ next.lines → next.number ≡ left.number + 1 → length line ≤ LINE_BYTES
     → record_fault n (λ b. get_or seen b false) (length pairs) next.number (fields_of line) ≡ None
@@ -51,4 +44,4 @@ pub step_wrong : (n k : ℕ) (text : List ℕ) (seen : List Bool) (pairs : List 
     → left.lines ≡ line ∷ next.lines → next.number ≡ left.number + 1 → length line ≤ LINE_BYTES
     → record_fault n (λ b. get_or seen b false) (length pairs) k (fields_of line) ≡ Some x → fault_of n text ≡ Some x
 step_wrong n k text seen pairs left next line x g j f h i w =
-    goes_wrong n text seen pairs left next line x g f h i (subst (λ (y : ℕ). record_fault n (λ b. get_or seen b false) (length pairs) y (fields_of line) ≡ Some x) j w)
+    grind (arith, common_steps, (next_fault n g.before left next line f h), (behind n text seen pairs left g next.number line i))

@@ -88,12 +88,9 @@ module _ (n next : ℕ) (ps row : List (ℕ × ℕ)) (firsts predecessors : List
         ];
       }
 
-  pub rows_more : AreRows n (next + 1) (ps ++ row) (firsts ++ length (ps ++ row) ∷ []) (predecessors ++ map (λ p. p.1) row)
-  rows_more = grind (arith, common_steps, rests_more, listed_more, map-append, starts_more)
-
   -- the lists as they were written
   pub pushed : (begun listed : List ℕ) (count : ℕ) → begun ≡ firsts ++ count ∷ [] → listed ≡ predecessors ++ map (λ p. p.1) row → count ≡ length listed → AreRows n (next + 1) (ps ++ row) begun listed
-  pushed begun listed count f p e = grind (arith, common_steps, length-append, length-map, rows_length, size, rows_more)
+  pushed begun listed count f p e = grind (arith, common_steps, length-append, length-map, rows_length, size, rests_more, listed_more, map-append, starts_more)
 
   pub pushed_told : (begun listed : List ℕ) (count : ℕ) → begun ≡ firsts ++ count ∷ [] → listed ≡ predecessors ++ map (λ p. p.1) row → count ≡ length listed → pairs_by begun listed ≡ ps ++ row
   pushed_told begun listed count f p e = rows_told n (next + 1) (ps ++ row) begun listed (pushed begun listed count f p e)

@@ -1,5 +1,5 @@
 -- Pairs in order are told by the numbers of the blocks' first pairs, and by their predecessors.
-use Rattle.std.proofs.Common.{◌≡◌, ℕ, suc, ◌+◌, ◌-◌, ◌<◌, ◌≤◌, Bool, true, false, nat_lt, List, [], ◌∷◌, ◌++◌, length, get_or, take, map, All, add-one, sym, refl, ap, subst, ◌∙◌, arith}
+use Rattle.std.proofs.Common.{◌≡◌, ℕ, suc, ◌+◌, ◌-◌, ◌<◌, ◌≤◌, Bool, true, false, nat_lt, List, [], ◌∷◌, ◌++◌, length, get_or, take, map, All, add-one, sym, refl, ap, ◌∙◌, arith}
 use Rattle.std.specs.Prelude.{nat_le}
 use Rattle.std.proofs.lemmas.Bool.Decides.{nat_tests}
 use Rattle.std.proofs.lemmas.List.{take_more}
@@ -15,9 +15,6 @@ use Rattle.std.proofs.lemmas.Grind.{common_steps}
 
 le_true : (x y : ℕ) → x ≤ y → nat_le x y ≡ true
 le_true x y h = grind (arith, nat_tests)
-
-le_false : (x y : ℕ) → y < x → nat_le x y ≡ false
-le_false x y h = grind (arith, nat_tests)
 
 module _ (ps : List (ℕ × ℕ)) (r : IsRising ps) (n : ℕ) (firsts : List ℕ) (h : IsStarts (from_at ps) (length ps) n firsts) (k : ℕ) (l : k < length ps) (known : from_at ps k < n) where
   begins : ℕ → Bool
@@ -38,7 +35,7 @@ module _ (ps : List (ℕ × ℕ)) (r : IsRising ps) (n : ℕ) (firsts : List ℕ
       let at = h.at (b + 1) (omega arith) in
       let all = ending_all (from_at ps) (b + 1) (k + 1) (λ j m. let u = later ps r j (omega arith) k (omega arith) l in omega arith) in
       let more = passing_grows (λ j. nat_lt (from_at ps j) (b + 1)) (k + 1) (length ps) (omega arith) in
-      le_false (get_or firsts (b + 1) 0) k (omega (arith, at, all, more))
+      grind (arith, nat_tests)
 
   pub block_is : block_at firsts k ≡ from_at ps k
   unfolding begins

@@ -3,14 +3,13 @@ use Rattle.std.proofs.Common.{◌≡◌, ℕ, suc, ◌<◌, ◌≤◌, Bool, tru
 use Rattle.std.specs.Prelude.{◌||◌, nat_le, is_ok}
 use Rattle.std.specs.List.{list_all, list_any}
 use Rattle.std.specs.Result.{result_unwrap_or}
-use Rattle.std.proofs.lemmas.Bool.{false≢true}
 use Rattle.std.proofs.lemmas.Bool.Decides.{nat_tests}
 use Rattle.std.proofs.lemmas.List.{length-map}
 use Rattle.fixed_worth.specs.Text.{WordRun}
 use Rattle.fixed_worth.specs.declared.numerals.NumberFault.{NumberFault}
 use Rattle.fixed_worth.specs.Numeral.{whole_of}
 use Rattle.prec_file.specs.declared.prec_fault.PrecFault.{PrecFault}
-use Rattle.prec_file.specs.declared.prec_fault.PrecFault.TheVariants.{Text, Number, UnknownBlock, Repeated, WrongCount, TooMany, NoMemory}
+use Rattle.prec_file.specs.declared.prec_fault.PrecFault.TheVariants.{Text, Number, UnknownBlock}
 use Rattle.fixed_worth.specs.Record.{first_whole, reads, number_of, is_remark, is_skipped}
 use Rattle.fixed_worth.proofs.FirstNumbers.{first_is, no_field, number_no_remark}
 use Rattle.prec_file.specs.Records.{pairs_in, shape_fault, UnlessMemory}

@@ -1,5 +1,5 @@
 -- The lines of a written file, and their fields.
-use Rattle.std.proofs.Common.{◌≡◌, ℕ, zero, suc, ◌+◌, ◌*◌, ◌<◌, ◌≤◌, ◌^◌, Bool, true, List, [], ◌∷◌, ◌++◌, length, get_or, refl, ap, ◌∙◌, subst, arith, append_assoc, length-append, All}
+use Rattle.std.proofs.Common.{◌≡◌, ℕ, zero, suc, ◌+◌, ◌*◌, ◌<◌, ◌≤◌, ◌^◌, Bool, true, List, [], ◌∷◌, ◌++◌, length, refl, ap, ◌∙◌, arith, append_assoc, length-append, All}
 use Rattle.std.specs.Prelude.{map}
 use Rattle.std.specs.List.{list_all}
 use Rattle.std.specs.Fmt.{decimal}
@@ -14,8 +14,8 @@ use Rattle.fixed_worth.specs.Text.{lines_of, fields_of}
 use Rattle.fixed_worth.specs.Laws.{with_line_feeds}
 use Rattle.fixed_worth.proofs.Joined.{is_one_line, is_word, behind_spaces, lines_cut, with_line_feeds-append, fields_cut, joined_is_one_line}
 use Rattle.fixed_worth.proofs.WrittenNumbers.{decimal_is_word, decimal_is_one_line, decimals_pass}
-use Rattle.prec_file.specs.Rests.{IsKnown, IsRising, above_of, first_of}
-use Rattle.prec_file.specs.Written.{prec_line, lines_below, AreNarrow}
+use Rattle.prec_file.specs.Rests.{IsKnown, IsRising, above_of}
+use Rattle.prec_file.specs.Written.{lines_below, AreNarrow}
 use Rattle.prec_file.proofs.Finding.{above_at}
 use Rattle.std.proofs.lemmas.Grind.{common_steps}
 
@@ -46,12 +46,9 @@ rows ps (suc b) = rows ps b ++ (row ps b ∷ [])
 regroup : (x y s t : List ℕ) → (x ++ y) ++ (s ++ t) ≡ (x ++ (y ++ s)) ++ t
 regroup x y s t = simp append_assoc
 
-line_is : (ps : List (ℕ × ℕ)) (b : ℕ) → prec_line ps b ≡ row ps b ++ (10 ∷ [])
-line_is ps b = grind (arith, common_steps, behind_spaces, flat_map-map, regroup)
-
 text_is : (ps : List (ℕ × ℕ)) (n : ℕ) → lines_below ps n ≡ with_line_feeds (rows ps n)
 text_is ps zero = refl
-text_is ps (suc n) = grind (arith, common_steps, rows, line_is, with_line_feeds-append, row, (text_is ps n))
+text_is ps (suc n) = grind (arith, common_steps, rows, with_line_feeds-append, row, (text_is ps n), behind_spaces, flat_map-map, regroup)
 
 pub small_blocks : (n : ℕ) (ps : List (ℕ × ℕ)) (b : ℕ) → IsWritable n ps → All (λ p. p < 2 ^ 64) (above_of ps b)
 small_blocks n ps b w = All-weaker (λ p. p < n) (λ p. p < 2 ^ 64) (λ p l. omega (arith, w.blocks)) (above_of ps b) (above_known n ps b w)
