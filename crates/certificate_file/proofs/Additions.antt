@@ -1,9 +1,7 @@
 -- What a line adds to what is gathered.
-use Rattle.std.proofs.Common.{◌≡◌, ℕ, zero, suc, get_or, set, ◌<◌, Bool, true, false, cond, eqb, ltb, List, [], ◌∷◌, length, refl, arith, append-nil}
-use Rattle.std.proofs.lemmas.Bool.{ltb-true}
+use Rattle.std.proofs.Common.{◌≡◌, ℕ, get_or, set, ◌<◌, Bool, true, false, cond, eqb, ltb, List, [], ◌∷◌, length, refl, arith, append-nil}
 use Rattle.std.specs.Prelude.{Contains}
 use Rattle.std.proofs.lemmas.List.{length-set}
-use Rattle.std.proofs.lemmas.Bool.Decides.{nat_tests}
 use Rattle.ordered_group.specs.Amount.{Amount}
 use Rattle.ordered_group.specs.Sums.{amount_at}
 use Rattle.prec_file.specs.Rests.{IsRising}
@@ -24,9 +22,6 @@ pub absent : (b p : ℕ) (qs : List (ℕ × ℕ)) → (Contains qs (b, p) → �
 absent b p [] out = refl
 absent b p (q ∷ qs) out = absent_at b p q qs (is_pair b p q) refl out (absent b p qs (λ h. out (tail_holds q qs (b, p) h)))
 
-present_at : (b p : ℕ) (q : ℕ × ℕ) (qs : List (ℕ × ℕ)) (t : Bool) → is_pair b p q ≡ t → has_pair qs b p ≡ true → has_pair (q ∷ qs) b p ≡ true
-present_at b p q qs t e ih = grind (arith, common_steps)
-
 pub present : (b p : ℕ) (qs : List (ℕ × ℕ)) (k : ℕ) → k < length qs → get_or qs k (0, 0) ≡ (b, p) → has_pair qs b p ≡ true
 present b p qs k h e = grind (arith, common_steps)
 
@@ -35,9 +30,6 @@ rest_absent has line r h = rw r h
 
 pub rest_present : (has : ℕ → ℕ → Bool) (line : BodyLine) → line.kind ≡ Rest → has line.block line.other ≡ true → is_of_model has line.kind line ≡ true
 rest_present has line r h = rw r h
-
-ltb_neither : (i j : ℕ) → ltb i j ≡ false → ltb j i ≡ false → i ≡ j
-ltb_neither i j g h = grind (arith, nat_tests)
 
 -- Each pair stands once in the list.
 pub apart : (ps : List (ℕ × ℕ)) (i j : ℕ) (q : ℕ × ℕ) → IsRising ps → i < j → j < length ps → get_or ps i (0, 0) ≡ q → get_or ps j (0, 0) ≡ q → ⊥

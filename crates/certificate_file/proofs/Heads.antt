@@ -1,6 +1,5 @@
 -- A header without a fault is spelled as its values are.
-use Rattle.std.proofs.Common.{◌≡◌, ℕ, ◌+◌, Bool, true, false, cond, eqb, ◌&&◌, List, [], ◌∷◌, ◌++◌, drop, Option, Some, None, Result, Ok, Err, refl, sym, ap, ◌∙◌, subst, append_assoc, arith}
-use Rattle.std.specs.Prelude.{unwrap_or}
+use Rattle.std.proofs.Common.{◌≡◌, ℕ, ◌+◌, Bool, true, false, cond, List, [], ◌∷◌, ◌++◌, drop, Option, Some, None, Result, Ok, Err, refl, sym, ap, ◌∙◌, subst, append_assoc, arith}
 use Rattle.std.specs.Result.{result_unwrap_or}
 use Rattle.std.specs.Str.{bytes_eq}
 use Rattle.std.specs.Fmt.{decimal}
@@ -13,13 +12,13 @@ use Rattle.ordered_group.proofs.Names.{group_spelled}
 use Rattle.certificate_file.specs.declared.header.Header.{Header}
 use Rattle.certificate_file.specs.declared.header.Wanted.{Wanted}
 use Rattle.certificate_file.specs.declared.header.Price.{Price}
-use Rattle.certificate_file.specs.declared.header.Price.TheVariants.{Objective, Factor, Mill}
+use Rattle.certificate_file.specs.declared.header.Price.TheVariants.{Objective}
 use Rattle.certificate_file.specs.declared.header.Version.{Version}
 use Rattle.certificate_file.specs.declared.header.Version.TheVariants.{One, Two}
 use Rattle.certificate_file.specs.declared.cert_fault.LineFault.{LineFault}
 use Rattle.certificate_file.specs.declared.cert_fault.LineFault.TheVariants.{Text}
 use Rattle.certificate_file.specs.Pieces.{Piece, piece_at, read_line, words_of, number_below}
-use Rattle.certificate_file.specs.Header.{header_for, version_in, value_behind, value_behind_both, or_number, wanted_blocks, blocks_said, blocks_in, factor_of, price_said, mill_of, mill_said, price_in, is_same_group, wanted_group, group_named, group_said, group_in}
+use Rattle.certificate_file.specs.Header.{header_for, version_in, value_behind, value_behind_both, or_number, blocks_said, blocks_in, factor_of, price_said, mill_said, price_in, group_named, group_said, group_in}
 use Rattle.certificate_file.specs.Written.{spaced_words, lines_text, version_for, version_word, price_words, header_words}
 use Rattle.certificate_file.proofs.Texts.{pieces_text, words_make_line}
 use Rattle.certificate_file.proofs.Going.{text_read}
@@ -27,22 +26,14 @@ use Rattle.certificate_file.proofs.Spelling.{number_is, read_ends, piece_text}
 use Rattle.certificate_file.proofs.Wants.{joined}
 use Rattle.std.proofs.lemmas.Grind.{common_steps}
 
--- What stands behind a key.
-behind_at : (key k v w : List ℕ) (t : Bool) → (t ≡ true → k ≡ key) → cond t (Some v) None ≡ Some w → k ∷ v ∷ [] ≡ key ∷ w ∷ []
-behind_at key k v w t e h = grind (arith, common_steps)
-
 behind_is : (key w : List ℕ) (words : List (List ℕ)) → value_behind key words ≡ Some w → words ≡ key ∷ w ∷ []
-behind_is key w words h = grind (arith, common_steps, behind_at, bytes_eq-Decides)
+behind_is key w words h = grind (arith, common_steps, bytes_eq-Decides)
 
 keyed : (key w text : List ℕ) → value_behind key (words_of text) ≡ Some w → text ≡ spaced_words (key ∷ w ∷ [])
 keyed key w text h = sym (words_make_line text) ∙ ap spaced_words (behind_is key w (words_of text) h)
 
--- What stands behind two keys.
-both_at : (key other k o v w : List ℕ) (s t : Bool) → (s ≡ true → k ≡ key) → (t ≡ true → o ≡ other) → cond (s && t) (Some v) None ≡ Some w → k ∷ o ∷ v ∷ [] ≡ key ∷ other ∷ w ∷ []
-both_at key other k o v w s t d e h = grind (arith, common_steps)
-
 both_is : (key other w : List ℕ) (words : List (List ℕ)) → value_behind_both key other words ≡ Some w → words ≡ key ∷ other ∷ w ∷ []
-both_is key other w words h = grind (arith, common_steps, both_at, bytes_eq-Decides)
+both_is key other w words h = grind (arith, common_steps, bytes_eq-Decides)
 
 -- The version.
 abbrev pub version_text : Version → List ℕ
@@ -54,15 +45,8 @@ version_at text v s t d e h = grind (arith, common_steps)
 version_is : (text : List ℕ) (v : Version) → version_in text ≡ Ok v → text ≡ version_text v
 version_is text v h = version_at text v (bytes_eq text (codes "PITCERT 1")) (bytes_eq text (codes "PITCERT 2")) (bytes_eq-Decides text (codes "PITCERT 1")).0 (bytes_eq-Decides text (codes "PITCERT 2")).0 h
 
--- The number of blocks.
-number_kept : (w : Wanted) (k n : ℕ) (t : Bool) → or_number (cond t (Some k) None) ≡ Ok n → Some k ≡ Some n
-number_kept w k n t h = grind (arith, common_steps)
-
-number_wanted : (wanted : Option Wanted) (o : Option ℕ) (n : ℕ) → or_number (wanted_blocks wanted o) ≡ Ok n → o ≡ Some n
-number_wanted wanted o n h = grind (arith, common_steps)
-
 blocks_at : (wanted : Option Wanted) (text : List ℕ) (o : Option (List ℕ)) (n : ℕ) → value_behind (codes "BLOCKS") (words_of text) ≡ o → blocks_said wanted o ≡ Ok n → text ≡ spaced_words (codes "BLOCKS" ∷ decimal n ∷ [])
-blocks_at wanted text (Some w) n e h = keyed (codes "BLOCKS") w text e ∙ ap (λ (x : List ℕ). spaced_words (codes "BLOCKS" ∷ x ∷ [])) (number_is w (MOST_BLOCKS + 1) n (number_wanted wanted (number_below (MOST_BLOCKS + 1) w) n h))
+blocks_at wanted text (Some w) n e h = keyed (codes "BLOCKS") w text e ∙ ap (λ (x : List ℕ). spaced_words (codes "BLOCKS" ∷ x ∷ [])) (number_is w (MOST_BLOCKS + 1) n (grind (arith, common_steps)))
 blocks_at wanted text None n e h = absurd cc
 
 -- The price.
@@ -82,17 +66,14 @@ factor_at w o price e h = grind (arith, common_steps, is_price, number_is)
 
 word_at : (w : List ℕ) (price : Price) (t : Bool) → (t ≡ true → w ≡ codes "OBJECTIVE") → cond t (Ok Objective) (or_number (factor_of (number_below (MOST_FACTOR + 1) w))) ≡ Ok price → Priced One (codes "PRICE" ∷ w ∷ []) price
 word_at w price true e h = is_price price Objective One (codes "PRICE" ∷ w ∷ []) refl (ap (λ (x : List ℕ). codes "PRICE" ∷ x ∷ []) (e refl)) (ap (price_or price) h)
-word_at w price false e h = factor_at w (number_below (MOST_FACTOR + 1) w) price refl h
+word_at w price false e h = grind (arith, common_steps, is_price, number_is)
 
 plain_at : (words : List (List ℕ)) (o : Option (List ℕ)) (price : Price) → value_behind (codes "PRICE") words ≡ o → price_said o ≡ Ok price → Priced One words price
 plain_at words (Some w) price e h = subst (λ (ws : List (List ℕ)). Priced One ws price) (sym (behind_is (codes "PRICE") w words e)) (word_at w price (bytes_eq w (codes "OBJECTIVE")) (bytes_eq-Decides w (codes "OBJECTIVE")).0 h)
 plain_at words None price e h = absurd cc
 
-mill_at : (w : List ℕ) (o : Option ℕ) (price : Price) → number_below (MOST_FACTOR + 1) w ≡ o → or_number (mill_of o) ≡ Ok price → Priced Two (codes "PRICE" ∷ codes "MILL" ∷ w ∷ []) price
-mill_at w o price e h = grind (arith, common_steps, is_price, number_is)
-
 milled_at : (words : List (List ℕ)) (o : Option (List ℕ)) (price : Price) → value_behind_both (codes "PRICE") (codes "MILL") words ≡ o → mill_said o ≡ Ok price → Priced Two words price
-milled_at words (Some w) price e h = subst (λ (ws : List (List ℕ)). Priced Two ws price) (sym (both_is (codes "PRICE") (codes "MILL") w words e)) (mill_at w (number_below (MOST_FACTOR + 1) w) price refl h)
+milled_at words (Some w) price e h = subst (λ (ws : List (List ℕ)). Priced Two ws price) (sym (both_is (codes "PRICE") (codes "MILL") w words e)) (grind (arith, common_steps, is_price, number_is))
 milled_at words None price e h = absurd cc
 
 price_at : (v : Version) (text : List ℕ) (price : Price) → price_in v text ≡ Ok price → Priced v (words_of text) price
@@ -102,15 +83,8 @@ price_at Two text price h = milled_at (words_of text) (value_behind_both (codes 
 price_text : (v : Version) (text : List ℕ) (price : Price) → price_in v text ≡ Ok price → text ≡ spaced_words (price_words price)
 price_text v text price h = sym (words_make_line text) ∙ ap spaced_words (price_at v text price h).words_are
 
--- The group.
-group_kept : (a b g : Group) (t : Bool) → cond t (Ok b) (Err Text) ≡ Ok g → b ≡ g
-group_kept a b g t h = grind (arith, common_steps)
-
-group_same : (wanted : Option Wanted) (b g : Group) → wanted_group wanted b ≡ Ok g → b ≡ g
-group_same wanted b g h = grind (arith, common_steps)
-
 group_kind : (wanted : Option Wanted) (w : List ℕ) (o : Option Group) (g : Group) → group_of w ≡ o → group_named wanted o ≡ Ok g → w ≡ group_name g
-group_kind wanted w o g e h = grind (arith, common_steps, group_spelled, group_same)
+group_kind wanted w o g e h = grind (arith, common_steps, group_spelled)
 
 group_at : (wanted : Option Wanted) (text : List ℕ) (o : Option (List ℕ)) (g : Group) → value_behind (codes "GROUP") (words_of text) ≡ o → group_said wanted o ≡ Ok g → text ≡ spaced_words (codes "GROUP" ∷ group_name g ∷ [])
 group_at wanted text (Some w) g e h = keyed (codes "GROUP") w text e ∙ ap (λ (x : List ℕ). spaced_words (codes "GROUP" ∷ x ∷ [])) (group_kind wanted w (group_of w) g refl h)

@@ -1,13 +1,11 @@
 -- Lines in order: their PIT lines name ascending blocks, all below n.
-use Rattle.std.proofs.Common.{◌≡◌, ℕ, zero, suc, get_or, ◌+◌, ◌<◌, Bool, true, false, cond, List, [], ◌∷◌, length, Option, Some, None, Result, Ok, Err, refl, sym, ap, ◌∙◌, subst, arith}
+use Rattle.std.proofs.Common.{◌≡◌, ℕ, get_or, ◌+◌, ◌<◌, Bool, true, false, cond, List, [], ◌∷◌, length, Option, Some, None, Result, Ok, Err, refl, ap, ◌∙◌, subst, arith}
 use Rattle.std.specs.List.{All}
-use Rattle.std.specs.Result.{result_unwrap_or}
 use Rattle.closure_net.specs.Network.{IsAscending}
 use Rattle.certificate_file.specs.declared.cert_fault.CertFault.{CertFault}
 use Rattle.certificate_file.specs.declared.cert_fault.CertFault.TheVariants as fault
-use Rattle.certificate_file.specs.declared.cert_fault.LineFault.{LineFault}
 use Rattle.certificate_file.specs.declared.body_lines.LineKind.{LineKind}
-use Rattle.certificate_file.specs.declared.body_lines.LineKind.TheVariants.{Pit, Source, Rest, Sink, End}
+use Rattle.certificate_file.specs.declared.body_lines.LineKind.TheVariants.{Pit}
 use Rattle.certificate_file.specs.declared.body_lines.BodyLine.{BodyLine}
 use Rattle.certificate_file.specs.Pieces.{Piece, read_line}
 use Rattle.certificate_file.specs.Header.{◌>>=◌}
@@ -76,9 +74,6 @@ stands_in_order counts n has previous k [] h = absurd cc
 stands_in_order counts n has previous k (p ∷ ps) h =
     read_on counts n has previous k p ps (next_line counts n has previous (k + 1) p) refl h (λ line g. stands_in_order counts n has (Some line) (k + 1) ps g)
 
-above_pit : (counts : Bool) (n : ℕ) (l m : BodyLine) → Sound counts n l → Sound counts n m → m.kind ≡ Pit → is_above l m ≡ true → (l.kind ≡ Pit) × (l.block < m.block)
-above_pit counts n l m s t k h = grind (arith, common_steps)
-
 later : (counts : Bool) (n : ℕ) (l m : BodyLine) (bs : List ℕ) (k : LineKind) → m.kind ≡ k → Sound counts n l → Sound counts n m → is_above l m ≡ true → ((i : ℕ) → i < length bs → (m.kind ≡ Pit) × (m.block < get_or bs i 0))
     → (i : ℕ) → i < length (block_if_pit k m.block bs) → (l.kind ≡ Pit) × (l.block < get_or (block_if_pit k m.block bs) i 0)
 later counts n l m bs k e s t a ih i h = grind (arith, common_steps)
@@ -96,9 +91,6 @@ with_pit counts n m bs k e f h = grind (arith, common_steps)
 pub ascending : (counts : Bool) (n : ℕ) (has : ℕ → ℕ → Bool) (previous : Option BodyLine) (ls : List BodyLine) → InOrder (Good counts n has) previous ls → IsAscending (pit_of ls)
 ascending counts n has previous [] o = λ i j g h. absurd (omega arith)
 ascending counts n has previous (l ∷ ls) o = with_pit counts n l (pit_of ls) l.kind refl (later_pits counts n has l ls o.1.sound o.2) (ascending counts n has (Some l) ls o.2)
-
-known_on : (n b : ℕ) (bs : List ℕ) → b < n → All (λ x. x < n) bs → All (λ x. x < n) (b ∷ bs)
-known_on n b bs f h k d i = grind (arith, common_steps)
 
 known_pit : (n b : ℕ) (bs : List ℕ) (k : LineKind) → b < n → All (λ x. x < n) bs → All (λ x. x < n) (block_if_pit k b bs)
 known_pit n b bs k f h = grind (arith, common_steps)

@@ -26,9 +26,6 @@ put_more a b c first now next piece left all p h = grind (arith, common_steps, (
 pub put_failed : (a b c : Option (List ℕ)) (first now piece left all : List ℕ) → Put a b first now (piece ++ left) all → ReceivedPrefix b c (now ++ piece) → ReceivedPrefix a c (first ++ all)
 put_failed a b c first now piece left all p h = grind (arith, common_steps, (held_more_prefix a b c now (first ++ p.done) piece p.held h), (prefix_of_first a c ((first ++ p.done) ++ piece) left (held_more_prefix a b c now (first ++ p.done) piece p.held h)), (append_assoc (first ++ p.done) piece left), (append_assoc first p.done (piece ++ left)))
 
-pub none_written : (line : ℕ → Amount → BodyLine) (k : ℕ) (xs : List Amount) (x : Amount) → k < length xs → get_or xs k zero_amount ≡ x → is_zero x ≡ true → body_text (amount_lines line k (drop k xs)) ≡ body_text (amount_lines line (k + 1) (drop (k + 1) xs))
-none_written line k xs x h e z = grind (arith, common_steps)
-
 pub one_written : (line : ℕ → Amount → BodyLine) (k : ℕ) (xs : List Amount) (x : Amount) → k < length xs → get_or xs k zero_amount ≡ x → is_zero x ≡ false → body_text (amount_lines line k (drop k xs)) ≡ (spaced_words (line_words (line k x)) ++ (10 ∷ [])) ++ body_text (amount_lines line (k + 1) (drop (k + 1) xs))
 one_written line k xs x h e z = grind (arith, common_steps)
 
@@ -48,7 +45,7 @@ line_failed line xs k x l a b c first now all h e z same p s =
 
 pub line_skipped : (line : ℕ → Amount → BodyLine) (xs : List Amount) (k : ℕ) (x : Amount) (a b : Option (List ℕ)) (first now all : List ℕ) → k < length xs → get_or xs k zero_amount ≡ x → is_zero x ≡ true
     → Put a b first now (body_text (amount_lines line k (drop k xs))) all → Put a b first now (body_text (amount_lines line (k + 1) (drop (k + 1) xs))) all
-line_skipped line xs k x a b first now all h e z p = subst (λ (t : List ℕ). Put a b first now t all) (none_written line k xs x h e z) p
+line_skipped line xs k x a b first now all h e z p = subst (λ (t : List ℕ). Put a b first now t all) (grind (arith, common_steps)) p
 
 -- The steps of the loop over the blocks of the pit.
 block_written : (bs : List ℕ) (k : ℕ) → k < length bs → body_text (map pit_at (drop k bs)) ≡ (spaced_words (line_words (pit_at (get_or bs k 0))) ++ (10 ∷ [])) ++ body_text (map pit_at (drop (k + 1) bs))
@@ -82,9 +79,6 @@ pub body_append : (ls ms : List BodyLine) → body_text (ls ++ ms) ≡ body_text
 body_append [] ms = refl
 body_append (l ∷ ls) ms = ap (λ (t : List ℕ). spaced_words (line_words l) ++ (10 ∷ t)) (body_append ls ms) ∙ sym (append_assoc (spaced_words (line_words l)) (10 ∷ body_text ls) (body_text ms))
 
-pub flow_parts : (ls ms ns : List BodyLine) → body_text ls ++ (body_text ms ++ body_text ns) ≡ body_text (ls ++ (ms ++ ns))
-flow_parts ls ms ns = ap (λ (t : List ℕ). body_text ls ++ t) (sym (body_append ms ns)) ∙ sym (body_append ls (ms ++ ns))
-
 pub body_parts : (ls ms : List BodyLine) (end : List ℕ) → body_text ls ++ (body_text ms ++ end) ≡ body_text (ls ++ ms) ++ end
 body_parts ls ms end = sym (append_assoc (body_text ls) (body_text ms) end) ∙ ap (λ (t : List ℕ). t ++ end) (sym (body_append ls ms))
 
@@ -93,7 +87,7 @@ abbrev pub kind_text : LineKind → List (ℕ × ℕ) → List Amount → List �
 kind_text kind pairs xs = body_text (amount_lines (line_at kind pairs) 0 xs)
 
 flow_is : (pairs : List (ℕ × ℕ)) (flow : FlowView) (xs ys zs : List Amount) → xs ≡ flow.source → ys ≡ flow.rest → zs ≡ flow.sink → kind_text Source pairs xs ++ (kind_text Rest pairs ys ++ kind_text Sink pairs zs) ≡ body_text (flow_lines pairs flow)
-flow_is pairs flow xs ys zs e f g = grind (arith, common_steps, kind_text, flow_parts)
+flow_is pairs flow xs ys zs e f g = grind (arith, common_steps, kind_text, body_append)
 
 pub flow_first_failed : (pairs : List (ℕ × ℕ)) (flow : FlowView) (xs : List Amount) (a b : Option (List ℕ)) (p : List ℕ) → xs ≡ flow.source → ReceivedPrefix a b (p ++ kind_text Source pairs xs) → ReceivedPrefix a b (p ++ body_text (flow_lines pairs flow))
 flow_first_failed pairs flow xs a b p e h = first_failed a b p (kind_text Source pairs xs) (kind_text Rest pairs flow.rest) (kind_text Sink pairs flow.sink) _ (flow_is pairs flow xs flow.rest flow.sink e refl refl) h

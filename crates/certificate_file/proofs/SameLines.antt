@@ -52,10 +52,6 @@ tells_sink n has b l m p q g h above = grind (arith, common_steps)
 pub tells_rest : (n : ℕ) (has : ℕ → ℕ → Bool) (r : ℕ × ℕ) → Tells (Proper n has) (gives_rest r)
 tells_rest n has r l m p q g h above = grind (arith, common_steps)
 
--- Lines with the same parts.
-same_line : (l m : BodyLine) → l.kind ≡ m.kind → l.block ≡ m.block → l.other ≡ m.other → amount_of l ≡ amount_of m → l ≡ m
-same_line l m a b c d = λ i. record { kind = a i; block = b i; other = c i; worth = (d i).w; count = (d i).c }
-
 -- An amount that one list gives, the other gives.
 given_too : (n : ℕ) (has : ℕ → ℕ → Bool) (gives : BodyLine → Bool) (p q : Option BodyLine) (ls ms : List BodyLine) (l : BodyLine) (x : Amount) → Tells (Proper n has) gives → InOrder (Proper n has) p ls → InOrder (Proper n has) q ms → Has l ls → gives l ≡ true → carries l.kind ≡ true
     → x ≡ given_amount gives zero_amount ls → x ≡ given_amount gives zero_amount ms → Found gives (amount_of l) ms
@@ -84,9 +80,6 @@ record InPit (b : ℕ) (ls : List BodyLine) : Type 0 where
   kind_is : line.kind ≡ Pit
   block_is : line.block ≡ b
 
-pit_later : (b : ℕ) (m : BodyLine) (ms : List BodyLine) → InPit b ms → InPit b (m ∷ ms)
-pit_later b m ms f = record { line = f.line; held = inr f.held; kind_is = f.kind_is; block_is = f.block_is }
-
 pit_found_at : (b : ℕ) (m : BodyLine) (ms : List BodyLine) (k : LineKind) → m.kind ≡ k → (HasBlock b (pit_of ms) → InPit b ms) → HasBlock b (block_if_pit k m.block (pit_of ms)) → InPit b (m ∷ ms)
 pit_found_at b m ms k e ih h = grind (arith, common_steps)
 
@@ -109,7 +102,7 @@ record Said (n : ℕ) (pairs : List (ℕ × ℕ)) (blocks : List ℕ) (flow : Fl
   says : Denotes n pairs ls blocks flow
 
 is_same : (n : ℕ) (has : ℕ → ℕ → Bool) (q : Option BodyLine) (ms : List BodyLine) (l m : BodyLine) → Has m ms → m.kind ≡ l.kind → m.block ≡ l.block → m.other ≡ l.other → amount_of m ≡ amount_of l → Has l ms
-is_same n has q ms l m h a b c d = subst (λ (x : BodyLine). Has x ms) (same_line m l a b c d) h
+is_same n has q ms l m h a b c d = subst (λ (x : BodyLine). Has x ms) (λ i. record { kind = a i; block = b i; other = c i; worth = (d i).w; count = (d i).c }) h
 
 moved : (n : ℕ) (pairs : List (ℕ × ℕ)) (blocks : List ℕ) (flow : FlowView) (p q : Option BodyLine) (ls ms : List BodyLine) → Said n pairs blocks flow p ls → Said n pairs blocks flow q ms → (l : BodyLine) (k : LineKind) → l.kind ≡ k → Has l ls → Has l ms
 moved n pairs blocks flow p q ls ms s t l Pit e h =

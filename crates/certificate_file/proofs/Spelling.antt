@@ -1,22 +1,20 @@
 -- A text without a fault is spelled as its lines are.
-use Rattle.std.proofs.Common.{◌≡◌, ℕ, ◌+◌, Bool, true, false, cond, ltb, ℤ, pos, negsuc, List, [], ◌∷◌, ◌++◌, length, Option, Some, None, Result, Ok, Err, refl, sym, ap, ◌∙◌, subst, append_assoc, arith}
+use Rattle.std.proofs.Common.{◌≡◌, ℕ, ◌+◌, Bool, true, cond, ℤ, pos, List, [], ◌∷◌, ◌++◌, Option, Some, None, Result, Ok, Err, refl, sym, ap, ◌∙◌, arith}
 use Rattle.std.specs.Prelude.{unwrap_or}
 use Rattle.std.specs.Fmt.{decimal, signed_decimal}
 use Rattle.std.proofs.lemmas.Slice.Eq.{bytes_eq-Decides}
 use lib.Chars.{codes}
-use Rattle.fixed_worth.specs.declared.limits.TheConstants.{LINE_BYTES}
 use Rattle.fixed_worth.specs.declared.numerals.NumberFault.{NumberFault}
 use Rattle.fixed_worth.specs.Numeral.{plain_of}
 use Rattle.fixed_worth.proofs.PlainNumbers.{one_spelling}
 use Rattle.certificate_file.specs.declared.cert_fault.CertFault.{CertFault}
 use Rattle.certificate_file.specs.declared.cert_fault.CertFault.TheVariants as fault
 use Rattle.certificate_file.specs.declared.cert_fault.LineFault.{LineFault}
-use Rattle.certificate_file.specs.declared.cert_fault.LineFault.TheVariants.{Text}
 use Rattle.certificate_file.specs.declared.body_lines.LineKind.{LineKind}
 use Rattle.certificate_file.specs.declared.body_lines.LineKind.TheVariants.{Pit, Source, Rest, Sink, End}
 use Rattle.certificate_file.specs.declared.body_lines.BodyLine.{BodyLine}
-use Rattle.certificate_file.specs.Pieces.{Piece, within, number_below, words_of, read_line, piece_fault, in_line, unless_fault}
-use Rattle.certificate_file.specs.BodyLines.{kind_of, is_amount, amount_said, amount_in, pit_line, block_line, rest_line, end_line, line_with, line_of_words, line_of, is_end, next_line, end_fault, fault_from, body_fault, lines_from, lines_of_pieces}
+use Rattle.certificate_file.specs.Pieces.{Piece, number_below, words_of, read_line}
+use Rattle.certificate_file.specs.BodyLines.{kind_of, amount_said, amount_in, pit_line, block_line, rest_line, line_with, line_of_words, line_of, is_end, next_line, end_fault, fault_from, body_fault, lines_from, lines_of_pieces}
 use Rattle.certificate_file.specs.Written.{spaced_words, words_with, line_words, body_text, end_text}
 use Rattle.certificate_file.proofs.Texts.{pieces_text, words_make_line}
 use Rattle.certificate_file.proofs.Going.{numbered, text_read, no_line_is}
@@ -34,28 +32,18 @@ key_word End = codes "END"
 named : (key word : List ℕ) (k j : LineKind) → word ≡ key_word j → Some j ≡ Some k → key ≡ word → key ≡ key_word k
 named key word k j w e h = h ∙ w ∙ ap key_word (ap (λ (o : Option LineKind). unwrap_or o k) e)
 
-key_at : (key : List ℕ) (k : LineKind) (t u v w x : Bool) → (t ≡ true → key ≡ codes "PIT") → (u ≡ true → key ≡ codes "SOURCE") → (v ≡ true → key ≡ codes "REST") → (w ≡ true → key ≡ codes "SINK") → (x ≡ true → key ≡ codes "END")
-    → cond t (Some Pit) (cond u (Some Source) (cond v (Some Rest) (cond w (Some Sink) (cond x (Some End) None)))) ≡ Some k → key ≡ key_word k
-key_at key k t u v w x a b c d e h = grind (arith, common_steps)
-
 pub key_is : (key : List ℕ) (k : LineKind) → kind_of key ≡ Some k → key ≡ key_word k
-key_is key k h = grind (arith, common_steps, key_at, bytes_eq-Decides)
+key_is key k h = grind (arith, common_steps, bytes_eq-Decides)
 
 -- Numbers are spelled as they are printed.
 below_at : (word : List ℕ) (limit j k : ℕ) (t : Bool) → plain_of word ≡ Ok (pos j) → cond t (Some j) None ≡ Some k → word ≡ decimal k
 below_at word limit j k t e h = grind (arith, common_steps, (one_spelling word (pos j) e))
 
-within_is : (word : List ℕ) (limit k : ℕ) (r : Result ℤ NumberFault) → plain_of word ≡ r → within limit r ≡ Some k → word ≡ decimal k
-within_is word limit k r e h = grind (arith, common_steps, below_at)
-
 pub number_is : (word : List ℕ) (limit k : ℕ) → number_below limit word ≡ Some k → word ≡ decimal k
-number_is word limit k h = within_is word limit k (plain_of word) refl h
-
-amount_at_test : (v w : List ℕ) (x y : ℤ) (a : ℤ × ℤ) (t : Bool) → plain_of v ≡ Ok x → plain_of w ≡ Ok y → cond t (Some (x, y)) None ≡ Some a → (v ≡ signed_decimal a.0) × (w ≡ signed_decimal a.1)
-amount_at_test v w x y a t e f h = grind (arith, common_steps, one_spelling)
+number_is word limit k h = grind (arith, common_steps, below_at)
 
 amount_of_words : (counts : Bool) (v w : List ℕ) (a : ℤ × ℤ) (r s : Result ℤ NumberFault) → plain_of v ≡ r → plain_of w ≡ s → amount_said counts r s ≡ Some a → (v ≡ signed_decimal a.0) × (w ≡ signed_decimal a.1)
-amount_of_words counts v w a (Ok x) (Ok y) e f h = amount_at_test v w x y a (is_amount counts x y) e f h
+amount_of_words counts v w a (Ok x) (Ok y) e f h = grind (arith, common_steps, one_spelling)
 amount_of_words counts v w a (Ok x) (Err y) e f h = absurd cc
 amount_of_words counts v w a (Err x) (Ok y) e f h = absurd cc
 amount_of_words counts v w a (Err x) (Err y) e f h = absurd cc
@@ -72,11 +60,8 @@ block_words counts n kind words l e h = grind (arith, common_steps, no_line_is, 
 rest_words : (counts : Bool) (n : ℕ) (words : List (List ℕ)) (l : BodyLine) → rest_line counts n words ≡ Ok l → key_word Rest ∷ words ≡ line_words l
 rest_words counts n words l h = grind (arith, common_steps, no_line_is, numbered, amount_is, number_is)
 
-end_words : (words : List (List ℕ)) (l : BodyLine) → end_line words ≡ Ok l → key_word End ∷ words ≡ line_words l
-end_words words l h = grind (arith, common_steps)
-
 kind_words : (counts : Bool) (n : ℕ) (k : LineKind) (words : List (List ℕ)) (l : BodyLine) → line_with counts n (Some k) words ≡ Ok l → key_word k ∷ words ≡ line_words l
-kind_words counts n k words l h = grind (arith, common_steps, pit_words, block_words, rest_words, end_words)
+kind_words counts n k words l h = grind (arith, common_steps, pit_words, block_words, rest_words)
 
 keyed_words : (counts : Bool) (n : ℕ) (key : List ℕ) (words : List (List ℕ)) (l : BodyLine) (o : Option LineKind) → kind_of key ≡ o → line_with counts n o words ≡ Ok l → key ∷ words ≡ line_words l
 keyed_words counts n key words l (Some k) e h = ap (λ (w : List ℕ). w ∷ words) (key_is key k e) ∙ kind_words counts n k words l h
@@ -88,15 +73,8 @@ line_words_are counts n words l h = grind (arith, common_steps, no_line_is, keye
 pub line_is : (counts : Bool) (n : ℕ) (text : List ℕ) (l : BodyLine) → line_of counts n text ≡ Ok l → text ≡ spaced_words (line_words l)
 line_is counts n text l h = sym (words_make_line text) ∙ ap spaced_words (line_words_are counts n (words_of text) l h)
 
--- A line that is read ends in a line feed.
-ends_so : (k : ℕ) (p : Piece) (long ended : Bool) → cond long (Some (fault.Text k)) (cond ended None (Some fault.Truncated)) ≡ None → ended ≡ true
-ends_so k p long ended h = grind (arith, common_steps)
-
-no_fault_of : {A : Type 0} (o : Option CertFault) (r : Result A CertFault) (x : A) → unless_fault o r ≡ Ok x → o ≡ None
-no_fault_of o r x h = grind (arith, common_steps)
-
 pub read_ends : {A : Type 0} (f : List ℕ → Result A LineFault) (k : ℕ) (p : Piece) (x : A) → read_line f k p ≡ Ok x → p.ended ≡ true
-read_ends f k p x h = ends_so k p (ltb LINE_BYTES (length p.text)) p.ended (no_fault_of (piece_fault k p) (in_line k (f p.text)) x h)
+read_ends f k p x h = grind (arith, common_steps)
 
 pub piece_text : (p : Piece) (ps : List Piece) (line : List ℕ) → p.ended ≡ true → p.text ≡ line → pieces_text (p ∷ ps) ≡ line ++ (10 ∷ pieces_text ps)
 piece_text p ps line e f = rw (e, f) refl

@@ -1,15 +1,13 @@
 -- Pieces and words make up their text again, and a text that is made of lines of words has these lines and words.
-use Rattle.std.proofs.Common.{◌≡◌, ℕ, suc, ◌+◌, ◌<◌, Bool, true, false, cond, not, eqb, List, [], ◌∷◌, ◌++◌, length, refl, sym, ap, ◌∙◌, arith}
+use Rattle.std.proofs.Common.{◌≡◌, ℕ, ◌+◌, ◌<◌, Bool, true, false, cond, not, eqb, List, [], ◌∷◌, ◌++◌, refl, arith}
 use Rattle.std.proofs.lemmas.Bool.{and_parts}
-use Rattle.std.specs.Prelude.{◌&&◌, ◌%◌, ◌^◌, ℤ, pos, negsuc, FitsSigned}
+use Rattle.std.specs.Prelude.{◌&&◌, ◌^◌, ℤ, FitsSigned}
 use Rattle.std.specs.Int.{w128}
-use Rattle.std.proofs.lemmas.Int.{ints}
 use Rattle.std.specs.List.{onto_first, list_all}
 use Rattle.std.specs.Fmt.{decimal, signed_decimal}
 use Rattle.std.proofs.lemmas.Bool.Decides.{nat_tests}
 use Rattle.std.proofs.lemmas.List.Folds.{list_all-append}
 use Rattle.std.proofs.lemmas.Fmt.{decimal_by_steps_wide}
-use Rattle.fixed_worth.proofs.Parts.{some_part}
 use Rattle.certificate_file.specs.Pieces.{Piece, onto_piece, pieces_of, words_of}
 use Rattle.certificate_file.specs.Written.{spaced_words}
 use Rattle.std.proofs.lemmas.Grind.{common_steps}
@@ -19,21 +17,12 @@ abbrev pub pieces_text : List Piece → List ℕ
 pieces_text [] = []
 pieces_text (p ∷ ps) = p.text ++ cond p.ended (10 ∷ pieces_text ps) (pieces_text ps)
 
-onto_text : (b : ℕ) (ps : List Piece) → pieces_text (onto_piece b ps) ≡ b ∷ pieces_text ps
-onto_text b ps = grind (arith, common_steps)
-
 pieces_at : (b : ℕ) (bs : List ℕ) (t : Bool) → eqb b 10 ≡ t → pieces_text (pieces_of bs) ≡ bs → pieces_text (cond t (record { text = []; ended = true } ∷ pieces_of bs) (onto_piece b (pieces_of bs))) ≡ b ∷ bs
 pieces_at b bs t e ih = grind (arith, common_steps)
 
 pub pieces_make_text : (bs : List ℕ) → pieces_text (pieces_of bs) ≡ bs
 pieces_make_text [] = refl
 pieces_make_text (b ∷ bs) = pieces_at b bs (eqb b 10) refl (pieces_make_text bs)
-
-onto_spaced : (b : ℕ) (ws : List (List ℕ)) → spaced_words (onto_first b ws) ≡ b ∷ spaced_words ws
-onto_spaced b ws = grind (arith, common_steps)
-
-spaced_behind : (w : List ℕ) (ws : List (List ℕ)) → 0 < length ws → spaced_words (w ∷ ws) ≡ w ++ (32 ∷ spaced_words ws)
-spaced_behind w ws h = grind (arith, common_steps)
 
 words_at : (b : ℕ) (bs : List ℕ) (t : Bool) → eqb b 32 ≡ t → spaced_words (words_of bs) ≡ bs → spaced_words (cond t ([] ∷ words_of bs) (onto_first b (words_of bs))) ≡ b ∷ bs
 words_at b bs t e ih = grind (arith, common_steps)
@@ -93,11 +82,8 @@ spaced_no_feed w (v ∷ ws) h = grind (arith, common_steps, and_parts, list_all-
 digit_is : (n : ℕ) → n < 10 → is_word ((48 + n) ∷ []) ≡ true
 digit_is n h = grind (arith, nat_tests)
 
-more_digits : (n : ℕ) (ds : List ℕ) → is_word ds ≡ true → is_word (ds ++ ((48 + n % 10) ∷ [])) ≡ true
-more_digits n ds h = grind (arith, common_steps)
-
 pub decimal_is_word : (n : ℕ) → n < 10 ^ 64 → is_word (decimal n) ≡ true
-decimal_is_word n h = decimal_by_steps_wide (λ m ds. is_word ds ≡ true) digit_is (λ m ds i w. more_digits m ds w) n h
+decimal_is_word n h = decimal_by_steps_wide (λ m ds. is_word ds ≡ true) digit_is (λ m ds i w. grind (arith, common_steps)) n h
 
 pub signed_is_word : (z : ℤ) → FitsSigned w128 z → is_word (signed_decimal z) ≡ true
 signed_is_word z h = grind (arith, common_steps, decimal_is_word)

@@ -9,13 +9,12 @@ use Rattle.std.specs.declared.cmp.Ordering.{Ordering}
 use Rattle.std.specs.declared.cmp.Ordering.TheVariants.{Less, Equal}
 use Rattle.ordered_group.specs.Amount.{Amount, zero_amount, is_zero}
 use Rattle.ordered_group.specs.Sums.{amount_at}
-use Rattle.ordered_group.proofs.Order.{is_eq_tells}
 use Rattle.prec_file.proofs.Pairs.{tells_pair, pair_told}
 use Rattle.prec_file.specs.Rests.{IsRising, IsKnown}
 use Rattle.closure_net.specs.Network.{FlowView, IsAscending}
 use Rattle.closure_net.proofs.Ascending.{tail_ascends}
 use Rattle.certificate_file.specs.declared.body_lines.LineKind.{LineKind}
-use Rattle.certificate_file.specs.declared.body_lines.LineKind.TheVariants.{Pit, Source, Rest, Sink, End}
+use Rattle.certificate_file.specs.declared.body_lines.LineKind.TheVariants.{Pit, Source, Rest, Sink}
 use Rattle.certificate_file.specs.declared.body_lines.BodyLine.{BodyLine}
 use Rattle.certificate_file.specs.BodyLines.{rank, is_end, may_follow, is_of_model}
 use Rattle.certificate_file.specs.Certificate.{Covers, Denotes, has_pair, pit_of, block_if_pit, amount_of, given_amount, gives_source, gives_rest, gives_sink}
@@ -45,12 +44,6 @@ higher r p l u h = grind (arith, common_steps)
 block_step : (k : LineKind) (a b : ℕ) (x y : Amount) → a < b → may_follow (Some (line_of_block k a x)) (line_of_block k b y) ≡ true
 block_step k a b x y h = same_first (rank k) (ordering_then (nat_cmp a b) (nat_cmp 0 0)) (lower_first a b (nat_cmp 0 0) h)
 
-pit_step : (a b : ℕ) → a < b → may_follow (Some (pit_at a)) (pit_at b) ≡ true
-pit_step a b h = same_first 0 (ordering_then (nat_cmp a b) (nat_cmp 0 0)) (lower_first a b (nat_cmp 0 0) h)
-
-pair_step : (ps : List (ℕ × ℕ)) (i j : ℕ) (x y : Amount) → IsRising ps → i < j → j < length ps → may_follow (Some (pair_at ps i x)) (pair_at ps j y) ≡ true
-pair_step ps i j x y r h l = grind (arith, common_steps)
-
 -- PIT lines before others.
 abbrev FirstFollows : Option BodyLine → List ℕ → Type 0
 FirstFollows p [] = Unit {0}
@@ -58,7 +51,7 @@ FirstFollows p (b ∷ bs) = may_follow p (pit_at b) ≡ true
 
 next_follows : (b : ℕ) (bs : List ℕ) → IsAscending (b ∷ bs) → FirstFollows (Some (pit_at b)) bs
 next_follows b [] h = tt
-next_follows b (c ∷ cs) h = pit_step b c (h 0 1 (omega arith) (omega arith))
+next_follows b (c ∷ cs) h = same_first 0 (ordering_then (nat_cmp b c) (nat_cmp 0 0)) (lower_first b c (nat_cmp 0 0) (h 0 1 (omega arith) (omega arith)))
 
 pits : (P : BodyLine → Type 0) (bs : List ℕ) (p : Option BodyLine) (rest : List BodyLine) → IsAscending bs → FirstFollows p bs → ((i : ℕ) → i < length bs → P (pit_at (get_or bs i 0))) → UpTo 0 p → ((q : Option BodyLine) → UpTo 0 q → InOrder P q rest) → InOrder P p (map pit_at bs ++ rest)
 pits P [] p rest a f e u c = c p u
@@ -91,7 +84,7 @@ pub record EachLine (P : BodyLine → Type 0) (pairs : List (ℕ × ℕ)) (block
 pub value_in_order : (P : BodyLine → Type 0) (n : ℕ) (pairs : List (ℕ × ℕ)) (pit : List ℕ) (flow : FlowView) → IsAscending pit → IsRising pairs → Covers n (length pairs) flow → EachLine P pairs pit flow → InOrder P None (value_lines pairs pit flow)
 value_in_order P n pairs pit flow a r c e =
     let sources : Rises (line_of_block Source) n 1 = record { step = λ i j x y h l. block_step Source i j x y h; rank_is = λ i x. omega arith } in
-    let rests : Rises (pair_at pairs) (length pairs) 2 = record { step = λ i j x y h l. pair_step pairs i j x y r h l; rank_is = λ i x. omega arith } in
+    let rests : Rises (pair_at pairs) (length pairs) 2 = record { step = λ i j x y h l. grind (arith, common_steps); rank_is = λ i x. omega arith } in
     let sinks : Rises (line_of_block Sink) n 3 = record { step = λ i j x y h l. block_step Sink i j x y h; rank_is = λ i x. omega arith } in
     let last : (q : Option BodyLine) → UpTo 2 q → InOrder P q (amount_lines (line_of_block Sink) 0 flow.sink) = λ q u.
     subst (InOrder P q) (append-nil (amount_lines (line_of_block Sink) 0 flow.sink)) (amounts P (line_of_block Sink) n 3 sinks flow.sink 0 q [] (omega (arith, c.sinks)) (λ j x g h. higher 2 q (line_of_block Sink j x) u (omega arith)) e.sink (wider 2 3 q (omega arith) u) (λ p v. tt)) in
@@ -109,10 +102,6 @@ given_amount-append gives x (l ∷ ls) ms = given_amount-append gives (cond (giv
 pits_give_nothing : (gives : BodyLine → Bool) (x : Amount) (bs : List ℕ) → ((b : ℕ) → gives (pit_at b) ≡ false) → given_amount gives x (map pit_at bs) ≡ x
 pits_give_nothing gives x [] f = refl
 pits_give_nothing gives x (b ∷ bs) f = ap (λ (t : Bool). given_amount gives (cond t (amount_of (pit_at b)) x) (map pit_at bs)) (f b) ∙ pits_give_nothing gives x bs f
-
--- One line of amounts, by whether it is written.
-line_given : (gives : BodyLine → Bool) (line : ℕ → Amount → BodyLine) (k : ℕ) (x y : Amount) (ls : List BodyLine) (t : Bool) → given_amount gives y (cond t ls (line k x ∷ ls)) ≡ given_amount gives (cond t y (cond (gives (line k x)) (amount_of (line k x)) y)) ls
-line_given gives line k x y ls t = grind (arith, common_steps)
 
 amounts_give_nothing : (gives : BodyLine → Bool) (line : ℕ → Amount → BodyLine) (top : ℕ) (xs : List Amount) (k : ℕ) (y : Amount) → k + length xs ≤ top → ((j : ℕ) (x : Amount) → k ≤ j → j < top → gives (line j x) ≡ false) → given_amount gives y (amount_lines line k xs) ≡ y
 amounts_give_nothing gives line top [] k y l f = refl
@@ -132,7 +121,7 @@ amount_given gives line top i o [] k j l e h = absurd (omega arith)
 amount_given gives line top i o (x ∷ xs) k zero l e h =
     let here : i ≡ k = omega arith in
     let so : gives (line k x) ≡ true = subst (λ (m : ℕ). gives (line m x) ≡ true) here (o.mine x) in
-    line_given gives line k x zero_amount (amount_lines line (k + 1) xs) (is_zero x)
+    grind (arith, common_steps)
     ∙ ap (λ (a : Amount). given_amount gives a (amount_lines line (k + 1) xs)) (own_given x (is_zero x) (gives (line k x)) (amount_of (line k x)) refl so (o.same k x))
     ∙ amounts_give_nothing gives line top xs (k + 1) x (omega arith) (λ m y g f. o.others m y (λ s. omega (arith, s)) f)
 amount_given gives line top i o (x ∷ xs) k (suc j) l e h = grind (arith, common_steps, (amount_given gives line top i o xs (k + 1) j (omega arith) (omega arith) (omega arith)))
@@ -149,15 +138,9 @@ pit_of_pits : (bs : List ℕ) → pit_of (map pit_at bs) ≡ bs
 pit_of_pits [] = refl
 pit_of_pits (b ∷ bs) = ap (λ (xs : List ℕ). b ∷ xs) (pit_of_pits bs)
 
-no_pit_at : (l : BodyLine) (ls : List BodyLine) (t : Bool) → block_if_pit l.kind l.block (pit_of ls) ≡ pit_of ls → pit_of (cond t ls (l ∷ ls)) ≡ pit_of ls
-no_pit_at l ls t e = grind (arith, common_steps)
-
 no_pit : (line : ℕ → Amount → BodyLine) → ((k : ℕ) (x : Amount) (bs : List ℕ) → block_if_pit (line k x).kind (line k x).block bs ≡ bs) → (k : ℕ) (xs : List Amount) → pit_of (amount_lines line k xs) ≡ []
 no_pit line f k [] = refl
-no_pit line f k (x ∷ xs) = no_pit_at (line k x) (amount_lines line (k + 1) xs) (is_zero x) (f k x (pit_of (amount_lines line (k + 1) xs))) ∙ no_pit line f (k + 1) xs
-
-pit_is : (pairs : List (ℕ × ℕ)) (pit : List ℕ) (flow : FlowView) → pit ≡ pit_of (value_lines pairs pit flow)
-pit_is pairs pit flow = grind (arith, common_steps, pit_append, no_pit, append-nil, pit_of_pits)
+no_pit line f k (x ∷ xs) = (grind (arith, common_steps)) ∙ no_pit line f (k + 1) xs
 
 four_parts : (gives : BodyLine → Bool) (hs ls ms ns : List BodyLine) → given_amount gives zero_amount (hs ++ (ls ++ (ms ++ ns))) ≡ given_amount gives (given_amount gives (given_amount gives (given_amount gives zero_amount hs) ls) ms) ns
 four_parts gives hs ls ms ns = given_amount-append gives zero_amount hs (ls ++ (ms ++ ns)) ∙ given_amount-append gives (given_amount gives zero_amount hs) ls (ms ++ ns) ∙ given_amount-append gives (given_amount gives (given_amount gives zero_amount hs) ls) ms ns
@@ -185,7 +168,7 @@ value_says n pairs pit flow r c =
     let m = amount_lines (pair_at pairs) 0 flow.rest in
     let t = amount_lines (line_of_block Sink) 0 flow.sink in
     record {
-      pit = pit_is pairs pit flow;
+      pit = grind (arith, common_steps, pit_append, no_pit, append-nil, pit_of_pits);
       covers = c;
       source = λ b h.
           let g = gives_source b in
