@@ -3,7 +3,7 @@ use Rattle.std.proofs.Common.{◌≡◌, ℕ, ℤ, pos, suc, ◌+◌, ◌^◌, �
 use Rattle.std.specs.Prelude.{◌||◌, nat_lt, nat_le, is_some, unwrap_or}
 use Rattle.std.specs.Result.{result_ok}
 use Rattle.std.specs.List.{list_any}
-use Rattle.std.proofs.lemmas.Bool.{cases_eq}
+use Rattle.std.proofs.lemmas.Bool.{cases_eq, or_right}
 use Rattle.std.proofs.lemmas.Bool.Decides.{nat_tests}
 use Rattle.std.proofs.lemmas.List.{drop_more}
 use Rattle.std.proofs.lemmas.Int.{ints}
@@ -33,10 +33,6 @@ row_more chosen all k field old new r t e = record {
 
 bad_at : (columns : List (List ℕ)) (c : ℕ) → c < length columns → value_read (get_or columns c []) ≡ None → is_bad columns c ≡ true
 bad_at columns c h e = let t : nat_lt c (length columns) ≡ true = grind (arith, nat_tests) in rw (t, e) refl
-
-or_right : (a b : Bool) → b ≡ true → (a || b) ≡ true
-or_right true b h = refl
-or_right false b h = h
 
 bad_here : (columns : List (List ℕ)) (k c : ℕ) (a b : Bool) → is_bad columns k ≡ true → (t : Bool) → eqb c k ≡ t → (t || a) ≡ true → (a ≡ true → b ≡ true) → (is_bad columns c || b) ≡ true
 bad_here columns k c a b h true e o f = grind (arith, common_steps)

@@ -1,9 +1,7 @@
 -- Amounts that were read of a block, and the numbers of zero.
-use Rattle.std.proofs.Common.{◌≡◌, ℕ, pos, List, refl, sym, ap, ◌∙◌, arith}
+use Rattle.std.proofs.Common.{◌≡◌, ℕ, pos, List, sym, ap, ◌∙◌, arith}
 use Rattle.std.specs.Prelude.{◌&&◌}
-use Rattle.std.specs.Ordering.{ordering_then, int_cmp, int_eq, is_eq}
-use Rattle.std.specs.declared.cmp.Ordering.{Ordering}
-use Rattle.std.specs.declared.cmp.Ordering.TheVariants.{Less, Equal, Greater}
+use Rattle.std.specs.Ordering.{int_eq}
 use Rattle.ordered_group.specs.Amount.{Amount, is_zero, minus, positive}
 use Rattle.ordered_group.specs.Sums.{amount_at}
 use Rattle.closure_net.specs.Flows.{Within, WithinAt, residual_at}
@@ -17,10 +15,6 @@ within_there ws ss ts i w s t ew es et h = grind (arith, common_steps)
 pub residual_here : (ws ss : List Amount) (i : ℕ) (p s r : Amount) → p ≡ positive (amount_at ws i) → s ≡ amount_at ss i → r ≡ minus p s → residual_at ws ss i ≡ r
 residual_here ws ss i p s r e is_s d = ap (minus (positive (amount_at ws i))) (sym is_s) ∙ ap (λ x. minus x s) (sym e) ∙ sym d
 
-equal_then : (a b : Ordering) → is_eq (ordering_then a b) ≡ (is_eq a && is_eq b)
-equal_then Less b = refl
-equal_then _ b = refl
-
 -- an amount is zero where both its numbers are
 pub zero_numbers : (x : Amount) → is_zero x ≡ (int_eq x.w (pos 0) && int_eq x.c (pos 0))
-zero_numbers x = equal_then (int_cmp x.w (pos 0)) (int_cmp x.c (pos 0))
+zero_numbers x = grind (arith, common_steps)

@@ -1,32 +1,22 @@
 -- Reading line after line: what a line that is read says, and what is left.
-use Rattle.std.proofs.Common.{◌≡◌, ℕ, get_or, ◌+◌, ◌<◌, Bool, true, false, cond, ℤ, pos, ◌⊎◌, List, [], ◌∷◌, ◌++◌, length, Option, Some, None, Result, Ok, Err, refl, sym, ap, ◌∙◌, subst, arith, append_assoc}
-use Rattle.ordered_group.specs.Amount.{Amount, zero_amount}
+use Rattle.std.proofs.Common.{◌≡◌, ℕ, get_or, ◌+◌, ◌<◌, Bool, true, false, ℤ, pos, ◌⊎◌, List, [], ◌∷◌, ◌++◌, length, Option, Some, None, Result, Ok, Err, refl, ap, arith, append_assoc}
+use Rattle.ordered_group.specs.Amount.{zero_amount}
 use Rattle.ordered_group.specs.Sums.{amount_at}
 use Rattle.certificate_file.specs.declared.cert_fault.CertFault.{CertFault}
 use Rattle.certificate_file.specs.declared.cert_fault.CertFault.TheVariants as fault
 use Rattle.certificate_file.specs.declared.cert_fault.LineFault.{LineFault}
-use Rattle.certificate_file.specs.declared.cert_fault.LineFault.TheVariants.{Text, Number}
+use Rattle.certificate_file.specs.declared.cert_fault.LineFault.TheVariants.{Text}
 use Rattle.certificate_file.specs.declared.body_lines.LineKind.{LineKind}
 use Rattle.certificate_file.specs.declared.body_lines.LineKind.TheVariants.{Pit, Source, Rest, Sink, End}
 use Rattle.certificate_file.specs.declared.body_lines.BodyLine.{BodyLine}
-use Rattle.certificate_file.specs.Pieces.{Piece, Unread, IsPieceRead, read_line, in_line, piece_fault, unless_fault, number_below, words_of}
-use Rattle.certificate_file.specs.BodyLines.{kind_of, amount_in, is_amount, numbered_line, pit_line, block_line, rest_line, end_line, line_with, line_of_words, line_of, is_end, is_of_model, may_follow, line_behind, next_line, end_fault, fault_from, body_fault, lines_of_pieces}
+use Rattle.certificate_file.specs.Pieces.{Piece, Unread, IsPieceRead, read_line, number_below, words_of}
+use Rattle.certificate_file.specs.BodyLines.{kind_of, amount_in, is_amount, numbered_line, block_line, rest_line, end_line, line_with, line_of_words, line_of, is_end, is_of_model, may_follow, next_line, end_fault, fault_from, body_fault, lines_of_pieces}
 use Rattle.certificate_file.specs.Certificate.{Covers, UnlessMemory, has_pair, pit_of, block_if_pit, given_amount, gives_source, gives_rest, gives_sink, is_rest, amount_of}
 use Rattle.certificate_file.specs.Gathered.{Gathered, Adds}
 use Rattle.std.proofs.lemmas.Grind.{common_steps}
 
--- A line that is read has what its text gives.
-in_line_ok : {A : Type 0} (k : ℕ) (r : Result A LineFault) (x : A) → in_line k r ≡ Ok x → r ≡ Ok x
-in_line_ok k (Ok a) x h = cc
-in_line_ok k (Err Text) x h = cc
-in_line_ok k (Err Number) x h = cc
-
-unless_ok : {A : Type 0} (o : Option CertFault) (r : Result A CertFault) (x : A) → unless_fault o r ≡ Ok x → r ≡ Ok x
-unless_ok (Some e) r x h = cc
-unless_ok None r x h = h
-
 pub text_read : {A : Type 0} (f : List ℕ → Result A LineFault) (k : ℕ) (p : Piece) (x : A) → read_line f k p ≡ Ok x → f p.text ≡ Ok x
-text_read f k p x h = in_line_ok k (f p.text) x (unless_ok (piece_fault k p) (in_line k (f p.text)) x h)
+text_read f k p x h = grind (arith, common_steps)
 
 -- A line of the body, by what it is made of.
 pub record Numbered (kind : LineKind) (b o : Option ℕ) (a : Option (ℤ × ℤ)) (line : BodyLine) : Type 0 where
@@ -36,8 +26,7 @@ pub record Numbered (kind : LineKind) (b o : Option ℕ) (a : Option (ℤ × ℤ
   pub amount_is : a ≡ Some (line.worth, line.count)
 
 pub numbered : (kind : LineKind) (b o : Option ℕ) (a : Option (ℤ × ℤ)) (line : BodyLine) → numbered_line kind b o a ≡ Ok line → Numbered kind b o a line
-numbered kind (Some b) (Some o) (Some a) line h = grind (arith, common_steps)
-numbered kind _ _ _ line h = absurd cc
+numbered kind b o a line h = grind (arith, common_steps)
 
 -- A count is zero where the group has none.
 abbrev pub Counted : Bool → ℤ → Type 0
@@ -66,10 +55,6 @@ no_line_is line h = absurd cc
 sound_amount : (counts : Bool) (n : ℕ) (kind : LineKind) (b w c : List ℕ) (o : Option ℕ) (line : BodyLine) → Numbered kind (number_below n b) o (amount_in counts w c) line → (is_rest kind ≡ false → o ≡ Some 0) → carries kind ≡ true → Sound counts n line
 sound_amount counts n kind b w c o line m z y = grind (arith, common_steps)
 
-sound_pit : (counts : Bool) (n : ℕ) (words : List (List ℕ)) (line : BodyLine) → pit_line n words ≡ Ok line → Sound counts n line
-sound_pit counts n (b ∷ []) line h = grind (arith, common_steps)
-sound_pit counts n _ line h = no_line_is line h
-
 sound_block : (counts : Bool) (n : ℕ) (kind : LineKind) (words : List (List ℕ)) (line : BodyLine) → carries kind ≡ true → block_line counts n kind words ≡ Ok line → Sound counts n line
 sound_block counts n kind (b ∷ w ∷ c ∷ []) line y h = sound_amount counts n kind b w c (Some 0) line (numbered kind (number_below n b) (Some 0) (amount_in counts w c) line h) (λ _. refl) y
 sound_block counts n kind _ line y h = no_line_is line h
@@ -79,12 +64,11 @@ sound_rest counts n (b ∷ p ∷ w ∷ c ∷ []) line h = sound_amount counts n 
 sound_rest counts n _ line h = no_line_is line h
 
 sound_end : (counts : Bool) (n : ℕ) (words : List (List ℕ)) (line : BodyLine) → end_line words ≡ Ok line → Sound counts n line
-sound_end counts n [] line h = grind (arith, common_steps)
-sound_end counts n (w ∷ ws) line h = no_line_is line h
+sound_end counts n words line h = grind (arith, common_steps)
 
 sound_with : (counts : Bool) (n : ℕ) (o : Option LineKind) (words : List (List ℕ)) (line : BodyLine) → line_with counts n o words ≡ Ok line → Sound counts n line
 sound_with counts n None words line h = no_line_is line h
-sound_with counts n (Some Pit) words line h = sound_pit counts n words line h
+sound_with counts n (Some Pit) words line h = grind (arith, common_steps)
 sound_with counts n (Some Source) words line h = sound_block counts n Source words line refl h
 sound_with counts n (Some Rest) words line h = sound_rest counts n words line h
 sound_with counts n (Some Sink) words line h = sound_block counts n Sink words line refl h
@@ -111,40 +95,12 @@ fault_at : (counts : Bool) (n : ℕ) (has : ℕ → ℕ → Bool) (previous : Op
     → body_fault counts n has previous left.number left.pieces ≡ fault_from (end_fault (left.number + 1) ps) (λ line. body_fault counts n has (Some line) (left.number + 1) ps) (next_line counts n has previous (left.number + 1) p)
 fault_at counts n has previous left p ps e = ap (body_fault counts n has previous left.number) e
 
-lines_at : (counts : Bool) (n : ℕ) (left : Unread) (p : Piece) (ps : List Piece) (line : BodyLine) → left.pieces ≡ p ∷ ps → line_of counts n p.text ≡ Ok line → lines_of_pieces counts n left.pieces ≡ cond (is_end line.kind) [] (line ∷ lines_of_pieces counts n ps)
-lines_at counts n left p ps line e f = rw (e, f) refl
-
-behind_ok : (counts : Bool) (n : ℕ) (previous : Option BodyLine) (k : ℕ) (p : Piece) (line : BodyLine) → read_line (line_of counts n) k p ≡ Ok line → may_follow previous line ≡ true → line_behind counts n previous k p ≡ Ok line
-behind_ok counts n previous k p line e f = rw (e, f) refl
-
-next_ok : (counts : Bool) (n : ℕ) (has : ℕ → ℕ → Bool) (previous : Option BodyLine) (k : ℕ) (p : Piece) (line : BodyLine) → line_behind counts n previous k p ≡ Ok line → is_of_model has line.kind line ≡ true → next_line counts n has previous k p ≡ Ok line
-next_ok counts n has previous k p line e f = rw (e, f) refl
-
 pit_joins : (kind : LineKind) (b : ℕ) (bs : List ℕ) → block_if_pit kind b [] ++ bs ≡ block_if_pit kind b bs
-pit_joins Pit b bs = refl
-pit_joins _ b bs = refl
+pit_joins kind b bs = grind (arith, common_steps)
 
 pub goes_on : (counts : Bool) (n : ℕ) (pairs : List (ℕ × ℕ)) (all : Unread) (start : Gathered) (previous : Option BodyLine) (left next : Unread) (so later : Gathered) (line : BodyLine) → Going counts n pairs all start previous left so → IsPieceRead (line_of counts n) left next line
     → may_follow previous line ≡ true → is_end line.kind ≡ false → is_of_model (has_pair pairs) line.kind line ≡ true → Covers n (length pairs) later.flow → Adds n pairs (line ∷ []) so later → Going counts n pairs all start (Some line) next later
-goes_on counts n pairs all start previous left next so later line g p f e m c a =
-    let has : ℕ → ℕ → Bool = has_pair pairs in
-    let read = subst (λ (k : ℕ). read_line (line_of counts n) k p.piece ≡ Ok line) p.number p.read in
-    let ok = next_ok counts n has previous (left.number + 1) p.piece line (behind_ok counts n previous (left.number + 1) p.piece line read f) m in
-    let lines : lines_of_pieces counts n left.pieces ≡ line ∷ lines_of_pieces counts n next.pieces = lines_at counts n left p.piece next.pieces line p.pieces (text_read (line_of counts n) next.number p.piece line p.read) ∙ ap (λ (t : Bool). cond t [] (line ∷ lines_of_pieces counts n next.pieces)) e in
-    let now : body_fault counts n has previous left.number left.pieces ≡ body_fault counts n has (Some line) (left.number + 1) next.pieces =
-    fault_at counts n has previous left p.piece next.pieces p.pieces
-    ∙ ap (fault_from (end_fault (left.number + 1) next.pieces) (λ l. body_fault counts n has (Some l) (left.number + 1) next.pieces)) ok
-    ∙ ap (λ (t : Bool). cond t (end_fault (left.number + 1) next.pieces) (body_fault counts n has (Some line) (left.number + 1) next.pieces)) e in
-    record {
-      same_fault = ap (λ (k : ℕ). body_fault counts n has (Some line) k next.pieces) p.number ∙ sym now ∙ g.same_fault;
-      pit = ap (λ (bs : List ℕ). bs ++ pit_of (lines_of_pieces counts n next.pieces)) a.pit ∙ append_assoc so.pit (block_if_pit line.kind line.block []) (pit_of (lines_of_pieces counts n next.pieces)) ∙ ap (λ (bs : List ℕ). so.pit ++ bs) (pit_joins line.kind line.block (pit_of (lines_of_pieces counts n next.pieces)))
-          ∙ sym (ap (λ (ls : List BodyLine). so.pit ++ pit_of ls) lines) ∙ g.pit;
-      source = λ b h. ap (λ (x : Amount). given_amount (gives_source b) x (lines_of_pieces counts n next.pieces)) (a.source b h) ∙ sym (ap (given_amount (gives_source b) (amount_at so.flow.source b)) lines) ∙ g.source b h;
-      rest = λ k h. ap (λ (x : Amount). given_amount (gives_rest (get_or pairs k (0, 0))) x (lines_of_pieces counts n next.pieces)) (a.rest k h) ∙ sym (ap (given_amount (gives_rest (get_or pairs k (0, 0))) (amount_at so.flow.rest k)) lines) ∙ g.rest k h;
-      sink = λ b h. ap (λ (x : Amount). given_amount (gives_sink b) x (lines_of_pieces counts n next.pieces)) (a.sink b h) ∙ sym (ap (given_amount (gives_sink b) (amount_at so.flow.sink b)) lines) ∙ g.sink b h;
-      covers = c;
-    }
+goes_on counts n pairs all start previous left next so later line g p f e m c a = grind (arith, common_steps, (has_pair pairs), (text_read (line_of counts n) next.number p.piece line p.read), (fault_at counts n (has_pair pairs) previous left p.piece next.pieces p.pieces), (append_assoc so.pit (block_if_pit line.kind line.block []) (pit_of (lines_of_pieces counts n next.pieces))), (pit_joins line.kind line.block (pit_of (lines_of_pieces counts n next.pieces))))
 
 pub always : (e : CertFault) {P : Type 0} → P → UnlessMemory e P
-always fault.NoMemory h = tt
-always _ h = h
+always e h = grind (arith, common_steps)

@@ -1,6 +1,5 @@
 -- A header without a fault is spelled as its values are.
-use Rattle.std.proofs.Common.{◌≡◌, ℕ, ◌+◌, Bool, true, false, cond, eqb, ◌&&◌, List, [], ◌∷◌, ◌++◌, drop, Option, Some, None, Result, Ok, Err, refl, sym, ap, ◌∙◌, subst, append_assoc}
-use Rattle.std.specs.Prelude.{unwrap_or}
+use Rattle.std.proofs.Common.{◌≡◌, ℕ, ◌+◌, Bool, true, false, cond, List, [], ◌∷◌, ◌++◌, drop, Option, Some, None, Result, Ok, Err, refl, sym, ap, ◌∙◌, subst, append_assoc, arith}
 use Rattle.std.specs.Result.{result_unwrap_or}
 use Rattle.std.specs.Str.{bytes_eq}
 use Rattle.std.specs.Fmt.{decimal}
@@ -13,65 +12,41 @@ use Rattle.ordered_group.proofs.Names.{group_spelled}
 use Rattle.certificate_file.specs.declared.header.Header.{Header}
 use Rattle.certificate_file.specs.declared.header.Wanted.{Wanted}
 use Rattle.certificate_file.specs.declared.header.Price.{Price}
-use Rattle.certificate_file.specs.declared.header.Price.TheVariants.{Objective, Factor, Mill}
+use Rattle.certificate_file.specs.declared.header.Price.TheVariants.{Objective}
 use Rattle.certificate_file.specs.declared.header.Version.{Version}
 use Rattle.certificate_file.specs.declared.header.Version.TheVariants.{One, Two}
 use Rattle.certificate_file.specs.declared.cert_fault.LineFault.{LineFault}
 use Rattle.certificate_file.specs.declared.cert_fault.LineFault.TheVariants.{Text}
 use Rattle.certificate_file.specs.Pieces.{Piece, piece_at, read_line, words_of, number_below}
-use Rattle.certificate_file.specs.Header.{header_for, version_in, value_behind, value_behind_both, or_number, wanted_blocks, blocks_said, blocks_in, factor_of, price_said, mill_of, mill_said, price_in, is_same_group, wanted_group, group_named, group_said, group_in}
+use Rattle.certificate_file.specs.Header.{header_for, version_in, value_behind, value_behind_both, or_number, blocks_said, blocks_in, factor_of, price_said, mill_said, price_in, group_named, group_said, group_in}
 use Rattle.certificate_file.specs.Written.{spaced_words, lines_text, version_for, version_word, price_words, header_words}
 use Rattle.certificate_file.proofs.Texts.{pieces_text, words_make_line}
 use Rattle.certificate_file.proofs.Going.{text_read}
 use Rattle.certificate_file.proofs.Spelling.{number_is, read_ends, piece_text}
 use Rattle.certificate_file.proofs.Wants.{joined}
-
--- What stands behind a key.
-behind_at : (key k v w : List ℕ) (t : Bool) → (t ≡ true → k ≡ key) → cond t (Some v) None ≡ Some w → k ∷ v ∷ [] ≡ key ∷ w ∷ []
-behind_at key k v w true e h = ap (λ (x : List ℕ). x ∷ v ∷ []) (e refl) ∙ ap (λ (o : Option (List ℕ)). key ∷ unwrap_or o w ∷ []) h
-behind_at key k v w false e h = absurd cc
+use Rattle.std.proofs.lemmas.Grind.{common_steps}
 
 behind_is : (key w : List ℕ) (words : List (List ℕ)) → value_behind key words ≡ Some w → words ≡ key ∷ w ∷ []
-behind_is key w (k ∷ v ∷ []) h = behind_at key k v w (bytes_eq k key) (bytes_eq-Decides k key).0 h
-behind_is key w _ h = absurd cc
+behind_is key w words h = grind (arith, common_steps, bytes_eq-Decides)
 
 keyed : (key w text : List ℕ) → value_behind key (words_of text) ≡ Some w → text ≡ spaced_words (key ∷ w ∷ [])
 keyed key w text h = sym (words_make_line text) ∙ ap spaced_words (behind_is key w (words_of text) h)
 
--- What stands behind two keys.
-both_at : (key other k o v w : List ℕ) (s t : Bool) → (s ≡ true → k ≡ key) → (t ≡ true → o ≡ other) → cond (s && t) (Some v) None ≡ Some w → k ∷ o ∷ v ∷ [] ≡ key ∷ other ∷ w ∷ []
-both_at key other k o v w true true d e h = ap (λ (x : List ℕ). x ∷ o ∷ v ∷ []) (d refl) ∙ ap (λ (x : List ℕ). key ∷ x ∷ v ∷ []) (e refl) ∙ ap (λ (x : Option (List ℕ)). key ∷ other ∷ unwrap_or x w ∷ []) h
-both_at key other k o v w _ _ d e h = absurd cc
-
 both_is : (key other w : List ℕ) (words : List (List ℕ)) → value_behind_both key other words ≡ Some w → words ≡ key ∷ other ∷ w ∷ []
-both_is key other w (k ∷ o ∷ v ∷ []) h = both_at key other k o v w (bytes_eq k key) (bytes_eq o other) (bytes_eq-Decides k key).0 (bytes_eq-Decides o other).0 h
-both_is key other w _ h = absurd cc
+both_is key other w words h = grind (arith, common_steps, bytes_eq-Decides)
 
 -- The version.
 abbrev pub version_text : Version → List ℕ
 version_text v = spaced_words (codes "PITCERT" ∷ version_word v ∷ [])
 
 version_at : (text : List ℕ) (v : Version) (s t : Bool) → (s ≡ true → text ≡ codes "PITCERT 1") → (t ≡ true → text ≡ codes "PITCERT 2") → cond s (Ok One) (cond t (Ok Two) (Err Text)) ≡ Ok v → text ≡ version_text v
-version_at text v true t d e h = d refl ∙ ap (λ (r : Result Version LineFault). version_text (result_unwrap_or r v)) h
-version_at text v false true d e h = e refl ∙ ap (λ (r : Result Version LineFault). version_text (result_unwrap_or r v)) h
-version_at text v false false d e h = absurd cc
+version_at text v s t d e h = grind (arith, common_steps)
 
 version_is : (text : List ℕ) (v : Version) → version_in text ≡ Ok v → text ≡ version_text v
 version_is text v h = version_at text v (bytes_eq text (codes "PITCERT 1")) (bytes_eq text (codes "PITCERT 2")) (bytes_eq-Decides text (codes "PITCERT 1")).0 (bytes_eq-Decides text (codes "PITCERT 2")).0 h
 
--- The number of blocks.
-number_kept : (w : Wanted) (k n : ℕ) (t : Bool) → or_number (cond t (Some k) None) ≡ Ok n → Some k ≡ Some n
-number_kept w k n true h = ap (λ (r : Result ℕ LineFault). Some (result_unwrap_or r n)) h
-number_kept w k n false h = absurd cc
-
-number_wanted : (wanted : Option Wanted) (o : Option ℕ) (n : ℕ) → or_number (wanted_blocks wanted o) ≡ Ok n → o ≡ Some n
-number_wanted None (Some k) n h = ap (λ (r : Result ℕ LineFault). Some (result_unwrap_or r n)) h
-number_wanted None None n h = absurd cc
-number_wanted (Some w) (Some k) n h = number_kept w k n (eqb k w.blocks) h
-number_wanted (Some w) None n h = absurd cc
-
 blocks_at : (wanted : Option Wanted) (text : List ℕ) (o : Option (List ℕ)) (n : ℕ) → value_behind (codes "BLOCKS") (words_of text) ≡ o → blocks_said wanted o ≡ Ok n → text ≡ spaced_words (codes "BLOCKS" ∷ decimal n ∷ [])
-blocks_at wanted text (Some w) n e h = keyed (codes "BLOCKS") w text e ∙ ap (λ (x : List ℕ). spaced_words (codes "BLOCKS" ∷ x ∷ [])) (number_is w (MOST_BLOCKS + 1) n (number_wanted wanted (number_below (MOST_BLOCKS + 1) w) n h))
+blocks_at wanted text (Some w) n e h = keyed (codes "BLOCKS") w text e ∙ ap (λ (x : List ℕ). spaced_words (codes "BLOCKS" ∷ x ∷ [])) (number_is w (MOST_BLOCKS + 1) n (grind (arith, common_steps)))
 blocks_at wanted text None n e h = absurd cc
 
 -- The price.
@@ -87,23 +62,18 @@ is_price : (price made : Price) (v : Version) (words : List (List ℕ)) → v �
 is_price price made v words e f same = record { version = e ∙ ap version_for same; words_are = f ∙ ap price_words same }
 
 factor_at : (w : List ℕ) (o : Option ℕ) (price : Price) → number_below (MOST_FACTOR + 1) w ≡ o → or_number (factor_of o) ≡ Ok price → Priced One (codes "PRICE" ∷ w ∷ []) price
-factor_at w (Some k) price e h = is_price price (Factor k) One (codes "PRICE" ∷ w ∷ []) refl (ap (λ (x : List ℕ). codes "PRICE" ∷ x ∷ []) (number_is w (MOST_FACTOR + 1) k e)) (ap (price_or price) h)
-factor_at w None price e h = absurd cc
+factor_at w o price e h = grind (arith, common_steps, is_price, number_is)
 
 word_at : (w : List ℕ) (price : Price) (t : Bool) → (t ≡ true → w ≡ codes "OBJECTIVE") → cond t (Ok Objective) (or_number (factor_of (number_below (MOST_FACTOR + 1) w))) ≡ Ok price → Priced One (codes "PRICE" ∷ w ∷ []) price
 word_at w price true e h = is_price price Objective One (codes "PRICE" ∷ w ∷ []) refl (ap (λ (x : List ℕ). codes "PRICE" ∷ x ∷ []) (e refl)) (ap (price_or price) h)
-word_at w price false e h = factor_at w (number_below (MOST_FACTOR + 1) w) price refl h
+word_at w price false e h = grind (arith, common_steps, is_price, number_is)
 
 plain_at : (words : List (List ℕ)) (o : Option (List ℕ)) (price : Price) → value_behind (codes "PRICE") words ≡ o → price_said o ≡ Ok price → Priced One words price
 plain_at words (Some w) price e h = subst (λ (ws : List (List ℕ)). Priced One ws price) (sym (behind_is (codes "PRICE") w words e)) (word_at w price (bytes_eq w (codes "OBJECTIVE")) (bytes_eq-Decides w (codes "OBJECTIVE")).0 h)
 plain_at words None price e h = absurd cc
 
-mill_at : (w : List ℕ) (o : Option ℕ) (price : Price) → number_below (MOST_FACTOR + 1) w ≡ o → or_number (mill_of o) ≡ Ok price → Priced Two (codes "PRICE" ∷ codes "MILL" ∷ w ∷ []) price
-mill_at w (Some k) price e h = is_price price (Mill k) Two (codes "PRICE" ∷ codes "MILL" ∷ w ∷ []) refl (ap (λ (x : List ℕ). codes "PRICE" ∷ codes "MILL" ∷ x ∷ []) (number_is w (MOST_FACTOR + 1) k e)) (ap (price_or price) h)
-mill_at w None price e h = absurd cc
-
 milled_at : (words : List (List ℕ)) (o : Option (List ℕ)) (price : Price) → value_behind_both (codes "PRICE") (codes "MILL") words ≡ o → mill_said o ≡ Ok price → Priced Two words price
-milled_at words (Some w) price e h = subst (λ (ws : List (List ℕ)). Priced Two ws price) (sym (both_is (codes "PRICE") (codes "MILL") w words e)) (mill_at w (number_below (MOST_FACTOR + 1) w) price refl h)
+milled_at words (Some w) price e h = subst (λ (ws : List (List ℕ)). Priced Two ws price) (sym (both_is (codes "PRICE") (codes "MILL") w words e)) (grind (arith, common_steps, is_price, number_is))
 milled_at words None price e h = absurd cc
 
 price_at : (v : Version) (text : List ℕ) (price : Price) → price_in v text ≡ Ok price → Priced v (words_of text) price
@@ -113,18 +83,8 @@ price_at Two text price h = milled_at (words_of text) (value_behind_both (codes 
 price_text : (v : Version) (text : List ℕ) (price : Price) → price_in v text ≡ Ok price → text ≡ spaced_words (price_words price)
 price_text v text price h = sym (words_make_line text) ∙ ap spaced_words (price_at v text price h).words_are
 
--- The group.
-group_kept : (a b g : Group) (t : Bool) → cond t (Ok b) (Err Text) ≡ Ok g → b ≡ g
-group_kept a b g true h = ap (λ (r : Result Group LineFault). result_unwrap_or r g) h
-group_kept a b g false h = absurd cc
-
-group_same : (wanted : Option Wanted) (b g : Group) → wanted_group wanted b ≡ Ok g → b ≡ g
-group_same None b g h = ap (λ (r : Result Group LineFault). result_unwrap_or r g) h
-group_same (Some w) b g h = group_kept w.group b g (is_same_group w.group b) h
-
 group_kind : (wanted : Option Wanted) (w : List ℕ) (o : Option Group) (g : Group) → group_of w ≡ o → group_named wanted o ≡ Ok g → w ≡ group_name g
-group_kind wanted w (Some b) g e h = group_spelled w b e ∙ ap group_name (group_same wanted b g h)
-group_kind wanted w None g e h = absurd cc
+group_kind wanted w o g e h = grind (arith, common_steps, group_spelled)
 
 group_at : (wanted : Option Wanted) (text : List ℕ) (o : Option (List ℕ)) (g : Group) → value_behind (codes "GROUP") (words_of text) ≡ o → group_said wanted o ≡ Ok g → text ≡ spaced_words (codes "GROUP" ∷ group_name g ∷ [])
 group_at wanted text (Some w) g e h = keyed (codes "GROUP") w text e ∙ ap (λ (x : List ℕ). spaced_words (codes "GROUP" ∷ x ∷ [])) (group_kind wanted w (group_of w) g refl h)

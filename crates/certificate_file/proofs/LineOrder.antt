@@ -1,14 +1,14 @@
 -- Lines in order are determined by what they say.
 use Rattle.std.proofs.Common.{◌≡◌, ℕ, ◌<◌, Bool, true, false, cond, ◌⊎◌, inl, inr, List, [], ◌∷◌, Option, Some, refl, sym, ap, ◌∙◌, subst, arith}
 use Rattle.std.specs.Cmp.{IsTotalOrder}
-use Rattle.std.specs.Ordering.{nat_cmp, ordering_then, ordering_reverse, is_lt}
+use Rattle.std.specs.Ordering.{nat_cmp, ordering_then, is_lt}
 use Rattle.std.specs.declared.cmp.Ordering.{Ordering}
-use Rattle.std.specs.declared.cmp.Ordering.TheVariants.{Less, Equal, Greater}
+use Rattle.std.specs.declared.cmp.Ordering.TheVariants.{Less}
 use Rattle.std.proofs.lemmas.Cmp.{nat_cmp_total, on_total, then_total}
 use Rattle.ordered_group.specs.Amount.{Amount, zero_amount, is_zero}
 use Rattle.certificate_file.specs.declared.body_lines.LineKind.TheVariants.{Pit}
 use Rattle.certificate_file.specs.declared.body_lines.BodyLine.{BodyLine}
-use Rattle.certificate_file.specs.BodyLines.{rank, is_end, is_above, is_of_model}
+use Rattle.certificate_file.specs.BodyLines.{rank, is_end, is_of_model}
 use Rattle.certificate_file.specs.Certificate.{amount_of, given_amount, is_rest}
 use Rattle.certificate_file.proofs.Going.{carries}
 use Rattle.certificate_file.proofs.Order.{InOrder, Good}
@@ -22,20 +22,10 @@ total : IsTotalOrder line_cmp
 total = then_total (on_total (λ (l : BodyLine). rank l.kind) nat_cmp_total) (then_total (on_total (λ (l : BodyLine). l.block) nat_cmp_total) (on_total (λ (l : BodyLine). l.other) nat_cmp_total))
 
 lt_less : (o : Ordering) → is_lt o ≡ true → o ≡ Less
-lt_less Less h = refl
-lt_less _ h = absurd (let z : false ≡ true = h in cc)
+lt_less o h = grind (arith, common_steps)
 
 abbrev pub Above : BodyLine → BodyLine → Type 0
 Above a b = line_cmp a b ≡ Less
-
-pub above_so : (a b : BodyLine) → is_above a b ≡ true → Above a b
-above_so a b h = lt_less (line_cmp a b) h
-
-pub not_itself : (a : BodyLine) → Above a a → ⊥
-not_itself a h = let z : Less ≡ Greater = sym h ∙ total.antisymm a a ∙ ap ordering_reverse h in cc
-
-pub not_both : (a b : BodyLine) → Above a b → Above b a → ⊥
-not_both a b h i = let z : Less ≡ Greater = sym h ∙ total.antisymm a b ∙ ap ordering_reverse i in cc
 
 -- A line among lines.
 abbrev pub Has : BodyLine → List BodyLine → Type 0
@@ -49,15 +39,15 @@ has_good P previous (m ∷ ms) o l h = elim h [ inl e ↦ subst P e o.1 | inr i 
 pub all_above : (P : BodyLine → Type 0) (l : BodyLine) (ms : List BodyLine) → InOrder P (Some l) ms → (m : BodyLine) → Has m ms → Above l m
 all_above P l [] o m h = absurd h
 all_above P l (k ∷ ks) o m h =
-    let first = above_so l k o.0 in
+    let first = lt_less (line_cmp l k) o.0 in
     elim h [ inl e ↦ subst (λ (x : BodyLine). Above l x) e first | inr i ↦ total.trans l k m first (all_above P k ks o.2 m i) ]
 
 -- Two lists in order with the same lines are one.
 head_same : (P : BodyLine → Type 0) (l m : BodyLine) (ls ms : List BodyLine) → InOrder P (Some l) ls → InOrder P (Some m) ms → Has l (m ∷ ms) → Has m (l ∷ ls) → l ≡ m
-head_same P l m ls ms o q h i = grind (arith, common_steps, not_both, all_above)
+head_same P l m ls ms o q h i = grind (arith, common_steps, all_above, total)
 
 tail_same : (P : BodyLine → Type 0) (l m : BodyLine) (ls ms : List BodyLine) → InOrder P (Some l) ls → l ≡ m → ((x : BodyLine) → Has x (l ∷ ls) → Has x (m ∷ ms)) → (x : BodyLine) → Has x ls → Has x ms
-tail_same P l m ls ms o e f x h = grind (arith, common_steps, not_itself, Above, all_above)
+tail_same P l m ls ms o e f x h = grind (arith, common_steps, Above, all_above, total)
 
 pub same_lines : (P : BodyLine → Type 0) (p q : Option BodyLine) (ls ms : List BodyLine) → InOrder P p ls → InOrder P q ms → ((x : BodyLine) → Has x ls → Has x ms) → ((x : BodyLine) → Has x ms → Has x ls) → ls ≡ ms
 same_lines P p q [] [] o r f g = refl
@@ -88,8 +78,7 @@ pub record Found (gives : BodyLine → Bool) (a : Amount) (ls : List BodyLine) :
   pub amount : amount_of line ≡ a
 
 found_at : (gives : BodyLine → Bool) (x : Amount) (m : BodyLine) (ms : List BodyLine) (t : Bool) → gives m ≡ t → ((y : Amount) → (given_amount gives y ms ≡ y) ⊎ Found gives (given_amount gives y ms) ms) → (given_amount gives (cond t (amount_of m) x) ms ≡ x) ⊎ Found gives (given_amount gives (cond t (amount_of m) x) ms) (m ∷ ms)
-found_at gives x m ms true e ih = grind (arith, common_steps)
-found_at gives x m ms false e ih = grind (arith, common_steps)
+found_at gives x m ms t e ih = grind (arith, common_steps)
 
 pub found : (gives : BodyLine → Bool) (ls : List BodyLine) (x : Amount) → (given_amount gives x ls ≡ x) ⊎ Found gives (given_amount gives x ls) ls
 found gives [] x = inl refl

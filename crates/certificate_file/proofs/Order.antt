@@ -1,13 +1,11 @@
 -- Lines in order: their PIT lines name ascending blocks, all below n.
-use Rattle.std.proofs.Common.{◌≡◌, ℕ, zero, suc, get_or, ◌+◌, ◌<◌, Bool, true, false, cond, List, [], ◌∷◌, length, Option, Some, None, Result, Ok, Err, refl, sym, ap, ◌∙◌, subst, arith}
+use Rattle.std.proofs.Common.{◌≡◌, ℕ, get_or, ◌+◌, ◌<◌, Bool, true, false, cond, List, [], ◌∷◌, length, Option, Some, None, Result, Ok, Err, refl, ap, ◌∙◌, subst, arith}
 use Rattle.std.specs.List.{All}
-use Rattle.std.specs.Result.{result_unwrap_or}
 use Rattle.closure_net.specs.Network.{IsAscending}
 use Rattle.certificate_file.specs.declared.cert_fault.CertFault.{CertFault}
 use Rattle.certificate_file.specs.declared.cert_fault.CertFault.TheVariants as fault
-use Rattle.certificate_file.specs.declared.cert_fault.LineFault.{LineFault}
 use Rattle.certificate_file.specs.declared.body_lines.LineKind.{LineKind}
-use Rattle.certificate_file.specs.declared.body_lines.LineKind.TheVariants.{Pit, Source, Rest, Sink, End}
+use Rattle.certificate_file.specs.declared.body_lines.LineKind.TheVariants.{Pit}
 use Rattle.certificate_file.specs.declared.body_lines.BodyLine.{BodyLine}
 use Rattle.certificate_file.specs.Pieces.{Piece, read_line}
 use Rattle.certificate_file.specs.Header.{◌>>=◌}
@@ -32,18 +30,13 @@ pub record Good (counts : Bool) (n : ℕ) (has : ℕ → ℕ → Bool) (l : Body
   pub of_model : is_of_model has l.kind l ≡ true
 
 bind_ok : {A B : Type 0} (r : Result A CertFault) (f : A → Result B CertFault) (x : B) → (r >>= f) ≡ Ok x → (a : A) × (r ≡ Ok a) × (f a ≡ Ok x)
-bind_ok (Ok a) f x h = (a, refl, h)
-bind_ok (Err e) f x h = absurd cc
+bind_ok r f x h = grind (arith, common_steps)
 
 order_ok : (previous : Option BodyLine) (k : ℕ) (r line : BodyLine) (t : Bool) → may_follow previous r ≡ t → cond t (Ok r) (Err (fault.OutOfOrder k)) ≡ Ok line → (may_follow previous line ≡ true) × (r ≡ line)
-order_ok previous k r line true e h = grind (arith, common_steps)
-order_ok previous k r line false e h = absurd cc
+order_ok previous k r line t e h = grind (arith, common_steps)
 
 model_ok : (has : ℕ → ℕ → Bool) (k : ℕ) (r line : BodyLine) (t : Bool) → is_of_model has r.kind r ≡ t → cond t (Ok r) (Err (fault.UnknownPair k)) ≡ Ok line → (is_of_model has line.kind line ≡ true) × (r ≡ line)
-model_ok has k r line true e h =
-    let same : r ≡ line = ap (λ (x : Result BodyLine CertFault). result_unwrap_or x r) h in
-    (subst (λ (x : BodyLine). is_of_model has x.kind x ≡ true) same e, same)
-model_ok has k r line false e h = absurd cc
+model_ok has k r line t e h = grind (arith, common_steps)
 
 -- A line that is next is read, may follow, and is of the model.
 pub record Met (counts : Bool) (n : ℕ) (has : ℕ → ℕ → Bool) (previous : Option BodyLine) (k : ℕ) (p : Piece) (line : BodyLine) : Type 0 where
@@ -68,60 +61,39 @@ met counts n has previous k p line h =
 go_on : (counts : Bool) (n : ℕ) (has : ℕ → ℕ → Bool) (previous : Option BodyLine) (k : ℕ) (p : Piece) (ps : List Piece) (line : BodyLine) (t : Bool) → is_end line.kind ≡ t → line_of counts n p.text ≡ Ok line → may_follow previous line ≡ true → is_of_model has line.kind line ≡ true
     → cond t (end_fault (k + 1) ps) (body_fault counts n has (Some line) (k + 1) ps) ≡ None → (body_fault counts n has (Some line) (k + 1) ps ≡ None → InOrder (Good counts n has) (Some line) (lines_of_pieces counts n ps))
     → InOrder (Good counts n has) previous (cond t [] (line ∷ lines_of_pieces counts n ps))
-go_on counts n has previous k p ps line true e f m o h ih = tt
-go_on counts n has previous k p ps line false e f m o h ih = (m, record { sound = sound counts n p.text line f; last = e; of_model = o }, ih h)
+go_on counts n has previous k p ps line t e f m o h ih = grind (arith, common_steps, sound)
 
 read_on : (counts : Bool) (n : ℕ) (has : ℕ → ℕ → Bool) (previous : Option BodyLine) (k : ℕ) (p : Piece) (ps : List Piece) (r : Result BodyLine CertFault) → next_line counts n has previous (k + 1) p ≡ r
     → fault_from (end_fault (k + 1) ps) (λ line. body_fault counts n has (Some line) (k + 1) ps) r ≡ None → ((line : BodyLine) → body_fault counts n has (Some line) (k + 1) ps ≡ None → InOrder (Good counts n has) (Some line) (lines_of_pieces counts n ps))
     → InOrder (Good counts n has) previous (lines_from (lines_of_pieces counts n ps) (line_of counts n p.text))
 read_on counts n has previous k p ps (Err e) f h ih = absurd cc
-read_on counts n has previous k p ps (Ok line) f h ih =
-    let q = met counts n has previous (k + 1) p line f in
-    let read = text_read (line_of counts n) (k + 1) p line q.read in
-    let on = go_on counts n has previous k p ps line (is_end line.kind) refl read q.follows q.of_model h (ih line) in
-    subst (λ (r : Result BodyLine LineFault). InOrder (Good counts n has) previous (lines_from (lines_of_pieces counts n ps) r)) (sym read) on
+read_on counts n has previous k p ps (Ok line) f h ih = grind (arith, common_steps, met, text_read, go_on)
 
 pub stands_in_order : (counts : Bool) (n : ℕ) (has : ℕ → ℕ → Bool) (previous : Option BodyLine) (k : ℕ) (ps : List Piece) → body_fault counts n has previous k ps ≡ None → InOrder (Good counts n has) previous (lines_of_pieces counts n ps)
 stands_in_order counts n has previous k [] h = absurd cc
 stands_in_order counts n has previous k (p ∷ ps) h =
     read_on counts n has previous k p ps (next_line counts n has previous (k + 1) p) refl h (λ line g. stands_in_order counts n has (Some line) (k + 1) ps g)
 
-above_pit : (counts : Bool) (n : ℕ) (l m : BodyLine) → Sound counts n l → Sound counts n m → m.kind ≡ Pit → is_above l m ≡ true → (l.kind ≡ Pit) × (l.block < m.block)
-above_pit counts n l m s t k h = grind (arith, common_steps)
-
 later : (counts : Bool) (n : ℕ) (l m : BodyLine) (bs : List ℕ) (k : LineKind) → m.kind ≡ k → Sound counts n l → Sound counts n m → is_above l m ≡ true → ((i : ℕ) → i < length bs → (m.kind ≡ Pit) × (m.block < get_or bs i 0))
     → (i : ℕ) → i < length (block_if_pit k m.block bs) → (l.kind ≡ Pit) × (l.block < get_or (block_if_pit k m.block bs) i 0)
-later counts n l m bs Pit e s t a ih zero h = above_pit counts n l m s t e a
-later counts n l m bs Pit e s t a ih (suc i) h = grind (arith, common_steps)
-later counts n l m bs Source e s t a ih i h = let z = ih i h in let y : Source ≡ Pit = sym e ∙ z.0 in absurd cc
-later counts n l m bs Rest e s t a ih i h = let z = ih i h in let y : Rest ≡ Pit = sym e ∙ z.0 in absurd cc
-later counts n l m bs Sink e s t a ih i h = let z = ih i h in let y : Sink ≡ Pit = sym e ∙ z.0 in absurd cc
-later counts n l m bs End e s t a ih i h = let z = ih i h in let y : End ≡ Pit = sym e ∙ z.0 in absurd cc
+later counts n l m bs k e s t a ih i h = grind (arith, common_steps)
 
 pub later_pits : (counts : Bool) (n : ℕ) (has : ℕ → ℕ → Bool) (l : BodyLine) (ls : List BodyLine) → Sound counts n l → InOrder (Good counts n has) (Some l) ls → (i : ℕ) → i < length (pit_of ls) → (l.kind ≡ Pit) × (l.block < get_or (pit_of ls) i 0)
 later_pits counts n has l [] s o i h = absurd (omega arith)
 later_pits counts n has l (m ∷ ms) s o i h = later counts n l m (pit_of ms) m.kind refl s o.1.sound o.0 (later_pits counts n has m ms o.1.sound o.2) i h
 
 rising : (b : ℕ) (bs : List ℕ) → ((i : ℕ) → i < length bs → b < get_or bs i 0) → IsAscending bs → IsAscending (b ∷ bs)
-rising b bs f h zero (suc y) i j = f y (omega arith)
-rising b bs f h (suc x) (suc y) i j = h x y (omega arith) (omega arith)
-rising b bs f h _ zero i j = absurd (omega arith)
+rising b bs f h k g i j = grind (arith, common_steps)
 
 with_pit : (counts : Bool) (n : ℕ) (m : BodyLine) (bs : List ℕ) (k : LineKind) → m.kind ≡ k → ((i : ℕ) → i < length bs → (m.kind ≡ Pit) × (m.block < get_or bs i 0)) → IsAscending bs → IsAscending (block_if_pit k m.block bs)
-with_pit counts n m bs Pit e f h = rising m.block bs (λ i j. (f i j).1) h
-with_pit counts n m bs _ e f h = h
+with_pit counts n m bs k e f h = grind (arith, common_steps)
 
 pub ascending : (counts : Bool) (n : ℕ) (has : ℕ → ℕ → Bool) (previous : Option BodyLine) (ls : List BodyLine) → InOrder (Good counts n has) previous ls → IsAscending (pit_of ls)
 ascending counts n has previous [] o = λ i j g h. absurd (omega arith)
 ascending counts n has previous (l ∷ ls) o = with_pit counts n l (pit_of ls) l.kind refl (later_pits counts n has l ls o.1.sound o.2) (ascending counts n has (Some l) ls o.2)
 
-known_on : (n b : ℕ) (bs : List ℕ) → b < n → All (λ x. x < n) bs → All (λ x. x < n) (b ∷ bs)
-known_on n b bs f h zero d i = f
-known_on n b bs f h (suc k) d i = h k d (omega arith)
-
 known_pit : (n b : ℕ) (bs : List ℕ) (k : LineKind) → b < n → All (λ x. x < n) bs → All (λ x. x < n) (block_if_pit k b bs)
-known_pit n b bs Pit f h = known_on n b bs f h
-known_pit n b bs _ f h = h
+known_pit n b bs k f h = grind (arith, common_steps)
 
 pub known : (counts : Bool) (n : ℕ) (has : ℕ → ℕ → Bool) (previous : Option BodyLine) (ls : List BodyLine) → InOrder (Good counts n has) previous ls → All (λ x. x < n) (pit_of ls)
 known counts n has previous [] o = λ k d h. absurd (omega arith)

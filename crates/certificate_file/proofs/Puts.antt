@@ -21,21 +21,10 @@ pub put_begins : (a : Option (List ℕ)) (first all : List ℕ) → Put a a firs
 put_begins a first all = record { done = []; held = subst (SentOrHeld a a first) (sym (append-nil first)) (all_held a first); whole = refl }
 
 pub put_more : (a b c : Option (List ℕ)) (first now next piece left all : List ℕ) → Put a b first now (piece ++ left) all → SentOrHeld b c next (now ++ piece) → Put a c first next left all
-put_more a b c first now next piece left all p h = record {
-  done = p.done ++ piece;
-  held = subst (SentOrHeld a c next) (append_assoc first p.done piece) (held_more a b c now next (first ++ p.done) piece p.held h);
-  whole = append_assoc p.done piece left ∙ p.whole;
-}
+put_more a b c first now next piece left all p h = grind (arith, common_steps, (append_assoc first p.done piece), (held_more a b c now next (first ++ p.done) piece p.held h), (append_assoc p.done piece left))
 
 pub put_failed : (a b c : Option (List ℕ)) (first now piece left all : List ℕ) → Put a b first now (piece ++ left) all → ReceivedPrefix b c (now ++ piece) → ReceivedPrefix a c (first ++ all)
-put_failed a b c first now piece left all p h =
-    let part : ReceivedPrefix a c ((first ++ p.done) ++ piece) = held_more_prefix a b c now (first ++ p.done) piece p.held h in
-    let more : ReceivedPrefix a c (((first ++ p.done) ++ piece) ++ left) = prefix_of_first a c ((first ++ p.done) ++ piece) left part in
-    let same : ((first ++ p.done) ++ piece) ++ left ≡ first ++ all = append_assoc (first ++ p.done) piece left ∙ append_assoc first p.done (piece ++ left) ∙ ap (λ (t : List ℕ). first ++ t) p.whole in
-    subst (ReceivedPrefix a c) same more
-
-pub none_written : (line : ℕ → Amount → BodyLine) (k : ℕ) (xs : List Amount) (x : Amount) → k < length xs → get_or xs k zero_amount ≡ x → is_zero x ≡ true → body_text (amount_lines line k (drop k xs)) ≡ body_text (amount_lines line (k + 1) (drop (k + 1) xs))
-none_written line k xs x h e z = grind (arith, common_steps)
+put_failed a b c first now piece left all p h = grind (arith, common_steps, (held_more_prefix a b c now (first ++ p.done) piece p.held h), (prefix_of_first a c ((first ++ p.done) ++ piece) left (held_more_prefix a b c now (first ++ p.done) piece p.held h)), (append_assoc (first ++ p.done) piece left), (append_assoc first p.done (piece ++ left)))
 
 pub one_written : (line : ℕ → Amount → BodyLine) (k : ℕ) (xs : List Amount) (x : Amount) → k < length xs → get_or xs k zero_amount ≡ x → is_zero x ≡ false → body_text (amount_lines line k (drop k xs)) ≡ (spaced_words (line_words (line k x)) ++ (10 ∷ [])) ++ body_text (amount_lines line (k + 1) (drop (k + 1) xs))
 one_written line k xs x h e z = grind (arith, common_steps)
@@ -56,7 +45,7 @@ line_failed line xs k x l a b c first now all h e z same p s =
 
 pub line_skipped : (line : ℕ → Amount → BodyLine) (xs : List Amount) (k : ℕ) (x : Amount) (a b : Option (List ℕ)) (first now all : List ℕ) → k < length xs → get_or xs k zero_amount ≡ x → is_zero x ≡ true
     → Put a b first now (body_text (amount_lines line k (drop k xs))) all → Put a b first now (body_text (amount_lines line (k + 1) (drop (k + 1) xs))) all
-line_skipped line xs k x a b first now all h e z p = subst (λ (t : List ℕ). Put a b first now t all) (none_written line k xs x h e z) p
+line_skipped line xs k x a b first now all h e z p = subst (λ (t : List ℕ). Put a b first now t all) (grind (arith, common_steps)) p
 
 -- The steps of the loop over the blocks of the pit.
 block_written : (bs : List ℕ) (k : ℕ) → k < length bs → body_text (map pit_at (drop k bs)) ≡ (spaced_words (line_words (pit_at (get_or bs k 0))) ++ (10 ∷ [])) ++ body_text (map pit_at (drop (k + 1) bs))
@@ -74,27 +63,21 @@ block_failed bs k a b c first now all h p s =
 
 -- Three texts, put one behind the other.
 pub three_held : (a b c d : Option (List ℕ)) (p q r s x y z all : List ℕ) → x ++ (y ++ z) ≡ all → SentOrHeld a b q (p ++ x) → SentOrHeld b c r (q ++ y) → SentOrHeld c d s (r ++ z) → SentOrHeld a d s (p ++ all)
-three_held a b c d p q r s x y z all e h i j =
-    subst (λ (t : List ℕ). SentOrHeld a d s (p ++ t)) (append_assoc x y z ∙ e) (held_both a c d p r s (x ++ y) z (held_both a b c p q r x y h i) j)
+three_held a b c d p q r s x y z all e h i j = grind (arith, common_steps, append_assoc, held_both)
 
 pub first_failed : (a b : Option (List ℕ)) (p x y z all : List ℕ) → x ++ (y ++ z) ≡ all → ReceivedPrefix a b (p ++ x) → ReceivedPrefix a b (p ++ all)
 first_failed a b p x y z all e h = subst (λ (t : List ℕ). ReceivedPrefix a b (p ++ t)) e (prefix_in_first a b p x (y ++ z) h)
 
 pub second_failed : (a b c : Option (List ℕ)) (p q x y z all : List ℕ) → x ++ (y ++ z) ≡ all → SentOrHeld a b q (p ++ x) → ReceivedPrefix b c (q ++ y) → ReceivedPrefix a c (p ++ all)
-second_failed a b c p q x y z all e h i =
-    subst (λ (t : List ℕ). ReceivedPrefix a c (p ++ t)) (append_assoc x y z ∙ e) (prefix_in_first a c p (x ++ y) z (prefix_in_second a b c p q x y h i))
+second_failed a b c p q x y z all e h i = grind (arith, common_steps, (append_assoc x y z), (prefix_in_first a c p (x ++ y) z (prefix_in_second a b c p q x y h i)), (prefix_in_second a b c p q x y h i))
 
 pub third_failed : (a b c d : Option (List ℕ)) (p q r x y z all : List ℕ) → x ++ (y ++ z) ≡ all → SentOrHeld a b q (p ++ x) → SentOrHeld b c r (q ++ y) → ReceivedPrefix c d (r ++ z) → ReceivedPrefix a d (p ++ all)
-third_failed a b c d p q r x y z all e h i j =
-    subst (λ (t : List ℕ). ReceivedPrefix a d (p ++ t)) (append_assoc x y z ∙ e) (prefix_in_second a c d p r (x ++ y) z (held_both a b c p q r x y h i) j)
+third_failed a b c d p q r x y z all e h i j = grind (arith, common_steps, (append_assoc x y z), (prefix_in_second a c d p r (x ++ y) z (held_both a b c p q r x y h i) j), (held_both a b c p q r x y h i))
 
 -- The text of lines that stand behind others.
 pub body_append : (ls ms : List BodyLine) → body_text (ls ++ ms) ≡ body_text ls ++ body_text ms
 body_append [] ms = refl
 body_append (l ∷ ls) ms = ap (λ (t : List ℕ). spaced_words (line_words l) ++ (10 ∷ t)) (body_append ls ms) ∙ sym (append_assoc (spaced_words (line_words l)) (10 ∷ body_text ls) (body_text ms))
-
-pub flow_parts : (ls ms ns : List BodyLine) → body_text ls ++ (body_text ms ++ body_text ns) ≡ body_text (ls ++ (ms ++ ns))
-flow_parts ls ms ns = ap (λ (t : List ℕ). body_text ls ++ t) (sym (body_append ms ns)) ∙ sym (body_append ls (ms ++ ns))
 
 pub body_parts : (ls ms : List BodyLine) (end : List ℕ) → body_text ls ++ (body_text ms ++ end) ≡ body_text (ls ++ ms) ++ end
 body_parts ls ms end = sym (append_assoc (body_text ls) (body_text ms) end) ∙ ap (λ (t : List ℕ). t ++ end) (sym (body_append ls ms))
@@ -104,7 +87,7 @@ abbrev pub kind_text : LineKind → List (ℕ × ℕ) → List Amount → List �
 kind_text kind pairs xs = body_text (amount_lines (line_at kind pairs) 0 xs)
 
 flow_is : (pairs : List (ℕ × ℕ)) (flow : FlowView) (xs ys zs : List Amount) → xs ≡ flow.source → ys ≡ flow.rest → zs ≡ flow.sink → kind_text Source pairs xs ++ (kind_text Rest pairs ys ++ kind_text Sink pairs zs) ≡ body_text (flow_lines pairs flow)
-flow_is pairs flow xs ys zs e f g = grind (arith, common_steps, kind_text, flow_parts)
+flow_is pairs flow xs ys zs e f g = grind (arith, common_steps, kind_text, body_append)
 
 pub flow_first_failed : (pairs : List (ℕ × ℕ)) (flow : FlowView) (xs : List Amount) (a b : Option (List ℕ)) (p : List ℕ) → xs ≡ flow.source → ReceivedPrefix a b (p ++ kind_text Source pairs xs) → ReceivedPrefix a b (p ++ body_text (flow_lines pairs flow))
 flow_first_failed pairs flow xs a b p e h = first_failed a b p (kind_text Source pairs xs) (kind_text Rest pairs flow.rest) (kind_text Sink pairs flow.sink) _ (flow_is pairs flow xs flow.rest flow.sink e refl refl) h

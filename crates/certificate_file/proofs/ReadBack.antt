@@ -1,5 +1,5 @@
 -- The text of a value is read without a fault.
-use Rattle.std.proofs.Common.{◌≡◌, ℕ, ◌+◌, ◌≤◌, Bool, true, false, cond, ltb, List, [], ◌∷◌, ◌++◌, length, drop, Option, Some, None, Result, Ok, refl, sym, ap, ◌∙◌, subst, arith, append_assoc, length-append}
+use Rattle.std.proofs.Common.{◌≡◌, ℕ, ◌+◌, ◌≤◌, Bool, true, false, cond, ltb, List, [], ◌∷◌, ◌++◌, length, drop, Option, Some, None, Result, Ok, refl, ap, ◌∙◌, arith, append_assoc, length-append}
 use Rattle.std.proofs.lemmas.Bool.{eq-eqb}
 use Rattle.std.specs.Prelude.{pos}
 use Rattle.std.specs.Str.{bytes_eq}
@@ -15,14 +15,13 @@ use Rattle.ordered_group.proofs.Names.{group_name-one_word, group_name-few}
 use Rattle.certificate_file.specs.declared.header.Price.{Price}
 use Rattle.certificate_file.specs.declared.header.Price.TheVariants.{Objective, Factor, Mill}
 use Rattle.certificate_file.specs.declared.header.Version.{Version}
-use Rattle.certificate_file.specs.declared.header.Version.TheVariants.{One, Two}
 use Rattle.certificate_file.specs.declared.cert_fault.LineFault.{LineFault}
 use Rattle.certificate_file.specs.declared.body_lines.LineKind.{LineKind}
-use Rattle.certificate_file.specs.declared.body_lines.LineKind.TheVariants.{Pit, Source, Rest, Sink, End}
+use Rattle.certificate_file.specs.declared.body_lines.LineKind.TheVariants.{End}
 use Rattle.certificate_file.specs.declared.body_lines.BodyLine.{BodyLine}
 use Rattle.certificate_file.specs.Pieces.{Piece, pieces_of, words_of, read_line, piece_fault, number_below}
-use Rattle.certificate_file.specs.Header.{header_for, version_in, value_behind, value_behind_both, or_number, wanted_blocks, blocks_said, blocks_in, factor_of, price_said, mill_of, mill_said, price_in, group_in}
-use Rattle.certificate_file.specs.BodyLines.{is_end, rank, is_of_model, may_follow, next_line, body_fault, lines_of_pieces}
+use Rattle.certificate_file.specs.Header.{header_for, version_in, value_behind, or_number, blocks_in, factor_of, price_in, group_in}
+use Rattle.certificate_file.specs.BodyLines.{is_end, rank, may_follow, body_fault, lines_of_pieces}
 use Rattle.certificate_file.specs.Certificate.{wanted_for}
 use Rattle.certificate_file.specs.ReadBack.{IsPrice}
 use Rattle.certificate_file.specs.Written.{spaced_words, lines_text, line_words, version_for, price_words, header_words, header_with, body_text, end_text}
@@ -45,16 +44,12 @@ short_line k text h = let t : ltb LINE_BYTES (length text) ≡ false = grind (ar
 pub line_read : {A : Type 0} (f : List ℕ → Result A LineFault) (k : ℕ) (text : List ℕ) (x : A) → length text ≤ LINE_BYTES → f text ≡ Ok x → read_line f k (line_piece text) ≡ Ok x
 line_read f k text x h e = rw (short_line k text h, e) refl
 
-next_read : (counts : Bool) (n : ℕ) (has : ℕ → ℕ → Bool) (previous : Option BodyLine) (k : ℕ) (l : BodyLine) → Readable counts n l → may_follow previous l ≡ true → is_of_model has l.kind l ≡ true → next_line counts n has previous k (line_piece (spaced_words (line_words l))) ≡ Ok l
-next_read counts n has previous k l r f m = grind (arith, common_steps)
-
 -- The body.
 abbrev pub Both : Bool → ℕ → (ℕ → ℕ → Bool) → BodyLine → Type 0
 Both counts n has l = Readable counts n l × Proper n has l
 
 rank_most : (k : LineKind) → is_end k ≡ false → rank k ≤ 3
-rank_most End h = absurd (let z : true ≡ false = h in cc)
-rank_most _ h = omega arith
+rank_most k h = grind (arith, common_steps)
 
 -- The text is read without a fault, and as these lines.
 pub record ReadAs (counts : Bool) (n : ℕ) (has : ℕ → ℕ → Bool) (previous : Option BodyLine) (k : ℕ) (text : List ℕ) (ls : List BodyLine) : Type 0 where
@@ -71,27 +66,20 @@ read_end : (counts : Bool) (n : ℕ) (has : ℕ → ℕ → Bool) (previous : Op
 read_end counts n has previous k u = let f : may_follow previous end_line ≡ true = last_follows previous u in record { none = rw f refl; lines = refl }
 
 read_more : (counts : Bool) (n : ℕ) (has : ℕ → ℕ → Bool) (previous : Option BodyLine) (k : ℕ) (l : BodyLine) (ls : List BodyLine) (rest : List ℕ) → Both counts n has l → may_follow previous l ≡ true → ReadAs counts n has (Some l) (k + 1) rest ls → ReadAs counts n has previous k (spaced_words (line_words l) ++ (10 ∷ rest)) (l ∷ ls)
-read_more counts n has previous k l ls rest b f r = grind (arith, common_steps, line_piece, line_before, next_read)
+read_more counts n has previous k l ls rest b f r = grind (arith, common_steps, line_piece, line_before)
 
 pub body_read : (counts : Bool) (n : ℕ) (has : ℕ → ℕ → Bool) (ls : List BodyLine) (previous : Option BodyLine) (k : ℕ) → UpTo 3 previous → InOrder (Both counts n has) previous ls → ReadAs counts n has previous k (body_text ls ++ end_text) ls
-body_read counts n has [] previous k u o = read_end counts n has previous k u
-body_read counts n has (l ∷ ls) previous k u o =
-    subst (λ (t : List ℕ). ReadAs counts n has previous k t (l ∷ ls)) (sym (append_assoc (spaced_words (line_words l)) (10 ∷ body_text ls) end_text))
-    (read_more counts n has previous k l ls (body_text ls ++ end_text) o.1 o.0 (body_read counts n has ls (Some l) (k + 1) (rank_most l.kind o.1.1.last) o.2))
+body_read counts n has [] previous k u o = let f : may_follow previous end_line ≡ true = last_follows previous u in record { none = rw f refl; lines = refl }
+body_read counts n has (l ∷ ls) previous k u o = grind (arith, common_steps, (append_assoc (spaced_words (line_words l)) (10 ∷ body_text ls) end_text), (read_more counts n has previous k l ls (body_text ls ++ end_text) o.1 o.0 (body_read counts n has ls (Some l) (k + 1) (rank_most l.kind o.1.1.last) o.2)), (rank_most l.kind o.1.1.last), (body_read counts n has ls (Some l) (k + 1) (rank_most l.kind o.1.1.last) o.2))
 
 keyed_read : (key w : List ℕ) → is_word key ≡ true → is_word w ≡ true → bytes_eq key key ≡ true → value_behind key (words_of (spaced_words (key ∷ w ∷ []))) ≡ Some w
-keyed_read key w k h e =
-    let both : are_words (key ∷ w ∷ []) ≡ true = rw (k, h) refl in
-    ap (value_behind key) (words_read key (w ∷ []) both) ∙ ap (λ (t : Bool). cond t (Some w) None) e
+keyed_read key w k h e = grind (arith, common_steps, (words_read key (w ∷ []) (rw (k, h) refl)))
 
 keyed_feed : (key w : List ℕ) → is_word key ≡ true → is_word w ≡ true → has_no_feed (spaced_words (key ∷ w ∷ [])) ≡ true
 keyed_feed key w k h = let both : are_words (key ∷ w ∷ []) ≡ true = rw (k, h) refl in spaced_no_feed key (w ∷ []) both
 
 blocks_read : (n : ℕ) (name : Group) → n ≤ MOST_BLOCKS → blocks_in (wanted_for n name) (spaced_words (codes "BLOCKS" ∷ decimal n ∷ [])) ≡ Ok n
-blocks_read n name h =
-    ap (blocks_said (wanted_for n name)) (keyed_read (codes "BLOCKS") (decimal n) refl (decimal_is_word n (omega arith)) refl)
-    ∙ ap (λ (o : Option ℕ). or_number (wanted_blocks (wanted_for n name) o)) (number_read (MOST_BLOCKS + 1) n (omega arith) (omega arith))
-    ∙ ap (λ (t : Bool). or_number (cond t (Some n) None)) (eq-eqb n n refl)
+blocks_read n name h = grind (arith, common_steps, (keyed_read (codes "BLOCKS") (decimal n) refl (decimal_is_word n (omega arith)) refl), (decimal_is_word n (omega arith)), (number_read (MOST_BLOCKS + 1) n (omega arith) (omega arith)), (eq-eqb n n refl))
 
 price_length : (price : Price) → IsPrice price → length (spaced_words (price_words price)) ≤ 20
 price_length Objective h = omega arith
@@ -106,33 +94,20 @@ price_feed Objective h = refl
 price_feed (Factor k) h = keyed_feed (codes "PRICE") (decimal k) refl (decimal_is_word k (omega arith))
 price_feed (Mill k) h = spaced_no_feed (codes "PRICE") (codes "MILL" ∷ decimal k ∷ []) (mill_words k h)
 
-version_feed : (v : Version) → has_no_feed (version_text v) ≡ true
-version_feed One = refl
-version_feed Two = refl
-
 version_short : (v : Version) → length (version_text v) ≤ LINE_BYTES
-version_short One = omega arith
-version_short Two = omega arith
+version_short v = grind (arith, common_steps)
 
 version_read : (v : Version) → version_in (version_text v) ≡ Ok v
-version_read One = refl
-version_read Two = refl
+version_read v = grind (arith, common_steps)
 
 factor_read : (k : ℕ) (t : Bool) → k ≤ MOST_FACTOR → (t ≡ true → decimal k ≡ codes "OBJECTIVE") → cond t (Ok Objective) (or_number (factor_of (number_below (MOST_FACTOR + 1) (decimal k)))) ≡ Ok (Factor k)
-factor_read k true h e =
-    let few = length-decimal-le_wide 5 k (omega arith) (omega arith) (omega arith) in
-    let long = ap length (e refl) in
-    absurd (omega (arith, few, long))
+factor_read k true h e = grind (arith, common_steps, (length-decimal-le_wide 5 k (omega arith) (omega arith) (omega arith)), (ap length (e refl)))
 factor_read k false h e = ap (λ (o : Option ℕ). or_number (factor_of o)) (number_read (MOST_FACTOR + 1) k (omega arith) (omega arith))
 
 price_read : (price : Price) → IsPrice price → price_in (version_for price) (spaced_words (price_words price)) ≡ Ok price
 price_read Objective h = refl
-price_read (Factor k) h =
-    ap price_said (keyed_read (codes "PRICE") (decimal k) refl (decimal_is_word k (omega arith)) refl)
-    ∙ factor_read k (bytes_eq (decimal k) (codes "OBJECTIVE")) h (bytes_eq-Decides (decimal k) (codes "OBJECTIVE")).0
-price_read (Mill k) h =
-    ap (λ (ws : List (List ℕ)). mill_said (value_behind_both (codes "PRICE") (codes "MILL") ws)) (words_read (codes "PRICE") (codes "MILL" ∷ decimal k ∷ []) (mill_words k h))
-    ∙ ap (λ (o : Option ℕ). or_number (mill_of o)) (number_read (MOST_FACTOR + 1) k (omega arith) (omega arith))
+price_read (Factor k) h = grind (arith, common_steps, (keyed_read (codes "PRICE") (decimal k) refl (decimal_is_word k (omega arith)) refl), (decimal_is_word k (omega arith)), (factor_read k (bytes_eq (decimal k) (codes "OBJECTIVE")) h (bytes_eq-Decides (decimal k) (codes "OBJECTIVE")).0), (bytes_eq-Decides (decimal k) (codes "OBJECTIVE")))
+price_read (Mill k) h = grind (arith, common_steps, (words_read (codes "PRICE") (codes "MILL" ∷ decimal k ∷ []) (mill_words k h)), (mill_words k h), (number_read (MOST_FACTOR + 1) k (omega arith) (omega arith)))
 
 kind_read : (n : ℕ) (name : Group) → group_in (wanted_for n name) (spaced_words (codes "GROUP" ∷ group_name name ∷ [])) ≡ Ok name
 kind_read n name = grind (arith, common_steps)
@@ -151,7 +126,7 @@ pieces_four n price name rest h p =
     let c = spaced_words (price_words price) in
     let d = spaced_words (codes "GROUP" ∷ group_name name ∷ []) in
     ap pieces_of (regroup a b c d rest)
-    ∙ line_before a (b ++ (10 ∷ (c ++ (10 ∷ (d ++ (10 ∷ rest)))))) (version_feed (version_for price))
+    ∙ line_before a (b ++ (10 ∷ (c ++ (10 ∷ (d ++ (10 ∷ rest)))))) (grind (arith, common_steps))
     ∙ ap (λ (ps : List Piece). line_piece a ∷ ps) (line_before b (c ++ (10 ∷ (d ++ (10 ∷ rest)))) (keyed_feed (codes "BLOCKS") (decimal n) refl (decimal_is_word n (omega arith))))
     ∙ ap (λ (ps : List Piece). line_piece a ∷ line_piece b ∷ ps) (line_before c (d ++ (10 ∷ rest)) (price_feed price p))
     ∙ ap (λ (ps : List Piece). line_piece a ∷ line_piece b ∷ line_piece c ∷ ps) (line_before d rest (keyed_feed (codes "GROUP") (group_name name) refl (group_name-one_word name)))

@@ -1,11 +1,10 @@
 -- What is written of a line is read as that line.
-use Rattle.std.proofs.Common.{◌≡◌, ℕ, suc, ◌+◌, ◌<◌, ◌≤◌, ◌^◌, Bool, true, false, cond, not, ltb, inl, inr, ℤ, pos, negsuc, List, [], ◌∷◌, length, Option, Some, Ok, refl, sym, ap, ◌∙◌, arith, length-append}
+use Rattle.std.proofs.Common.{◌≡◌, ℕ, suc, ◌+◌, ◌<◌, ◌≤◌, ◌^◌, Bool, true, false, cond, not, ℤ, pos, negsuc, List, [], ◌∷◌, length, Option, Some, Ok, refl, ap, ◌∙◌, arith, length-append}
 use Rattle.std.specs.Prelude.{◌&&◌, FitsSigned}
 use Rattle.std.specs.Int.{w128}
 use Rattle.std.specs.Fmt.{decimal, signed_decimal}
 use Rattle.std.specs.Ordering.{int_eq}
 use Rattle.std.proofs.lemmas.Int.{ints}
-use Rattle.std.proofs.lemmas.Bool.Decides.{nat_tests, Decides-int_eq}
 use Rattle.std.proofs.lemmas.Fmt.{length-decimal-le_wide}
 use lib.Chars.{codes}
 use Rattle.fixed_worth.specs.declared.limits.TheConstants.{MOST_BLOCKS, LINE_BYTES}
@@ -14,8 +13,8 @@ use Rattle.ordered_group.specs.Amount.{Amount, is_zero, FitsPair}
 use Rattle.certificate_file.specs.declared.body_lines.LineKind.{LineKind}
 use Rattle.certificate_file.specs.declared.body_lines.LineKind.TheVariants.{Pit, Source, Rest, Sink}
 use Rattle.certificate_file.specs.declared.body_lines.BodyLine.{BodyLine}
-use Rattle.certificate_file.specs.Pieces.{within, number_below}
-use Rattle.certificate_file.specs.BodyLines.{is_amount, amount_in, numbered_line, block_line, line_of_words, line_of}
+use Rattle.certificate_file.specs.Pieces.{number_below}
+use Rattle.certificate_file.specs.BodyLines.{amount_in, numbered_line, block_line, line_of_words, line_of}
 use Rattle.certificate_file.specs.ReadBack.{Writable}
 use Rattle.certificate_file.specs.Written.{spaced_words, words_with, line_words, pit_at, line_of_block}
 use Rattle.certificate_file.proofs.Amounts.{zero_numbers}
@@ -29,14 +28,8 @@ pub record Readable (counts : Bool) (n : ℕ) (l : BodyLine) : Type 0 where
   pub feed : has_no_feed (spaced_words (line_words l)) ≡ true
   pub short : length (spaced_words (line_words l)) ≤ LINE_BYTES
 
--- Numbers.
-below_read : (limit b : ℕ) → b < limit → within limit (Ok (pos b)) ≡ Some b
-below_read limit b h = let t : ltb b limit ≡ true = grind (arith, nat_tests) in rw t refl
-
 pub number_read : (limit b : ℕ) → b < limit → limit ≤ 2 ^ 64 → number_below limit (decimal b) ≡ Some b
-number_read limit b h l =
-    let fits : FitsSigned w128 (pos b) = omega (arith, ints) in
-    ap (within limit) (printed_is_plain (pos b) fits) ∙ below_read limit b h
+number_read limit b h l = grind (arith, common_steps, (printed_is_plain (pos b) (omega (arith, ints))))
 
 pub block_word : (n b : ℕ) → b < n → n ≤ MOST_BLOCKS → (is_word (decimal b) ≡ true) × (length (decimal b) ≤ 8)
 block_word n b h l = (decimal_is_word b (omega arith), length-decimal-le_wide 8 b (omega arith) (omega arith) (omega arith))
@@ -46,15 +39,10 @@ signed_short (pos n) h = let few = length-decimal-le_wide 39 n (omega arith) (om
 signed_short (negsuc n) h = let few = length-decimal-le_wide 39 (suc n) (omega arith) (omega (arith, ints)) (omega (arith, ints)) in omega arith
 
 tested : (counts : Bool) (w c : ℤ) (t u : Bool) → int_eq c (pos 0) ≡ t → int_eq w (pos 0) ≡ u → (u && t) ≡ false → Counted counts c → cond t (not u) counts ≡ true
-tested counts w c true true e f h k = absurd (let z : true ≡ false = h in cc)
-tested counts w c true false e f h k = refl
-tested counts w c false u e f h k = elim k [ inl i ↦ i | inr i ↦ absurd (let z : true ≡ false = sym ((Decides-int_eq c (pos 0)).1 i) ∙ e in cc) ]
-
-pub is_amount_so : (counts : Bool) (x : Amount) → is_zero x ≡ false → Counted counts x.c → is_amount counts x.w x.c ≡ true
-is_amount_so counts x h k = tested counts x.w x.c (int_eq x.c (pos 0)) (int_eq x.w (pos 0)) refl refl (sym (zero_numbers x) ∙ h) k
+tested counts w c t u e f h k = grind (arith, common_steps)
 
 amount_read : (counts : Bool) (x : Amount) → is_zero x ≡ false → Counted counts x.c → FitsPair x → amount_in counts (signed_decimal x.w) (signed_decimal x.c) ≡ Some (x.w, x.c)
-amount_read counts x h k f = grind (arith, common_steps, ℤ, printed_is_plain, is_amount_so)
+amount_read counts x h k f = grind (arith, common_steps, ℤ, printed_is_plain, tested, zero_numbers)
 
 -- Words of a line.
 all_words : (w : List ℕ) (ws : List (List ℕ)) → is_word w ≡ true → are_words ws ≡ true → are_words (w ∷ ws) ≡ true

@@ -17,16 +17,13 @@ use Rattle.certificate_file.proofs.LineOrder.{Has, has_good, same_lines, Proper,
 use Rattle.std.proofs.lemmas.Grind.{common_steps}
 
 source_kind : (k : LineKind) (t : Bool) → (is_source k && t) ≡ true → (k ≡ Source) × (t ≡ true)
-source_kind Source t h = (refl, h)
-source_kind _ t h = absurd (let z : false ≡ true = h in cc)
+source_kind k t h = grind (arith, common_steps)
 
 rest_kind : (k : LineKind) (t : Bool) → (is_rest k && t) ≡ true → (k ≡ Rest) × (t ≡ true)
-rest_kind Rest t h = (refl, h)
-rest_kind _ t h = absurd (let z : false ≡ true = h in cc)
+rest_kind k t h = grind (arith, common_steps)
 
 sink_kind : (k : LineKind) (t : Bool) → (is_sink k && t) ≡ true → (k ≡ Sink) × (t ≡ true)
-sink_kind Sink t h = (refl, h)
-sink_kind _ t h = absurd (let z : false ≡ true = h in cc)
+sink_kind k t h = grind (arith, common_steps)
 
 two_same : (x y u v : ℕ) → (eqb x y && eqb u v) ≡ true → (x ≡ y) × (u ≡ v)
 two_same x y u v h = (grind (arith, nat_tests), grind (arith, nat_tests))
@@ -55,10 +52,6 @@ tells_sink n has b l m p q g h above = grind (arith, common_steps)
 pub tells_rest : (n : ℕ) (has : ℕ → ℕ → Bool) (r : ℕ × ℕ) → Tells (Proper n has) (gives_rest r)
 tells_rest n has r l m p q g h above = grind (arith, common_steps)
 
--- Lines with the same parts.
-same_line : (l m : BodyLine) → l.kind ≡ m.kind → l.block ≡ m.block → l.other ≡ m.other → amount_of l ≡ amount_of m → l ≡ m
-same_line l m a b c d = λ i. record { kind = a i; block = b i; other = c i; worth = (d i).w; count = (d i).c }
-
 -- An amount that one list gives, the other gives.
 given_too : (n : ℕ) (has : ℕ → ℕ → Bool) (gives : BodyLine → Bool) (p q : Option BodyLine) (ls ms : List BodyLine) (l : BodyLine) (x : Amount) → Tells (Proper n has) gives → InOrder (Proper n has) p ls → InOrder (Proper n has) q ms → Has l ls → gives l ≡ true → carries l.kind ≡ true
     → x ≡ given_amount gives zero_amount ls → x ≡ given_amount gives zero_amount ms → Found gives (amount_of l) ms
@@ -70,8 +63,7 @@ HasBlock b [] = ⊥
 HasBlock b (x ∷ xs) = (x ≡ b) ⊎ HasBlock b xs
 
 block_more : (k : LineKind) (b x : ℕ) (bs : List ℕ) → HasBlock b bs → HasBlock b (block_if_pit k x bs)
-block_more Pit b x bs h = inr h
-block_more _ b x bs h = h
+block_more k b x bs h = grind (arith, common_steps)
 
 pit_has : (l : BodyLine) (ls : List BodyLine) → l.kind ≡ Pit → Has l ls → HasBlock l.block (pit_of ls)
 pit_has l [] e h = absurd h
@@ -88,12 +80,8 @@ record InPit (b : ℕ) (ls : List BodyLine) : Type 0 where
   kind_is : line.kind ≡ Pit
   block_is : line.block ≡ b
 
-pit_later : (b : ℕ) (m : BodyLine) (ms : List BodyLine) → InPit b ms → InPit b (m ∷ ms)
-pit_later b m ms f = record { line = f.line; held = inr f.held; kind_is = f.kind_is; block_is = f.block_is }
-
 pit_found_at : (b : ℕ) (m : BodyLine) (ms : List BodyLine) (k : LineKind) → m.kind ≡ k → (HasBlock b (pit_of ms) → InPit b ms) → HasBlock b (block_if_pit k m.block (pit_of ms)) → InPit b (m ∷ ms)
-pit_found_at b m ms Pit e ih h = elim h [ inl i ↦ record { line = m; held = inl refl; kind_is = e; block_is = i } | inr i ↦ pit_later b m ms (ih i) ]
-pit_found_at b m ms _ e ih h = pit_later b m ms (ih h)
+pit_found_at b m ms k e ih h = grind (arith, common_steps)
 
 pit_found : (b : ℕ) (ms : List BodyLine) → HasBlock b (pit_of ms) → InPit b ms
 pit_found b [] h = absurd h
@@ -114,7 +102,7 @@ record Said (n : ℕ) (pairs : List (ℕ × ℕ)) (blocks : List ℕ) (flow : Fl
   says : Denotes n pairs ls blocks flow
 
 is_same : (n : ℕ) (has : ℕ → ℕ → Bool) (q : Option BodyLine) (ms : List BodyLine) (l m : BodyLine) → Has m ms → m.kind ≡ l.kind → m.block ≡ l.block → m.other ≡ l.other → amount_of m ≡ amount_of l → Has l ms
-is_same n has q ms l m h a b c d = subst (λ (x : BodyLine). Has x ms) (same_line m l a b c d) h
+is_same n has q ms l m h a b c d = subst (λ (x : BodyLine). Has x ms) (λ i. record { kind = a i; block = b i; other = c i; worth = (d i).w; count = (d i).c }) h
 
 moved : (n : ℕ) (pairs : List (ℕ × ℕ)) (blocks : List ℕ) (flow : FlowView) (p q : Option BodyLine) (ls ms : List BodyLine) → Said n pairs blocks flow p ls → Said n pairs blocks flow q ms → (l : BodyLine) (k : LineKind) → l.kind ≡ k → Has l ls → Has l ms
 moved n pairs blocks flow p q ls ms s t l Pit e h =

@@ -1,22 +1,20 @@
 -- A text without a fault is spelled as its lines are.
-use Rattle.std.proofs.Common.{◌≡◌, ℕ, ◌+◌, Bool, true, false, cond, ltb, ℤ, pos, negsuc, List, [], ◌∷◌, ◌++◌, length, Option, Some, None, Result, Ok, Err, refl, sym, ap, ◌∙◌, subst, append_assoc, arith}
+use Rattle.std.proofs.Common.{◌≡◌, ℕ, ◌+◌, Bool, true, cond, ℤ, pos, List, [], ◌∷◌, ◌++◌, Option, Some, None, Result, Ok, Err, refl, sym, ap, ◌∙◌, arith}
 use Rattle.std.specs.Prelude.{unwrap_or}
 use Rattle.std.specs.Fmt.{decimal, signed_decimal}
 use Rattle.std.proofs.lemmas.Slice.Eq.{bytes_eq-Decides}
 use lib.Chars.{codes}
-use Rattle.fixed_worth.specs.declared.limits.TheConstants.{LINE_BYTES}
 use Rattle.fixed_worth.specs.declared.numerals.NumberFault.{NumberFault}
 use Rattle.fixed_worth.specs.Numeral.{plain_of}
 use Rattle.fixed_worth.proofs.PlainNumbers.{one_spelling}
 use Rattle.certificate_file.specs.declared.cert_fault.CertFault.{CertFault}
 use Rattle.certificate_file.specs.declared.cert_fault.CertFault.TheVariants as fault
 use Rattle.certificate_file.specs.declared.cert_fault.LineFault.{LineFault}
-use Rattle.certificate_file.specs.declared.cert_fault.LineFault.TheVariants.{Text}
 use Rattle.certificate_file.specs.declared.body_lines.LineKind.{LineKind}
 use Rattle.certificate_file.specs.declared.body_lines.LineKind.TheVariants.{Pit, Source, Rest, Sink, End}
 use Rattle.certificate_file.specs.declared.body_lines.BodyLine.{BodyLine}
-use Rattle.certificate_file.specs.Pieces.{Piece, within, number_below, words_of, read_line, piece_fault, in_line, unless_fault}
-use Rattle.certificate_file.specs.BodyLines.{kind_of, is_amount, amount_said, amount_in, pit_line, block_line, rest_line, end_line, line_with, line_of_words, line_of, is_end, next_line, end_fault, fault_from, body_fault, lines_from, lines_of_pieces}
+use Rattle.certificate_file.specs.Pieces.{Piece, number_below, words_of, read_line}
+use Rattle.certificate_file.specs.BodyLines.{kind_of, amount_said, amount_in, pit_line, block_line, rest_line, line_with, line_of_words, line_of, is_end, next_line, end_fault, fault_from, body_fault, lines_from, lines_of_pieces}
 use Rattle.certificate_file.specs.Written.{spaced_words, words_with, line_words, body_text, end_text}
 use Rattle.certificate_file.proofs.Texts.{pieces_text, words_make_line}
 use Rattle.certificate_file.proofs.Going.{numbered, text_read, no_line_is}
@@ -34,86 +32,49 @@ key_word End = codes "END"
 named : (key word : List ℕ) (k j : LineKind) → word ≡ key_word j → Some j ≡ Some k → key ≡ word → key ≡ key_word k
 named key word k j w e h = h ∙ w ∙ ap key_word (ap (λ (o : Option LineKind). unwrap_or o k) e)
 
-key_at : (key : List ℕ) (k : LineKind) (t u v w x : Bool) → (t ≡ true → key ≡ codes "PIT") → (u ≡ true → key ≡ codes "SOURCE") → (v ≡ true → key ≡ codes "REST") → (w ≡ true → key ≡ codes "SINK") → (x ≡ true → key ≡ codes "END")
-    → cond t (Some Pit) (cond u (Some Source) (cond v (Some Rest) (cond w (Some Sink) (cond x (Some End) None)))) ≡ Some k → key ≡ key_word k
-key_at key k true u v w x a b c d e h = named key (codes "PIT") k Pit refl h (a refl)
-key_at key k false true v w x a b c d e h = named key (codes "SOURCE") k Source refl h (b refl)
-key_at key k false false true w x a b c d e h = named key (codes "REST") k Rest refl h (c refl)
-key_at key k false false false true x a b c d e h = named key (codes "SINK") k Sink refl h (d refl)
-key_at key k false false false false true a b c d e h = named key (codes "END") k End refl h (e refl)
-key_at key k false false false false false a b c d e h = absurd cc
-
 pub key_is : (key : List ℕ) (k : LineKind) → kind_of key ≡ Some k → key ≡ key_word k
-key_is key k h = grind (arith, common_steps, key_at, bytes_eq-Decides)
+key_is key k h = grind (arith, common_steps, bytes_eq-Decides)
 
 -- Numbers are spelled as they are printed.
 below_at : (word : List ℕ) (limit j k : ℕ) (t : Bool) → plain_of word ≡ Ok (pos j) → cond t (Some j) None ≡ Some k → word ≡ decimal k
-below_at word limit j k true e h = one_spelling word (pos j) e ∙ ap (λ (o : Option ℕ). decimal (unwrap_or o k)) h
-below_at word limit j k false e h = absurd cc
-
-within_is : (word : List ℕ) (limit k : ℕ) (r : Result ℤ NumberFault) → plain_of word ≡ r → within limit r ≡ Some k → word ≡ decimal k
-within_is word limit k (Ok (pos j)) e h = below_at word limit j k (ltb j limit) e h
-within_is word limit k _ e h = absurd cc
+below_at word limit j k t e h = grind (arith, common_steps, (one_spelling word (pos j) e))
 
 pub number_is : (word : List ℕ) (limit k : ℕ) → number_below limit word ≡ Some k → word ≡ decimal k
-number_is word limit k h = within_is word limit k (plain_of word) refl h
-
-amount_at_test : (v w : List ℕ) (x y : ℤ) (a : ℤ × ℤ) (t : Bool) → plain_of v ≡ Ok x → plain_of w ≡ Ok y → cond t (Some (x, y)) None ≡ Some a → (v ≡ signed_decimal a.0) × (w ≡ signed_decimal a.1)
-amount_at_test v w x y a true e f h = grind (arith, common_steps, one_spelling, ℤ)
-amount_at_test v w x y a false e f h = absurd cc
+number_is word limit k h = grind (arith, common_steps, below_at)
 
 amount_of_words : (counts : Bool) (v w : List ℕ) (a : ℤ × ℤ) (r s : Result ℤ NumberFault) → plain_of v ≡ r → plain_of w ≡ s → amount_said counts r s ≡ Some a → (v ≡ signed_decimal a.0) × (w ≡ signed_decimal a.1)
-amount_of_words counts v w a (Ok x) (Ok y) e f h = amount_at_test v w x y a (is_amount counts x y) e f h
-amount_of_words counts v w a _ _ e f h = absurd cc
+amount_of_words counts v w a (Ok x) (Ok y) e f h = grind (arith, common_steps, one_spelling)
+amount_of_words counts v w a (Ok x) (Err y) e f h = absurd cc
+amount_of_words counts v w a (Err x) (Ok y) e f h = absurd cc
+amount_of_words counts v w a (Err x) (Err y) e f h = absurd cc
 
 amount_is : (counts : Bool) (v w : List ℕ) (a : ℤ × ℤ) → amount_in counts v w ≡ Some a → (v ≡ signed_decimal a.0) × (w ≡ signed_decimal a.1)
 amount_is counts v w a h = amount_of_words counts v w a (plain_of v) (plain_of w) refl refl h
 
 pit_words : (n : ℕ) (words : List (List ℕ)) (l : BodyLine) → pit_line n words ≡ Ok l → key_word Pit ∷ words ≡ line_words l
-pit_words n (b ∷ []) l h = grind (arith, common_steps, numbered, pos, number_is)
-pit_words n _ l h = no_line_is l h
+pit_words n words l h = grind (arith, common_steps, no_line_is, numbered, number_is)
 
 block_words : (counts : Bool) (n : ℕ) (kind : LineKind) (words : List (List ℕ)) (l : BodyLine) → words_with kind l ≡ key_word kind ∷ decimal l.block ∷ signed_decimal l.worth ∷ signed_decimal l.count ∷ [] → block_line counts n kind words ≡ Ok l → key_word kind ∷ words ≡ line_words l
-block_words counts n kind (b ∷ w ∷ c ∷ []) l e h = grind (arith, common_steps, numbered, amount_is, key_word, number_is)
-block_words counts n kind _ l e h = no_line_is l h
+block_words counts n kind words l e h = grind (arith, common_steps, no_line_is, numbered, amount_is, number_is)
 
 rest_words : (counts : Bool) (n : ℕ) (words : List (List ℕ)) (l : BodyLine) → rest_line counts n words ≡ Ok l → key_word Rest ∷ words ≡ line_words l
-rest_words counts n (b ∷ p ∷ w ∷ c ∷ []) l h = grind (arith, common_steps, numbered, amount_is, number_is)
-rest_words counts n _ l h = no_line_is l h
-
-end_words : (words : List (List ℕ)) (l : BodyLine) → end_line words ≡ Ok l → key_word End ∷ words ≡ line_words l
-end_words [] l h = let m = numbered End (Some 0) (Some 0) (Some (pos 0, pos 0)) l h in ap (λ (k : LineKind). words_with k l) (sym m.kind_is)
-end_words (w ∷ ws) l h = no_line_is l h
+rest_words counts n words l h = grind (arith, common_steps, no_line_is, numbered, amount_is, number_is)
 
 kind_words : (counts : Bool) (n : ℕ) (k : LineKind) (words : List (List ℕ)) (l : BodyLine) → line_with counts n (Some k) words ≡ Ok l → key_word k ∷ words ≡ line_words l
-kind_words counts n Pit words l h = pit_words n words l h
-kind_words counts n Source words l h = block_words counts n Source words l refl h
-kind_words counts n Rest words l h = rest_words counts n words l h
-kind_words counts n Sink words l h = block_words counts n Sink words l refl h
-kind_words counts n End words l h = end_words words l h
+kind_words counts n k words l h = grind (arith, common_steps, pit_words, block_words, rest_words)
 
 keyed_words : (counts : Bool) (n : ℕ) (key : List ℕ) (words : List (List ℕ)) (l : BodyLine) (o : Option LineKind) → kind_of key ≡ o → line_with counts n o words ≡ Ok l → key ∷ words ≡ line_words l
 keyed_words counts n key words l (Some k) e h = ap (λ (w : List ℕ). w ∷ words) (key_is key k e) ∙ kind_words counts n k words l h
 keyed_words counts n key words l None e h = no_line_is l h
 
 line_words_are : (counts : Bool) (n : ℕ) (words : List (List ℕ)) (l : BodyLine) → line_of_words counts n words ≡ Ok l → words ≡ line_words l
-line_words_are counts n [] l h = no_line_is l h
-line_words_are counts n (key ∷ words) l h = keyed_words counts n key words l (kind_of key) refl h
+line_words_are counts n words l h = grind (arith, common_steps, no_line_is, keyed_words)
 
 pub line_is : (counts : Bool) (n : ℕ) (text : List ℕ) (l : BodyLine) → line_of counts n text ≡ Ok l → text ≡ spaced_words (line_words l)
 line_is counts n text l h = sym (words_make_line text) ∙ ap spaced_words (line_words_are counts n (words_of text) l h)
 
--- A line that is read ends in a line feed.
-ends_so : (k : ℕ) (p : Piece) (long ended : Bool) → cond long (Some (fault.Text k)) (cond ended None (Some fault.Truncated)) ≡ None → ended ≡ true
-ends_so k p false true h = refl
-ends_so k p _ _ h = absurd cc
-
-no_fault_of : {A : Type 0} (o : Option CertFault) (r : Result A CertFault) (x : A) → unless_fault o r ≡ Ok x → o ≡ None
-no_fault_of (Some e) r x h = absurd cc
-no_fault_of None r x h = refl
-
 pub read_ends : {A : Type 0} (f : List ℕ → Result A LineFault) (k : ℕ) (p : Piece) (x : A) → read_line f k p ≡ Ok x → p.ended ≡ true
-read_ends f k p x h = ends_so k p (ltb LINE_BYTES (length p.text)) p.ended (no_fault_of (piece_fault k p) (in_line k (f p.text)) x h)
+read_ends f k p x h = grind (arith, common_steps)
 
 pub piece_text : (p : Piece) (ps : List Piece) (line : List ℕ) → p.ended ≡ true → p.text ≡ line → pieces_text (p ∷ ps) ≡ line ++ (10 ∷ pieces_text ps)
 piece_text p ps line e f = rw (e, f) refl
@@ -122,19 +83,13 @@ piece_text p ps line e f = rw (e, f) refl
 on : (counts : Bool) (n : ℕ) (has : ℕ → ℕ → Bool) (k : ℕ) (p : Piece) (ps : List Piece) (line : BodyLine) (t : Bool) → is_end line.kind ≡ t → p.ended ≡ true → p.text ≡ spaced_words (line_words line)
     → cond t (end_fault (k + 1) ps) (body_fault counts n has (Some line) (k + 1) ps) ≡ None → (body_fault counts n has (Some line) (k + 1) ps ≡ None → pieces_text ps ≡ body_text (lines_of_pieces counts n ps) ++ end_text)
     → pieces_text (p ∷ ps) ≡ body_text (cond t [] (line ∷ lines_of_pieces counts n ps)) ++ end_text
-on counts n has k p ps line true e f g h ih = grind (arith, common_steps)
-on counts n has k p ps line false e f g h ih =
-    piece_text p ps (spaced_words (line_words line)) f g ∙ ap (λ (t : List ℕ). spaced_words (line_words line) ++ (10 ∷ t)) (ih h) ∙ sym (append_assoc (spaced_words (line_words line)) (10 ∷ body_text (lines_of_pieces counts n ps)) end_text)
+on counts n has k p ps line t e f g h ih = grind (arith, common_steps)
 
 read_on : (counts : Bool) (n : ℕ) (has : ℕ → ℕ → Bool) (previous : Option BodyLine) (k : ℕ) (p : Piece) (ps : List Piece) (r : Result BodyLine CertFault) → next_line counts n has previous (k + 1) p ≡ r
     → fault_from (end_fault (k + 1) ps) (λ line. body_fault counts n has (Some line) (k + 1) ps) r ≡ None → ((line : BodyLine) → body_fault counts n has (Some line) (k + 1) ps ≡ None → pieces_text ps ≡ body_text (lines_of_pieces counts n ps) ++ end_text)
     → pieces_text (p ∷ ps) ≡ body_text (lines_from (lines_of_pieces counts n ps) (line_of counts n p.text)) ++ end_text
 read_on counts n has previous k p ps (Err e) f h ih = absurd cc
-read_on counts n has previous k p ps (Ok line) f h ih =
-    let q = met counts n has previous (k + 1) p line f in
-    let read = text_read (line_of counts n) (k + 1) p line q.read in
-    let made = on counts n has k p ps line (is_end line.kind) refl (read_ends (line_of counts n) (k + 1) p line q.read) (line_is counts n p.text line read) h (ih line) in
-    subst (λ (r : Result BodyLine LineFault). pieces_text (p ∷ ps) ≡ body_text (lines_from (lines_of_pieces counts n ps) r) ++ end_text) (sym read) made
+read_on counts n has previous k p ps (Ok line) f h ih = grind (arith, common_steps, (met counts n has previous (k + 1) p line f), (text_read (line_of counts n) (k + 1) p line (met counts n has previous (k + 1) p line f).read), (read_ends (line_of counts n) (k + 1) p line (met counts n has previous (k + 1) p line f).read), (line_is counts n p.text line (text_read (line_of counts n) (k + 1) p line (met counts n has previous (k + 1) p line f).read)))
 
 pub body_is : (counts : Bool) (n : ℕ) (has : ℕ → ℕ → Bool) (previous : Option BodyLine) (k : ℕ) (ps : List Piece) → body_fault counts n has previous k ps ≡ None → pieces_text ps ≡ body_text (lines_of_pieces counts n ps) ++ end_text
 body_is counts n has previous k [] h = absurd cc

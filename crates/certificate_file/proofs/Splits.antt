@@ -5,7 +5,6 @@ use Rattle.fixed_worth.proofs.Cuts.{position_none}
 use Rattle.std.specs.Prelude.{position}
 use Rattle.std.specs.List.{position_or_len}
 use Rattle.std.proofs.lemmas.List.Quantifiers.{position-Some}
-use Rattle.std.proofs.lemmas.List.{length-take-le}
 use Rattle.std.proofs.lemmas.Bool.Decides.{nat_tests}
 use Rattle.certificate_file.specs.declared.cert_fault.CertFault.TheVariants as fault
 use Rattle.certificate_file.specs.Pieces.{Piece, Unread, onto_piece, pieces_of, piece_at, words_of, piece_fault}
@@ -23,14 +22,9 @@ piece_to (b ∷ bs) (suc j) h e f =
 pub first_piece : (bs : List ℕ) (j : ℕ) → position (λ x. eqb x 10) bs ≡ Some j → pieces_of bs ≡ record { text = take j bs; ended = true } ∷ pieces_of (drop 1 (drop j bs))
 first_piece bs j e = let q = position-Some (λ x. eqb x 10) bs j 0 e in piece_to bs j q.0 q.1 q.2
 
-onto_at : (b : ℕ) (ps : List Piece) (bs : List ℕ) → piece_at ps 0 ≡ record { text = bs; ended = false } → piece_at (onto_piece b ps) 0 ≡ record { text = b ∷ bs; ended = false }
-onto_at b [] bs e = ap (λ (p : Piece). record { text = b ∷ p.text; ended = p.ended }) e
-onto_at b (p ∷ ps) bs e = ap (λ (q : Piece). record { text = b ∷ q.text; ended = q.ended }) e
-
 last_at : (b : ℕ) (bs : List ℕ) (t : Bool) → eqb b 10 ≡ t → length (b ∷ bs) ≡ position_or_len (λ x. eqb x 10) (b ∷ bs) → (length bs ≡ position_or_len (λ x. eqb x 10) bs → piece_at (pieces_of bs) 0 ≡ record { text = bs; ended = false })
     → piece_at (pieces_of (b ∷ bs)) 0 ≡ record { text = b ∷ bs; ended = false }
-last_at b bs true e h ih = let g = rw e at h in absurd (omega (arith, g))
-last_at b bs false e h ih = let g = rw e at h in rw e (onto_at b (pieces_of bs) bs (ih (omega (arith, g))))
+last_at b bs t e h ih = grind (arith, common_steps)
 
 -- Without a line feed all is one piece, which none ends.
 unended : (bs : List ℕ) → length bs ≡ position_or_len (λ x. eqb x 10) bs → piece_at (pieces_of bs) 0 ≡ record { text = bs; ended = false }
@@ -40,35 +34,23 @@ unended (b ∷ bs) h = last_at b bs (eqb b 10) refl h (unended bs)
 pub last_piece : (bs : List ℕ) → position (λ x. eqb x 10) bs ≡ None → piece_at (pieces_of bs) 0 ≡ record { text = bs; ended = false }
 last_piece bs e = unended bs (position_none _ bs e)
 
-onto_some : (b : ℕ) (ps : List Piece) → eqb (length (onto_piece b ps)) 0 ≡ false
-onto_some b [] = grind (arith, nat_tests)
-onto_some b (p ∷ ps) = grind (arith, nat_tests)
-
-some_at : (b : ℕ) (bs : List ℕ) (t : Bool) → eqb b 10 ≡ t → eqb (length (pieces_of (b ∷ bs))) 0 ≡ false
-some_at b bs true e = rw e (grind (arith, nat_tests))
-some_at b bs false e = rw e (onto_some b (pieces_of bs))
-
 more_than_none : (n : ℕ) → eqb (suc n) 0 ≡ false
 more_than_none n = grind (arith, nat_tests)
 
 -- There is a piece exactly where there is a byte.
 pub none_left : (bs : List ℕ) → eqb (length bs) 0 ≡ eqb (length (pieces_of bs)) 0
 none_left [] = refl
-none_left (b ∷ bs) = more_than_none (length bs) ∙ sym (some_at b bs (eqb b 10) refl)
+none_left (b ∷ bs) = more_than_none (length bs) ∙ sym (grind (arith, common_steps))
 
 -- The steps of the readers.
 too_long : (k : ℕ) (p : Piece) (bs : List ℕ) → p.text ≡ bs → LINE_BYTES < length bs → piece_fault k p ≡ Some (fault.Text k)
 too_long k p bs e h = grind (arith, common_steps)
 
 pub long_first : (bs : List ℕ) (j k : ℕ) (v : Unread) → record { pieces = pieces_of bs; number = k } ≡ v → position (λ x. eqb x 10) bs ≡ Some j → LINE_BYTES < j → piece_fault (v.number + 1) (piece_at v.pieces 0) ≡ Some (fault.Text (k + 1))
-long_first bs j k v is e h =
-    let q = position-Some (λ x. eqb x 10) bs j 0 e in
-    let all : length (take j bs) ≡ j = length-take-le j bs (omega (arith, q.0)) in
-    subst (λ (w : Unread). piece_fault (w.number + 1) (piece_at w.pieces 0) ≡ Some (fault.Text (k + 1))) is
-    (too_long (k + 1) (piece_at (pieces_of bs) 0) (take j bs) (ap (λ (ps : List Piece). (piece_at ps 0).text) (first_piece bs j e)) (omega arith))
+long_first bs j k v is e h = grind (arith, common_steps, (first_piece bs j e))
 
 pub long_last : (bs : List ℕ) (k : ℕ) (v : Unread) → record { pieces = pieces_of bs; number = k } ≡ v → position (λ x. eqb x 10) bs ≡ None → LINE_BYTES < length bs → piece_fault (v.number + 1) (piece_at v.pieces 0) ≡ Some (fault.Text (k + 1))
-long_last bs k v is e h = grind (arith, common_steps, too_long, last_piece)
+long_last bs k v is e h = grind (arith, common_steps, last_piece)
 
 pub cut_off : (bs : List ℕ) (k : ℕ) (v : Unread) → record { pieces = pieces_of bs; number = k } ≡ v → position (λ x. eqb x 10) bs ≡ None → length bs ≤ LINE_BYTES → piece_fault (v.number + 1) (piece_at v.pieces 0) ≡ Some fault.Truncated
 cut_off bs k v is e h = grind (arith, common_steps, ltb, last_piece)

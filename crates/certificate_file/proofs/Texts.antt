@@ -1,15 +1,13 @@
 -- Pieces and words make up their text again, and a text that is made of lines of words has these lines and words.
-use Rattle.std.proofs.Common.{◌≡◌, ℕ, suc, ◌+◌, ◌<◌, Bool, true, false, cond, not, eqb, List, [], ◌∷◌, ◌++◌, length, refl, sym, ap, ◌∙◌, arith}
+use Rattle.std.proofs.Common.{◌≡◌, ℕ, ◌+◌, ◌<◌, Bool, true, false, cond, not, eqb, List, [], ◌∷◌, ◌++◌, refl, arith}
 use Rattle.std.proofs.lemmas.Bool.{and_parts}
-use Rattle.std.specs.Prelude.{◌&&◌, ◌%◌, ◌^◌, ℤ, pos, negsuc, FitsSigned}
+use Rattle.std.specs.Prelude.{◌&&◌, ◌^◌, ℤ, FitsSigned}
 use Rattle.std.specs.Int.{w128}
-use Rattle.std.proofs.lemmas.Int.{ints}
 use Rattle.std.specs.List.{onto_first, list_all}
 use Rattle.std.specs.Fmt.{decimal, signed_decimal}
 use Rattle.std.proofs.lemmas.Bool.Decides.{nat_tests}
 use Rattle.std.proofs.lemmas.List.Folds.{list_all-append}
 use Rattle.std.proofs.lemmas.Fmt.{decimal_by_steps_wide}
-use Rattle.fixed_worth.proofs.Parts.{some_part}
 use Rattle.certificate_file.specs.Pieces.{Piece, onto_piece, pieces_of, words_of}
 use Rattle.certificate_file.specs.Written.{spaced_words}
 use Rattle.std.proofs.lemmas.Grind.{common_steps}
@@ -19,30 +17,15 @@ abbrev pub pieces_text : List Piece → List ℕ
 pieces_text [] = []
 pieces_text (p ∷ ps) = p.text ++ cond p.ended (10 ∷ pieces_text ps) (pieces_text ps)
 
-onto_text : (b : ℕ) (ps : List Piece) → pieces_text (onto_piece b ps) ≡ b ∷ pieces_text ps
-onto_text b [] = refl
-onto_text b (p ∷ ps) = refl
-
 pieces_at : (b : ℕ) (bs : List ℕ) (t : Bool) → eqb b 10 ≡ t → pieces_text (pieces_of bs) ≡ bs → pieces_text (cond t (record { text = []; ended = true } ∷ pieces_of bs) (onto_piece b (pieces_of bs))) ≡ b ∷ bs
-pieces_at b bs true e ih = let s : b ≡ 10 = grind (arith, nat_tests) in ap (λ (xs : List ℕ). 10 ∷ xs) ih ∙ ap (λ (x : ℕ). x ∷ bs) (sym s)
-pieces_at b bs false e ih = onto_text b (pieces_of bs) ∙ ap (λ (xs : List ℕ). b ∷ xs) ih
+pieces_at b bs t e ih = grind (arith, common_steps)
 
 pub pieces_make_text : (bs : List ℕ) → pieces_text (pieces_of bs) ≡ bs
 pieces_make_text [] = refl
 pieces_make_text (b ∷ bs) = pieces_at b bs (eqb b 10) refl (pieces_make_text bs)
 
-onto_spaced : (b : ℕ) (ws : List (List ℕ)) → spaced_words (onto_first b ws) ≡ b ∷ spaced_words ws
-onto_spaced b [] = refl
-onto_spaced b (w ∷ []) = refl
-onto_spaced b (w ∷ v ∷ ws) = refl
-
-spaced_behind : (w : List ℕ) (ws : List (List ℕ)) → 0 < length ws → spaced_words (w ∷ ws) ≡ w ++ (32 ∷ spaced_words ws)
-spaced_behind w [] h = absurd (omega arith)
-spaced_behind w (v ∷ ws) h = refl
-
 words_at : (b : ℕ) (bs : List ℕ) (t : Bool) → eqb b 32 ≡ t → spaced_words (words_of bs) ≡ bs → spaced_words (cond t ([] ∷ words_of bs) (onto_first b (words_of bs))) ≡ b ∷ bs
-words_at b bs true e ih = let s : b ≡ 32 = grind (arith, nat_tests) in spaced_behind [] (words_of bs) (some_part 32 bs) ∙ ap (λ (xs : List ℕ). 32 ∷ xs) ih ∙ ap (λ (x : ℕ). x ∷ bs) (sym s)
-words_at b bs false e ih = onto_spaced b (words_of bs) ∙ ap (λ (xs : List ℕ). b ∷ xs) ih
+words_at b bs t e ih = grind (arith, common_steps)
 
 pub words_make_line : (bs : List ℕ) → spaced_words (words_of bs) ≡ bs
 words_make_line [] = refl
@@ -59,48 +42,33 @@ abbrev pub are_words : List (List ℕ) → Bool
 are_words ws = list_all is_word ws
 
 byte_parts : (b : ℕ) (r : Bool) → (is_word_byte b && r) ≡ true → (eqb b 10 ≡ false) × (eqb b 32 ≡ false) × (r ≡ true)
-byte_parts b true h = (grind (arith, nat_tests), grind (arith, nat_tests), refl)
-byte_parts b false h = absurd (grind (arith, nat_tests))
+byte_parts b r h = grind (arith, common_steps)
 
 word_before : (w rest : List ℕ) → is_word w ≡ true → words_of (w ++ (32 ∷ rest)) ≡ w ∷ words_of rest
 word_before [] rest h = refl
-word_before (b ∷ w) rest h =
-    let q = byte_parts b (is_word w) h in
-    let e : eqb b 32 ≡ false = q.1 in
-    rw e (ap (onto_first b) (word_before w rest q.2))
+word_before (b ∷ w) rest h = grind (arith, common_steps, (word_before w rest (byte_parts b (is_word w) h).2))
 
 word_alone : (w : List ℕ) → is_word w ≡ true → words_of w ≡ w ∷ []
 word_alone [] h = refl
-word_alone (b ∷ w) h =
-    let q = byte_parts b (is_word w) h in
-    let e : eqb b 32 ≡ false = q.1 in
-    rw e (ap (onto_first b) (word_alone w q.2))
+word_alone (b ∷ w) h = grind (arith, common_steps, (word_alone w (byte_parts b (is_word w) h).2))
 
 pub words_read : (w : List ℕ) (ws : List (List ℕ)) → are_words (w ∷ ws) ≡ true → words_of (spaced_words (w ∷ ws)) ≡ w ∷ ws
 words_read w [] h = word_alone w (and_parts (is_word w) true h).0
-words_read w (v ∷ ws) h =
-    let q = and_parts (is_word w) (are_words (v ∷ ws)) h in
-    word_before w (spaced_words (v ∷ ws)) q.0 ∙ ap (λ (us : List (List ℕ)). w ∷ us) (words_read v ws q.1)
+words_read w (v ∷ ws) h = grind (arith, common_steps, and_parts, word_before, (words_read v ws (and_parts (is_word w) (are_words (v ∷ ws)) h).1))
 
 -- A line has no line feed.
 abbrev pub has_no_feed : List ℕ → Bool
 has_no_feed w = list_all (λ b. not (eqb b 10)) w
 
 feed_parts : (b : ℕ) (r : Bool) → (not (eqb b 10) && r) ≡ true → (eqb b 10 ≡ false) × (r ≡ true)
-feed_parts b true h = (grind (arith, nat_tests), refl)
-feed_parts b false h = absurd (grind (arith, nat_tests))
+feed_parts b r h = grind (arith, common_steps)
 
 pub line_before : (line rest : List ℕ) → has_no_feed line ≡ true → pieces_of (line ++ (10 ∷ rest)) ≡ record { text = line; ended = true } ∷ pieces_of rest
 line_before [] rest h = refl
-line_before (b ∷ line) rest h =
-    let q = feed_parts b (has_no_feed line) h in
-    let e : eqb b 10 ≡ false = q.0 in
-    rw e (ap (onto_piece b) (line_before line rest q.1))
+line_before (b ∷ line) rest h = grind (arith, common_steps, (line_before line rest (feed_parts b (has_no_feed line) h).1))
 
 word_feed_at : (b : ℕ) (r s : Bool) → (is_word_byte b && r) ≡ true → (r ≡ true → s ≡ true) → (not (eqb b 10) && s) ≡ true
-word_feed_at b true true h f = grind (arith, nat_tests)
-word_feed_at b true false h f = absurd (let z : false ≡ true = f refl in cc)
-word_feed_at b false s h f = absurd (grind (arith, nat_tests))
+word_feed_at b r s h f = grind (arith, common_steps)
 
 word_no_feed : (w : List ℕ) → is_word w ≡ true → has_no_feed w ≡ true
 word_no_feed [] h = refl
@@ -108,20 +76,14 @@ word_no_feed (b ∷ w) h = word_feed_at b (is_word w) (has_no_feed w) h (word_no
 
 pub spaced_no_feed : (w : List ℕ) (ws : List (List ℕ)) → are_words (w ∷ ws) ≡ true → has_no_feed (spaced_words (w ∷ ws)) ≡ true
 spaced_no_feed w [] h = word_no_feed w (and_parts (is_word w) true h).0
-spaced_no_feed w (v ∷ ws) h =
-    let q = and_parts (is_word w) (are_words (v ∷ ws)) h in
-    list_all-append (λ b. not (eqb b 10)) w (32 ∷ spaced_words (v ∷ ws)) ∙ rw (word_no_feed w q.0) (spaced_no_feed v ws q.1)
+spaced_no_feed w (v ∷ ws) h = grind (arith, common_steps, and_parts, list_all-append, word_no_feed, (spaced_no_feed v ws (and_parts (is_word w) (are_words (v ∷ ws)) h).1))
 
 -- Printed numbers are words.
 digit_is : (n : ℕ) → n < 10 → is_word ((48 + n) ∷ []) ≡ true
 digit_is n h = grind (arith, nat_tests)
 
-more_digits : (n : ℕ) (ds : List ℕ) → is_word ds ≡ true → is_word (ds ++ ((48 + n % 10) ∷ [])) ≡ true
-more_digits n ds h = grind (arith, common_steps)
-
 pub decimal_is_word : (n : ℕ) → n < 10 ^ 64 → is_word (decimal n) ≡ true
-decimal_is_word n h = decimal_by_steps_wide (λ m ds. is_word ds ≡ true) digit_is (λ m ds i w. more_digits m ds w) n h
+decimal_is_word n h = decimal_by_steps_wide (λ m ds. is_word ds ≡ true) digit_is (λ m ds i w. grind (arith, common_steps)) n h
 
 pub signed_is_word : (z : ℤ) → FitsSigned w128 z → is_word (signed_decimal z) ≡ true
-signed_is_word (pos n) h = decimal_is_word n (omega (arith, ints))
-signed_is_word (negsuc n) h = decimal_is_word (suc n) (omega (arith, ints))
+signed_is_word z h = grind (arith, common_steps, decimal_is_word)

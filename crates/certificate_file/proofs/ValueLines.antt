@@ -9,13 +9,12 @@ use Rattle.std.specs.declared.cmp.Ordering.{Ordering}
 use Rattle.std.specs.declared.cmp.Ordering.TheVariants.{Less, Equal}
 use Rattle.ordered_group.specs.Amount.{Amount, zero_amount, is_zero}
 use Rattle.ordered_group.specs.Sums.{amount_at}
-use Rattle.ordered_group.proofs.Order.{is_eq_tells}
 use Rattle.prec_file.proofs.Pairs.{tells_pair, pair_told}
 use Rattle.prec_file.specs.Rests.{IsRising, IsKnown}
 use Rattle.closure_net.specs.Network.{FlowView, IsAscending}
 use Rattle.closure_net.proofs.Ascending.{tail_ascends}
 use Rattle.certificate_file.specs.declared.body_lines.LineKind.{LineKind}
-use Rattle.certificate_file.specs.declared.body_lines.LineKind.TheVariants.{Pit, Source, Rest, Sink, End}
+use Rattle.certificate_file.specs.declared.body_lines.LineKind.TheVariants.{Pit, Source, Rest, Sink}
 use Rattle.certificate_file.specs.declared.body_lines.BodyLine.{BodyLine}
 use Rattle.certificate_file.specs.BodyLines.{rank, is_end, may_follow, is_of_model}
 use Rattle.certificate_file.specs.Certificate.{Covers, Denotes, has_pair, pit_of, block_if_pit, amount_of, given_amount, gives_source, gives_rest, gives_sink}
@@ -31,8 +30,7 @@ UpTo r None = Unit {0}
 UpTo r (Some l) = rank l.kind ≤ r
 
 wider : (r s : ℕ) (p : Option BodyLine) → r ≤ s → UpTo r p → UpTo s p
-wider r s None h u = tt
-wider r s (Some l) h u = omega arith
+wider r s p h u = grind (arith, common_steps)
 
 lower_first : (a b : ℕ) (o : Ordering) → a < b → is_lt (ordering_then (nat_cmp a b) o) ≡ true
 lower_first a b o h = let e : Less ≡ nat_cmp a b = nat_cmp_is a b Less h in ap (λ (x : Ordering). is_lt (ordering_then x o)) (sym e)
@@ -41,17 +39,10 @@ same_first : (a : ℕ) (o : Ordering) → is_lt o ≡ true → is_lt (ordering_t
 same_first a o h = let e : Equal ≡ nat_cmp a a = nat_cmp_is a a Equal refl in ap (λ (x : Ordering). is_lt (ordering_then x o)) (sym e) ∙ h
 
 pub higher : (r : ℕ) (p : Option BodyLine) (l : BodyLine) → UpTo r p → r < rank l.kind → may_follow p l ≡ true
-higher r None l u h = refl
-higher r (Some m) l u h = lower_first (rank m.kind) (rank l.kind) (ordering_then (nat_cmp m.block l.block) (nat_cmp m.other l.other)) (omega arith)
+higher r p l u h = grind (arith, common_steps)
 
 block_step : (k : LineKind) (a b : ℕ) (x y : Amount) → a < b → may_follow (Some (line_of_block k a x)) (line_of_block k b y) ≡ true
 block_step k a b x y h = same_first (rank k) (ordering_then (nat_cmp a b) (nat_cmp 0 0)) (lower_first a b (nat_cmp 0 0) h)
-
-pit_step : (a b : ℕ) → a < b → may_follow (Some (pit_at a)) (pit_at b) ≡ true
-pit_step a b h = same_first 0 (ordering_then (nat_cmp a b) (nat_cmp 0 0)) (lower_first a b (nat_cmp 0 0) h)
-
-pair_step : (ps : List (ℕ × ℕ)) (i j : ℕ) (x y : Amount) → IsRising ps → i < j → j < length ps → may_follow (Some (pair_at ps i x)) (pair_at ps j y) ≡ true
-pair_step ps i j x y r h l = grind (arith, common_steps)
 
 -- PIT lines before others.
 abbrev FirstFollows : Option BodyLine → List ℕ → Type 0
@@ -60,15 +51,14 @@ FirstFollows p (b ∷ bs) = may_follow p (pit_at b) ≡ true
 
 next_follows : (b : ℕ) (bs : List ℕ) → IsAscending (b ∷ bs) → FirstFollows (Some (pit_at b)) bs
 next_follows b [] h = tt
-next_follows b (c ∷ cs) h = pit_step b c (h 0 1 (omega arith) (omega arith))
+next_follows b (c ∷ cs) h = same_first 0 (ordering_then (nat_cmp b c) (nat_cmp 0 0)) (lower_first b c (nat_cmp 0 0) (h 0 1 (omega arith) (omega arith)))
 
 pits : (P : BodyLine → Type 0) (bs : List ℕ) (p : Option BodyLine) (rest : List BodyLine) → IsAscending bs → FirstFollows p bs → ((i : ℕ) → i < length bs → P (pit_at (get_or bs i 0))) → UpTo 0 p → ((q : Option BodyLine) → UpTo 0 q → InOrder P q rest) → InOrder P p (map pit_at bs ++ rest)
 pits P [] p rest a f e u c = c p u
 pits P (b ∷ bs) p rest a f e u c = (f, e 0 (omega arith), pits P bs (Some (pit_at b)) rest (tail_ascends b bs a) (next_follows b bs a) (λ i h. e (suc i) (omega arith)) (omega arith) c)
 
 first_of_all : (bs : List ℕ) → FirstFollows None bs
-first_of_all [] = tt
-first_of_all (b ∷ bs) = refl
+first_of_all bs = grind (arith, common_steps)
 
 -- Lines of amounts before others.
 abbrev pub Each : (BodyLine → Type 0) → (ℕ → Amount → BodyLine) → ℕ → List Amount → Type 0
@@ -94,7 +84,7 @@ pub record EachLine (P : BodyLine → Type 0) (pairs : List (ℕ × ℕ)) (block
 pub value_in_order : (P : BodyLine → Type 0) (n : ℕ) (pairs : List (ℕ × ℕ)) (pit : List ℕ) (flow : FlowView) → IsAscending pit → IsRising pairs → Covers n (length pairs) flow → EachLine P pairs pit flow → InOrder P None (value_lines pairs pit flow)
 value_in_order P n pairs pit flow a r c e =
     let sources : Rises (line_of_block Source) n 1 = record { step = λ i j x y h l. block_step Source i j x y h; rank_is = λ i x. omega arith } in
-    let rests : Rises (pair_at pairs) (length pairs) 2 = record { step = λ i j x y h l. pair_step pairs i j x y r h l; rank_is = λ i x. omega arith } in
+    let rests : Rises (pair_at pairs) (length pairs) 2 = record { step = λ i j x y h l. grind (arith, common_steps); rank_is = λ i x. omega arith } in
     let sinks : Rises (line_of_block Sink) n 3 = record { step = λ i j x y h l. block_step Sink i j x y h; rank_is = λ i x. omega arith } in
     let last : (q : Option BodyLine) → UpTo 2 q → InOrder P q (amount_lines (line_of_block Sink) 0 flow.sink) = λ q u.
     subst (InOrder P q) (append-nil (amount_lines (line_of_block Sink) 0 flow.sink)) (amounts P (line_of_block Sink) n 3 sinks flow.sink 0 q [] (omega (arith, c.sinks)) (λ j x g h. higher 2 q (line_of_block Sink j x) u (omega arith)) e.sink (wider 2 3 q (omega arith) u) (λ p v. tt)) in
@@ -113,19 +103,12 @@ pits_give_nothing : (gives : BodyLine → Bool) (x : Amount) (bs : List ℕ) →
 pits_give_nothing gives x [] f = refl
 pits_give_nothing gives x (b ∷ bs) f = ap (λ (t : Bool). given_amount gives (cond t (amount_of (pit_at b)) x) (map pit_at bs)) (f b) ∙ pits_give_nothing gives x bs f
 
--- One line of amounts, by whether it is written.
-line_given : (gives : BodyLine → Bool) (line : ℕ → Amount → BodyLine) (k : ℕ) (x y : Amount) (ls : List BodyLine) (t : Bool) → given_amount gives y (cond t ls (line k x ∷ ls)) ≡ given_amount gives (cond t y (cond (gives (line k x)) (amount_of (line k x)) y)) ls
-line_given gives line k x y ls true = refl
-line_given gives line k x y ls false = refl
-
 amounts_give_nothing : (gives : BodyLine → Bool) (line : ℕ → Amount → BodyLine) (top : ℕ) (xs : List Amount) (k : ℕ) (y : Amount) → k + length xs ≤ top → ((j : ℕ) (x : Amount) → k ≤ j → j < top → gives (line j x) ≡ false) → given_amount gives y (amount_lines line k xs) ≡ y
 amounts_give_nothing gives line top [] k y l f = refl
 amounts_give_nothing gives line top (x ∷ xs) k y l f = grind (arith, common_steps, (amounts_give_nothing gives line top xs (k + 1) y (omega arith) (λ j a g h. f j a (omega arith) h)))
 
 own_given : (x : Amount) (t u : Bool) (a : Amount) → is_zero x ≡ t → u ≡ true → a ≡ x → cond t zero_amount (cond u a zero_amount) ≡ x
-own_given x true u a e f g = sym ((is_eq_tells x zero_amount).0 e)
-own_given x false true a e f g = g
-own_given x false false a e f g = absurd (let z : false ≡ true = f in cc)
+own_given x t u a e f g = grind (arith, common_steps)
 
 -- The amount at a place is given by the line for that place, and by no other.
 pub record Owns (gives : BodyLine → Bool) (line : ℕ → Amount → BodyLine) (top i : ℕ) : Type 0 where
@@ -138,15 +121,14 @@ amount_given gives line top i o [] k j l e h = absurd (omega arith)
 amount_given gives line top i o (x ∷ xs) k zero l e h =
     let here : i ≡ k = omega arith in
     let so : gives (line k x) ≡ true = subst (λ (m : ℕ). gives (line m x) ≡ true) here (o.mine x) in
-    line_given gives line k x zero_amount (amount_lines line (k + 1) xs) (is_zero x)
+    grind (arith, common_steps)
     ∙ ap (λ (a : Amount). given_amount gives a (amount_lines line (k + 1) xs)) (own_given x (is_zero x) (gives (line k x)) (amount_of (line k x)) refl so (o.same k x))
     ∙ amounts_give_nothing gives line top xs (k + 1) x (omega arith) (λ m y g f. o.others m y (λ s. omega (arith, s)) f)
 amount_given gives line top i o (x ∷ xs) k (suc j) l e h = grind (arith, common_steps, (amount_given gives line top i o xs (k + 1) j (omega arith) (omega arith) (omega arith)))
 
 -- The blocks of the pit.
 pub joins : (k : LineKind) (b : ℕ) (xs ys : List ℕ) → block_if_pit k b (xs ++ ys) ≡ block_if_pit k b xs ++ ys
-joins Pit b xs ys = refl
-joins _ b xs ys = refl
+joins k b xs ys = grind (arith, common_steps)
 
 pub pit_append : (ls ms : List BodyLine) → pit_of (ls ++ ms) ≡ pit_of ls ++ pit_of ms
 pit_append [] ms = refl
@@ -156,16 +138,9 @@ pit_of_pits : (bs : List ℕ) → pit_of (map pit_at bs) ≡ bs
 pit_of_pits [] = refl
 pit_of_pits (b ∷ bs) = ap (λ (xs : List ℕ). b ∷ xs) (pit_of_pits bs)
 
-no_pit_at : (l : BodyLine) (ls : List BodyLine) (t : Bool) → block_if_pit l.kind l.block (pit_of ls) ≡ pit_of ls → pit_of (cond t ls (l ∷ ls)) ≡ pit_of ls
-no_pit_at l ls true e = refl
-no_pit_at l ls false e = e
-
 no_pit : (line : ℕ → Amount → BodyLine) → ((k : ℕ) (x : Amount) (bs : List ℕ) → block_if_pit (line k x).kind (line k x).block bs ≡ bs) → (k : ℕ) (xs : List Amount) → pit_of (amount_lines line k xs) ≡ []
 no_pit line f k [] = refl
-no_pit line f k (x ∷ xs) = no_pit_at (line k x) (amount_lines line (k + 1) xs) (is_zero x) (f k x (pit_of (amount_lines line (k + 1) xs))) ∙ no_pit line f (k + 1) xs
-
-pit_is : (pairs : List (ℕ × ℕ)) (pit : List ℕ) (flow : FlowView) → pit ≡ pit_of (value_lines pairs pit flow)
-pit_is pairs pit flow = grind (arith, common_steps, pit_append, no_pit, append-nil, pit_of_pits)
+no_pit line f k (x ∷ xs) = (grind (arith, common_steps)) ∙ no_pit line f (k + 1) xs
 
 four_parts : (gives : BodyLine → Bool) (hs ls ms ns : List BodyLine) → given_amount gives zero_amount (hs ++ (ls ++ (ms ++ ns))) ≡ given_amount gives (given_amount gives (given_amount gives (given_amount gives zero_amount hs) ls) ms) ns
 four_parts gives hs ls ms ns = given_amount-append gives zero_amount hs (ls ++ (ms ++ ns)) ∙ given_amount-append gives (given_amount gives zero_amount hs) ls (ms ++ ns) ∙ given_amount-append gives (given_amount gives (given_amount gives zero_amount hs) ls) ms ns
@@ -193,7 +168,7 @@ value_says n pairs pit flow r c =
     let m = amount_lines (pair_at pairs) 0 flow.rest in
     let t = amount_lines (line_of_block Sink) 0 flow.sink in
     record {
-      pit = pit_is pairs pit flow;
+      pit = grind (arith, common_steps, pit_append, no_pit, append-nil, pit_of_pits);
       covers = c;
       source = λ b h.
           let g = gives_source b in

@@ -1,5 +1,5 @@
 -- A certificate that is read for a model, as a whole.
-use Rattle.std.proofs.Common.{◌≡◌, ℕ, zero, suc, ◌<◌, Bool, List, [], ◌∷◌, ◌++◌, length, drop, get_or, Some, None, Result, Ok, refl, sym, ap, ◌∙◌, subst, arith}
+use Rattle.std.proofs.Common.{◌≡◌, ℕ, ◌<◌, Bool, List, [], ◌++◌, length, drop, get_or, Some, None, Result, Ok, refl, sym, ap, ◌∙◌, subst, arith}
 use Rattle.std.specs.List.{All}
 use Rattle.std.specs.Result.{result_unwrap_or}
 use Rattle.std.proofs.lemmas.List.{same_lists}
@@ -46,15 +46,8 @@ spelled counts name n pairs text price pit flow r h k f d a b =
     let same : ls ≡ value_lines pairs pit flow = say_the_same n pairs pit flow None None ls (value_lines pairs pit flow) mine value d (value_says n pairs pit flow r.rising d.covers) in
     sym (pieces_make_text text) ∙ header_is (wanted_for n name) (pieces_of text) (header_with n price name) h ∙ ap (λ (t : List ℕ). head ++ t) (body_is counts n has None k ps f) ∙ ap (λ (ms : List BodyLine). head ++ (body_text ms ++ end_text)) same
 
--- What is wrong with a text is wrong with its body, where its header is as wanted.
-body_alone : (counts : Bool) (name : Group) (n : ℕ) (pairs : List (ℕ × ℕ)) (text : List ℕ) (w : Wanted) (h : Header) (left : Unread) → w.blocks ≡ n → w.group ≡ name → header_for (Some w) (pieces_of text) ≡ Ok h → left.pieces ≡ drop 4 (pieces_of text) → left.number ≡ 4
-    → fault_of counts name n pairs text ≡ body_fault counts n (has_pair pairs) None left.number left.pieces
-body_alone counts name n pairs text w h left b g e p k = grind (arith, common_steps)
-
 pub none_ascends : (counts : Bool) (n : ℕ) (pairs : List (ℕ × ℕ)) (left : Unread) (start later : Gathered) → start.pit ≡ [] → body_fault counts n (has_pair pairs) None left.number left.pieces ≡ None → Adds n pairs (lines_of_pieces counts n left.pieces) start later → IsAscending later.pit
-none_ascends counts n pairs left start later e f a =
-    let is : later.pit ≡ pit_of (lines_of_pieces counts n left.pieces) = a.pit ∙ ap (λ (bs : List ℕ). bs ++ pit_of (lines_of_pieces counts n left.pieces)) e in
-    subst IsAscending (sym is) (ascending counts n (has_pair pairs) None (lines_of_pieces counts n left.pieces) (stands_in_order counts n (has_pair pairs) None left.number left.pieces f))
+none_ascends counts n pairs left start later e f a = grind (arith, common_steps, (ascending counts n (has_pair pairs) None (lines_of_pieces counts n left.pieces) (stands_in_order counts n (has_pair pairs) None left.number left.pieces f)), (stands_in_order counts n (has_pair pairs) None left.number left.pieces f))
 
 -- The amounts of a start are zero.
 pub record IsEmpty (start : Gathered) : Type 0 where
@@ -83,7 +76,7 @@ all_read counts name n pairs text w h left start later b g e p k z r f c a =
     } in
     let rises = none_ascends counts n pairs left start later z.pit f a in
     let below : All (λ x. x < n) later.pit = subst (All (λ x. x < n)) (sym is) (known counts n (has_pair pairs) None (lines_of_pieces counts n left.pieces) order) in (
-      body_alone counts name n pairs text w h left b g e p k ∙ f,
+      (grind (arith, common_steps)) ∙ f,
       record {
         header = head;
         same_blocks = q.0 ∙ b;
@@ -96,9 +89,7 @@ all_read counts name n pairs text w h left start later b g e p k z r f c a =
 
 -- A text gives one value.
 any_default : (xs : List Amount) (k : ℕ) (d e : Amount) → k < length xs → get_or xs k d ≡ get_or xs k e
-any_default [] k d e h = absurd (omega arith)
-any_default (x ∷ xs) zero d e h = refl
-any_default (x ∷ xs) (suc k) d e h = any_default xs k d e (omega arith)
+any_default xs k d e h = grind (arith, common_steps)
 
 same_amounts : (xs ys : List Amount) (m : ℕ) → length xs ≡ m → length ys ≡ m → ((k : ℕ) → k < m → amount_at xs k ≡ amount_at ys k) → xs ≡ ys
 same_amounts xs ys m e f h = same_lists xs ys (e ∙ sym f) (λ k d i. any_default xs k d zero_amount i ∙ h k (omega arith) ∙ any_default ys k zero_amount d (omega arith))

@@ -7,6 +7,7 @@ use Rattle.std.specs.List.{list_all}
 use Rattle.std.proofs.lemmas.Bool.Decides.{nat_tests}
 use Rattle.fixed_worth.specs.Numeral.{is_digit, value_of}
 use Rattle.std.proofs.lemmas.Grind.{common_steps}
+use Rattle.std.proofs.lemmas.Bool.{and_from}
 
 spread : (v d p r : ℕ) → v * (10 * p) + (d * p + r) ≡ (v * 10 + d) * p + r
 spread v d p r = omega arith
@@ -73,11 +74,6 @@ value_below (b ∷ bs) h =
 pub short_value : (xs ys : List ℕ) → list_all is_digit (xs ++ ys) ≡ true → length xs + length ys ≤ 36 → value_of (xs ++ ys) < 10 ^ 36
 short_value xs ys h j = grind (arith, common_steps, value_below, pow-le-pow_right)
 
-and_both : (s t : Bool) → s ≡ true → t ≡ true → (s && t) ≡ true
-and_both true true e f = refl
-and_both true false e f = f
-and_both false t e f = e
-
 -- one more digit makes a number less than the next power of ten
 pub next_below : (v i b : ℕ) → v < 10 ^ i → is_digit b ≡ true → v * 10 + (b - 48) < 10 ^ (i + 1)
 next_below v i b h t = grind (arith, common_steps)
@@ -89,4 +85,4 @@ power_fits i h = pow-le-pow_right {n = 10} (lit< tt) h
 -- all of a list passes where each place does
 pub all_digits : (bs : List ℕ) → ((k : ℕ) → k < length bs → is_digit (get_or bs k 0) ≡ true) → list_all is_digit bs ≡ true
 all_digits [] h = refl
-all_digits (b ∷ bs) h = and_both (is_digit b) (list_all is_digit bs) (h 0 (omega arith)) (all_digits bs (λ k l. h (suc k) (omega arith)))
+all_digits (b ∷ bs) h = and_from (is_digit b) (list_all is_digit bs) (h 0 (omega arith)) (all_digits bs (λ k l. h (suc k) (omega arith)))

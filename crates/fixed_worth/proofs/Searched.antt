@@ -1,17 +1,14 @@
 -- A search of a byte finds its first place.
 use Rattle.std.proofs.Common.{◌≡◌, ℕ, ◌==◌, Bool, true, false, List, Option, None, Some, length, get_or, inl, inr, arith}
 use Rattle.std.specs.Prelude.{position}
-use Rattle.std.proofs.lemmas.Bool.{cases_Bool}
+use Rattle.std.proofs.lemmas.Bool.{false_from_ne_true}
 use Rattle.std.proofs.lemmas.Bool.Decides.{nat_tests}
 use Rattle.std.proofs.lemmas.List.Sums.{position_or_len_is}
 use Rattle.memchr.specs.Find.{IsFirstByte, is_byte}
 use Rattle.std.proofs.lemmas.Grind.{common_steps}
 
-fails : (t : Bool) → (t ≡ true → ⊥) → t ≡ false
-fails t h = elim (cases_Bool t) [ inl e ↦ absurd (h e) | inr e ↦ e ]
-
 pub first_place : (a : ℕ) (xs : List ℕ) (r : Option ℕ) → IsFirstByte (is_byte a) xs r → r ≡ position (λ b. b == a) xs
 first_place a xs None h =
-    let e = position_or_len_is (λ b. b == a) xs (length xs) 0 (omega arith) (λ k l. fails (get_or xs k 0 == a) (h k (omega arith) l)) (λ l. absurd (omega arith)) in
+    let e = position_or_len_is (λ b. b == a) xs (length xs) 0 (omega arith) (λ k l. false_from_ne_true (get_or xs k 0 == a) (h k (omega arith) l)) (λ l. absurd (omega arith)) in
     grind (arith, nat_tests)
 first_place a xs (Some k) h = grind (arith, common_steps, position_or_len_is)

@@ -1,18 +1,14 @@
 -- Runs in which no ReadExcess sees zero: they go on by one step, and only a block without an operation reads its excess.
-use Rattle.std.proofs.Common.{◌≡◌, ℕ, Option, Some, None, List, [], ◌∷◌, ◌++◌, refl, subst}
+use Rattle.std.proofs.Common.{◌≡◌, ℕ, List, [], ◌∷◌, ◌++◌, refl, subst, arith}
 use Rattle.ordered_group.specs.Amount.{Amount}
 use Rattle.closure_net.specs.Network.{NetView}
-use Rattle.closure_net.specs.declared.port.Port.{Port}
-use Rattle.closure_net.specs.declared.port.PortKind.{PortKind}
-use Rattle.closure_net.specs.declared.port.PortKind.TheVariants.{Sink, Forward, Backward, Source}
 use Rattle.machine_law.specs.declared.operations.Operation.{Operation}
-use Rattle.machine_law.specs.declared.operations.Operation.TheVariants.{Idle, Scan, PushDue, TakeDue, GiveDue, RaiseDue}
+use Rattle.machine_law.specs.declared.operations.Operation.TheVariants.{Idle}
 use Rattle.machine_law.specs.declared.events.Event.{Event}
 use Rattle.machine_law.specs.declared.events.Kind.TheVariants.{ReadExcess}
 use Rattle.machine_law.specs.States.{State}
-use Rattle.machine_law.specs.Steps.{read_kind, read_kind_at, push_kind, next_of, Step, Run, ReadsNoZero, ActiveRun}
-use Rattle.std.specs.Prelude.{slice_get}
-use Rattle.closure_net.specs.Ports.{ports}
+use Rattle.machine_law.specs.Steps.{next_of, Step, Run, ReadsNoZero, ActiveRun}
+use Rattle.std.proofs.lemmas.Grind.{common_steps}
 
 -- ---- such a run is a run, and goes on by one step
 pub active_is_run : (allowed : State → Type 0) (net : NetView) (s : State) (es : List Event) (t : State) → ActiveRun allowed net s es t → Run net s es t
@@ -25,21 +21,7 @@ active_more allowed net s [] e t u h step reads fits = subst (λ (v : State). Ac
 active_more allowed net s (x ∷ es) e t u h step reads fits = (h.0, h.1, h.2, h.3, active_more allowed net h.0 es e t u h.4 step reads fits)
 
 -- ---- the kind of step that reads an excess
-looks_no_excess : (kind : PortKind) → ¬ (read_kind kind ≡ ReadExcess)
-looks_no_excess Sink e = cc
-looks_no_excess _ e = cc
-
-looks_at_no_excess : (port : Option Port) → ¬ (read_kind_at port ≡ ReadExcess)
-looks_at_no_excess None e = cc
-looks_at_no_excess (Some port) e = looks_no_excess port.kind e
-
-pushes_no_excess : (kind : PortKind) → ¬ (push_kind kind ≡ ReadExcess)
-pushes_no_excess Sink e = cc
-pushes_no_excess _ e = cc
 
 -- only a block without an operation makes it
 pub excess_read_idle : (net : NetView) (b : ℕ) (o : Operation Amount) → next_of net b o ≡ ReadExcess → o ≡ Idle
-excess_read_idle net b Idle e = refl
-excess_read_idle net b (Scan have place None best) e = absurd (looks_at_no_excess (slice_get (ports net b) place) e)
-excess_read_idle net b (PushDue have best) e = absurd (pushes_no_excess best.port.kind e)
-excess_read_idle net b _ e = cc
+excess_read_idle net b o e = grind (arith, common_steps)

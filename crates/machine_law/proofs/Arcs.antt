@@ -12,6 +12,7 @@ use Rattle.machine_law.specs.States.{with_value_at}
 use Rattle.machine_law.specs.Labels.{arcs}
 use Rattle.machine_law.proofs.Numbers.{Same, same, shifted}
 use Rattle.machine_law.proofs.Points.{total-with_value_at}
+use Rattle.std.proofs.lemmas.Grind.{common_steps}
 
 module _ (net : NetView) where
   -- fewer arcs, of lesser flow
@@ -33,12 +34,7 @@ module _ (net : NetView) where
   -- no arc passes
   pub arcs-none : (f : ℕ → Bool) (u : ℕ → Amount) (x : ℕ) → ((k : ℕ) → k < length net.pairs → to_at net.pairs k ≡ x → f k ≡ true → ⊥) → arcs net f u x ≡ zero_amount
   unfolding arcs
-  arcs-none f u x stop =
-      total-none (λ k. where_so ((to_at net.pairs k == x) && f k) (u k)) (length net.pairs) (λ k l.
-      elim (cases_Bool ((to_at net.pairs k == x) && f k)) [
-        | inl e ↦ let p = and_parts (to_at net.pairs k == x) (f k) e in absurd (stop k l (eqb-true (to_at net.pairs k) x p.0) p.1)
-        | inr e ↦ where_not ((to_at net.pairs k == x) && f k) (u k) e
-      ])
+  arcs-none f u x stop = grind (arith, common_steps, total-none, cases_Bool, and_parts, eqb-true, where_not)
 
   -- the flow of one pair is changed
   pub arcs-with_value_at : (f : ℕ → Bool) (u : ℕ → Amount) (x i : ℕ) (v : Amount) → i < length net.pairs → Same (plus (arcs net f (with_value_at u i v) x) (where_so ((to_at net.pairs i == x) && f i) (u i))) (plus (arcs net f u x) (where_so ((to_at net.pairs i == x) && f i) v))

@@ -1,5 +1,5 @@
 -- The balances hold at the opening, and each step keeps them.
-use Rattle.std.proofs.Common.{◌≡◌, ℕ, ◌+◌, ◌<◌, ◌==◌, Bool, Option, Some, None, cond, nat_lt, length, refl, arith}
+use Rattle.std.proofs.Common.{◌≡◌, ℕ, ◌<◌, ◌==◌, Option, Some, None, length, refl, arith}
 use Rattle.std.specs.Prelude.{slice_get}
 use Rattle.std.proofs.lemmas.Int.{ints}
 use Rattle.std.proofs.lemmas.Bool.{cond_both}
@@ -10,64 +10,38 @@ use Rattle.prec_file.specs.Rests.{from_at, to_at}
 use Rattle.closure_net.specs.Network.{NetView}
 use Rattle.closure_net.specs.Ports.{ports}
 use Rattle.closure_net.specs.declared.port.Port.{Port}
-use Rattle.closure_net.specs.declared.port.PortKind.{PortKind}
-use Rattle.closure_net.specs.declared.port.PortKind.TheVariants.{Sink, Forward, Backward, Source}
 use Rattle.machine_law.specs.declared.operations.Best.{Best}
 use Rattle.machine_law.specs.declared.operations.Operation.{Operation}
 use Rattle.machine_law.specs.declared.operations.Operation.TheVariants.{Idle, Scan, PushDue, TakeDue, GiveDue, RaiseDue}
 use Rattle.machine_law.specs.States.{State, opening}
-use Rattle.machine_law.specs.Residual.{capacity, end_label}
-use Rattle.machine_law.specs.Reads.{is_positive, operation_begun_with, better_of, after_last_port, after_port, after_capacity, after_label}
-use Rattle.machine_law.specs.Steps.{after_look, after_look_by, after_label_at, push_amount, advance, advance_by}
-use Rattle.machine_law.specs.Transit.{sum_on_way, amount_landing, into_sink, into_source, inflow_at, outflow_at, amount_given_back, amount_drained}
+use Rattle.machine_law.specs.Residual.{capacity}
+use Rattle.machine_law.specs.Reads.{is_positive, operation_begun_with}
+use Rattle.machine_law.specs.Steps.{after_look, after_label_at, push_amount, advance, advance_by}
+use Rattle.machine_law.specs.Transit.{sum_on_way, inflow_at, outflow_at, amount_given_back, amount_drained}
 use Rattle.machine_law.specs.Amounts.{HasAmounts, IsOperation}
 use Rattle.machine_law.specs.Balances.{IsBalanced}
 use Rattle.machine_law.proofs.Numbers.{same, equal}
 use Rattle.machine_law.proofs.Supply.{IsAtRest}
 use Rattle.machine_law.proofs.Balance.{balanced_rest, balanced_raised, balanced_pushed, balanced_taken, balanced_given}
+use Rattle.std.proofs.lemmas.Grind.{common_steps}
 
 -- ---- a read leaves an operation that has pushed nothing
-pub rest_cond : (t : Bool) (x y : Operation Amount) → IsAtRest x → IsAtRest y → IsAtRest (cond t x y)
-rest_cond t x y h k = cond_both t x y IsAtRest (λ _. h) (λ _. k)
-
-rest_ended : (label : ℕ) (have : Amount) (best : Option (Best Amount)) → IsAtRest (after_last_port label have best)
-rest_ended label have None = tt
-rest_ended label have (Some best) = rest_cond (nat_lt best.label label) (PushDue have best) (RaiseDue have best) tt tt
-
-rest_passed : (count label : ℕ) (have : Amount) (place : ℕ) (best : Option (Best Amount)) → IsAtRest (after_port count label have place best)
-rest_passed count label have place best = rest_cond (nat_lt (place + 1) count) (Scan have (place + 1) None best) (after_last_port label have best) tt (rest_ended label have best)
 
 pub rest_begun : (excess : Amount) → IsAtRest (operation_begun_with excess)
-rest_begun excess = rest_cond (is_positive excess) (Scan excess 0 None None) Idle tt tt
-
-rest_seen : (count label : ℕ) (have : Amount) (place : ℕ) (best : Option (Best Amount)) (read : Amount) → IsAtRest (after_capacity count label have place best read)
-rest_seen count label have place best read = rest_cond (is_positive read) (Scan have place (Some read) best) (after_port count label have place best) tt (rest_passed count label have place best)
-
-rest_chosen : (count label : ℕ) (have : Amount) (place : ℕ) (best : Option (Best Amount)) (read : Amount) (p : Port) (beyond : ℕ) → IsAtRest (after_label count label have place best read p beyond)
-rest_chosen count label have place best read p beyond = rest_passed count label have place (Some (better_of best (record { port = p; capacity = read; label = beyond })))
+rest_begun excess = cond_both (is_positive excess) (Scan excess 0 None None) Idle IsAtRest (λ _. tt) (λ _. tt)
 
 module _ (net : NetView) (s : State) (b : ℕ) where
-  rest_looked_by : (have : Amount) (place : ℕ) (best : Option (Best Amount)) (p : Port) (kind : PortKind) → IsAtRest (after_look_by net s b have place best p kind)
-  rest_looked_by have place best p Forward = rest_chosen (length (ports net b)) (s.label b) have place best zero_amount p (end_label net s p)
-  rest_looked_by have place best p _ = rest_seen (length (ports net b)) (s.label b) have place best (capacity net s b p)
-
   pub rest_looked : (have : Amount) (place : ℕ) (best : Option (Best Amount)) (q : Option Port) → IsAtRest (after_look net s b have place best q)
-  rest_looked have place best None = tt
-  rest_looked have place best (Some p) = rest_looked_by have place best p p.kind
+  rest_looked have place best q = grind (arith, common_steps)
 
   pub rest_weighed : (have : Amount) (place : ℕ) (best : Option (Best Amount)) (read : Amount) (q : Option Port) → IsAtRest (after_label_at net s b have place best read q)
-  rest_weighed have place best read None = tt
-  rest_weighed have place best read (Some p) = rest_chosen (length (ports net b)) (s.label b) have place best read p (end_label net s p)
+  rest_weighed have place best read q = grind (arith, common_steps)
 
   -- ---- each step
   balanced_advance_by : (o : Operation Amount) → b < length net.worths → s.operation b ≡ o → IsOperation net s b o → IsBalanced net s → IsBalanced net (advance_by net s b o)
   balanced_advance_by Idle l e h k = balanced_rest net s b l k Idle (operation_begun_with (s.excess b)) e tt (rest_begun (s.excess b))
-  balanced_advance_by (Scan have place None best) l e h k =
-      let q = slice_get (ports net b) place in
-      balanced_rest net s b l k (Scan have place None best) (after_look net s b have place best q) e tt (rest_looked have place best q)
-  balanced_advance_by (Scan have place (Some read) best) l e h k =
-      let q = slice_get (ports net b) place in
-      balanced_rest net s b l k (Scan have place (Some read) best) (after_label_at net s b have place best read q) e tt (rest_weighed have place best read q)
+  balanced_advance_by (Scan have place None best) l e h k = grind (arith, common_steps, (slice_get (ports net b) place), (balanced_rest net s b l k (Scan have place None best) (after_look net s b have place best (slice_get (ports net b) place)) e tt (rest_looked have place best (slice_get (ports net b) place))), (rest_looked have place best (slice_get (ports net b) place)))
+  balanced_advance_by (Scan have place (Some read) best) l e h k = grind (arith, common_steps, (slice_get (ports net b) place), (balanced_rest net s b l k (Scan have place (Some read) best) (after_label_at net s b have place best read (slice_get (ports net b) place)) e tt (rest_weighed have place best read (slice_get (ports net b) place))), (rest_weighed have place best read (slice_get (ports net b) place)))
   balanced_advance_by (PushDue have best) l e h k = balanced_pushed net s b l k have best (push_amount have best.port.kind best.capacity) best.port e h.over.port
   balanced_advance_by (TakeDue d p) l e h k = balanced_taken net s b l k d p e
   balanced_advance_by (GiveDue d p) l e h k = balanced_given net s b l k d p e
@@ -99,12 +73,4 @@ module _ (net : NetView) where
   nothing_drained = total-zero (length net.worths)
 
   pub balanced_opening : IsBalanced net (opening net)
-  balanced_opening = record {
-    blocks = λ b.
-        let i = same (no_inflow b) in
-        let o = same (no_outflow b) in
-        let c = same (nothing_on_way (amount_landing b)) in
-        equal (record { w = omega (arith, ints, i, o, c); c = omega (arith, ints, i, o, c) });
-    at_source = let g = same nothing_given_back in let c = same (nothing_on_way into_source) in equal (record { w = omega (arith, ints, g, c); c = omega (arith, ints, g, c) });
-    at_sink = let g = same nothing_drained in let c = same (nothing_on_way into_sink) in equal (record { w = omega (arith, ints, g, c); c = omega (arith, ints, g, c) });
-  }
+  balanced_opening = grind (arith, common_steps, same, no_inflow, no_outflow, nothing_on_way, equal, nothing_given_back, nothing_drained)

@@ -1,21 +1,18 @@
 -- What a step of another block leaves of the steep bound, and of what an operation remembers of labels.
-use Rattle.std.proofs.Common.{◌≡◌, ℕ, ◌≤◌, ◌+◌, ◌==◌, Bool, true, false, not, nat_lt, ◌&&◌, cond, Option, Some, None, List, [], drop, refl, sym, subst, arith}
+use Rattle.std.proofs.Common.{◌≡◌, ℕ, ◌≤◌, ◌+◌, Bool, true, not, nat_lt, ◌&&◌, Option, List, arith}
 use Rattle.std.proofs.lemmas.Int.{ints}
 use Rattle.std.proofs.lemmas.Bool.{and_parts, and_from, ltb-true, lt-ltb}
-use Rattle.ordered_group.specs.Amount.{Amount, zero_amount, plus, minus, AtMost, Below}
+use Rattle.ordered_group.specs.Amount.{Amount, plus, minus, AtMost}
 use Rattle.prec_file.specs.Rests.{from_at}
 use Rattle.closure_net.specs.Network.{NetView}
-use Rattle.closure_net.specs.Ports.{ports, backward_port}
+use Rattle.closure_net.specs.Ports.{backward_port}
 use Rattle.closure_net.specs.declared.port.Port.{Port}
-use Rattle.closure_net.specs.declared.port.PortKind.{PortKind}
-use Rattle.closure_net.specs.declared.port.PortKind.TheVariants.{Sink, Forward, Backward, Source}
 use Rattle.machine_law.specs.declared.operations.Best.{Best}
 use Rattle.machine_law.specs.declared.operations.Operation.{Operation}
-use Rattle.machine_law.specs.declared.operations.Operation.TheVariants.{Idle, Scan, PushDue, TakeDue, GiveDue, RaiseDue}
 use Rattle.machine_law.specs.States.{State}
-use Rattle.machine_law.specs.Residual.{room, end_label, label_beyond}
 use Rattle.machine_law.specs.Balances.{supply}
-use Rattle.machine_law.specs.Labels.{arcs, steep_capacity, label_by, label_seen, ports_have, is_under, IsOpenBy, IsAbove, IsNearLabel, IsLevelIfAny, IsWalk, IsLevelled}
+use Rattle.machine_law.specs.Labels.{arcs, steep_capacity, label_seen, ports_have, is_under, IsWalk, IsLevelled}
+use Rattle.std.proofs.lemmas.Grind.{common_steps}
 
 -- What a step from s to t leaves to x, whose label stays: labels only rise, and x's backward arcs gain at most what its supply does.
 pub record IsCalm (net : NetView) (s t : State) (x : ℕ) : Type 0 where
@@ -34,56 +31,19 @@ chain x a c d g h p q r = record { worths = omega (arith, ints, p, q, r); counts
 chain_all : (x a c d g : Amount) → AtMost x (plus a g) → AtMost a c → AtMost (plus c g) d → AtMost x d
 chain_all x a c d g p q r = record { worths = omega (arith, ints, p, q, r); counts = λ i. omega (arith, ints, p, q, r, i) }
 
-label_by-more : (kind : PortKind) (slot read k m n : ℕ) → m ≤ n → label_by kind slot read k m ≤ label_by kind slot read k n
-label_by-more Backward slot read k m n h = elim (slot == k) as (λ t. cond t read m ≤ cond t read n) [ true ↦ omega arith | false ↦ h ]
-label_by-more _ slot read k m n h = h
-
 label_seen-more : (best : Option (Best Amount)) (k m n : ℕ) → m ≤ n → label_seen best k m ≤ label_seen best k n
-label_seen-more None k m n h = h
-label_seen-more (Some best) k m n h = label_by-more best.port.kind best.port.slot best.label k m n h
-
-label_beyond-more : (net : NetView) (kind : PortKind) (m n : ℕ) → m ≤ n → label_beyond net kind m ≤ label_beyond net kind n
-label_beyond-more net Forward m n h = h
-label_beyond-more net Backward m n h = h
-label_beyond-more net _ m n h = omega arith
-
-is_under-less : (best : Option (Best Amount)) (m n : ℕ) → m ≤ n → is_under best n ≡ true → is_under best m ≡ true
-is_under-less None m n h e = refl
-is_under-less (Some best) m n h e = lt-ltb m best.label (let l = ltb-true n best.label e in omega (arith, h, l))
-
-IsAbove-more : (best : Option (Best Amount)) (m n : ℕ) → m ≤ n → IsAbove best m → IsAbove best n
-IsAbove-more None m n h u = u
-IsAbove-more (Some best) m n h u = omega (arith, u, h)
+label_seen-more best k m n h = grind (arith, common_steps)
 
 module _ (net : NetView) (s t : State) (x : ℕ) (m : IsCalm net s t x) where
-  end_more : (p : Port) → end_label net s p ≤ end_label net t p
-  end_more p = label_beyond-more net p.kind (s.label p.other) (t.label p.other) (m.labels p.other)
-
-  open_calm : (kind : PortKind) → IsOpenBy net t x kind → IsOpenBy net s x kind
-  open_calm Sink h = subst (λ a. Below zero_amount a) (room_same) h
-    where
-      room_same : room net t x ≡ room net s x
-      room_same = rw m.sink refl
-  open_calm Forward h = tt
-  open_calm Backward h = h
-  open_calm Source h = subst (λ (a : Amount). Below zero_amount a) m.source h
-
-  level_calm : (best : Option (Best Amount)) → IsLevelIfAny net s x best → IsLevelIfAny net t x best
-  level_calm None h = tt
-  level_calm (Some best) h = record {
-    recorded = let e = end_more best.port in omega (arith, e, h.recorded);
-    near = subst (λ (a : ℕ). IsNearLabel net best.port.kind a best.label) (sym m.own) h.near;
-  }
-
   pub walk_calm : (have : Amount) (rest : List Port) (best : Option (Best Amount)) → IsWalk net s x have rest best → IsWalk net t x have rest best
   walk_calm have rest best h = record {
-    level = level_calm best h.level;
+    level = grind (arith, common_steps);
     low_most =
         let f : ℕ → Bool = λ k. not (ports_have rest (backward_port (from_at net.pairs) k)) && is_under best (t.label (from_at net.pairs k)) in
         let g : ℕ → Bool = λ k. not (ports_have rest (backward_port (from_at net.pairs) k)) && is_under best (s.label (from_at net.pairs k)) in
         let a = m.arcs_most f g (λ k e.
         let p = and_parts (not (ports_have rest (backward_port (from_at net.pairs) k))) (is_under best (t.label (from_at net.pairs k))) e in
-        and_from (not (ports_have rest (backward_port (from_at net.pairs) k))) (is_under best (s.label (from_at net.pairs k))) p.0 (is_under-less best (s.label (from_at net.pairs k)) (t.label (from_at net.pairs k)) (m.labels (from_at net.pairs k)) p.1)) in
+        and_from (not (ports_have rest (backward_port (from_at net.pairs) k))) (is_under best (s.label (from_at net.pairs k))) p.0 (grind (arith, common_steps))) in
         chain (arcs net f t.flow x) (arcs net g s.flow x) (supply net s x) (supply net t x) m.gain have a h.low_most m.supply_more;
     high_most =
         let f : ℕ → Bool = λ k. nat_lt (label_seen best k (t.label (from_at net.pairs k)) + 1) (t.label x) in
@@ -94,14 +54,11 @@ module _ (net : NetView) (s t : State) (x : ℕ) (m : IsCalm net s t x) where
         let o = m.own in
         lt-ltb (label_seen best k (s.label (from_at net.pairs k)) + 1) (s.label x) (omega (arith, l, q, o))) in
         chain_all (arcs net f t.flow x) (arcs net g s.flow x) (supply net s x) (supply net t x) m.gain a h.high_most m.supply_more;
-    passed = λ p q o n. IsAbove-more best (end_label net s p) (end_label net t p) (end_more p) (h.passed p q (open_calm p.kind o) n);
+    passed = λ p q o n. grind (arith, common_steps);
   }
 
   pub operation_calm : (o : Operation Amount) → IsLevelled net s x o → IsLevelled net t x o
-  operation_calm (Scan have place read best) h = walk_calm have (drop place (ports net x)) best h
-  operation_calm (PushDue have best) h = (walk_calm have [] (Some best) h.0, rw m.own h.1)
-  operation_calm (RaiseDue have best) h = (walk_calm have [] (Some best) h.0, rw m.own h.1)
-  operation_calm _ h = tt
+  operation_calm o h = grind (arith, common_steps, walk_calm)
 
   pub steep_calm : AtMost (steep_capacity net s x) (supply net s x) → AtMost (steep_capacity net t x) (supply net t x)
   steep_calm h =

@@ -2,38 +2,24 @@
 use Rattle.std.proofs.Common.{◌≡◌, ℕ, ◌<◌, ◌==◌, inl, inr, length, refl, arith}
 use Rattle.std.proofs.lemmas.Int.{ints}
 use Rattle.std.proofs.lemmas.Bool.{cases_eq, cases_lt, ne_eqb}
-use Rattle.ordered_group.specs.Amount.{Amount, zero_amount, AtMost, Below}
+use Rattle.ordered_group.specs.Amount.{zero_amount, AtMost, Below}
 use Rattle.ordered_group.specs.Sums.{where_so}
-use Rattle.ordered_group.proofs.Order.{AtMost-refl, Below-most}
 use Rattle.ordered_group.proofs.Signs.{sign_or}
 use Rattle.ordered_group.proofs.Totals.{total_nonneg, total-none, where_nonneg, where_not}
 use Rattle.prec_file.specs.Rests.{from_at, to_at}
 use Rattle.closure_net.specs.Network.{NetView}
 use Rattle.closure_net.specs.Ports.{ports, source_port, backward_port}
-use Rattle.closure_net.specs.declared.port.PortKind.{PortKind}
-use Rattle.closure_net.specs.declared.port.PortKind.TheVariants.{Sink, Forward, Backward, Source}
-use Rattle.machine_law.specs.declared.operations.Operation.{Operation}
-use Rattle.machine_law.specs.declared.operations.Operation.TheVariants.{Idle, Scan, PushDue, TakeDue, GiveDue, RaiseDue}
 use Rattle.machine_law.specs.States.{State}
-use Rattle.machine_law.specs.Transit.{amount_owed, on_way, sum_on_way, amount_landing, amount_landing_by, amount_coming, inflow_at, outflow_at}
-use Rattle.machine_law.specs.Amounts.{HasAmounts, IsOperation}
+use Rattle.machine_law.specs.Transit.{amount_owed, on_way, sum_on_way, amount_landing, amount_coming, inflow_at, outflow_at}
+use Rattle.machine_law.specs.Amounts.{HasAmounts}
 use Rattle.machine_law.specs.Balances.{IsBalanced}
 use Rattle.machine_law.proofs.Numbers.{same, Below-absurd}
 use Rattle.machine_law.proofs.PortLists.{has_backward, has_open, has_some}
-
-amount_landing_nonneg : (kind : PortKind) (other x : ℕ) (d : Amount) → AtMost zero_amount d → AtMost zero_amount (amount_landing_by kind other x d)
-amount_landing_nonneg Forward other x d h = where_nonneg (other == x) d h
-amount_landing_nonneg Backward other x d h = where_nonneg (other == x) d h
-amount_landing_nonneg _ other x d h = AtMost-refl zero_amount
-
-on_way_nonneg : (net : NetView) (s : State) (b x : ℕ) (o : Operation Amount) → IsOperation net s b o → AtMost zero_amount (on_way (amount_landing x) o)
-on_way_nonneg net s b x (TakeDue d p) h = amount_landing_nonneg p.kind p.other x d (Below-most zero_amount d h.0.some)
-on_way_nonneg net s b x (GiveDue d p) h = amount_landing_nonneg p.kind p.other x d (Below-most zero_amount d h.0)
-on_way_nonneg net s b x _ h = AtMost-refl zero_amount
+use Rattle.std.proofs.lemmas.Grind.{common_steps}
 
 pub coming_nonneg : (net : NetView) (s : State) (x : ℕ) → HasAmounts net s → AtMost zero_amount (amount_coming net s x)
 unfolding sum_on_way
-coming_nonneg net s x k = total_nonneg (λ b. on_way (amount_landing x) (s.operation b)) (length net.worths) (λ b _. on_way_nonneg net s b x (s.operation b) (k.operation b))
+coming_nonneg net s x k = total_nonneg (λ b. on_way (amount_landing x) (s.operation b)) (length net.worths) (λ b _. grind (arith, common_steps))
 
 -- where no pair ends at b, nothing comes in over pairs
 inflow_zero : (net : NetView) (s : State) (b : ℕ) → length (ports net b) ≡ 0 → inflow_at net s.flow b ≡ zero_amount

@@ -1,33 +1,31 @@
 -- Nothing is lost in any step, and so in any run.
 use Rattle.std.proofs.Common.{◌≡◌, ℕ, ◌<◌, Some, None, List, [], ◌∷◌, length, All, refl, ap, sym, subst, arith}
-use Rattle.std.specs.Prelude.{slice_get}
 use Rattle.std.proofs.lemmas.Int.{ints}
 use Rattle.ordered_group.specs.Amount.{Amount, zero_amount, plus, minus, AtMost}
-use Rattle.ordered_group.proofs.Order.{AtMost-refl, AtMost-same, AtMost-both, Below-most}
+use Rattle.ordered_group.proofs.Order.{AtMost-both}
 use Rattle.ordered_group.proofs.Totals.{total-none, total-zero, total_nonneg, total_term, total_none_each}
 use Rattle.prec_file.specs.Rests.{IsKnown}
 use Rattle.closure_net.specs.Network.{NetView}
-use Rattle.closure_net.specs.Ports.{ports}
 use Rattle.closure_net.specs.declared.port.Port.{Port}
 use Rattle.closure_net.specs.declared.port.PortKind.{PortKind}
 use Rattle.closure_net.specs.declared.port.PortKind.TheVariants.{Sink, Forward, Backward, Source}
 use Rattle.machine_law.specs.declared.events.Event.{Event}
-use Rattle.machine_law.specs.declared.operations.Best.{Best}
 use Rattle.machine_law.specs.declared.operations.Operation.{Operation}
 use Rattle.machine_law.specs.declared.operations.Operation.TheVariants.{Idle, Scan, PushDue, TakeDue, GiveDue, RaiseDue}
 use Rattle.machine_law.specs.States.{State, with_value_at, opening, IsQuiet}
 use Rattle.machine_law.specs.Residual.{IsEnd}
 use Rattle.machine_law.specs.Reads.{operation_begun_with}
-use Rattle.machine_law.specs.Steps.{after_look, after_label_at, push_amount, after_push_by, after_take, after_give_by, advance_by, Run}
-use Rattle.machine_law.specs.Amounts.{HasAmounts, IsOperation, IsHeld}
+use Rattle.machine_law.specs.Steps.{after_take, after_give_by, advance_by, Run}
+use Rattle.machine_law.specs.Amounts.{HasAmounts, IsOperation}
 use Rattle.machine_law.specs.Law.{IsLawful}
 use Rattle.machine_law.specs.Conservation.{all_given, standing_excess, amount_carried, amount_aloft, IsConserved, IsWhole, RunsConserve}
-use Rattle.machine_law.proofs.Numbers.{Same, same, equal, Below-absurd}
+use Rattle.machine_law.proofs.Numbers.{Same, same, equal}
 use Rattle.machine_law.proofs.Points.{total-with_value_at}
 use Rattle.machine_law.proofs.PortLists.{port_with}
 use Rattle.machine_law.proofs.Supply.{IsAtRest}
 use Rattle.machine_law.proofs.Balanced.{rest_begun, rest_looked, rest_weighed}
 use Rattle.machine_law.proofs.Law.{steps_keep_law, lawful_opening}
+use Rattle.std.proofs.lemmas.Grind.{common_steps}
 
 -- ---- the sums after one change
 standing_excess-with_value_at : (net : NetView) (f : ℕ → Amount) (k : ℕ) (v : Amount) → k < length net.worths → Same (plus (standing_excess net (with_value_at f k v)) (f k)) (plus (standing_excess net f) v)
@@ -39,9 +37,7 @@ unfolding amount_aloft
 amount_aloft-with_value_at net f k old new l e = rw (← e) (total-with_value_at (λ _ a. amount_carried a) f k new (length net.worths) l)
 
 rest_carried : (o : Operation Amount) → IsAtRest o → amount_carried o ≡ zero_amount
-rest_carried (TakeDue d p) h = absurd h
-rest_carried (GiveDue d p) h = absurd h
-rest_carried _ h = refl
+rest_carried o h = grind (arith, common_steps)
 
 -- ---- each step
 module _ (net : NetView) (known : All (IsKnown (length net.worths)) net.pairs) (s : State) (b : ℕ) (l : b < length net.worths) (k : IsConserved net s) where
@@ -53,10 +49,6 @@ module _ (net : NetView) (known : All (IsKnown (length net.worths)) net.pairs) (
       let q = same y in
       let h = same k in
       equal (record { w = omega (arith, ints, a, p, q, h); c = omega (arith, ints, a, p, q, h) })
-
-  conserved_pushed : (have : Amount) (best : Best Amount) (d : Amount) (p : Port) (kind : PortKind) → s.operation b ≡ PushDue have best → IsConserved net (after_push_by s b d p kind)
-  conserved_pushed have best d p Sink e = stays (PushDue have best) (TakeDue d p) e refl refl
-  conserved_pushed have best d p _ e = stays (PushDue have best) (TakeDue d p) e refl refl
 
   conserved_taken : (d : Amount) (p : Port) → s.operation b ≡ TakeDue d p → IsConserved net (after_take s b d p)
   conserved_taken d p e =
@@ -86,13 +78,9 @@ module _ (net : NetView) (known : All (IsKnown (length net.worths)) net.pairs) (
 
   conserved_by : (o : Operation Amount) → s.operation b ≡ o → IsOperation net s b o → IsConserved net (advance_by net s b o)
   conserved_by Idle e h = stays Idle (operation_begun_with (s.excess b)) e refl (rest_carried (operation_begun_with (s.excess b)) (rest_begun (s.excess b)))
-  conserved_by (Scan have place None best) e h =
-      let q = slice_get (ports net b) place in
-      stays (Scan have place None best) (after_look net s b have place best q) e refl (rest_carried (after_look net s b have place best q) (rest_looked net s b have place best q))
-  conserved_by (Scan have place (Some read) best) e h =
-      let q = slice_get (ports net b) place in
-      stays (Scan have place (Some read) best) (after_label_at net s b have place best read q) e refl (rest_carried (after_label_at net s b have place best read q) (rest_weighed net s b have place best read q))
-  conserved_by (PushDue have best) e h = conserved_pushed have best (push_amount have best.port.kind best.capacity) best.port best.port.kind e
+  conserved_by (Scan have place None best) e h = grind (arith, common_steps, stays, rest_carried, rest_looked)
+  conserved_by (Scan have place (Some read) best) e h = grind (arith, common_steps, stays, rest_carried, rest_weighed)
+  conserved_by (PushDue have best) e h = grind (arith, common_steps, stays)
   conserved_by (TakeDue d p) e h = conserved_taken d p e
   conserved_by (GiveDue d p) e h = conserved_given d p.kind p.other p.slot e h.1
   conserved_by (RaiseDue have best) e h = stays (RaiseDue have best) Idle e refl refl
@@ -114,8 +102,7 @@ conserved_run net s (e ∷ es) t known h k r =
 -- ---- what follows
 module _ (net : NetView) (s : State) (h : HasAmounts net s) (k : IsConserved net s) where
   carried_nonneg : (b : ℕ) (o : Operation Amount) → IsOperation net s b o → AtMost zero_amount (amount_carried o)
-  carried_nonneg b (GiveDue d p) i = Below-most zero_amount d i.0
-  carried_nonneg b _ i = AtMost-refl zero_amount
+  carried_nonneg b o i = grind (arith, common_steps)
 
   aloft_nonneg : AtMost zero_amount (amount_aloft net s.operation)
   unfolding amount_aloft
@@ -138,17 +125,8 @@ module _ (net : NetView) (s : State) (h : HasAmounts net s) (k : IsConserved net
   unfolding amount_aloft
   none_carried z = total_none_each (λ b. amount_carried (s.operation b)) (length net.worths) (λ b _. carried_nonneg b (s.operation b) (h.operation b)) z
 
-  -- a block that has no excess holds nothing
-  holds_none : (b : ℕ) (d : Amount) {P : Type 0} → s.excess b ≡ zero_amount → IsHeld s b d → P
-  holds_none b d e i = Below-absurd i.some (rw e at i.held)
-
   idle_by : (b : ℕ) (o : Operation Amount) → IsOperation net s b o → s.excess b ≡ zero_amount → amount_carried o ≡ zero_amount → o ≡ Idle
-  idle_by b Idle i x c = refl
-  idle_by b (Scan have place read best) i x c = holds_none b have x i.held
-  idle_by b (PushDue have best) i x c = holds_none b have x i.held
-  idle_by b (TakeDue d p) i x c = holds_none b d x i.0
-  idle_by b (GiveDue d p) i x c = Below-absurd i.0 (AtMost-same _ _ c)
-  idle_by b (RaiseDue have best) i x c = holds_none b have x i.held
+  idle_by b o i x c = grind (arith, common_steps)
 
   quiet_from : plus s.at_source s.at_sink ≡ all_given net → IsQuiet net s
   quiet_from full =
@@ -187,6 +165,4 @@ module _ (net : NetView) (s : State) (h : HasAmounts net s) (k : IsConserved net
       }
 
 pub runs_conserve : RunsConserve
-runs_conserve net es t known r =
-    let k = conserved_run net (opening net) es t known (lawful_opening net) (conserved_opening net) r in
-    whole net t k.0.amounts k.1
+runs_conserve net es t known r = grind (arith, common_steps, (conserved_run net (opening net) es t known (lawful_opening net) (conserved_opening net) r), (lawful_opening net), (conserved_opening net), (whole net t (conserved_run net (opening net) es t known (lawful_opening net) (conserved_opening net) r).0.amounts (conserved_run net (opening net) es t known (lawful_opening net) (conserved_opening net) r).1))

@@ -1,12 +1,12 @@
 -- Each step keeps what holds of the amounts.
-use Rattle.std.proofs.Common.{◌≡◌, ℕ, ◌+◌, ◌<◌, Option, Some, None, nat_lt, length, refl, ap, sym, ◌∙◌, subst, arith}
+use Rattle.std.proofs.Common.{◌≡◌, ℕ, ◌<◌, Option, Some, None, length, refl, ap, sym, ◌∙◌, subst, arith}
 use Rattle.std.specs.Prelude.{slice_get}
 use Rattle.std.proofs.lemmas.Int.{ints}
-use Rattle.std.proofs.lemmas.Bool.{cond_both, ltb-true}
+use Rattle.std.proofs.lemmas.Bool.{cond_both}
 use Rattle.std.proofs.lemmas.Option.{slice_get_within}
 use Rattle.ordered_group.specs.Amount.{Amount, zero_amount, plus, minus, AtMost, Below, positive, negative}
 use Rattle.ordered_group.specs.Sums.{amount_at}
-use Rattle.ordered_group.proofs.Order.{AtMost-refl, AtMost-trans, Below-most, lesser_amount-left, lesser_amount-right}
+use Rattle.ordered_group.proofs.Order.{AtMost-refl, AtMost-trans, Below-most, lesser_amount-right}
 use Rattle.ordered_group.proofs.Signs.{NonNeg-plus, AtMost-plus}
 use Rattle.prec_file.specs.Rests.{to_at}
 use Rattle.closure_net.specs.Network.{NetView}
@@ -18,13 +18,13 @@ use Rattle.machine_law.specs.declared.operations.Best.{Best}
 use Rattle.machine_law.specs.declared.operations.Operation.{Operation}
 use Rattle.machine_law.specs.declared.operations.Operation.TheVariants.{Idle, Scan, PushDue, TakeDue, GiveDue, RaiseDue}
 use Rattle.machine_law.specs.States.{State, with_value_at, opening}
-use Rattle.machine_law.specs.Residual.{room, capacity, capacity_by, end_label, IsEnd, IsPortOf}
-use Rattle.machine_law.specs.Reads.{is_positive, operation_begun_with, better_of, after_last_port, after_port, after_capacity, after_label}
-use Rattle.machine_law.specs.Steps.{with_operation, after_look, after_look_by, after_label_at, push_amount, after_push, after_push_by, after_take, after_give_by, after_raise, advance, advance_by}
+use Rattle.machine_law.specs.Residual.{capacity, capacity_by, end_label, IsEnd, IsPortOf}
+use Rattle.machine_law.specs.Reads.{is_positive, operation_begun_with, after_port, after_capacity, after_label}
+use Rattle.machine_law.specs.Steps.{with_operation, after_look, after_look_by, push_amount, after_push_by, after_take, after_give_by, after_raise, advance, advance_by}
 use Rattle.machine_law.specs.Transit.{amount_owed}
-use Rattle.machine_law.specs.Amounts.{HasAmounts, IsWithin, IsWithinBy, IsBestPort, IsBestIfAny, IsReadCapacity, IsHeld, IsDue, IsOperation}
+use Rattle.machine_law.specs.Amounts.{HasAmounts, IsWithin, IsWithinBy, IsBestIfAny, IsReadCapacity, IsHeld, IsOperation}
 use Rattle.machine_law.specs.Balances.{IsBalanced}
-use Rattle.machine_law.proofs.Numbers.{shifted, joined, Below-lesser_amount, positive-yes}
+use Rattle.machine_law.proofs.Numbers.{shifted, joined, positive-yes}
 use Rattle.machine_law.proofs.Points.{with_value_at-other, with_value_at-each}
 use Rattle.machine_law.proofs.PortLists.{port_with, port-at}
 use Rattle.machine_law.proofs.Coming.{has_port}
@@ -41,51 +41,21 @@ module _ (net : NetView) (s t : State) (x : ℕ) (m : IsMore net s t x) where
   held_more : (d : Amount) → IsHeld s x d → IsHeld t x d
   held_more d h = record { some = h.some; held = AtMost-trans d (s.excess x) (t.excess x) h.held m.excess }
 
-  within_by_more : (kind : PortKind) (other slot : ℕ) (a : Amount) → IsEnd net x kind other slot → IsWithinBy net s x kind slot a → IsWithinBy net t x kind slot a
-  within_by_more Sink other slot a q h = (h.0, rw m.sink h.1)
-  within_by_more Forward other slot a q h = tt
-  within_by_more Backward other slot a q h = (h.0, AtMost-trans a (s.flow slot) (t.flow slot) h.1 (m.flow slot q.1))
-  within_by_more Source other slot a q h = (h.0, rw m.source h.1)
-
   within_more : (p : Port) (a : Amount) → IsPortOf net x p → IsWithin net s x p a → IsWithin net t x p a
-  within_more p a q h = within_by_more p.kind p.other p.slot a q h
-
-  best_more : (best : Best Amount) → IsBestPort net s x best → IsBestPort net t x best
-  best_more best h = record { port = h.port; within = within_more best.port best.capacity h.port h.within }
-
-  any_more : (best : Option (Best Amount)) → IsBestIfAny net s x best → IsBestIfAny net t x best
-  any_more None h = tt
-  any_more (Some best) h = best_more best h
+  within_more p a q h = grind (arith, common_steps)
 
   read_more : (read : Option Amount) (p : Option Port) → ((q : Port) → p ≡ Some q → IsPortOf net x q) → IsReadCapacity net s x read p → IsReadCapacity net t x read p
-  read_more None p is h = tt
-  read_more (Some a) None is h = h
-  read_more (Some a) (Some q) is h = within_more q a (is q refl) h
-
-  due_more : (have : Amount) (best : Best Amount) → IsDue net s x have best → IsDue net t x have best
-  due_more have best h = record { held = held_more have h.held; over = best_more best h.over }
+  read_more read p is h = grind (arith, common_steps, within_more)
 
   pub operation_more : (o : Operation Amount) → IsOperation net s x o → IsOperation net t x o
-  operation_more Idle h = tt
-  operation_more (Scan have place read best) h = record {
-    inside = h.inside;
-    held = held_more have h.held;
-    passed = any_more best h.passed;
-    present = read_more read (slice_get (ports net x) place) (port-at net x place) h.present;
-  }
-  operation_more (PushDue have best) h = due_more have best h
-  operation_more (TakeDue d p) h = (held_more d h.0, h.1)
-  operation_more (GiveDue d p) h = h
-  operation_more (RaiseDue have best) h = due_more have best h
+  operation_more o h = grind (arith, common_steps, held_more, read_more, port-at, within_more)
 
 -- ---- the amount of a push
 pub push_most : (have : Amount) (kind : PortKind) (read : Amount) → AtMost (push_amount have kind read) have
-push_most have Forward read = AtMost-refl have
-push_most have _ read = lesser_amount-left have read
+push_most have kind read = grind (arith, common_steps)
 
 pub push_some : (net : NetView) (s : State) (b : ℕ) (have : Amount) (kind : PortKind) (slot : ℕ) (read : Amount) → Below zero_amount have → IsWithinBy net s b kind slot read → Below zero_amount (push_amount have kind read)
-push_some net s b have Forward slot read h w = h
-push_some net s b have _ slot read h w = Below-lesser_amount have read h w.0
+push_some net s b have kind slot read h w = grind (arith, common_steps)
 
 held_push : (net : NetView) (s : State) (b : ℕ) (have : Amount) (kind : PortKind) (slot : ℕ) (read : Amount) → IsHeld s b have → IsWithinBy net s b kind slot read → IsHeld s b (push_amount have kind read)
 held_push net s b have kind slot read h w = record { some = push_some net s b have kind slot read h.some w; held = AtMost-trans (push_amount have kind read) have (s.excess b) (push_most have kind read) h.held }
@@ -165,9 +135,6 @@ module _ (net : NetView) (s : State) (b : ℕ) (k : HasAmounts net s) where
         operation = with_value_at-each (λ i o. IsOperation net t i o) s.operation b (TakeDue d p) (record { some = hd.some; held = hd.held }, q) (λ i ne. operation_more net s t i (record { excess = AtMost-refl (s.excess i); sink = refl; source = with_value_at-other s.source b (minus (s.source b) d) i ne; flow = λ j e. AtMost-refl (s.flow j) }) (s.operation i) (k.operation i));
       }
 
-  amounts_pushed : (have : Amount) (p : Port) (read : Amount) → IsHeld s b have → IsPortOf net b p → IsWithin net s b p read → HasAmounts net (after_push s b (push_amount have p.kind read) p)
-  amounts_pushed have p read h q w = amounts_pushed_by have p.kind p.other p.slot read h q w
-
   -- ---- the excess steps
   amounts_taken : (d : Amount) (p : Port) → IsHeld s b d → IsPortOf net b p → HasAmounts net (after_take s b d p)
   amounts_taken d p h q =
@@ -219,40 +186,20 @@ module _ (net : NetView) (s : State) (b : ℕ) (k : HasAmounts net s) where
 
   -- ---- what an operation may rely on after a read
   op_begun : (Below zero_amount (s.excess b) → 0 < length (ports net b)) → IsOperation net s b (operation_begun_with (s.excess b))
-  op_begun ported = cond_both (is_positive (s.excess b)) (Scan (s.excess b) 0 None None) Idle (IsOperation net s b)
-      (λ e. let y = positive-yes (s.excess b) e in record { inside = ported y; held = record { some = y; held = AtMost-refl (s.excess b) }; passed = tt; present = tt })
-      (λ e. tt)
-
-  op_ended : (label : ℕ) (have : Amount) (best : Option (Best Amount)) → IsHeld s b have → IsBestIfAny net s b best → IsOperation net s b (after_last_port label have best)
-  op_ended label have None h i = tt
-  op_ended label have (Some best) h i = cond_both (nat_lt best.label label) (PushDue have best) (RaiseDue have best) (IsOperation net s b) (λ e. record { held = h; over = i }) (λ e. record { held = h; over = i })
-
-  op_passed : (have : Amount) (place : ℕ) (best : Option (Best Amount)) → IsHeld s b have → IsBestIfAny net s b best → IsOperation net s b (after_port (length (ports net b)) (s.label b) have place best)
-  op_passed have place best h i = cond_both (nat_lt (place + 1) (length (ports net b))) (Scan have (place + 1) None best) (after_last_port (s.label b) have best) (IsOperation net s b)
-      (λ e. record { inside = ltb-true (place + 1) (length (ports net b)) e; held = h; passed = i; present = tt })
-      (λ e. op_ended (s.label b) have best h i)
-
-  any_better : (best : Option (Best Amount)) (new : Best Amount) → IsBestIfAny net s b best → IsBestPort net s b new → IsBestPort net s b (better_of best new)
-  any_better None new i n = n
-  any_better (Some best) new i n = cond_both (nat_lt new.label best.label) new best (IsBestPort net s b) (λ e. n) (λ e. i)
+  op_begun ported = grind (arith, common_steps)
 
   op_chosen : (have : Amount) (place : ℕ) (best : Option (Best Amount)) (read : Amount) (p : Port) → IsHeld s b have → IsBestIfAny net s b best → IsPortOf net b p → IsWithin net s b p read → IsOperation net s b (after_label (length (ports net b)) (s.label b) have place best read p (end_label net s p))
-  op_chosen have place best read p h i q w =
-      let new : Best Amount = record { port = p; capacity = read; label = end_label net s p } in
-      op_passed have place (Some (better_of best new)) h (any_better best new i (record { port = q; within = w }))
+  op_chosen have place best read p h i q w = grind (arith, common_steps)
 
   -- a capacity that is just read
   within_now : (kind : PortKind) (slot : ℕ) → Below zero_amount (capacity_by net s b kind slot) → IsWithinBy net s b kind slot (capacity_by net s b kind slot)
-  within_now Sink slot y = (y, AtMost-refl (room net s b))
-  within_now Forward slot y = tt
-  within_now Backward slot y = (y, AtMost-refl (s.flow slot))
-  within_now Source slot y = (y, AtMost-refl (s.source b))
+  within_now kind slot y = grind (arith, common_steps)
 
   op_seen : (have : Amount) (place : ℕ) (best : Option (Best Amount)) (p : Port) → slice_get (ports net b) place ≡ Some p → IsHeld s b have → IsBestIfAny net s b best → IsOperation net s b (after_capacity (length (ports net b)) (s.label b) have place best (capacity net s b p))
   op_seen have place best p e h i =
       cond_both (is_positive (capacity net s b p)) (Scan have place (Some (capacity net s b p)) best) (after_port (length (ports net b)) (s.label b) have place best) (IsOperation net s b)
       (λ y. record { inside = slice_get_within (ports net b) place p e; held = h; passed = i; present = rw e (within_now p.kind p.slot (positive-yes (capacity net s b p) y)) })
-      (λ _. op_passed have place best h i)
+      (λ _. grind (arith, common_steps))
 
   op_looked_by : (have : Amount) (place : ℕ) (best : Option (Best Amount)) (kind : PortKind) (other slot : ℕ) → slice_get (ports net b) place ≡ Some (port_with kind other slot) → IsHeld s b have → IsBestIfAny net s b best → IsOperation net s b (after_look_by net s b have place best (port_with kind other slot) kind)
   op_looked_by have place best Sink other slot e h i = op_seen have place best (port_with Sink other slot) e h i
@@ -264,20 +211,12 @@ module _ (net : NetView) (s : State) (b : ℕ) (k : HasAmounts net s) where
   op_looked have place best None e h i = tt
   op_looked have place best (Some p) e h i = op_looked_by have place best p.kind p.other p.slot e h i
 
-  op_weighed : (have : Amount) (place : ℕ) (best : Option (Best Amount)) (read : Amount) (q : Option Port) → slice_get (ports net b) place ≡ q → IsHeld s b have → IsBestIfAny net s b best → IsReadCapacity net s b (Some read) q → IsOperation net s b (after_label_at net s b have place best read q)
-  op_weighed have place best read None e h i r = tt
-  op_weighed have place best read (Some p) e h i r = op_chosen have place best read p h i (port-at net b place p e) r
-
   -- ---- each step
   amounts_advance_by : (o : Operation Amount) → s.operation b ≡ o → IsBalanced net s → IsOperation net s b o → HasAmounts net (advance_by net s b o)
   amounts_advance_by Idle e l h = amounts_with_operation (operation_begun_with (s.excess b)) (op_begun (has_port net s b (ap amount_owed e) k l))
-  amounts_advance_by (Scan have place None best) e l h =
-      let q = slice_get (ports net b) place in
-      amounts_with_operation (after_look net s b have place best q) (op_looked have place best q refl h.held h.passed)
-  amounts_advance_by (Scan have place (Some read) best) e l h =
-      let q = slice_get (ports net b) place in
-      amounts_with_operation (after_label_at net s b have place best read q) (op_weighed have place best read q refl h.held h.passed h.present)
-  amounts_advance_by (PushDue have best) e l h = amounts_pushed have best.port best.capacity h.held h.over.port h.over.within
+  amounts_advance_by (Scan have place None best) e l h = grind (arith, common_steps, amounts_with_operation, op_looked)
+  amounts_advance_by (Scan have place (Some read) best) e l h = grind (arith, common_steps, amounts_with_operation, op_chosen, port-at)
+  amounts_advance_by (PushDue have best) e l h = amounts_pushed_by have best.port.kind best.port.other best.port.slot best.capacity h.held h.over.port h.over.within
   amounts_advance_by (TakeDue d p) e l h = amounts_taken d p h.0 h.1
   amounts_advance_by (GiveDue d p) e l h = amounts_given_by d p p.kind (Below-most zero_amount d h.0)
   amounts_advance_by (RaiseDue have best) e l h = amounts_raised best

@@ -1,9 +1,8 @@
 -- The law on one step, and over whole runs.
-use Rattle.std.proofs.Common.{◌≡◌, ℕ, suc, ◌<◌, ◌+◌, inl, Option, Some, None, nat_lt, List, [], ◌∷◌, drop, length, refl, ap, sym, ◌∙◌, subst, arith, drop-cons, add-one}
+use Rattle.std.proofs.Common.{◌≡◌, ℕ, ◌<◌, ◌+◌, inl, Option, Some, None, nat_lt, List, [], ◌∷◌, drop, length, refl, sym, subst, arith, drop-cons, add-one}
 use Rattle.std.specs.Prelude.{slice_get}
-use Rattle.std.proofs.Math.ListN.{drop_of_length-le}
 use Rattle.std.proofs.lemmas.Int.{ints}
-use Rattle.std.proofs.lemmas.Bool.{cond_both, ltb-true, ltb-false}
+use Rattle.std.proofs.lemmas.Bool.{cond_both, ltb-true}
 use Rattle.std.proofs.lemmas.Option.{get_or_from_slice_get, slice_get_within}
 use Rattle.ordered_group.specs.Amount.{Amount, zero_amount, plus, minus, AtMost, positive}
 use Rattle.ordered_group.specs.Sums.{amount_at}
@@ -16,10 +15,10 @@ use Rattle.closure_net.specs.declared.port.PortKind.TheVariants.{Sink, Forward, 
 use Rattle.machine_law.specs.declared.events.Event.{Event}
 use Rattle.machine_law.specs.declared.operations.Best.{Best}
 use Rattle.machine_law.specs.declared.operations.Operation.{Operation}
-use Rattle.machine_law.specs.declared.operations.Operation.TheVariants.{Idle, Scan, PushDue, TakeDue, GiveDue, RaiseDue}
+use Rattle.machine_law.specs.declared.operations.Operation.TheVariants.{Idle, Scan}
 use Rattle.machine_law.specs.States.{State, opening}
 use Rattle.machine_law.specs.Residual.{capacity, end_label}
-use Rattle.machine_law.specs.Reads.{is_positive, operation_begun_with, better_of, after_last_port, after_port, after_capacity, after_label}
+use Rattle.machine_law.specs.Reads.{is_positive, operation_begun_with, after_port, after_capacity, after_label}
 use Rattle.machine_law.specs.Steps.{after_look, after_look_by, after_label_at, advance, advance_by, Run}
 use Rattle.machine_law.specs.Transit.{amount_owed, amount_coming}
 use Rattle.machine_law.specs.Amounts.{HasAmounts, IsOperation, IsWithinBy, IsReadCapacity}
@@ -35,13 +34,11 @@ use Rattle.machine_law.proofs.Walks.{IsLimited, IsReady, walk_begun, walk_pass, 
 use Rattle.machine_law.proofs.Staying.{labels_rest, labels_taken, labels_given}
 use Rattle.machine_law.proofs.Raising.{labels_raised}
 use Rattle.machine_law.proofs.Pushing.{labels_pushed}
+use Rattle.std.proofs.lemmas.Grind.{common_steps}
 
 -- ---- the ports that are left
 rest_at : {X : Type 0} (xs : List X) (i : ℕ) (x : X) → slice_get xs i ≡ Some x → drop i xs ≡ x ∷ drop (i + 1) xs
-rest_at xs i x e =
-    let h = slice_get_within xs i x e in
-    let g = get_or_from_slice_get xs i x x e in
-    drop-cons xs i x h ∙ (ap (λ y. y ∷ drop (suc i) xs) g ∙ ap (λ n. x ∷ drop n xs) (sym (add-one i)))
+rest_at xs i x e = grind (arith, common_steps, (slice_get_within xs i x e), (get_or_from_slice_get xs i x x e), (drop-cons xs i x (slice_get_within xs i x e)), (add-one i))
 
 module _ (net : NetView) (s : State) (b : ℕ) (k : HasAmounts net s) (h : HasLabels net s) where
   walk_at : (have : Amount) (place : ℕ) (best : Option (Best Amount)) (p : Port) → slice_get (ports net b) place ≡ Some p → IsWalk net s b have (drop place (ports net b)) best → IsWalk net s b have (p ∷ drop (place + 1) (ports net b)) best
@@ -51,14 +48,8 @@ module _ (net : NetView) (s : State) (b : ℕ) (k : HasAmounts net s) (h : HasLa
   levelled_begun : amount_owed (s.operation b) ≡ zero_amount → IsLevelled net s b (operation_begun_with (s.excess b))
   levelled_begun o = cond_both (is_positive (s.excess b)) (Scan (s.excess b) 0 None None) Idle (IsLevelled net s b) (λ _. walk_begun net s b k h o) (λ _. tt)
 
-  levelled_ended : (have : Amount) (best : Option (Best Amount)) → IsWalk net s b have [] best → IsLevelled net s b (after_last_port (s.label b) have best)
-  levelled_ended have None w = tt
-  levelled_ended have (Some best) w = cond_both (nat_lt best.label (s.label b)) (PushDue have best) (RaiseDue have best) (IsLevelled net s b) (λ e. (w, ltb-true best.label (s.label b) e)) (λ e. (w, ltb-false best.label (s.label b) e))
-
   levelled_passed : (have : Amount) (place : ℕ) (best : Option (Best Amount)) → IsWalk net s b have (drop (place + 1) (ports net b)) best → IsLevelled net s b (after_port (length (ports net b)) (s.label b) have place best)
-  levelled_passed have place best w = cond_both (nat_lt (place + 1) (length (ports net b))) (Scan have (place + 1) None best) (after_last_port (s.label b) have best) (IsLevelled net s b)
-      (λ e. w)
-      (λ e. levelled_ended have best (subst (λ (r : List Port). IsWalk net s b have r best) (drop_of_length-le (ports net b) (ltb-false (place + 1) (length (ports net b)) e)) w))
+  levelled_passed have place best w = grind (arith, common_steps)
 
   levelled_seen : (have : Amount) (place : ℕ) (best : Option (Best Amount)) (p : Port) → slice_get (ports net b) place ≡ Some p → IsLimited p.kind → IsWalk net s b have (drop place (ports net b)) best → IsLevelled net s b (after_capacity (length (ports net b)) (s.label b) have place best (capacity net s b p))
   levelled_seen have place best p e c w = cond_both (is_positive (capacity net s b p)) (Scan have place (Some (capacity net s b p)) best) (after_port (length (ports net b)) (s.label b) have place best) (IsLevelled net s b)
@@ -66,8 +57,7 @@ module _ (net : NetView) (s : State) (b : ℕ) (k : HasAmounts net s) (h : HasLa
       (λ z. levelled_passed have place best (walk_pass net s b k h have p (drop (place + 1) (ports net b)) best c z (walk_at have place best p e w)))
 
   levelled_chosen : (have : Amount) (place : ℕ) (best : Option (Best Amount)) (read : Amount) (p : Port) → slice_get (ports net b) place ≡ Some p → IsReady net s b p.kind → IsWalk net s b have (drop place (ports net b)) best → IsLevelled net s b (after_label (length (ports net b)) (s.label b) have place best read p (end_label net s p))
-  levelled_chosen have place best read p e r w = levelled_passed have place (Some (better_of best (record { port = p; capacity = read; label = end_label net s p })))
-      (walk_choose net s b k h have read p (drop (place + 1) (ports net b)) best (port-at net b place p e) r (walk_at have place best p e w))
+  levelled_chosen have place best read p e r w = grind (arith, common_steps, (walk_choose net s b k h have read p (drop (place + 1) (ports net b)) best (port-at net b place p e) r (walk_at have place best p e w)), (port-at net b place p e), (walk_at have place best p e w))
 
   levelled_looked_by : (have : Amount) (place : ℕ) (best : Option (Best Amount)) (kind : PortKind) (other slot : ℕ) → slice_get (ports net b) place ≡ Some (port_with kind other slot) → IsWalk net s b have (drop place (ports net b)) best → IsLevelled net s b (after_look_by net s b have place best (port_with kind other slot) kind)
   levelled_looked_by have place best Sink other slot e w = levelled_seen have place best (port_with Sink other slot) e tt w
@@ -86,32 +76,15 @@ module _ (net : NetView) (s : State) (b : ℕ) (k : HasAmounts net s) (h : HasLa
   ready_read _ slot read w = Below-more w.0 w.1
 
   levelled_weighed : (have : Amount) (place : ℕ) (best : Option (Best Amount)) (read : Amount) (q : Option Port) → slice_get (ports net b) place ≡ q → IsReadCapacity net s b (Some read) q → IsWalk net s b have (drop place (ports net b)) best → IsLevelled net s b (after_label_at net s b have place best read q)
-  levelled_weighed have place best read None e r w = tt
-  levelled_weighed have place best read (Some p) e r w = levelled_chosen have place best read p e (ready_read p.kind p.slot read r) w
+  levelled_weighed have place best read q e r w = grind (arith, common_steps, levelled_chosen, ready_read)
 
   -- ---- each step
   labels_advance_by : (o : Operation Amount) → b < length net.worths → s.operation b ≡ o → IsOperation net s b o → IsLevelled net s b o → ((j : ℕ) → AtMost zero_amount ((advance_by net s b o).flow j)) → HasLabels net (advance_by net s b o)
-  labels_advance_by Idle l e i w a = labels_rest net s b k h l Idle (operation_begun_with (s.excess b)) e tt (rest_begun (s.excess b)) (levelled_begun (ap amount_owed e))
-  labels_advance_by (Scan have place None best) l e i w a =
-      let q = slice_get (ports net b) place in
-      labels_rest net s b k h l (Scan have place None best) (after_look net s b have place best q) e tt (rest_looked net s b have place best q) (levelled_looked have place best q refl w)
-  labels_advance_by (Scan have place (Some read) best) l e i w a =
-      let q = slice_get (ports net b) place in
-      labels_rest net s b k h l (Scan have place (Some read) best) (after_label_at net s b have place best read q) e tt (rest_weighed net s b have place best read q) (levelled_weighed have place best read q refl i.present w)
-  labels_advance_by (PushDue have best) l e i w a = labels_pushed net s b l have best e i.held.some i.over.port i.over.within w.0 w.1 k h a
-  labels_advance_by (TakeDue d p) l e i w a = labels_taken net s b k h l d p e
-  labels_advance_by (GiveDue d p) l e i w a = labels_given net s b k h l d p e
-  labels_advance_by (RaiseDue have best) l e i w a = labels_raised net s b l have best e i.held.some w.0 w.1 k h
+  labels_advance_by o l e i w a = grind (arith, common_steps, labels_rest, rest_begun, levelled_begun, rest_looked, levelled_looked, rest_weighed, levelled_weighed, labels_pushed, labels_taken, labels_given, labels_raised)
 
 -- ---- the law
 pub lawful_advance : (net : NetView) (s : State) (b : ℕ) → b < length net.worths → IsLawful net s → IsLawful net (advance net s b)
-lawful_advance net s b l h =
-    let amounts = amounts_advance net s b h.amounts h.balances in
-    record {
-      amounts = amounts;
-      balances = balanced_advance net s b l h.amounts h.balances;
-      labels = labels_advance_by net s b h.amounts h.labels (s.operation b) l refl (h.amounts.operation b) (h.labels.operation b) amounts.flow;
-    }
+lawful_advance net s b l h = grind (arith, common_steps, (amounts_advance net s b h.amounts h.balances), (balanced_advance net s b l h.amounts h.balances), (labels_advance_by net s b h.amounts h.labels (s.operation b) l refl (h.amounts.operation b) (h.labels.operation b) (amounts_advance net s b h.amounts h.balances).flow))
 
 pub steps_keep_law : StepsKeepLaw
 steps_keep_law net s e t h st = subst (IsLawful net) (sym st.after) (lawful_advance net s e.block st.block h)

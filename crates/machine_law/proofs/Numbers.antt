@@ -1,11 +1,7 @@
 -- Amounts by their two numbers: equations and the order, as linear arithmetic sees them.
-use Rattle.std.proofs.Common.{◌≡◌, true, false, ap, refl, arith, Ordering}
-use Rattle.std.specs.declared.cmp.Ordering.TheVariants.{Less, Equal, Greater}
-use Rattle.std.specs.Ordering.{MatchOrdering, is_lt}
+use Rattle.std.proofs.Common.{◌≡◌, true, false, ap, arith}
 use Rattle.std.proofs.lemmas.Int.{ints}
-use Rattle.ordered_group.specs.Amount.{Amount, zero_amount, plus, minus, AtMost, Below, Amount_eq, amount_cmp, lesser_amount}
-use Rattle.ordered_group.proofs.Order.{amount_ranks, Below-most}
-use Rattle.closure_net.specs.Ports.{is_below}
+use Rattle.ordered_group.specs.Amount.{Amount, zero_amount, plus, minus, AtMost, Below, Amount_eq}
 use Rattle.machine_law.specs.Reads.{is_positive}
 use Rattle.std.proofs.lemmas.Grind.{common_steps}
 
@@ -36,36 +32,9 @@ pub Below-absurd : {x : Amount} {P : Type 0} → Below zero_amount x → AtMost 
 Below-absurd h k = absurd (omega (arith, ints, h, k))
 
 -- ---- the test of an amount
-below_by : (x y : Amount) (o : Ordering) → MatchOrdering o (Below x y) (x ≡ y) (Below y x) → is_lt o ≡ true → Below x y
-below_by x y Less h e = h
-below_by x y _ h e = absurd cc
-
-not_below_by : (x y : Amount) (o : Ordering) → MatchOrdering o (Below x y) (x ≡ y) (Below y x) → is_lt o ≡ false → AtMost y x
-not_below_by x y Less h e = absurd cc
-not_below_by x y Equal h e = let s = same h in record { worths = omega (arith, ints, s); counts = λ i. omega (arith, ints, s, i) }
-not_below_by x y Greater h e = Below-most y x h
-
-pub tells_below : (x y : Amount) (o : Ordering) → MatchOrdering o (Below x y) (x ≡ y) (Below y x) → Below x y → is_lt o ≡ true
-tells_below x y Less h k = refl
-tells_below x y Equal h k = let s = same h in absurd (omega (arith, ints, s, k))
-tells_below x y Greater h k = absurd (omega (arith, ints, h, k))
-
--- what the test answers
-pub is_below-yes : (x y : Amount) → is_below x y ≡ true → Below x y
-is_below-yes x y e = below_by x y (amount_cmp x y) (amount_ranks x y) e
-
-pub is_below-no : (x y : Amount) → is_below x y ≡ false → AtMost y x
-is_below-no x y e = not_below_by x y (amount_cmp x y) (amount_ranks x y) e
-
-pub is_below-from : (x y : Amount) → Below x y → is_below x y ≡ true
-is_below-from x y h = tells_below x y (amount_cmp x y) (amount_ranks x y) h
 
 pub positive-yes : (x : Amount) → is_positive x ≡ true → Below zero_amount x
-positive-yes x e = is_below-yes zero_amount x e
+positive-yes x e = grind (arith, common_steps)
 
 pub positive-no : (x : Amount) → is_positive x ≡ false → AtMost x zero_amount
-positive-no x e = is_below-no zero_amount x e
-
--- the lesser of two amounts above zero is above zero
-pub Below-lesser_amount : (x y : Amount) → Below zero_amount x → Below zero_amount y → Below zero_amount (lesser_amount x y)
-Below-lesser_amount x y h k = grind (arith, common_steps)
+positive-no x e = grind (arith, common_steps)

@@ -1,15 +1,13 @@
 -- Each port in a block's list is a port of the block, and each of its ports that has capacity stands in the list.
-use Rattle.std.proofs.Common.{◌≡◌, ℕ, ◌<◌, ◌==◌, Bool, true, false, cond, inl, inr, Some, List, [], ◌∷◌, ◌++◌, All, length, get_or, map, refl, ap, sym, ◌∙◌, subst, arith}
+use Rattle.std.proofs.Common.{◌≡◌, ℕ, ◌<◌, ◌==◌, Bool, true, cond, Some, List, [], ◌∷◌, ◌++◌, All, length, get_or, map, refl, ap, sym, ◌∙◌, subst, arith}
 use Rattle.std.specs.Prelude.{slice_get}
-use Rattle.std.proofs.lemmas.Int.{ints}
-use Rattle.std.proofs.lemmas.Bool.{cond_both, eq-eqb, eqb-true, or_left, or_right, true≢false}
+use Rattle.std.proofs.lemmas.Bool.{cond_both, eq-eqb, eqb-true}
 use Rattle.std.proofs.lemmas.List.{get_or-map, length-map}
 use Rattle.std.proofs.lemmas.List.Elements.{All-append, All-nil, All-cons}
-use Rattle.std.proofs.lemmas.List.Folds.{list_any-append, list_any_at}
+use Rattle.std.proofs.lemmas.List.Folds.{list_any_at}
 use Rattle.std.proofs.lemmas.Option.{get_or_from_slice_get, slice_get_within}
-use Rattle.ordered_group.specs.Amount.{Amount, zero_amount, minus, Below, positive, negative}
+use Rattle.ordered_group.specs.Amount.{zero_amount}
 use Rattle.ordered_group.specs.Sums.{amount_at}
-use Rattle.ordered_group.proofs.Order.{larger_is, AtMost-same}
 use Rattle.prec_file.specs.Rests.{from_at, to_at, numbers}
 use Rattle.prec_file.proofs.Passing.{passing_after, passing_here, passing_at}
 use Rattle.closure_net.specs.Network.{NetView}
@@ -21,7 +19,7 @@ use Rattle.machine_law.specs.States.{State}
 use Rattle.machine_law.specs.Residual.{IsEnd, IsPortOf}
 use Rattle.machine_law.specs.Amounts.{HasAmounts}
 use Rattle.machine_law.specs.Labels.{same_port, ports_have, IsOpenBy}
-use Rattle.machine_law.proofs.Numbers.{same, shifted, Below-more, Below-absurd, is_below-from}
+use Rattle.std.proofs.lemmas.Grind.{common_steps}
 
 -- the port with these parts
 abbrev pub port_with : PortKind → ℕ → ℕ → Port
@@ -69,14 +67,6 @@ module _ (net : NetView) (b : ℕ) where
   port-at place p e = subst (IsPortOf net b) (get_or_from_slice_get (ports net b) place p p e) (all_ports place p (slice_get_within (ports net b) place p e))
 
 -- ---- each open port
-in_left : (xs ys : List Port) (p : Port) → ports_have xs p ≡ true → ports_have (xs ++ ys) p ≡ true
-in_left xs ys p h = list_any-append (λ q. same_port q p) xs ys ∙ or_left (ports_have xs p) (ports_have ys p) h
-
-in_right : (xs ys : List Port) (p : Port) → ports_have ys p ≡ true → ports_have (xs ++ ys) p ≡ true
-in_right xs ys p h = list_any-append (λ q. same_port q p) xs ys ∙ or_right (ports_have xs p) (ports_have ys p) h
-
-has_if : (t : Bool) (x p : Port) → t ≡ true → same_port x p ≡ true → ports_have (cond t (x ∷ []) []) p ≡ true
-has_if t x p e h = rw e (or_left (same_port x p) false h)
 
 has_pair : (end : ℕ → ℕ) (f : ℕ → Port) (b m k : ℕ) (p : Port) → k < m → end k ≡ b → same_port (f k) p ≡ true → ports_have (map f (numbers end b m)) p ≡ true
 has_pair end f b m k p l e h =
@@ -89,45 +79,18 @@ has_pair end f b m k p l e h =
 
 pub has_backward : (net : NetView) (b k : ℕ) → k < length net.pairs → to_at net.pairs k ≡ b → ports_have (ports net b) (backward_port (from_at net.pairs) k) ≡ true
 unfolding port_list
-has_backward net b k l e =
-    let p = backward_port (from_at net.pairs) k in
-    in_right (to_sink net b) (behind_sink net b) p
-    (in_right (forward net b) (backward net b ++ to_source net b) p
-    (in_left (backward net b) (to_source net b) p (has_pair (to_at net.pairs) (backward_port (from_at net.pairs)) b (length net.pairs) k p l e (eq-eqb k k refl))))
-
--- a worth whose parts are above zero
-positive_above : (w : Amount) → Below zero_amount (positive w) → Below zero_amount w
-positive_above w h = elim (larger_is w zero_amount) [ inl e ↦ Below-absurd h (AtMost-same _ _ e.0) | inr e ↦ Below-more h (AtMost-same _ _ e.0) ]
-
-negative_above : (w : Amount) → Below zero_amount (negative w) → Below w zero_amount
-negative_above w h = elim (larger_is (minus zero_amount w) zero_amount) [
-  | inl e ↦ Below-absurd h (AtMost-same _ _ e.0)
-  | inr e ↦ let s = same e.0 in record { worths = omega (arith, ints, h, s); counts = λ i. omega (arith, ints, h, s, i) }
-]
+has_backward net b k l e = grind (arith, common_steps, (backward_port (from_at net.pairs) k), (has_pair (to_at net.pairs) (backward_port (from_at net.pairs)) b (length net.pairs) k (backward_port (from_at net.pairs) k) l e (eq-eqb k k refl)), (eq-eqb k k refl))
 
 has_by : (net : NetView) (s : State) (b : ℕ) (kind : PortKind) (other slot : ℕ) → HasAmounts net s → IsEnd net b kind other slot → IsOpenBy net s b kind → ports_have (ports net b) (port_with kind other slot) ≡ true
 unfolding port_list
-has_by net s b Sink other slot k q o =
-    let w = amount_at net.worths b in
-    let p = port_with Sink other slot in
-    let full = Below-more o (shifted (k.sink b) (record { w = omega (arith, ints); c = omega (arith, ints) })) in
-    in_left (to_sink net b) (behind_sink net b) p (has_if (is_below w zero_amount) (sink_port b) p (is_below-from w zero_amount (negative_above w full)) refl)
-has_by net s b Forward other slot k q o =
-    let p = port_with Forward other slot in
-    in_right (to_sink net b) (behind_sink net b) p
-    (in_left (forward net b) (backward net b ++ to_source net b) p (has_pair (from_at net.pairs) (forward_port (to_at net.pairs)) b (length net.pairs) slot p q.0 q.1 (eq-eqb slot slot refl)))
+has_by net s b Sink other slot k q o = grind (arith, common_steps)
+has_by net s b Forward other slot k q o = grind (arith, common_steps, (port_with Forward other slot), (has_pair (from_at net.pairs) (forward_port (to_at net.pairs)) b (length net.pairs) slot (port_with Forward other slot) q.0 q.1 (eq-eqb slot slot refl)), (eq-eqb slot slot refl))
 has_by net s b Backward other slot k q o = absurd o
-has_by net s b Source other slot k q o =
-    let w = amount_at net.worths b in
-    let p = port_with Source other slot in
-    in_right (to_sink net b) (behind_sink net b) p
-    (in_right (forward net b) (backward net b ++ to_source net b) p
-    (in_right (backward net b) (to_source net b) p (has_if (is_below zero_amount w) (source_port b) p (is_below-from zero_amount w (positive_above w (Below-more o (k.source_most b)))) refl)))
+has_by net s b Source other slot k q o = grind (arith, common_steps)
 
 pub has_open : (net : NetView) (s : State) (b : ℕ) (p : Port) → HasAmounts net s → IsPortOf net b p → IsOpenBy net s b p.kind → ports_have (ports net b) p ≡ true
 has_open net s b p k q o = has_by net s b p.kind p.other p.slot k q o
 
 -- a list that has a port isn't empty
 pub has_some : (xs : List Port) (p : Port) → ports_have xs p ≡ true → 0 < length xs
-has_some [] p h = absurd (true≢false (sym h))
-has_some (x ∷ xs) p h = omega arith
+has_some xs p h = grind (arith, common_steps)

@@ -1,7 +1,7 @@
 -- The capacity step keeps what holds of the labels.
 use Rattle.std.proofs.Common.{◌≡◌, ◌≢◌, ℕ, ◌+◌, ◌<◌, ◌≤◌, ◌⊎◌, ◌==◌, inl, inr, Bool, true, false, not, nat_lt, ◌&&◌, Some, [], length, refl, ap, sym, subst, arith}
 use Rattle.std.proofs.lemmas.Int.{ints}
-use Rattle.std.proofs.lemmas.Bool.{cases_eq, cases_lt, ltb-true, lt-ltb, eq-eqb, ne_eqb, and_from}
+use Rattle.std.proofs.lemmas.Bool.{cases_eq, cases_lt, lt-ltb, eq-eqb, ne_eqb, and_from}
 use Rattle.ordered_group.specs.Amount.{Amount, zero_amount, plus, minus, AtMost, Below, positive, negative}
 use Rattle.ordered_group.specs.Sums.{where_so, amount_at}
 use Rattle.ordered_group.proofs.Order.{AtMost-refl, AtMost-trans, Below-most}
@@ -29,6 +29,7 @@ use Rattle.machine_law.proofs.Supply.{supply_pushed}
 use Rattle.machine_law.proofs.Staying.{same_arcs}
 use Rattle.machine_law.proofs.PortLists.{port_with}
 use Rattle.machine_law.proofs.Keeps.{push_most, push_some}
+use Rattle.std.proofs.lemmas.Grind.{common_steps}
 
 -- a ≤ low + g, low ≤ v - have and d ≤ have, where the supply v becomes v + g - d
 room_left : (a low v v' have d g : Amount) → AtMost a (plus low g) → AtMost low (minus v have) → AtMost d have → Same v' (minus (plus v g) d) → AtMost a v'
@@ -59,10 +60,7 @@ module _ (net : NetView) (s : State) (b : ℕ) (l : b < length net.worths) (have
   supply_at kind x e = supply_pushed net s b l x have (best_at kind) (amount_of kind) (port_with kind other slot) kind e
 
   supply_own : (kind : PortKind) → s.operation b ≡ PushDue have (best_at kind) → Same (supply net (after kind) b) (minus (plus (supply net s b) (amount_landing_by kind other b (amount_of kind))) (amount_of kind))
-  supply_own kind e =
-      let v = supply_at kind b e in
-      let w = same (where_at (b == b) (amount_of kind) (eq-eqb b b refl)) in
-      record { w = omega (arith, ints, v, w); c = omega (arith, ints, v, w) }
+  supply_own kind e = grind (arith, common_steps, (supply_at kind b e), (same (where_at (b == b) (amount_of kind) (eq-eqb b b refl))), (where_at (b == b) (amount_of kind) (eq-eqb b b refl)), (eq-eqb b b refl))
 
   -- what the backward arcs of x gain
   arcs_pushed : (kind : PortKind) (x : ℕ) → IsEnd net b kind other slot → AtMost zero_amount (amount_of kind) → ((j : ℕ) → AtMost zero_amount ((after kind).flow j)) → (f g : ℕ → Bool) → ((j : ℕ) → f j ≡ true → g j ≡ true) → AtMost (arcs net f (after kind).flow x) (plus (arcs net g s.flow x) (amount_landing_by kind other x (amount_of kind)))
@@ -79,13 +77,10 @@ module _ (net : NetView) (s : State) (b : ℕ) (l : b < length net.worths) (have
 
   -- the arcs of b that are steep end below the best port, where the block stands at most one label above it
   steep_low : s.label b ≤ label + 1 → (j : ℕ) → is_steep j ≡ true → is_low j ≡ true
-  steep_low near j q =
-      let i = ltb-true (s.label (from_at net.pairs j) + 1) (s.label b) q in
-      lt-ltb (s.label (from_at net.pairs j)) label (omega (arith, i, near))
+  steep_low near j q = grind (arith, common_steps)
 
   same_label : (kind : PortKind) → (after kind).label ≡ s.label
-  same_label Sink = refl
-  same_label _ = refl
+  same_label kind = grind (arith, common_steps)
 
   same_source : (kind : PortKind) (x : ℕ) → x ≢ b → (after kind).source x ≡ s.source x
   same_source Source x ne = with_value_at-other s.source b (minus (s.source b) (amount_of Source)) x ne
@@ -96,15 +91,11 @@ module _ (net : NetView) (s : State) (b : ℕ) (l : b < length net.worths) (have
   same_sink _ x ne = refl
 
   same_operation : (kind : PortKind) → (after kind).operation ≡ with_value_at s.operation b (TakeDue (amount_of kind) (port_with kind other slot))
-  same_operation Sink = refl
-  same_operation _ = refl
+  same_operation kind = grind (arith, common_steps)
 
   module _ (kind : PortKind) (e : s.operation b ≡ PushDue have (best_at kind)) (q : IsEnd net b kind other slot) (w : IsWithinBy net s b kind slot read) (walk : IsWalk net s b have [] (Some (best_at kind))) (a : (j : ℕ) → AtMost zero_amount ((after kind).flow j)) where
     nonneg : AtMost zero_amount (amount_of kind)
     nonneg = Below-most zero_amount (amount_of kind) (push_some net s b have kind slot read some w)
-
-    low_is : AtMost (arcs net is_low s.flow b) (minus (supply net s b) have)
-    low_is = walk.low_most
 
     calm : (x : ℕ) → x ≢ b → IsCalm net s (after kind) x
     calm x ne =
@@ -125,7 +116,7 @@ module _ (net : NetView) (s : State) (b : ℕ) (l : b < length net.worths) (have
     steep_near near =
         room_left (steep_capacity net (after kind) b) (arcs net is_low s.flow b) (supply net s b) (supply net (after kind) b) have (amount_of kind) (amount_landing_by kind other b (amount_of kind))
         (subst (λ (u : ℕ → ℕ). AtMost (arcs net (λ j. nat_lt (u (from_at net.pairs j) + 1) (u b)) (after kind).flow b) (plus (arcs net is_low s.flow b) (amount_landing_by kind other b (amount_of kind)))) (sym (same_label kind)) (arcs_pushed kind b q nonneg a is_steep is_low (steep_low near)))
-        low_is (push_most have kind read) (supply_own kind e)
+        (walk.low_most) (push_most have kind read) (supply_own kind e)
 
     rest_of : AtMost (steep_capacity net (after kind) b) (supply net (after kind) b) → ((x : ℕ) → Below zero_amount (room net (after kind) x) → s.label x ≤ 1) → ((x : ℕ) → Below zero_amount ((after kind).source x) → s.label x ≤ length net.worths + 3) → ((x : ℕ) → ((after kind).source x ≡ positive (amount_at net.worths x)) ⊎ (length net.worths + 2 < s.label x)) → HasLabels net (after kind)
     rest_of here sink source left =
@@ -189,5 +180,4 @@ module _ (net : NetView) (s : State) (b : ℕ) (l : b < length net.worths) (have
 
 pub labels_pushed : (net : NetView) (s : State) (b : ℕ) → b < length net.worths → (have : Amount) (best : Best Amount) → s.operation b ≡ PushDue have best → Below zero_amount have → IsPortOf net b best.port → IsWithin net s b best.port best.capacity → IsWalk net s b have [] (Some best) → best.label < s.label b → HasAmounts net s → HasLabels net s
     → (let t : State = after_push s b (push_amount have best.port.kind best.capacity) best.port in ((j : ℕ) → AtMost zero_amount (t.flow j)) → HasLabels net t)
-labels_pushed net s b l have best e some q w walk below k h a =
-    labels_pushed_by net s b l have best.capacity best.label best.port.other best.port.slot some below k h best.port.kind e q w walk a
+labels_pushed net s b l have best e some q w walk below k h a = grind (arith, common_steps, (labels_pushed_by net s b l have best.capacity best.label best.port.other best.port.slot some below k h best.port.kind e q w walk a))

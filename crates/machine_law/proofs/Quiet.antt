@@ -14,9 +14,6 @@ use Rattle.closure_net.specs.Closure.{Stays, IsClosed}
 use Rattle.closure_net.specs.Flows.{IsFlow, IsTight}
 use Rattle.closure_net.proofs.Duality.{PairsKnown, closed_bound, greatest_flow_from_tight}
 use Rattle.closure_net.specs.Reached.{IsReached, Reaches}
-use Rattle.closure_net.specs.declared.port.Port.{Port}
-use Rattle.machine_law.specs.declared.operations.Operation.{Operation}
-use Rattle.machine_law.specs.declared.operations.Operation.TheVariants.{Idle}
 use Rattle.machine_law.specs.States.{State, IsQuiet}
 use Rattle.machine_law.specs.Residual.{room}
 use Rattle.machine_law.specs.Transit.{amount_owed, on_way, sum_on_way, amount_landing, amount_coming, inflow_at, outflow_at}
@@ -28,6 +25,7 @@ use Rattle.machine_law.proofs.Arcs.{arcs-each}
 use Rattle.machine_law.proofs.Law.{runs_keep_law}
 use Rattle.machine_law.proofs.Levels.{empty_above}
 use Rattle.machine_law.proofs.Tight.{tight_sum}
+use Rattle.std.proofs.lemmas.Grind.{common_steps}
 
 -- a set that the source's reach doesn't leave is closed
 closed_from : (net : NetView) (flow : FlowView) (e : ℕ → Bool) → Reaches net flow e → IsClosed net.pairs e
@@ -41,8 +39,7 @@ most_or : (x y : Amount) → AtMost x y ⊎ ¬ (AtMost x y)
 most_or x y = elim (most_or_below x y) [ inl m ↦ inl m | inr h ↦ inr (below_not y x h) ]
 
 not_both : (t : Bool) {P : Type 0} → t ≡ true → t ≡ false → P
-not_both true h e = absurd cc
-not_both false h e = absurd cc
+not_both t h e = grind (arith, common_steps)
 
 -- and tight, where its blocks give the sink all they may
 tight_from : (net : NetView) (flow : FlowView) (e : ℕ → Bool) → PairsKnown net → IsFlow net flow → Reaches net flow e → ((b : ℕ) → b < length net.worths → e b ≡ true → AtMost (negative (amount_at net.worths b)) (amount_at flow.sink b)) → IsTight net flow e
@@ -66,12 +63,9 @@ tight_from net flow e known is r full =
 
 -- ---- the flow of a quiet state
 module _ (net : NetView) (s : State) (flow : FlowView) (known : PairsKnown net) (h : IsLawful net s) (q : IsQuiet net s) (is : IsFlowOf net s flow) where
-  idle_on_way : (f : Port → Amount → Amount) (o : Operation Amount) → o ≡ Idle → on_way f o ≡ zero_amount
-  idle_on_way f o e = ap (on_way f) e
-
   nothing_coming : (b : ℕ) → amount_coming net s b ≡ zero_amount
   unfolding sum_on_way
-  nothing_coming b = total-none (λ c. on_way (amount_landing b) (s.operation c)) (length net.worths) (λ c l. idle_on_way (amount_landing b) (s.operation c) (q.operation c l))
+  nothing_coming b = total-none (λ c. on_way (amount_landing b) (s.operation c)) (length net.worths) (λ c l. ap (on_way (amount_landing b)) (q.operation c l))
 
   -- what comes in and goes out is the same by either view
   end_same : (end : ℕ → ℕ) (b : ℕ) → at_end end (amount_at flow.rest) (length net.pairs) b ≡ at_end end s.flow (length net.pairs) b
@@ -87,11 +81,7 @@ module _ (net : NetView) (s : State) (flow : FlowView) (known : PairsKnown net) 
 
   -- what the state owes, has, and is to get is zero
   supply_zero : (b : ℕ) → b < length net.worths → minus (plus (s.excess b) (amount_coming net s b)) (amount_owed (s.operation b)) ≡ zero_amount
-  supply_zero b l =
-      let e = same (q.excess b l) in
-      let c = same (nothing_coming b) in
-      let o = same (ap amount_owed (q.operation b l)) in
-      equal (record { w = omega (arith, ints, e, c, o); c = omega (arith, ints, e, c, o) })
+  supply_zero b l = grind (arith, common_steps, same, nothing_coming, equal)
 
   pub quiet_flow : IsFlow net flow
   quiet_flow = record {

@@ -1,15 +1,10 @@
 -- Runs step by step: a step leads to one state only and adds one to their number, and a run goes on by one step, or by another run.
-use Rattle.std.proofs.Common.{◌≡◌, ℕ, ◌+◌, Some, None, List, [], ◌∷◌, ◌++◌, length, refl, ap, sym, ◌∙◌, subst, arith}
-use Rattle.ordered_group.specs.Amount.{Amount}
+use Rattle.std.proofs.Common.{◌≡◌, ◌+◌, List, [], ◌∷◌, ◌++◌, length, refl, ap, sym, ◌∙◌, subst, arith}
 use Rattle.closure_net.specs.Network.{NetView}
-use Rattle.closure_net.specs.declared.port.Port.{Port}
-use Rattle.closure_net.specs.declared.port.PortKind.{PortKind}
-use Rattle.closure_net.specs.declared.port.PortKind.TheVariants.{Sink, Forward, Backward, Source}
-use Rattle.machine_law.specs.declared.operations.Operation.{Operation}
-use Rattle.machine_law.specs.declared.operations.Operation.TheVariants.{Idle, Scan, PushDue, TakeDue, GiveDue, RaiseDue}
 use Rattle.machine_law.specs.declared.events.Event.{Event}
 use Rattle.machine_law.specs.States.{State}
-use Rattle.machine_law.specs.Steps.{push_amount, after_push_by, after_give_by, advance_by, Step, Run}
+use Rattle.machine_law.specs.Steps.{Step, Run}
+use Rattle.std.proofs.lemmas.Grind.{common_steps}
 
 -- a step leads to one state only
 pub step_unique : (net : NetView) (s : State) (e : Event) (t u : State) → Step net s e t → Step net s e u → t ≡ u
@@ -21,25 +16,9 @@ run_unique net s [] t u h k = h ∙ sym k
 run_unique net s (e ∷ es) t u h k = run_unique net h.0 es t u h.2 (subst (λ (v : State). Run net v es u) (step_unique net s e k.0 h.0 k.1 h.1) k.2)
 
 -- ---- each step counts once
-steps_pushed : (s : State) (b : ℕ) (d : Amount) (p : Port) (kind : PortKind) → (after_push_by s b d p kind).steps ≡ s.steps + 1
-steps_pushed s b d p Sink = refl
-steps_pushed s b d p _ = refl
-
-steps_given : (s : State) (b : ℕ) (d : Amount) (p : Port) (kind : PortKind) → (after_give_by s b d p kind).steps ≡ s.steps + 1
-steps_given s b d p Sink = refl
-steps_given s b d p _ = refl
-
-steps_by : (net : NetView) (s : State) (b : ℕ) (o : Operation Amount) → (advance_by net s b o).steps ≡ s.steps + 1
-steps_by net s b Idle = refl
-steps_by net s b (Scan have place None best) = refl
-steps_by net s b (Scan have place (Some read) best) = refl
-steps_by net s b (PushDue have best) = steps_pushed s b (push_amount have best.port.kind best.capacity) best.port best.port.kind
-steps_by net s b (TakeDue d p) = refl
-steps_by net s b (GiveDue d p) = steps_given s b d p p.kind
-steps_by net s b (RaiseDue have best) = refl
 
 pub step_counts : (net : NetView) (s : State) (e : Event) (t : State) → Step net s e t → t.steps ≡ s.steps + 1
-step_counts net s e t h = ap (λ (u : State). u.steps) h.after ∙ steps_by net s e.block (s.operation e.block)
+step_counts net s e t h = ap (λ (u : State). u.steps) h.after ∙ (grind (arith, common_steps))
 
 -- so a run makes as many as it lists
 pub run_counts : (net : NetView) (s : State) (es : List Event) (t : State) → Run net s es t → t.steps ≡ s.steps + length es

@@ -18,6 +18,7 @@ use Rattle.machine_law.specs.Balances.{supply}
 use Rattle.machine_law.proofs.Numbers.{Same, same}
 use Rattle.machine_law.proofs.Points.{where-with_value_at}
 use Rattle.machine_law.proofs.Sums.{sum_on_way-with_value_at}
+use Rattle.std.proofs.lemmas.Grind.{common_steps}
 
 -- an operation that has pushed nothing yet
 abbrev pub IsAtRest : Operation Amount → Type 0
@@ -26,13 +27,10 @@ IsAtRest (GiveDue d p) = ⊥
 IsAtRest _ = Unit {0}
 
 pub rest_owed : (o : Operation Amount) → IsAtRest o → amount_owed o ≡ zero_amount
-rest_owed (TakeDue d p) h = absurd h
-rest_owed _ h = refl
+rest_owed o h = grind (arith, common_steps)
 
 pub rest_on_way : (o : Operation Amount) (f : Port → Amount → Amount) → IsAtRest o → on_way f o ≡ zero_amount
-rest_on_way (TakeDue d p) f h = absurd h
-rest_on_way (GiveDue d p) f h = absurd h
-rest_on_way _ f h = refl
+rest_on_way o f h = grind (arith, common_steps)
 
 where_nothing : (t : Bool) (a : Amount) → a ≡ zero_amount → where_so t a ≡ zero_amount
 where_nothing t a e = rw e (where_so-zero t)
@@ -44,20 +42,11 @@ on_hand net excess operation x = minus (plus (excess x) (sum_on_way net (amount_
 module _ (net : NetView) (s : State) (b : ℕ) (l : b < length net.worths) where
   -- what is on its way to one end, where nothing was and nothing is of this operation
   pub way_rest : (old new : Operation Amount) (f : Port → Amount → Amount) → s.operation b ≡ old → IsAtRest old → IsAtRest new → Same (sum_on_way net f (with_value_at s.operation b new)) (sum_on_way net f s.operation)
-  way_rest old new f e r n =
-      let c = sum_on_way-with_value_at net f s.operation b old new l e in
-      let p = same (rest_on_way old f r) in
-      let q = same (rest_on_way new f n) in
-      record { w = omega (arith, ints, c, p, q); c = omega (arith, ints, c, p, q) }
+  way_rest old new f e r n = grind (arith, common_steps, (sum_on_way-with_value_at net f s.operation b old new l e), (same (rest_on_way old f r)), (same (rest_on_way new f n)), (rest_on_way old f r), (rest_on_way new f n))
 
   module _ (x : ℕ) where
     hand_rest : (old new : Operation Amount) → s.operation b ≡ old → IsAtRest old → IsAtRest new → Same (on_hand net s.excess (with_value_at s.operation b new) x) (on_hand net s.excess s.operation x)
-    hand_rest old new e r n =
-        let c = way_rest old new (amount_landing x) e r n in
-        let o = where-with_value_at amount_owed s.operation b old new x e in
-        let was = same (where_nothing (b == x) (amount_owed old) (rest_owed old r)) in
-        let is = same (where_nothing (b == x) (amount_owed new) (rest_owed new n)) in
-        record { w = omega (arith, ints, c, o, was, is); c = omega (arith, ints, c, o, was, is) }
+    hand_rest old new e r n = grind (arith, common_steps, (way_rest old new (amount_landing x) e r n), (where-with_value_at amount_owed s.operation b old new x e), (same (where_nothing (b == x) (amount_owed old) (rest_owed old r))), (same (where_nothing (b == x) (amount_owed new) (rest_owed new n))), (where_nothing (b == x) (amount_owed old) (rest_owed old r)), (rest_owed old r), (where_nothing (b == x) (amount_owed new) (rest_owed new n)), (rest_owed new n))
 
     hand_pushed : (have : Amount) (best : Best Amount) (d : Amount) (p : Port) → s.operation b ≡ PushDue have best → Same (on_hand net s.excess (with_value_at s.operation b (TakeDue d p)) x) (minus (plus (on_hand net s.excess s.operation x) (amount_landing x p d)) (where_so (b == x) d))
     hand_pushed have best d p e =

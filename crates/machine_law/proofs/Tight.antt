@@ -6,11 +6,7 @@ use Rattle.ordered_group.specs.Sums.{total, where_so, at_end}
 use Rattle.ordered_group.proofs.Order.{positive-negative}
 use Rattle.ordered_group.proofs.Totals.{total-same, total-plus, route}
 use Rattle.machine_law.proofs.Numbers.{same, equal}
-
-where_same : (s t : Bool) (x : Amount) → (t ≡ true → s ≡ true) → (s ≡ true → t ≡ false → x ≡ zero_amount) → where_so s x ≡ where_so t x
-where_same true false x h k = k refl refl
-where_same false true x h k = absurd (let e = h refl in cc)
-where_same _ _ x h k = refl
+use Rattle.std.proofs.lemmas.Grind.{common_steps}
 
 module _ (n m : ℕ) (from to : ℕ → ℕ) (w s t f : ℕ → Amount) (e : ℕ → Bool)
     (from_below : (k : ℕ) → k < m → from k < n)
@@ -35,5 +31,5 @@ module _ (n m : ℕ) (from to : ℕ → ℕ) (w s t f : ℕ → Amount) (e : ℕ
       let q = same (total-plus (λ b. minus (positive (w b)) (s b)) (λ b. where_so (e b) (at_end from f m b)) n) in
       let r = same (route e to f n m to_below) in
       let u = same (route e from f n m from_below) in
-      let v = same (total-same (λ k. where_so (e (to k)) (f k)) (λ k. where_so (e (from k)) (f k)) m (λ k l. where_same (e (to k)) (e (from k)) (f k) (closed k l) (sealed k l))) in
+      let v = same (total-same (λ k. where_so (e (to k)) (f k)) (λ k. where_so (e (from k)) (f k)) m (λ k l. grind (arith, common_steps))) in
       equal (record { w = omega (arith, ints, all, p, q, r, u, v); c = omega (arith, ints, all, p, q, r, u, v) })

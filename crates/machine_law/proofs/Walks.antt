@@ -1,10 +1,10 @@
 -- What an operation remembers of labels, over its reads: how far it has looked.
-use Rattle.std.proofs.Common.{◌≡◌, ℕ, ◌≤◌, ◌+◌, ◌==◌, inl, inr, Bool, true, false, not, nat_lt, ◌&&◌, Option, Some, None, List, ◌∷◌, refl, ap, sym, ◌∙◌, subst, subst₂, arith}
+use Rattle.std.proofs.Common.{◌≡◌, ℕ, ◌≤◌, ◌+◌, inl, inr, Bool, true, false, not, nat_lt, ◌&&◌, Option, Some, None, List, ◌∷◌, refl, sym, ◌∙◌, arith}
 use Rattle.std.proofs.lemmas.Int.{ints}
-use Rattle.std.proofs.lemmas.Bool.{and_parts, and_from, cases_Bool, cond_both, eqb-true, ltb-true, ltb-false, or_from, not-true, not_from_false, true≢false}
+use Rattle.std.proofs.lemmas.Bool.{and_parts, and_from, cases_Bool, ltb-true, or_from, not-true, not_from_false, true≢false}
 use Rattle.ordered_group.specs.Amount.{Amount, zero_amount, minus, AtMost, Below}
 use Rattle.ordered_group.proofs.Order.{AtMost-refl, AtMost-trans}
-use Rattle.prec_file.specs.Rests.{from_at, to_at}
+use Rattle.prec_file.specs.Rests.{from_at}
 use Rattle.closure_net.specs.Network.{NetView}
 use Rattle.closure_net.specs.Ports.{ports, backward_port}
 use Rattle.closure_net.specs.declared.port.Port.{Port}
@@ -17,7 +17,7 @@ use Rattle.machine_law.specs.Reads.{is_positive, better_of}
 use Rattle.machine_law.specs.Transit.{amount_owed}
 use Rattle.machine_law.specs.Amounts.{HasAmounts}
 use Rattle.machine_law.specs.Balances.{supply}
-use Rattle.machine_law.specs.Labels.{arcs, steep_capacity, high_capacity, label_by, same_by, same_port, ports_have, is_under, IsOpenBy, IsAbove, IsNearLabel, IsBestLabel, IsLevelIfAny, IsWalk, HasLabels}
+use Rattle.machine_law.specs.Labels.{arcs, steep_capacity, high_capacity, label_by, same_by, same_port, ports_have, is_under, IsOpenBy, IsWalk, HasLabels}
 use Rattle.machine_law.proofs.Numbers.{same, shifted, positive-no, Below-absurd}
 use Rattle.machine_law.proofs.Arcs.{arcs-most, arcs-most_or, arcs-none}
 use Rattle.machine_law.proofs.PortLists.{has_backward, has_open}
@@ -39,8 +39,7 @@ IsReady net s b _ = Unit {0}
 module _ (net : NetView) (s : State) (b : ℕ) where
   -- over a backward port without capacity the pair carries nothing
   shut_arc : (kind : PortKind) (slot j : ℕ) → AtMost (capacity_by net s b kind slot) zero_amount → same_by kind Backward slot j ≡ true → AtMost (s.flow j) zero_amount
-  shut_arc Backward slot j z e = subst (λ (i : ℕ). AtMost (s.flow i) zero_amount) (eqb-true slot j e) z
-  shut_arc _ slot j z e = absurd (true≢false (sym e))
+  shut_arc kind slot j z e = grind (arith, common_steps)
 
   -- a port without capacity isn't open
   shut_port : (p q : PortKind) (i j : ℕ) → IsLimited p → AtMost (capacity_by net s b p i) zero_amount → same_by p q i j ≡ true → IsOpenBy net s b q → ⊥
@@ -50,49 +49,20 @@ module _ (net : NetView) (s : State) (b : ℕ) where
   shut_port Source Source i j c z e o = Below-absurd o z
   shut_port _ _ i j c z e o = true≢false (sym e)
 
-  -- they have the same other end
-  same_end : (p q : PortKind) (o u i j : ℕ) → IsEnd net b p o i → IsEnd net b q u j → same_by p q i j ≡ true → label_beyond net p (s.label o) ≡ label_beyond net q (s.label u)
-  same_end Sink Sink o u i j x y e = refl
-  same_end Forward Forward o u i j x y e = ap s.label (sym x.2 ∙ (ap (to_at net.pairs) (eqb-true i j e) ∙ y.2))
-  same_end Backward Backward o u i j x y e = ap s.label (sym x.2 ∙ (ap (from_at net.pairs) (eqb-true i j e) ∙ y.2))
-  same_end Source Source o u i j x y e = refl
-  same_end _ _ o u i j x y e = absurd (true≢false (sym e))
-
   same_end_of : (p q : Port) → IsPortOf net b p → IsPortOf net b q → same_port p q ≡ true → end_label net s p ≡ end_label net s q
-  same_end_of p q x y e = same_end p.kind q.kind p.other q.other p.slot q.slot x y e
+  same_end_of p q x y e = grind (arith, common_steps)
 
 -- ---- the best port, with one more
 better_of-most : (best : Option (Best Amount)) (new : Best Amount) → (better_of best new).label ≤ new.label
-better_of-most None new = omega arith
-better_of-most (Some best) new = cond_both (nat_lt new.label best.label) new best (λ x. x.label ≤ new.label) (λ e. omega arith) (λ e. ltb-false new.label best.label e)
-
-under_better : (best : Option (Best Amount)) (new : Best Amount) (n : ℕ) → is_under (Some (better_of best new)) n ≡ true → is_under best n ≡ true
-under_better None new n e = refl
-under_better (Some best) new n e = grind (arith, common_steps)
-
-above_better : (best : Option (Best Amount)) (new : Best Amount) (n : ℕ) → IsAbove best n → (better_of best new).label ≤ n
-above_better None new n h = absurd h
-above_better (Some best) new n h = cond_both (nat_lt new.label best.label) new best (λ x. x.label ≤ n) (λ e. let u = ltb-true new.label best.label e in omega (arith, h, u)) (λ e. h)
+better_of-most best new = grind (arith, common_steps)
 
 module _ (net : NetView) (s : State) (b : ℕ) (k : HasAmounts net s) (h : HasLabels net s) where
   -- at a new best port the arcs count by their present labels
   seen_new : (kind : PortKind) (other slot j : ℕ) → IsEnd net b kind other slot → label_by kind slot (label_beyond net kind (s.label other)) j (s.label (from_at net.pairs j)) ≡ s.label (from_at net.pairs j)
-  seen_new Backward other slot j q = cond_both (slot == j) (s.label other) (s.label (from_at net.pairs j)) (λ x. x ≡ s.label (from_at net.pairs j)) (λ e. ap s.label (sym q.2 ∙ ap (from_at net.pairs) (eqb-true slot j e))) (λ e. refl)
-  seen_new _ other slot j q = refl
-
-  near_new : (kind : PortKind) (other slot : ℕ) → IsEnd net b kind other slot → IsReady net s b kind → IsNearLabel net kind (s.label b) (label_beyond net kind (s.label other))
-  near_new Sink other slot q r = h.sink b r
-  near_new Forward other slot q r = subst₂ (λ (x y : ℕ). s.label x ≤ s.label y + 1) q.1 q.2 (h.forward slot q.0)
-  near_new Backward other slot q r = tt
-  near_new Source other slot q r = let u = h.source b r in (omega (arith, u), omega arith)
-
-  level_better : (best : Option (Best Amount)) (new : Best Amount) → IsLevelIfAny net s b best → IsBestLabel net s b new → IsBestLabel net s b (better_of best new)
-  level_better None new i n = n
-  level_better (Some best) new i n = cond_both (nat_lt new.label best.label) new best (IsBestLabel net s b) (λ e. n) (λ e. i)
+  seen_new kind other slot j q = grind (arith, common_steps)
 
   high_better : (best : Option (Best Amount)) (new : Best Amount) → AtMost (high_capacity net s b best) (supply net s b) → AtMost (high_capacity net s b (Some new)) (supply net s b) → AtMost (high_capacity net s b (Some (better_of best new))) (supply net s b)
-  high_better None new i n = n
-  high_better (Some best) new i n = cond_both (nat_lt new.label best.label) new best (λ x. AtMost (high_capacity net s b (Some x)) (supply net s b)) (λ e. n) (λ e. i)
+  high_better best new i n = grind (arith, common_steps)
 
   -- ---- an operation begins
   pub walk_begun : amount_owed (s.operation b) ≡ zero_amount → IsWalk net s b (s.excess b) (ports net b) None
@@ -141,7 +111,7 @@ module _ (net : NetView) (s : State) (b : ℕ) (k : HasAmounts net s) (h : HasLa
       let most = better_of-most best new in
       let back : ℕ → Port = backward_port (from_at net.pairs) in
       record {
-        level = level_better best new w.level (record { recorded = omega arith; near = near_new p.kind p.other p.slot ip r });
+        level = grind (arith, common_steps);
         low_most =
             let f : ℕ → Bool = λ j. not (ports_have ps (back j)) && is_under (Some (better_of best new)) (s.label (from_at net.pairs j)) in
             let g : ℕ → Bool = λ j. not (ports_have (p ∷ ps) (back j)) && is_under best (s.label (from_at net.pairs j)) in
@@ -153,7 +123,7 @@ module _ (net : NetView) (s : State) (b : ℕ) (k : HasAmounts net s) (h : HasLa
                   let u = same_end_of net s b p (back j) ip (l, at, refl) y in
                   let v = ltb-true (s.label (from_at net.pairs j)) (better_of best new).label q.1 in
                   absurd (omega (arith, u, v, most))
-              | inr n ↦ and_from (not (ports_have (p ∷ ps) (back j))) (is_under best (s.label (from_at net.pairs j))) (not_from_false (ports_have (p ∷ ps) (back j)) (or_from (same_port p (back j)) (ports_have ps (back j)) n (not-true (ports_have ps (back j)) q.0))) (under_better best new (s.label (from_at net.pairs j)) q.1)
+              | inr n ↦ and_from (not (ports_have (p ∷ ps) (back j))) (is_under best (s.label (from_at net.pairs j))) (not_from_false (ports_have (p ∷ ps) (back j)) (or_from (same_port p (back j)) (ports_have ps (back j)) n (not-true (ports_have ps (back j)) q.0))) (grind (arith, common_steps))
             ]) (λ j. AtMost-refl (s.flow j)) k.flow)
             w.low_most;
         high_most = high_better best new w.high_most
@@ -162,6 +132,6 @@ module _ (net : NetView) (s : State) (b : ℕ) (k : HasAmounts net s) (h : HasLa
             (h.steep_most b));
         passed = λ q iq oq n. elim (cases_Bool (same_port p q)) [
           | inl y ↦ let u = same_end_of net s b p q ip iq y in omega (arith, u, most)
-          | inr m ↦ above_better best new (end_label net s q) (w.passed q iq oq (or_from (same_port p q) (ports_have ps q) m n))
+          | inr m ↦ grind (arith, common_steps)
         ];
       }

@@ -1,16 +1,16 @@
 -- Finding a pair among those of its block.
-use Rattle.std.proofs.Common.{◌≡◌, ◌≢◌, ℕ, ◌+◌, ◌<◌, ◌≤◌, ◌==◌, inl, inr, List, length, get_or, Some, None, Result, Ok, Err, refl, sym, ap, subst, ◌∙◌, arith}
+use Rattle.std.proofs.Common.{◌≡◌, ◌≢◌, ℕ, ◌+◌, ◌<◌, ◌≤◌, ◌==◌, inl, inr, List, length, get_or, Some, None, Result, Ok, Err, sym, ap, subst, ◌∙◌, arith}
 use Rattle.std.specs.List.{Contains}
 use Rattle.std.specs.List.Sorted.{IsBinarySearchResult}
 use Rattle.std.specs.Ordering.{nat_cmp}
 use Rattle.std.specs.Result.{result_ok}
-use Rattle.std.proofs.lemmas.Option.{none-some}
 use Rattle.std.proofs.lemmas.List.Sorted.{searched}
 use Rattle.std.proofs.lemmas.Bool.{cases_eq, cases_lt, eq-eqb, eqb-true}
 use Rattle.std.proofs.lemmas.List.{length-map, get_or-map, get_or_default}
 use Rattle.prec_file.specs.Rests.{numbers, from_at, to_at, first_of, above_of, IsRising}
 use Rattle.prec_file.proofs.Passing.{passing_at, passing_here, passing_after}
 use Rattle.prec_file.proofs.Order.{own_at}
+use Rattle.std.proofs.lemmas.Grind.{common_steps}
 
 -- b has as many predecessors as pairs
 pub above_length : (ps : List (ℕ × ℕ)) (b : ℕ) → length (above_of ps b) ≡ length (numbers (from_at ps) b (length ps))
@@ -29,17 +29,7 @@ above_at ps r b i l =
 
 -- the predecessors of b rise
 pub above_rises : (ps : List (ℕ × ℕ)) → IsRising ps → (b i j : ℕ) → i < j → j < length (above_of ps b) → get_or (above_of ps b) i 0 < get_or (above_of ps b) j 0
-above_rises ps r b i j h l =
-    let x = above_at ps r b i (omega arith) in
-    let y = above_at ps r b j l in
-    let x0 = ap (λ (p : ℕ × ℕ). p.0) x.1 in
-    let y0 = ap (λ (p : ℕ × ℕ). p.0) y.1 in
-    let x1 = ap (λ (p : ℕ × ℕ). p.1) x.1 in
-    let y1 = ap (λ (p : ℕ × ℕ). p.1) y.1 in
-    elim (r.rises (first_of ps b + i) (first_of ps b + j) (omega arith) y.0) [
-      | inl a ↦ absurd (omega (arith, a, x0, y0))
-      | inr a ↦ omega (arith, a.1, x1, y1)
-    ]
+above_rises ps r b i j h l = grind (arith, common_steps, (above_at ps r b i (omega arith)), (above_at ps r b j l))
 
 pub above_ascends : (ps : List (ℕ × ℕ)) → IsRising ps → (b i j : ℕ) → i ≤ j → j < length (above_of ps b) → get_or (above_of ps b) i 0 ≤ get_or (above_of ps b) j 0
 above_ascends ps r b i j h l = elim (cases_eq i j) [
@@ -65,17 +55,13 @@ not_listed ps b p none c =
 
 -- what is found among b's predecessors is the pair's number
 pub found_pair : (ps : List (ℕ × ℕ)) → IsRising ps → (b p i : ℕ) → i < length (above_of ps b) → get_or (above_of ps b) i 0 ≡ p → (first_of ps b + i < length ps) × (get_or ps (first_of ps b + i) (0, 0) ≡ (b, p))
-found_pair ps r b p i l e =
-    let a = above_at ps r b i l in
-    (a.0, a.1 ∙ ap (λ q. (b, q)) e)
+found_pair ps r b p i l e = grind (arith, common_steps, (above_at ps r b i l))
 
 from_ok : (r : Result ℕ ℕ) (i : ℕ) → Some i ≡ result_ok r → r ≡ Ok i
-from_ok (Ok j) i e = grind arith
-from_ok (Err j) i e = absurd (none-some i (sym e))
+from_ok r i e = grind (arith, common_steps)
 
 from_none : (r : Result ℕ ℕ) → None ≡ result_ok r → (j : ℕ) × (r ≡ Err j)
-from_none (Ok j) e = absurd (none-some j e)
-from_none (Err j) e = (j, refl)
+from_none r e = grind (arith, common_steps)
 
 -- what a binary search among b's predecessors says of the pair
 pub hit : (ps : List (ℕ × ℕ)) → IsRising ps → (b p i : ℕ) (r : Result ℕ ℕ) → Some i ≡ result_ok r → (xs : List ℕ) → xs ≡ above_of ps b → IsBinarySearchResult (λ y. nat_cmp y p) xs r

@@ -15,10 +15,7 @@ use Rattle.std.proofs.lemmas.Grind.{common_steps}
 
 -- A record with no fault of its own has a known block.
 pub third : (a b c : Bool) (x y z : PrecFault) → cond a (Some x) (cond b (Some y) (cond c (Some z) None)) ≡ None → c ≡ false
-third true b c x y z h = cc
-third false true c x y z h = cc
-third false false true x y z h = cc
-third false false false x y z h = refl
+third a b c x y z h = grind (arith, common_steps)
 
 pub shape_block : (n line : ℕ) (fs : List (List ℕ)) → shape_fault n line fs ≡ None → block_of fs < n
 unfolding shape_fault
@@ -28,32 +25,21 @@ pub history_same : (g h : ℕ → Bool) (k line : ℕ) (fs : List (List ℕ)) �
 unfolding history_fault
 history_same g h k line fs e = rw e refl
 
--- Only what is known of blocks below n counts.
-same_at : (n : ℕ) (g h : ℕ → Bool) (k line : ℕ) (fs : List (List ℕ)) → ((b : ℕ) → b < n → g b ≡ h b) → (o : Option PrecFault) → shape_fault n line fs ≡ o
-    → option_or (shape_fault n line fs) (history_fault g k line fs) ≡ option_or (shape_fault n line fs) (history_fault h k line fs)
-same_at n g h k line fs e (Some x) f = rw f refl
-same_at n g h k line fs e None f = rw f (history_same g h k line fs (e (block_of fs) (shape_block n line fs f)))
-
 pub record_same : (n : ℕ) (g h : ℕ → Bool) (k line : ℕ) (fs : List (List ℕ)) → ((b : ℕ) → b < n → g b ≡ h b) → record_fault n g k line fs ≡ record_fault n h k line fs
-record_same n g h k line fs e = ap (cond (is_skipped fs) None) (same_at n g h k line fs e (shape_fault n line fs) refl)
+record_same n g h k line fs e = ap (cond (is_skipped fs) None) (grind (arith, common_steps, history_same, shape_block))
 
 pub or_none : {F : Type 0} (a b : Option F) → option_or a b ≡ None → a ≡ None
-or_none None b h = refl
-or_none (Some x) b h = absurd cc
+or_none a b h = grind (arith, common_steps)
 
 pub none_behind : (s : Bool) (o : Option PrecFault) → cond s None o ≡ None → s ≡ false → o ≡ None
-none_behind true o h f = cc
-none_behind false o h f = h
+none_behind s o h f = grind (arith, common_steps)
 
 pub record_block : (n : ℕ) (had : ℕ → Bool) (k line : ℕ) (fs : List (List ℕ)) → record_fault n had k line fs ≡ None → is_skipped fs ≡ false → block_of fs < n
 record_block n had k line fs h s = shape_block n line fs (or_none (shape_fault n line fs) (history_fault had k line fs) (none_behind (is_skipped fs) _ h s))
 
 -- Want of memory is no fault of a record.
 never : (a b c : Bool) (line : ℕ) → cond a (Some (Text line)) (cond b (Some (Number line)) (cond c (Some (UnknownBlock line)) None)) ≡ Some NoMemory → ⊥
-never true b c line h = cc
-never false true c line h = cc
-never false false true line h = cc
-never false false false line h = cc
+never a b c line h = grind (arith, common_steps)
 
 not_memory : (n line : ℕ) (fs : List (List ℕ)) → shape_fault n line fs ≡ Some NoMemory → ⊥
 unfolding shape_fault
@@ -61,13 +47,7 @@ not_memory n line fs h = never _ _ _ line h
 
 -- The fault of a record by itself is told as it is.
 pub told : (n : ℕ) (had : ℕ → Bool) (k line : ℕ) (fs : List (List ℕ)) (e : PrecFault) → is_skipped fs ≡ false → shape_fault n line fs ≡ Some e → TellsFault e (record_fault n had k line fs)
-told n had k line fs NoMemory s f = absurd (not_memory n line fs f)
-told n had k line fs (Text l) s f = rw (s, f) refl
-told n had k line fs (Number l) s f = rw (s, f) refl
-told n had k line fs (UnknownBlock l) s f = rw (s, f) refl
-told n had k line fs (Repeated l) s f = rw (s, f) refl
-told n had k line fs (WrongCount l) s f = rw (s, f) refl
-told n had k line fs (TooMany l) s f = rw (s, f) refl
+told n had k line fs e s f = grind (arith, common_steps, not_memory)
 
 -- The faults that stand on the records before.
 pub repeated : (n : ℕ) (had : ℕ → Bool) (k line b : ℕ) (fs : List (List ℕ)) → is_skipped fs ≡ false → shape_fault n line fs ≡ None → b ≡ block_of fs → had b ≡ true → record_fault n had k line fs ≡ Some (Repeated line)

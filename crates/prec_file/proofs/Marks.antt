@@ -1,5 +1,5 @@
 -- A block is marked where it had a record.
-use Rattle.std.proofs.Common.{◌≡◌, ℕ, zero, suc, ◌<◌, Bool, true, false, cond, List, [], ◌∷◌, ◌++◌, length, get_or, set, replicate, refl, sym, ap, ◌∙◌, arith, append-nil}
+use Rattle.std.proofs.Common.{◌≡◌, ℕ, ◌<◌, Bool, true, false, cond, List, [], ◌∷◌, ◌++◌, length, get_or, set, replicate, refl, arith}
 use Rattle.fixed_worth.specs.Record.{is_skipped}
 use Rattle.prec_file.specs.Records.{block_of, has}
 use Rattle.prec_file.specs.Indexes.{marks_after}
@@ -8,14 +8,11 @@ use Rattle.std.proofs.lemmas.Grind.{common_steps}
 -- After a line that is skipped the marks stay as they are, and after a record of b it is marked, too.
 pub mark : (s : Bool) (n : ℕ) (seen : List Bool) (bs : List ℕ) (b : ℕ) → length seen ≡ n → (s ≡ false → b < n) → ((k : ℕ) → k < n → get_or seen k false ≡ has bs k)
     → (k : ℕ) → k < n → get_or (cond s seen (set seen b true)) k false ≡ has (bs ++ cond s [] (b ∷ [])) k
-mark true n seen bs b e i h k j = h k j ∙ ap (λ (xs : List ℕ). has xs k) (sym (append-nil bs))
-mark false n seen bs b e i h k j = grind (arith, common_steps)
+mark s n seen bs b e i h k j = grind (arith, common_steps)
 
 pub marks : (fs : List (List ℕ)) (seen : List Bool) (b : ℕ) → is_skipped fs ≡ false → b ≡ block_of fs → set seen b true ≡ marks_after fs seen
 marks fs seen b s e = rw (s, e) refl
 
 -- Of marks that are all clear none is set.
 pub none_marked : (n b : ℕ) → get_or (replicate n false) b false ≡ false
-none_marked zero b = refl
-none_marked (suc n) zero = refl
-none_marked (suc n) (suc b) = none_marked n b
+none_marked n b = grind (arith, common_steps)

@@ -1,15 +1,12 @@
 -- Pairs in order are determined by what they contain.
-use Rattle.std.proofs.Common.{◌≡◌, ℕ, zero, suc, ◌⊎◌, inl, inr, List, [], ◌∷◌, refl, sym, ap, subst, ◌∙◌, arith}
+use Rattle.std.proofs.Common.{◌≡◌, ℕ, suc, ◌⊎◌, inl, inr, List, [], ◌∷◌, refl, sym, ap, subst, ◌∙◌, arith}
 use Rattle.std.specs.List.{Contains}
 use Rattle.std.proofs.lemmas.List.{get_or_default}
 use Rattle.prec_file.specs.Rests.{Before, IsRising, ArePairsOf}
 use Rattle.std.proofs.lemmas.Grind.{common_steps}
 
 no_way_back : (x y : ℕ × ℕ) → Before x y → Before y x → ⊥
-no_way_back x y (inl a) (inl b) = omega arith
-no_way_back x y (inl a) (inr b) = omega (arith, b.0)
-no_way_back x y (inr a) (inl b) = omega (arith, a.0)
-no_way_back x y (inr a) (inr b) = omega (arith, a.1, b.1)
+no_way_back x y h k = grind (arith, common_steps)
 
 head_before : (p : ℕ × ℕ) (ps : List (ℕ × ℕ)) (x : ℕ × ℕ) → IsRising (p ∷ ps) → Contains ps x → Before p x
 head_before p ps x r c =
@@ -26,8 +23,7 @@ pub tail_holds : (p : ℕ × ℕ) (ps : List (ℕ × ℕ)) (x : ℕ × ℕ) → 
 tail_holds p ps x c = (suc c.0, omega (arith, c.1), c.2)
 
 first_or_later : (p : ℕ × ℕ) (ps : List (ℕ × ℕ)) (x : ℕ × ℕ) → Contains (p ∷ ps) x → (p ≡ x) ⊎ Contains ps x
-first_or_later p ps x (zero, l, e) = inl e
-first_or_later p ps x (suc k, l, e) = inr (k, omega arith, e)
+first_or_later p ps x h = grind (arith, common_steps)
 
 same_first : (p q : ℕ × ℕ) (ps qs : List (ℕ × ℕ)) → IsRising (p ∷ ps) → IsRising (q ∷ qs) → Contains (q ∷ qs) p → Contains (p ∷ ps) q → p ≡ q
 same_first p q ps qs r s f g = elim (first_or_later q qs p f) [

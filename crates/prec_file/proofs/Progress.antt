@@ -1,15 +1,13 @@
 -- Reading line after line.
-use Rattle.std.proofs.Common.{◌≡◌, ℕ, ◌+◌, ◌<◌, ◌≤◌, Bool, false, List, [], ◌∷◌, ◌++◌, length, get_or, Option, Some, None, refl, sym, ap, ◌∙◌, subst, arith, append_assoc, append-nil}
-use Rattle.std.proofs.lemmas.List.Concat.{flat_map-append}
+use Rattle.std.proofs.Common.{◌≡◌, ℕ, ◌+◌, ◌<◌, ◌≤◌, Bool, false, List, [], ◌∷◌, ◌++◌, length, get_or, Some, None, refl, arith, append_assoc, append-nil}
 use Rattle.fixed_worth.specs.Text.{Left, fields_of}
 use Rattle.std.specs.Option.{option_or}
 use Rattle.fixed_worth.specs.declared.limits.TheConstants.{LINE_BYTES}
 use Rattle.prec_file.specs.declared.prec_fault.PrecFault.{PrecFault}
-use Rattle.fixed_worth.specs.Record.{Line, numbered_lines, is_skipped}
-use Rattle.prec_file.specs.Records.{block_of, pairs_in, blocks_of_fields, record_fault, fault_behind, has, blocks_of, pairs_of, first_fault, fault_of, pairs_of_text}
+use Rattle.fixed_worth.specs.Record.{Line, numbered_lines}
+use Rattle.prec_file.specs.Records.{pairs_in, blocks_of_fields, record_fault, fault_behind, has, blocks_of, pairs_of, first_fault, fault_of, pairs_of_text}
 use Rattle.prec_file.specs.Indexes.{marks_after}
 use Rattle.prec_file.proofs.History.{record_same, record_block}
-use Rattle.prec_file.proofs.Marks.{mark}
 use Rattle.std.proofs.lemmas.Grind.{common_steps}
 
 -- What has been read, and what is left.
@@ -29,42 +27,21 @@ pub next_fault : (n : ℕ) (before : List Line) (left next : Left) (line : List 
     → first_fault n before (numbered_lines left.number left.lines) ≡ option_or (fault_behind n before (record { number = next.number; text = line })) (first_fault n (before ++ record { number = next.number; text = line } ∷ []) (numbered_lines next.number next.lines))
 next_fault n before left next line e f = rw (e, f) refl
 
-pub goes_wrong : (n : ℕ) (text : List ℕ) (seen : List Bool) (pairs : List (ℕ × ℕ)) (left next : Left) (line : List ℕ) (x : PrecFault) → ReadSoFar n text seen pairs left
-    → left.lines ≡ line ∷ next.lines → next.number ≡ left.number + 1 → length line ≤ LINE_BYTES
-    → record_fault n (λ b. get_or seen b false) (length pairs) next.number (fields_of line) ≡ Some x → fault_of n text ≡ Some x
-goes_wrong n text seen pairs left next line x g e f h w =
-    let l : Line = record { number = next.number; text = line } in
-    sym g.fault ∙ next_fault n g.before left next line e f
-    ∙ ap (λ (o : Option PrecFault). option_or o (first_fault n (g.before ++ l ∷ []) (numbered_lines next.number next.lines))) (behind n text seen pairs left g next.number line h ∙ w)
-
 pub goes_on : (n : ℕ) (text : List ℕ) (seen more : List Bool) (pairs others : List (ℕ × ℕ)) (left next : Left) (line : List ℕ) → ReadSoFar n text seen pairs left → length seen ≡ n
     → left.lines ≡ line ∷ next.lines → next.number ≡ left.number + 1 → length line ≤ LINE_BYTES
     → record_fault n (λ b. get_or seen b false) (length pairs) next.number (fields_of line) ≡ None
     → others ≡ pairs ++ pairs_in (fields_of line) → more ≡ marks_after (fields_of line) seen → ReadSoFar n text more others next
-goes_on n text seen more pairs others left next line g e f h i w p m =
-    let l : Line = record { number = next.number; text = line } in
-    let rest = numbered_lines next.number next.lines in
-    let a : pairs_of (numbered_lines left.number left.lines) ≡ pairs_in (fields_of line) ++ pairs_of rest = rw (f, h) refl in
-    let bs : blocks_of (g.before ++ l ∷ []) ≡ blocks_of g.before ++ blocks_of_fields (fields_of line) = flat_map-append (λ x. blocks_of_fields (fields_of x.text)) g.before (l ∷ []) ∙ ap (λ (xs : List ℕ). blocks_of g.before ++ xs) (append-nil (blocks_of_fields (fields_of line))) in
-    let ps : pairs_of (g.before ++ l ∷ []) ≡ pairs_of g.before ++ pairs_in (fields_of line) = flat_map-append (λ x. pairs_in (fields_of x.text)) g.before (l ∷ []) ∙ ap (λ (xs : List (ℕ × ℕ)). pairs_of g.before ++ xs) (append-nil (pairs_in (fields_of line))) in
-    record {
-      before = g.before ++ l ∷ [];
-      fault = sym (ap (λ (o : Option PrecFault). option_or o (first_fault n (g.before ++ l ∷ []) rest)) (behind n text seen pairs left g next.number line i ∙ w)) ∙ sym (next_fault n g.before left next line f h) ∙ g.fault;
-      all = ap (λ (xs : List (ℕ × ℕ)). xs ++ pairs_of rest) p ∙ append_assoc pairs (pairs_in (fields_of line)) (pairs_of rest) ∙ ap (λ (xs : List (ℕ × ℕ)). pairs ++ xs) (sym a) ∙ g.all;
-      pairs_so = p ∙ ap (λ (xs : List (ℕ × ℕ)). xs ++ pairs_in (fields_of line)) g.pairs_so ∙ sym ps;
-      seen_so = λ b j. ap (λ (xs : List Bool). get_or xs b false) m ∙ mark (is_skipped (fields_of line)) n seen (blocks_of g.before) (block_of (fields_of line)) e (record_block n _ (length pairs) next.number (fields_of line) w) g.seen_so b j ∙ ap (λ (xs : List ℕ). has xs b) (sym bs);
-    }
+goes_on n text seen more pairs others left next line g e f h i w p m = grind (arith, common_steps, (numbered_lines next.number next.lines), (append-nil (blocks_of_fields (fields_of line))), (append-nil (pairs_in (fields_of line))), (behind n text seen pairs left g next.number line i), (next_fault n g.before left next line f h), (append_assoc pairs (pairs_in (fields_of line)) (pairs_of (numbered_lines next.number next.lines))), (record_block n _ (length pairs) next.number (fields_of line) w))
 
 -- A line without a fault is read, where the reader has the line's number apart.
 pub step_on : (n k : ℕ) (text : List ℕ) (seen more : List Bool) (pairs others : List (ℕ × ℕ)) (left next : Left) (line : List ℕ) → ReadSoFar n text seen pairs left → length seen ≡ n → k ≡ next.number
     → left.lines ≡ line ∷ next.lines → next.number ≡ left.number + 1 → length line ≤ LINE_BYTES
     → record_fault n (λ b. get_or seen b false) (length pairs) k (fields_of line) ≡ None
     → others ≡ pairs ++ pairs_in (fields_of line) → more ≡ marks_after (fields_of line) seen → ReadSoFar n text more others next
-step_on n k text seen more pairs others left next line g e j f h i w p m =
-    goes_on n text seen more pairs others left next line g e f h i (subst (λ (x : ℕ). record_fault n (λ b. get_or seen b false) (length pairs) x (fields_of line) ≡ None) j w) p m
+step_on n k text seen more pairs others left next line g e j f h i w p m = grind (arith, common_steps, goes_on)
 
 pub step_wrong : (n k : ℕ) (text : List ℕ) (seen : List Bool) (pairs : List (ℕ × ℕ)) (left next : Left) (line : List ℕ) (x : PrecFault) → ReadSoFar n text seen pairs left → k ≡ next.number
     → left.lines ≡ line ∷ next.lines → next.number ≡ left.number + 1 → length line ≤ LINE_BYTES
     → record_fault n (λ b. get_or seen b false) (length pairs) k (fields_of line) ≡ Some x → fault_of n text ≡ Some x
 step_wrong n k text seen pairs left next line x g j f h i w =
-    goes_wrong n text seen pairs left next line x g f h i (subst (λ (y : ℕ). record_fault n (λ b. get_or seen b false) (length pairs) y (fields_of line) ≡ Some x) j w)
+    grind (arith, common_steps, (next_fault n g.before left next line f h), (behind n text seen pairs left g next.number line i))

@@ -1,17 +1,17 @@
 -- Reading line after line, where the blocks of the records rise.
-use Rattle.std.proofs.Common.{◌≡◌, ℕ, ◌+◌, ◌≤◌, Bool, true, false, List, [], ◌∷◌, ◌++◌, length, get_or, replicate, Some, None, sym, refl, ap, ◌∙◌, arith, length-append, length-set, cond, set}
+use Rattle.std.proofs.Common.{◌≡◌, ℕ, ◌+◌, ◌≤◌, Bool, false, List, [], ◌∷◌, ◌++◌, length, get_or, replicate, Some, None, sym, refl, ap, ◌∙◌, arith, length-append}
 use Rattle.std.proofs.lemmas.List.{length-replicate}
 use Rattle.fixed_worth.specs.Text.{Left, fields_of, lines_of}
 use Rattle.fixed_worth.specs.declared.limits.TheConstants.{LINE_BYTES}
-use Rattle.fixed_worth.specs.Record.{is_skipped}
 use Rattle.prec_file.specs.declared.limits.TheConstants.{MOST_PAIRS}
 use Rattle.prec_file.specs.declared.prec_fault.PrecFault.{PrecFault}
 use Rattle.prec_file.specs.Rests.{RowsView, ArePairsOf}
-use Rattle.prec_file.specs.Records.{block_of, pairs_in, record_fault, fault_of, UnlessMemory}
+use Rattle.prec_file.specs.Records.{pairs_in, record_fault, fault_of, UnlessMemory}
 use Rattle.prec_file.specs.Indexes.{AreNew, IsLineRead, TellsFault, marks_after}
 use Rattle.prec_file.proofs.Shapes.{unless_told}
 use Rattle.prec_file.proofs.Progress.{ReadSoFar, step_on, step_wrong}
 use Rattle.prec_file.proofs.Marks.{none_marked}
+use Rattle.std.proofs.lemmas.Grind.{common_steps}
 
 -- What has been read, and what is left: the rows have the pairs that were listed.
 pub record RisingSoFar (n : ℕ) (text : List ℕ) (rows : RowsView) (count : ℕ) (left : Left) : Type 0 where
@@ -51,12 +51,8 @@ rising_begun n text left e f = record {
   kept = omega arith;
 }
 
-marked_or_not : (s : Bool) (seen : List Bool) (b : ℕ) → length (cond s seen (set seen b true)) ≡ length seen
-marked_or_not true seen b = refl
-marked_or_not false seen b = length-set seen b true
-
 length_marked : (fs : List (List ℕ)) (seen : List Bool) → length (marks_after fs seen) ≡ length seen
-length_marked fs seen = marked_or_not (is_skipped fs) seen (block_of fs)
+length_marked fs seen = grind (arith, common_steps)
 
 module _ (n k : ℕ) (text : List ℕ) (rows : RowsView) (count : ℕ) (left next : Left) (line : List ℕ) (g : RisingSoFar n text rows count left) (j : k ≡ next.number) (f : left.lines ≡ line ∷ next.lines)
     (h : next.number ≡ left.number + 1) (i : length line ≤ LINE_BYTES) where

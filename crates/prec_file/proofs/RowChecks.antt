@@ -1,5 +1,5 @@
 -- Predecessors of a block that rise, and the rows of blocks without pairs.
-use Rattle.std.proofs.Common.{◌≡◌, ℕ, ◌+◌, ◌<◌, ◌≤◌, inl, inr, List, [], ◌∷◌, length, get_or, map, sym, subst, ◌∙◌, refl, arith, All}
+use Rattle.std.proofs.Common.{◌≡◌, ℕ, ◌+◌, ◌<◌, ◌≤◌, inl, inr, List, [], ◌∷◌, length, get_or, map, sym, ◌∙◌, refl, arith, All}
 use Rattle.std.proofs.lemmas.Bool.{cases_lt}
 use Rattle.std.proofs.lemmas.List.{get_or-map, length-map, get_or_default}
 use Rattle.std.proofs.lemmas.List.Elements.{All-map, All-contains, All-weaker}
@@ -66,6 +66,4 @@ module _ (n next b count : ℕ) (firsts filled predecessors : List ℕ) (h : Are
   skipped_told = rows_told n b (pairs_by firsts predecessors) filled predecessors skipped
 
   pub skipped_rows : AreRows n b (pairs_by filled predecessors) filled predecessors
-  skipped_rows =
-      let P : List (ℕ × ℕ) → Type 0 = λ xs. AreRows n b xs filled predecessors in
-      subst P (sym skipped_told) skipped
+  skipped_rows = grind (arith, common_steps, skipped_told, skipped)

@@ -1,5 +1,5 @@
 -- Reading the records of a text whose blocks rise into rows.
-use Rattle.std.proofs.Common.{◌≡◌, ◌≢◌, ℕ, ◌+◌, ◌<◌, ◌≤◌, Bool, true, false, inl, inr, List, ◌++◌, length, get_or, map, None, sym, ap, subst, ◌∙◌, arith, All, length-append, get_or-set_other}
+use Rattle.std.proofs.Common.{◌≡◌, ℕ, ◌+◌, ◌<◌, ◌≤◌, Bool, false, inl, inr, List, ◌++◌, length, get_or, map, None, sym, ap, subst, ◌∙◌, arith, All, length-append}
 use Rattle.std.specs.List.{Contains}
 use Rattle.std.proofs.lemmas.List.Elements.{Contains-append_cases, Contains-append_left, Contains-append_right}
 use Rattle.fixed_worth.specs.Record.{is_skipped}
@@ -35,8 +35,6 @@ rows_joined listed row added old new h a = record {
 
 module _ (n line b claimed k before : ℕ) (fs : List (List ℕ)) (row : List ℕ) (old mid new : RowsView) (added : List (ℕ × ℕ)) (r : IsRecordOf n line fs b claimed k) (e : row ≡ predecessors_of fs)
     (behind : old.next ≤ b) (skipped : mid ≡ record { blocks = old.blocks; next = b; pairs = old.pairs }) (a : IsRowAdded mid new (map (λ p. (mid.next, p)) row) added) where
-  same_blocks : mid.blocks ≡ old.blocks
-  same_blocks = ap (λ (v : RowsView). v.blocks) skipped
 
   is_next : mid.next ≡ b
   is_next = ap (λ (v : RowsView). v.next) skipped
@@ -53,15 +51,12 @@ module _ (n line b claimed k before : ℕ) (fs : List (List ℕ)) (row : List �
       (rows_joined listed (map (λ p. (mid.next, p)) row) added mid new (subst (λ (xs : List (ℕ × ℕ)). ArePairsOf listed xs) (sym same_pairs) h) a)
 
   row_marks : (seen : List Bool) → AreNew old.next (λ c. get_or seen c false) → AreNew new.next (λ c. get_or (marks_after fs seen) c false)
-  row_marks seen h c l =
-      let next : new.next ≡ b + 1 = a.next ∙ ap (λ x. x + 1) is_next in
-      let ne : c ≢ block_of fs = λ q. omega (arith, next, q, l, r.block) in
-      rw r.is (get_or-set_other seen (block_of fs) c true false ne ∙ h c (omega (arith, next, l, behind)))
+  row_marks seen h c l = grind (arith, common_steps)
 
   pub line_read : ((had : ℕ → Bool) → AreNew old.next had → record_fault n had before line fs ≡ None) → before + k ≤ MOST_PAIRS → length old.pairs ≤ before → IsLineRead n line fs old new before (before + k)
   line_read sound few kept = record {
     sound = sound;
-    blocks = a.blocks ∙ same_blocks;
+    blocks = a.blocks ∙ (ap (λ (v : RowsView). v.blocks) skipped);
     listed = omega (arith, pairs_length fs r.is, r.found);
     few = few;
     kept =

@@ -72,10 +72,7 @@ module _ (n next : ℕ) (ps row : List (ℕ × ℕ)) (firsts predecessors : List
       ap length old ∙ sym none
 
   listed_more : (k : ℕ) → k < length (ps ++ row) → from_at (ps ++ row) k < next + 1
-  listed_more k l = elim (cases_lt k (length ps)) [
-    | inl o ↦ let b = old_from k o in omega arith
-    | inr o ↦ let e = new_from k o l in omega arith
-  ]
+  listed_more k l = grind (arith, common_steps)
 
   starts_more : IsStarts (from_at (ps ++ row)) (length (ps ++ row)) (next + 1) (firsts ++ length (ps ++ row) ∷ [])
   starts_more =
@@ -91,30 +88,15 @@ module _ (n next : ℕ) (ps row : List (ℕ × ℕ)) (firsts predecessors : List
         ];
       }
 
-  pub rows_more : AreRows n (next + 1) (ps ++ row) (firsts ++ length (ps ++ row) ∷ []) (predecessors ++ map (λ p. p.1) row)
-  rows_more = record {
-    rests = rests_more;
-    within = omega arith;
-    listed = listed_more;
-    predecessors = ap (λ xs. xs ++ map (λ p. p.1) row) h.predecessors ∙ sym (map-append (λ p. p.1) ps row);
-    firsts = starts_more;
-  }
-
   -- the lists as they were written
   pub pushed : (begun listed : List ℕ) (count : ℕ) → begun ≡ firsts ++ count ∷ [] → listed ≡ predecessors ++ map (λ p. p.1) row → count ≡ length listed → AreRows n (next + 1) (ps ++ row) begun listed
-  pushed begun listed count f p e =
-      let all : count ≡ length (ps ++ row) = omega (arith, e, ap length p, length-append predecessors (map (λ (q : ℕ × ℕ). q.1) row), length-map row (λ (q : ℕ × ℕ). q.1), rows_length n next ps firsts predecessors h, size) in
-      let P : List ℕ → Type 0 = λ xs. AreRows n (next + 1) (ps ++ row) xs listed in
-      let Q : List ℕ → Type 0 = λ xs. AreRows n (next + 1) (ps ++ row) (firsts ++ length (ps ++ row) ∷ []) xs in
-      subst P (sym (f ∙ ap (λ k. firsts ++ k ∷ []) all)) (subst Q (sym p) rows_more)
+  pushed begun listed count f p e = grind (arith, common_steps, length-append, length-map, rows_length, size, rests_more, listed_more, map-append, starts_more)
 
   pub pushed_told : (begun listed : List ℕ) (count : ℕ) → begun ≡ firsts ++ count ∷ [] → listed ≡ predecessors ++ map (λ p. p.1) row → count ≡ length listed → pairs_by begun listed ≡ ps ++ row
   pushed_told begun listed count f p e = rows_told n (next + 1) (ps ++ row) begun listed (pushed begun listed count f p e)
 
   pub pushed_rows : (begun listed : List ℕ) (count : ℕ) → begun ≡ firsts ++ count ∷ [] → listed ≡ predecessors ++ map (λ p. p.1) row → count ≡ length listed → AreRows n (next + 1) (pairs_by begun listed) begun listed
-  pushed_rows begun listed count f p e =
-      let P : List (ℕ × ℕ) → Type 0 = λ xs. AreRows n (next + 1) xs begun listed in
-      subst P (sym (pushed_told begun listed count f p e)) (pushed begun listed count f p e)
+  pushed_rows begun listed count f p e = grind (arith, common_steps, pushed_told, pushed)
 
 -- the pairs of a row are of its block
 pub own_kept : (n b : ℕ) (listed row : List (ℕ × ℕ)) → ArePairsOf listed row → All (IsOfBlock n b) listed → All (IsOfBlock n b) row

@@ -1,5 +1,5 @@
 -- Pairs in order are told by the numbers of the blocks' first pairs, and by their predecessors.
-use Rattle.std.proofs.Common.{◌≡◌, ℕ, suc, ◌+◌, ◌-◌, ◌<◌, ◌≤◌, Bool, true, false, nat_lt, List, [], ◌∷◌, ◌++◌, length, get_or, take, map, All, add-one, sym, refl, ap, subst, ◌∙◌, arith}
+use Rattle.std.proofs.Common.{◌≡◌, ℕ, suc, ◌+◌, ◌-◌, ◌<◌, ◌≤◌, Bool, true, false, nat_lt, List, [], ◌∷◌, ◌++◌, length, get_or, take, map, All, add-one, sym, refl, ap, ◌∙◌, arith}
 use Rattle.std.specs.Prelude.{nat_le}
 use Rattle.std.proofs.lemmas.Bool.Decides.{nat_tests}
 use Rattle.std.proofs.lemmas.List.{take_more}
@@ -15,9 +15,6 @@ use Rattle.std.proofs.lemmas.Grind.{common_steps}
 
 le_true : (x y : ℕ) → x ≤ y → nat_le x y ≡ true
 le_true x y h = grind (arith, nat_tests)
-
-le_false : (x y : ℕ) → y < x → nat_le x y ≡ false
-le_false x y h = grind (arith, nat_tests)
 
 module _ (ps : List (ℕ × ℕ)) (r : IsRising ps) (n : ℕ) (firsts : List ℕ) (h : IsStarts (from_at ps) (length ps) n firsts) (k : ℕ) (l : k < length ps) (known : from_at ps k < n) where
   begins : ℕ → Bool
@@ -38,7 +35,7 @@ module _ (ps : List (ℕ × ℕ)) (r : IsRising ps) (n : ℕ) (firsts : List ℕ
       let at = h.at (b + 1) (omega arith) in
       let all = ending_all (from_at ps) (b + 1) (k + 1) (λ j m. let u = later ps r j (omega arith) k (omega arith) l in omega arith) in
       let more = passing_grows (λ j. nat_lt (from_at ps j) (b + 1)) (k + 1) (length ps) (omega arith) in
-      le_false (get_or firsts (b + 1) 0) k (omega (arith, at, all, more))
+      grind (arith, nat_tests)
 
   pub block_is : block_at firsts k ≡ from_at ps k
   unfolding begins
@@ -64,9 +61,7 @@ pub above_are : (n : ℕ) (ps : List (ℕ × ℕ)) (firsts predecessors : List �
 above_are n ps firsts predecessors h = pairs_are ps h.rests.rising n firsts predecessors h.firsts h.predecessors (λ k l. (h.rests.known k (0, 0) l).0)
 
 pub above_told : (n : ℕ) (ps : List (ℕ × ℕ)) (firsts predecessors : List ℕ) → AreAbove n ps firsts predecessors → AreAbove n (pairs_by firsts predecessors) firsts predecessors
-above_told n ps firsts predecessors h =
-    let P : List (ℕ × ℕ) → Type 0 = λ xs. AreAbove n xs firsts predecessors in
-    subst P (sym (above_are n ps firsts predecessors h)) h
+above_told n ps firsts predecessors h = grind (arith, common_steps, (above_are n ps firsts predecessors h))
 
 -- ---- the pairs, block by block
 
@@ -76,17 +71,11 @@ none_taken ps = ap (λ k. take k ps) (sym (ending_none (from_at ps) (length ps))
 
 -- one predecessor more of a block
 pub one_taken : (ps : List (ℕ × ℕ)) → IsRising ps → (b p i : ℕ) → i < length (above_of ps b) → get_or (above_of ps b) i 0 ≡ p → take (first_of ps b + i) ps ++ (b, p) ∷ [] ≡ take (first_of ps b + (i + 1)) ps
-one_taken ps r b p i l e =
-    let f = found_pair ps r b p i l e in
-    let next : first_of ps b + i + 1 ≡ first_of ps b + (i + 1) = omega arith in
-    ap (λ q. take (first_of ps b + i) ps ++ q ∷ []) (sym f.1) ∙ sym (take_more ps (first_of ps b + i) (0, 0) f.0) ∙ ap (λ k. take k ps) next
+one_taken ps r b p i l e = grind (arith, common_steps, (found_pair ps r b p i l e), (take_more ps (first_of ps b + i) (0, 0) (found_pair ps r b p i l e).0))
 
 -- all of a block
 pub block_taken : (ps : List (ℕ × ℕ)) (b i : ℕ) → i ≡ length (above_of ps b) → take (first_of ps b + i) ps ≡ take (first_of ps (b + 1)) ps
-block_taken ps b i e =
-    let s : first_of ps (b + 1) ≡ first_of ps (suc b) = ap (first_of ps) (add-one b) in
-    let all : first_of ps b + i ≡ first_of ps (b + 1) = omega (arith, s, e, above_length ps b, ending_next (from_at ps) b (length ps)) in
-    ap (λ k. take k ps) all
+block_taken ps b i e = grind (arith, common_steps, (ap (first_of ps) (add-one b)), (add-one b), (above_length ps b), (ending_next (from_at ps) b (length ps)))
 
 -- all of all blocks
 pub all_taken : (n b : ℕ) (ps : List (ℕ × ℕ)) → All (IsKnown n) ps → b ≡ n → take (first_of ps b) ps ≡ ps

@@ -3,14 +3,13 @@ use Rattle.std.proofs.Common.{◌≡◌, ℕ, suc, ◌<◌, ◌≤◌, Bool, tru
 use Rattle.std.specs.Prelude.{◌||◌, nat_le, is_ok}
 use Rattle.std.specs.List.{list_all, list_any}
 use Rattle.std.specs.Result.{result_unwrap_or}
-use Rattle.std.proofs.lemmas.Bool.{false≢true}
 use Rattle.std.proofs.lemmas.Bool.Decides.{nat_tests}
 use Rattle.std.proofs.lemmas.List.{length-map}
 use Rattle.fixed_worth.specs.Text.{WordRun}
 use Rattle.fixed_worth.specs.declared.numerals.NumberFault.{NumberFault}
 use Rattle.fixed_worth.specs.Numeral.{whole_of}
 use Rattle.prec_file.specs.declared.prec_fault.PrecFault.{PrecFault}
-use Rattle.prec_file.specs.declared.prec_fault.PrecFault.TheVariants.{Text, Number, UnknownBlock, Repeated, WrongCount, TooMany, NoMemory}
+use Rattle.prec_file.specs.declared.prec_fault.PrecFault.TheVariants.{Text, Number, UnknownBlock}
 use Rattle.fixed_worth.specs.Record.{first_whole, reads, number_of, is_remark, is_skipped}
 use Rattle.fixed_worth.proofs.FirstNumbers.{first_is, no_field, number_no_remark}
 use Rattle.prec_file.specs.Records.{pairs_in, shape_fault, UnlessMemory}
@@ -19,13 +18,7 @@ use Rattle.std.proofs.lemmas.Grind.{common_steps}
 
 -- what is known of a fault that was told
 pub unless_told : (e : PrecFault) (o : Option PrecFault) {Q : Type 0} → (o ≡ Some e → Q) → TellsFault e o → UnlessMemory e Q
-unless_told NoMemory o f h = tt
-unless_told (Text k) o f h = f h
-unless_told (Number k) o f h = f h
-unless_told (UnknownBlock k) o f h = f h
-unless_told (Repeated k) o f h = f h
-unless_told (WrongCount k) o f h = f h
-unless_told (TooMany k) o f h = f h
+unless_told e o f h = grind (arith, common_steps)
 
 pub reads_ok : (f : List ℕ) (v : ℕ) → Ok v ≡ whole_of f → (reads f ≡ true) × (number_of f ≡ v)
 reads_ok f v e = (ap is_ok (sym e), ap (λ r. result_unwrap_or r 0) (sym e))
@@ -96,8 +89,7 @@ pub two_read : (rs ss ts : List WordRun) (v : ℕ) (read : Result ℕ NumberFaul
 two_read rs ss ts v read a left b behind = grind (arith, common_steps, first_is, reads_ok, texts, number_no_remark)
 
 unread : (f : List ℕ) (fs gs : List (List ℕ)) → fs ≡ f ∷ gs → list_all reads (take 1 fs) ≡ false → (t : Bool) → reads f ≡ t → reads f ≡ false
-unread f fs gs e h true r = let none : true ≡ false = rw (e, r) at h in absurd (false≢true (sym none))
-unread f fs gs e h false r = r
+unread f fs gs e h t r = grind (arith, common_steps)
 
 -- What is wrong with a line whose first field is no number.
 pub unread_alone : (line : ℕ) (fs : List (List ℕ)) (f : List ℕ) → fs ≡ f ∷ [] → is_remark f ≡ false → (is_skipped fs ≡ false) × ((n : ℕ) → shape_fault n line fs ≡ Some (Text line))

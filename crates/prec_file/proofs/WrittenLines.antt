@@ -1,5 +1,5 @@
 -- The lines of a written file, and their fields.
-use Rattle.std.proofs.Common.{◌≡◌, ℕ, zero, suc, ◌+◌, ◌*◌, ◌<◌, ◌≤◌, ◌^◌, Bool, true, List, [], ◌∷◌, ◌++◌, length, get_or, refl, ap, ◌∙◌, subst, arith, append_assoc, length-append, All}
+use Rattle.std.proofs.Common.{◌≡◌, ℕ, zero, suc, ◌+◌, ◌*◌, ◌<◌, ◌≤◌, ◌^◌, Bool, true, List, [], ◌∷◌, ◌++◌, length, refl, ap, ◌∙◌, arith, append_assoc, length-append, All}
 use Rattle.std.specs.Prelude.{map}
 use Rattle.std.specs.List.{list_all}
 use Rattle.std.specs.Fmt.{decimal}
@@ -14,8 +14,8 @@ use Rattle.fixed_worth.specs.Text.{lines_of, fields_of}
 use Rattle.fixed_worth.specs.Laws.{with_line_feeds}
 use Rattle.fixed_worth.proofs.Joined.{is_one_line, is_word, behind_spaces, lines_cut, with_line_feeds-append, fields_cut, joined_is_one_line}
 use Rattle.fixed_worth.proofs.WrittenNumbers.{decimal_is_word, decimal_is_one_line, decimals_pass}
-use Rattle.prec_file.specs.Rests.{IsKnown, IsRising, above_of, first_of}
-use Rattle.prec_file.specs.Written.{prec_line, lines_below, AreNarrow}
+use Rattle.prec_file.specs.Rests.{IsKnown, IsRising, above_of}
+use Rattle.prec_file.specs.Written.{lines_below, AreNarrow}
 use Rattle.prec_file.proofs.Finding.{above_at}
 use Rattle.std.proofs.lemmas.Grind.{common_steps}
 
@@ -29,13 +29,7 @@ pub record IsWritable (n : ℕ) (ps : List (ℕ × ℕ)) : Type 0 where
 
 -- the predecessors of a block are blocks
 pub above_known : (n : ℕ) (ps : List (ℕ × ℕ)) (b : ℕ) → IsWritable n ps → All (λ p. p < n) (above_of ps b)
-above_known n ps b w k d l =
-    let a = above_at ps w.rising b k l in
-    let known = (w.known (first_of ps b + k) (0, 0) a.0).1 in
-    let e : get_or ps (first_of ps b + k) (0, 0) ≡ (b, get_or (above_of ps b) k 0) = a.1 in
-    let to = ap (λ (p : ℕ × ℕ). p.1) e in
-    let P : ℕ → Type 0 = λ p. p < n in
-    subst P (to ∙ get_or_default (above_of ps b) k 0 d l) known
+above_known n ps b w k d l = grind (arith, common_steps, (above_at ps w.rising b k l), (get_or_default (above_of ps b) k 0 d l))
 
 -- The words behind the block.
 abbrev pub words_at : List (ℕ × ℕ) → ℕ → List (List ℕ)
@@ -52,20 +46,15 @@ rows ps (suc b) = rows ps b ++ (row ps b ∷ [])
 regroup : (x y s t : List ℕ) → (x ++ y) ++ (s ++ t) ≡ (x ++ (y ++ s)) ++ t
 regroup x y s t = simp append_assoc
 
-line_is : (ps : List (ℕ × ℕ)) (b : ℕ) → prec_line ps b ≡ row ps b ++ (10 ∷ [])
-line_is ps b = grind (arith, common_steps, behind_spaces, flat_map-map, regroup)
-
 text_is : (ps : List (ℕ × ℕ)) (n : ℕ) → lines_below ps n ≡ with_line_feeds (rows ps n)
 text_is ps zero = refl
-text_is ps (suc n) = grind (arith, common_steps, rows, line_is, with_line_feeds-append, row, (text_is ps n))
+text_is ps (suc n) = grind (arith, common_steps, rows, with_line_feeds-append, row, (text_is ps n), behind_spaces, flat_map-map, regroup)
 
 pub small_blocks : (n : ℕ) (ps : List (ℕ × ℕ)) (b : ℕ) → IsWritable n ps → All (λ p. p < 2 ^ 64) (above_of ps b)
 small_blocks n ps b w = All-weaker (λ p. p < n) (λ p. p < 2 ^ 64) (λ p l. omega (arith, w.blocks)) (above_of ps b) (above_known n ps b w)
 
 words_pass : (test : List ℕ → Bool) → ((k : ℕ) → k < 2 ^ 64 → test (decimal k) ≡ true) → (n : ℕ) (ps : List (ℕ × ℕ)) (b : ℕ) → IsWritable n ps → b < n → list_all test (words_at ps b) ≡ true
-words_pass test each n ps b w l =
-    and_from (test (decimal (length (above_of ps b)))) (list_all test (map decimal (above_of ps b))) (each (length (above_of ps b)) (omega (arith, w.narrow b l)))
-    (decimals_pass test each (above_of ps b) (small_blocks n ps b w))
+words_pass test each n ps b w l = grind (arith, common_steps, (decimals_pass test each (above_of ps b) (small_blocks n ps b w)), (small_blocks n ps b w))
 
 row_is_one_line : (n : ℕ) (ps : List (ℕ × ℕ)) (b : ℕ) → IsWritable n ps → b < n → is_one_line (row ps b) ≡ true
 row_is_one_line n ps b w l =

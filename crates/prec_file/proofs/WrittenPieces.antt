@@ -3,7 +3,7 @@ use Rattle.std.proofs.Common.{◌≡◌, ℕ, zero, suc, ◌+◌, ◌<◌, ◌�
 use Rattle.std.specs.Fmt.{decimal}
 use Rattle.std.proofs.lemmas.List.{take-append-drop}
 use Rattle.std.proofs.lemmas.Bool.{cases_eq}
-use Rattle.std.proofs.lemmas.Grind.{flat_map-append, common_steps}
+use Rattle.std.proofs.lemmas.Grind.{common_steps}
 use Rattle.prec_file.specs.Written.{spaced_numbers, prec_line, lines_below}
 
 -- what holds anyhow
@@ -15,9 +15,7 @@ spaced_more before numbers i here = grind (arith, common_steps)
 
 -- the first numbers and the others
 pub spaced_parts : (before : List ℕ) (numbers : List ℕ) (i : ℕ) → (before ++ spaced_numbers (take i numbers)) ++ spaced_numbers (drop i numbers) ≡ before ++ spaced_numbers numbers
-spaced_parts before numbers i =
-    append_assoc before (spaced_numbers (take i numbers)) (spaced_numbers (drop i numbers))
-    ∙ ap (λ l. before ++ l) (sym (flat_map-append (λ n. 32 ∷ decimal n) (take i numbers) (drop i numbers)) ∙ ap spaced_numbers (take-append-drop i numbers))
+spaced_parts before numbers i = grind (arith, common_steps, (append_assoc before (spaced_numbers (take i numbers)) (spaced_numbers (drop i numbers))), (take-append-drop i numbers))
 
 -- one more line
 pub lines_more : (ps : List (ℕ × ℕ)) (b : ℕ) → lines_below ps b ++ prec_line ps b ≡ lines_below ps (b + 1)

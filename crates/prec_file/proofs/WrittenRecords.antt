@@ -1,14 +1,12 @@
 -- A written file has no fault, and its pairs are those that were written.
-use Rattle.std.proofs.Common.{◌≡◌, ℕ, zero, suc, ◌+◌, ◌<◌, ◌≤◌, ◌^◌, inl, inr, Bool, false, eqb, List, [], ◌∷◌, ◌++◌, length, get_or, None, refl, sym, ap, ◌∙◌, subst, arith, append_assoc, append-nil, length-append, All}
+use Rattle.std.proofs.Common.{◌≡◌, ℕ, zero, suc, ◌+◌, ◌<◌, ◌≤◌, ◌^◌, inl, inr, Bool, false, List, [], ◌∷◌, ◌++◌, length, get_or, None, refl, sym, ap, ◌∙◌, subst, arith, append_assoc, append-nil, length-append, All}
 use Rattle.std.specs.Prelude.{map, nat_le, nat_lt}
 use Rattle.std.specs.List.{list_any, Contains}
 use Rattle.std.specs.Fmt.{decimal}
 use Rattle.std.proofs.lemmas.Bool.{cases_eq}
 use Rattle.std.proofs.lemmas.Bool.Decides.{nat_tests}
 use Rattle.std.proofs.lemmas.List.{length-map, get_or-map, get_or_default}
-use Rattle.std.proofs.lemmas.List.Concat.{flat_map-append}
 use Rattle.std.proofs.lemmas.List.Elements.{Contains-append_left, Contains-append_right, Contains-append_cases}
-use Rattle.std.proofs.lemmas.List.Folds.{list_any-append}
 use Rattle.fixed_worth.specs.Text.{lines_of, fields_of}
 use Rattle.fixed_worth.specs.Record.{Line, numbered_lines, reads, number_of, is_skipped}
 use Rattle.fixed_worth.proofs.WrittenNumbers.{decimal_is_no_remark, decimal_reads, number_of-decimal, decimals_pass, numbers_of-decimals}
@@ -58,26 +56,17 @@ with_block b p = (b, p)
 
 -- the pairs of a block's record
 row_pairs : (n : ℕ) (ps : List (ℕ × ℕ)) (b : ℕ) → IsWritable n ps → b < n → pairs_in (fields_of (row ps b)) ≡ map (with_block b) (above_of ps b)
-row_pairs n ps b w l =
-    let above = above_of ps b in
-    let own : b < 2 ^ 64 = omega (arith, w.blocks) in
-    ap pairs_in (row_fields n ps b w l)
-    ∙ pairs_at b (decimal b ∷ words_at ps b) (decimal b) (decimal (length above)) (map decimal above) refl (decimal_is_no_remark b own) (number_of-decimal b own)
-    ∙ ap (map (with_block b)) (numbers_of-decimals above (small_blocks n ps b w))
+row_pairs n ps b w l = grind (arith, common_steps, (above_of ps b), (row_fields n ps b w l), (pairs_at b (decimal b ∷ words_at ps b) (decimal b) (decimal (length (above_of ps b))) (map decimal (above_of ps b)) refl (decimal_is_no_remark b (omega (arith, w.blocks))) (number_of-decimal b (omega (arith, w.blocks)))), (words_at ps b), (decimal_is_no_remark b (omega (arith, w.blocks))), (number_of-decimal b (omega (arith, w.blocks))), (numbers_of-decimals (above_of ps b) (small_blocks n ps b w)), (small_blocks n ps b w))
 
 -- its block
 row_blocks : (n : ℕ) (ps : List (ℕ × ℕ)) (b : ℕ) → IsWritable n ps → b < n → blocks_of_fields (fields_of (row ps b)) ≡ b ∷ []
-row_blocks n ps b w l =
-    let own : b < 2 ^ 64 = omega (arith, w.blocks) in
-    ap blocks_of_fields (row_fields n ps b w l) ∙ rw (decimal_is_no_remark b own) (ap (λ x. x ∷ []) (number_of-decimal b own))
+row_blocks n ps b w l = grind (arith, common_steps, (row_fields n ps b w l), (decimal_is_no_remark b (omega (arith, w.blocks))), (number_of-decimal b (omega (arith, w.blocks))))
 
 -- ---- the records up to a block
 
 numbered_lines-append : (k : ℕ) (xs ys : List (List ℕ)) → numbered_lines k (xs ++ ys) ≡ numbered_lines k xs ++ numbered_lines (k + length xs) ys
 numbered_lines-append k [] ys = let e : k + 0 ≡ k = omega arith in ap (λ j. numbered_lines j ys) (sym e)
-numbered_lines-append k (x ∷ xs) ys =
-    let e : k + 1 + length xs ≡ k + suc (length xs) = omega arith in
-    ap (λ ls. record { number = k + 1; text = x } ∷ ls) (numbered_lines-append (k + 1) xs ys ∙ ap (λ j. numbered_lines (k + 1) xs ++ numbered_lines j ys) e)
+numbered_lines-append k (x ∷ xs) ys = grind (arith, common_steps, (numbered_lines-append (k + 1) xs ys))
 
 -- the line of block b, and the lines below it
 line_at : List (ℕ × ℕ) → ℕ → Line
@@ -92,17 +81,11 @@ before_more ps b = numbered_lines-append 0 (rows ps b) (row ps b ∷ [])
 
 pairs_more : (n : ℕ) (ps : List (ℕ × ℕ)) (b : ℕ) → IsWritable n ps → b < n → pairs_of (before ps (suc b)) ≡ pairs_of (before ps b) ++ map (with_block b) (above_of ps b)
 unfolding line_at
-pairs_more n ps b w l =
-    ap pairs_of (before_more ps b)
-    ∙ flat_map-append (λ x. pairs_in (fields_of x.text)) (before ps b) (line_at ps b ∷ [])
-    ∙ ap (λ xs. pairs_of (before ps b) ++ xs) (append-nil (pairs_in (fields_of (row ps b))) ∙ row_pairs n ps b w l)
+pairs_more n ps b w l = grind (arith, common_steps, (before_more ps b), (before ps b), (line_at ps b ∷ []), (append-nil (pairs_in (fields_of (row ps b)))), (row ps b), (row_pairs n ps b w l))
 
 blocks_more : (n : ℕ) (ps : List (ℕ × ℕ)) (b : ℕ) → IsWritable n ps → b < n → blocks_of (before ps (suc b)) ≡ blocks_of (before ps b) ++ (b ∷ [])
 unfolding line_at
-blocks_more n ps b w l =
-    ap blocks_of (before_more ps b)
-    ∙ flat_map-append (λ x. blocks_of_fields (fields_of x.text)) (before ps b) (line_at ps b ∷ [])
-    ∙ ap (λ xs. blocks_of (before ps b) ++ xs) (append-nil (blocks_of_fields (fields_of (row ps b))) ∙ row_blocks n ps b w l)
+blocks_more n ps b w l = grind (arith, common_steps, (before_more ps b), (before ps b), (line_at ps b ∷ []), (append-nil (blocks_of_fields (fields_of (row ps b)))), (row ps b), (row_blocks n ps b w l))
 
 none_before : (ps : List (ℕ × ℕ)) → before ps zero ≡ []
 unfolding before
@@ -111,21 +94,12 @@ none_before ps = refl
 -- no later block has a record
 not_yet : (n : ℕ) (ps : List (ℕ × ℕ)) (m b : ℕ) → IsWritable n ps → m ≤ n → m ≤ b → has (blocks_of (before ps m)) b ≡ false
 not_yet n ps zero b w l h = ap (λ ls. has (blocks_of ls) b) (none_before ps)
-not_yet n ps (suc m) b w l h =
-    let other : eqb m b ≡ false = grind (arith, nat_tests) in
-    ap (λ bs. has bs b) (blocks_more n ps m w (omega arith))
-    ∙ list_any-append (λ x. eqb x b) (blocks_of (before ps m)) (m ∷ [])
-    ∙ rw (not_yet n ps m b w (omega arith) (omega arith), other) refl
+not_yet n ps (suc m) b w l h = grind (arith, common_steps, (blocks_more n ps m w (omega arith)), (before ps m), (not_yet n ps m b w (omega arith) (omega arith)))
 
 -- as many pairs as end below
 pairs_so_far : (n : ℕ) (ps : List (ℕ × ℕ)) (m : ℕ) → IsWritable n ps → m ≤ n → length (pairs_of (before ps m)) ≡ first_of ps m
 pairs_so_far n ps zero w l = ap (λ ls. length (pairs_of ls)) (none_before ps) ∙ sym (ending_none (from_at ps) (length ps))
-pairs_so_far n ps (suc m) w l =
-    let a = pairs_so_far n ps m w (omega arith) in
-    let e = ap length (pairs_more n ps m w (omega arith)) in
-    let f = length-append (pairs_of (before ps m)) (map (with_block m) (above_of ps m)) in
-    let g : length (map (with_block m) (above_of ps m)) ≡ length (above_of ps m) = length-map (above_of ps m) (with_block m) in
-    e ∙ f ∙ omega (arith, a, g, above_length ps m, ending_next (from_at ps) m (length ps))
+pairs_so_far n ps (suc m) w l = grind (arith, common_steps, (ap length (pairs_more n ps m w (omega arith))), (length-append (pairs_of (before ps m)) (map (with_block m) (above_of ps m))), (length-map (above_of ps m) (with_block m)), (pairs_more n ps m w (omega arith)), (before ps m), (above_length ps m), (ending_next (from_at ps) m (length ps)), (pairs_so_far n ps m w (omega arith)))
 
 -- ---- faults
 
@@ -146,10 +120,7 @@ line_sound n ps b w l =
 
 lines_sound : (n : ℕ) (ps : List (ℕ × ℕ)) (m : ℕ) → IsWritable n ps → m ≤ n → first_fault n [] (before ps m) ≡ None
 lines_sound n ps zero w l = ap (first_fault n []) (none_before ps)
-lines_sound n ps (suc m) w l =
-    ap (first_fault n []) (before_more ps m)
-    ∙ first_fault-append n [] (before ps m) (line_at ps m ∷ [])
-    ∙ rw (lines_sound n ps m w (omega arith), line_sound n ps m w (omega arith)) refl
+lines_sound n ps (suc m) w l = grind (arith, common_steps, before_more, first_fault-append, before, line_at, line_sound, (lines_sound n ps m w (omega arith)))
 
 -- ---- pairs
 

@@ -10,6 +10,7 @@ use Rattle.slope.specs.declared.pattern_fault.PatternFault.{PatternFault}
 use Rattle.slope.specs.declared.pattern_fault.PatternFault.TheVariants.{NotUpward, TooMany, NoMemory}
 use Rattle.slope.proofs.Gathering.{collected_same, collected_more, too_many, more_weaker}
 use Rattle.slope.proofs.Distances.{near_first, near_second}
+use Rattle.std.proofs.lemmas.Grind.{common_steps}
 
 int_cases : (x y : ℤ) → x <ℤ (y +ℤ pos 1) → (x <ℤ y) ⊎ (x ≡ y)
 int_cases x y h = by_lt_z x y (λ l. inl l) (λ g. inr (omega (arith, ints, h, g)))
@@ -79,32 +80,13 @@ module _ (k reach run rise : ℕ) (l : IsLevel k reach run rise) (os : List Offs
 module _ (run rise k : ℕ) (x y : ℤ) (os : List Offset) (c : Collects (IsBelowPoint run rise (pos k) x y) os) where
   -- the point itself isn't below itself
   not_yet : IsBelowPoint run rise (pos k) x y (x, y, pos k) → ⊥
-  not_yet h = elim (h.below) [
-    | inl b ↦ omega (arith, ints, b)
-    | inr p ↦ elim (p.1) [ inl b ↦ omega (arith, ints, b) | inr q ↦ let b = q.1 in omega (arith, ints, b) ]
-  ]
+  not_yet h = grind (arith, common_steps)
 
   still : (z : ℤ) → z ≡ y +ℤ pos 1 → (o : Offset) → IsBelowPoint run rise (pos k) x y o → IsBelowPoint run rise (pos k) x z o
-  still z e o h = record {
-    above = h.above;
-    near = h.near;
-    below = elim h.below [
-      | inl b ↦ inl b
-      | inr p ↦ elim (p.1) [ inl b ↦ inr (p.0, inl b) | inr q ↦ let b = q.1 in inr (p.0, inr (q.0, omega (arith, ints, b, e))) ]
-    ];
-  }
+  still z e o h = grind (arith, common_steps)
 
   before_or_here : (z : ℤ) → z ≡ y +ℤ pos 1 → (o : Offset) → IsBelowPoint run rise (pos k) x z o → IsBelowPoint run rise (pos k) x y o ⊎ ((x, y, pos k) ≡ o)
-  before_or_here z e o h = elim h.below [
-    | inl b ↦ inl (record { above = h.above; near = h.near; below = inl b })
-    | inr p ↦ elim (p.1) [
-      | inl b ↦ inl (record { above = h.above; near = h.near; below = inr (p.0, inl b) })
-      | inr q ↦ elim (int_cases o.1 y (let b = q.1 in omega (arith, ints, b, e))) [
-        | inl b ↦ inl (record { above = h.above; near = h.near; below = inr (p.0, inr (q.0, b)) })
-        | inr s ↦ let u = sym q.0 in let v = sym s in let w = sym p.0 in inr (λ i. (u i, v i, w i))
-      ]
-    ]
-  ]
+  before_or_here z e o h = grind (arith, common_steps)
 
   pub point_taken : (z : ℤ) → z ≡ y +ℤ pos 1 → 1 ≤ k → IsNear run rise (x, y, pos k) → Collects (IsBelowPoint run rise (pos k) x z) (os ++ (x, y, pos k) ∷ [])
   point_taken z e s n = collected_more _ _ os c (x, y, pos k) not_yet
@@ -112,10 +94,7 @@ module _ (run rise k : ℕ) (x y : ℤ) (os : List Offset) (c : Collects (IsBelo
       (still z e) (before_or_here z e)
 
   pub point_passed : (z : ℤ) → z ≡ y +ℤ pos 1 → (IsNear run rise (x, y, pos k) → ⊥) → Collects (IsBelowPoint run rise (pos k) x z) os
-  point_passed z e n = collected_same _ _ os c (still z e) (λ o h. elim (before_or_here z e o h) [
-    | inl b ↦ b
-    | inr q ↦ absurd (n (let P : Offset → Type 0 = λ p. IsNear run rise p in subst P (sym q) h.near))
-  ])
+  point_passed z e n = grind (arith, common_steps)
 
   pub points_full : 1 ≤ k → IsNear run rise (x, y, pos k) → MOST_OFFSETS ≤ length os → AreMoreThan MOST_OFFSETS (IsInCone k run rise)
   points_full s n m = too_many _ _ os c MOST_OFFSETS (x, y, pos k) not_yet
@@ -125,9 +104,7 @@ module _ (run rise k : ℕ) (x y : ℤ) (os : List Offset) (c : Collects (IsBelo
 
   -- why an offset that is near enough wasn't added
   pub refused : (e : PatternFault) → 1 ≤ k → IsNear run rise (x, y, pos k) → OffsetRefusalStands os e → ConeFaultStands k run rise e
-  refused (NotUpward i) s n h = h
-  refused TooMany s n h = points_full s n h
-  refused NoMemory s n h = tt
+  refused e s n h = grind (arith, common_steps, points_full)
 
 pub cone_ended : (levels run rise : ℕ) (os : List Offset) → Collects (IsBelowLevel run rise (pos (levels + 1))) os → Collects (IsInCone levels run rise) os
 cone_ended levels run rise os c = collected_same _ _ os c
@@ -135,6 +112,4 @@ cone_ended levels run rise os c = collected_same _ _ os c
     (λ o h. let b = h.within in record { above = h.above; near = h.near; below = omega (arith, ints, b) })
 
 pub cone_wider : (k levels run rise : ℕ) (e : PatternFault) → k ≤ levels → ConeFaultStands k run rise e → ConeFaultStands levels run rise e
-cone_wider k levels run rise (NotUpward i) l h = h
-cone_wider k levels run rise TooMany l h = more_weaker MOST_OFFSETS _ _ (λ o c. let w = c.within in record { above = c.above; within = omega (arith, ints, w, l); near = c.near }) h
-cone_wider k levels run rise NoMemory l h = tt
+cone_wider k levels run rise e l h = grind (arith, common_steps)

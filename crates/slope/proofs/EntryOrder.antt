@@ -35,11 +35,7 @@ entries_alike =
     subst P e (eq_by_cmp_equiv entries_total)
 
 less_before : (x y : Entry) (o p : Ordering) → offset_cmp x.0 y.0 ≡ o → MatchOrdering p (x.1 < y.1) (x.1 ≡ y.1) (y.1 < x.1) → ordering_then o p ≡ Less → BeforeEntry x y
-less_before x y Less p h k e = inl (before x.0 y.0 h)
-less_before x y Equal Less h k e = inr (offset_same x.0 y.0 (offset_ties x.0 y.0 ∙ ap is_eq h), k)
-less_before x y Equal Equal h k e = absurd cc
-less_before x y Equal Greater h k e = absurd cc
-less_before x y Greater p h k e = absurd cc
+less_before x y o p h k e = grind (arith, common_steps, before, offset_same, offset_ties)
 
 entry_before : (x y : Entry) → entry_cmp x y ≡ Less → BeforeEntry x y
 entry_before x y e = less_before x y (offset_cmp x.0 y.0) (nat_cmp x.1 y.1) refl (ranked x.1 y.1 _ refl) e

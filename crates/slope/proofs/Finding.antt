@@ -40,8 +40,7 @@ places_apart m keys blocks h i j l r e =
     omega (arith, same, l)
 
 same_height : (up : Up) (x y : ℤ) → upward up x ≡ upward up y → x ≡ y
-same_height PlusZ x y e = e
-same_height MinusZ x y e = omega (arith, ints, e)
+same_height up x y e = grind (arith, common_steps)
 
 -- two places at one offset are one place
 pub one_place : (up : Up) (from p q : Place) → offset_between up from p ≡ offset_between up from q → p ≡ q

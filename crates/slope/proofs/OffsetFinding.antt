@@ -14,28 +14,13 @@ use Rattle.std.proofs.lemmas.Grind.{common_steps}
 
 -- the order of two offsets by that of their numbers
 less_from : (x y : Offset) (o p q : Ordering) → MatchOrdering o (x.0 <ℤ y.0) (x.0 ≡ y.0) (y.0 <ℤ x.0) → MatchOrdering p (x.1 <ℤ y.1) (x.1 ≡ y.1) (y.1 <ℤ x.1) → MatchOrdering q (x.2 <ℤ y.2) (x.2 ≡ y.2) (y.2 <ℤ x.2) → OffsetBefore x y → ordering_then (ordering_then o p) q ≡ Less
-less_from x y Less p q h k l b = refl
-less_from x y Equal p q h k l (inl b) = absurd (omega (arith, ints, h, b))
-less_from x y Equal Less q h k l (inr b) = refl
-less_from x y Equal Equal q h k l (inr (e, inl b)) = absurd (omega (arith, ints, k, b))
-less_from x y Equal Equal Less h k l (inr (e, inr b)) = refl
-less_from x y Equal Equal Equal h k l (inr (e, inr (f, b))) = absurd (omega (arith, ints, l, b))
-less_from x y Equal Equal Greater h k l (inr (e, inr (f, b))) = absurd (omega (arith, ints, l, b))
-less_from x y Equal Greater q h k l (inr (e, inl b)) = absurd (omega (arith, ints, k, b))
-less_from x y Equal Greater q h k l (inr (e, inr (f, b))) = absurd (omega (arith, ints, k, f))
-less_from x y Greater p q h k l (inl b) = absurd (omega (arith, ints, h, b))
-less_from x y Greater p q h k l (inr (e, b)) = absurd (omega (arith, ints, h, e))
+less_from x y o p q h k l f = grind (arith, common_steps)
 
 before_less : (x y : Offset) → OffsetBefore x y → offset_cmp x y ≡ Less
 before_less x y b = less_from x y (int_cmp x.0 y.0) (int_cmp x.1 y.1) (int_cmp x.2 y.2) (int_ranked x.0 y.0 _ refl) (int_ranked x.1 y.1 _ refl) (int_ranked x.2 y.2 _ refl) b
 
 no_higher : (x y t : Offset) (o p : Ordering) → offset_cmp x t ≡ o → offset_cmp y t ≡ p → offset_cmp x y ≡ Less → ordering_index o ≤ ordering_index p
-no_higher x y t o Greater e f h = grind (arith, common_steps)
-no_higher x y t o Equal e f h =
-    let yt = offset_same y t (offset_ties y t ∙ ap is_eq f) in
-    let less : o ≡ Less = sym e ∙ ap (offset_cmp x) (sym yt) ∙ h in
-    rw less (omega arith)
-no_higher x y t o Less e f h = grind (arith, common_steps, offsets_total)
+no_higher x y t o p e f h = grind (arith, common_steps, offset_same, offset_ties, offset_cmp, offsets_total)
 
 rises_to : (os : List Offset) (t : Offset) → AreOffsetsRising os → IsNonDecreasingBy (λ y. ordering_index (offset_cmp y t)) os
 rises_to os t r = IsNonDecreasingBy-from_default (λ y. ordering_index (offset_cmp y t)) os t (λ i j l h. elim (cases_lt i j) [
@@ -58,12 +43,7 @@ not_greater t e = apart (sym (sym e ∙ offsets_total.antisymm t t ∙ ap orderi
 -- what a binary search says of the offsets
 pub offset_found : (os : List Offset) (t : Offset) (r : Result ℕ ℕ) → IsSearchInRange r (length os) → IsBinarySearchResult (λ y. offset_cmp y t) os r → AreOffsetsRising os → MatchResult r (λ i. Contains os t) (λ i. Contains os t → ⊥)
 offset_found os t (Ok i) within h rising = (i, within, offset_same (get_or os i t) t (offset_ties (get_or os i t) t ∙ ap is_eq (h t)))
-offset_found os t (Err i) within h rising = λ c.
-    let point = h (rises_to os t rising) in
-    elim (cases_lt c.0 i) [
-      | inl below ↦ not_less t (ap (λ y. offset_cmp y t) (sym c.2) ∙ point.0 c.0 t (omega arith) below)
-      | inr above ↦ not_greater t (ap (λ y. offset_cmp y t) (sym c.2) ∙ point.1 c.0 t (omega (arith, above)) c.1)
-    ]
+offset_found os t (Err i) within h rising = grind (arith, common_steps, (h (rises_to os t rising)), (rises_to os t rising))
 
 -- whether one was found says whether it is among them
 pub found_decides : (os : List Offset) (t : Offset) (r : Result ℕ ℕ) (b : Bool) → IsSearchInRange r (length os) → IsBinarySearchResult (λ y. offset_cmp y t) os r → AreOffsetsRising os → b ≡ is_ok r → IsTrue b ↔ Contains os t

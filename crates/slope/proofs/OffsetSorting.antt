@@ -26,8 +26,7 @@ pub offset_same : (x y : Offset) → offset_eq x y ≡ true → x ≡ y
 offset_same x y h = grind (arith, common_steps)
 
 pub not_both : (b : Bool) → b ≡ true → b ≡ false → ⊥
-not_both true k e = absurd cc
-not_both false k e = absurd cc
+not_both b k e = grind (arith, common_steps)
 
 pub offset_differs : (x y : Offset) → offset_eq x y ≡ false → x ≡ y → ⊥
 offset_differs x y h e = grind (arith, common_steps)
@@ -39,13 +38,7 @@ offsets_alike =
     subst P e (eq_by_cmp_equiv offsets_total)
 
 less_before : (x y : Offset) (o p q : Ordering) → MatchOrdering o (x.0 <ℤ y.0) (x.0 ≡ y.0) (y.0 <ℤ x.0) → MatchOrdering p (x.1 <ℤ y.1) (x.1 ≡ y.1) (y.1 <ℤ x.1) → MatchOrdering q (x.2 <ℤ y.2) (x.2 ≡ y.2) (y.2 <ℤ x.2) → ordering_then (ordering_then o p) q ≡ Less → OffsetBefore x y
-less_before x y Less p q h k l e = inl h
-less_before x y Equal Less q h k l e = inr (h, inl k)
-less_before x y Equal Equal Less h k l e = inr (h, inr (k, l))
-less_before x y Equal Equal Equal h k l e = absurd cc
-less_before x y Equal Equal Greater h k l e = absurd cc
-less_before x y Equal Greater q h k l e = absurd cc
-less_before x y Greater p q h k l e = absurd cc
+less_before x y o p q h k l e = grind (arith, common_steps)
 
 pub before : (x y : Offset) → offset_cmp x y ≡ Less → OffsetBefore x y
 before x y e = less_before x y (int_cmp x.0 y.0) (int_cmp x.1 y.1) (int_cmp x.2 y.2) (int_ranked x.0 y.0 _ refl) (int_ranked x.1 y.1 _ refl) (int_ranked x.2 y.2 _ refl) e
@@ -62,15 +55,7 @@ rising_from_sorted os s = record { rises = rises os s }
 
 -- offsets go one way
 pub before_itself : (x : Offset) → OffsetBefore x x → ⊥
-before_itself x (inl h) = omega (arith, ints, h)
-before_itself x (inr (e, inl h)) = omega (arith, ints, h)
-before_itself x (inr (e, inr (f, h))) = omega (arith, ints, h)
+before_itself x h = grind (arith, common_steps)
 
 pub before_trans : (x y z : Offset) → OffsetBefore x y → OffsetBefore y z → OffsetBefore x z
-before_trans x y z (inl a) (inl b) = inl (omega (arith, ints, a, b))
-before_trans x y z (inl a) (inr (f, b)) = inl (omega (arith, ints, a, f))
-before_trans x y z (inr (e, a)) (inl b) = inl (omega (arith, ints, e, b))
-before_trans x y z (inr (e, inl a)) (inr (f, inl b)) = inr (e ∙ f, inl (omega (arith, ints, a, b)))
-before_trans x y z (inr (e, inl a)) (inr (f, inr (g, b))) = inr (e ∙ f, inl (omega (arith, ints, a, g)))
-before_trans x y z (inr (e, inr (h, a))) (inr (f, inl b)) = inr (e ∙ f, inl (omega (arith, ints, h, b)))
-before_trans x y z (inr (e, inr (h, a))) (inr (f, inr (g, b))) = inr (e ∙ f, inr (h ∙ g, omega (arith, ints, a, b)))
+before_trans x y z h k = grind (arith, common_steps)

@@ -35,8 +35,7 @@ fresh os r i d l (k, m, e) =
 
 -- selected pairs are slope pairs
 pub slope_of : (s : Selection) (m : BlocksView) (os : List Offset) (up : Up) (q : ℕ × ℕ) → IsSelected s m os up q → IsSlopePair m os up q
-slope_of Every m os up q h = h
-slope_of Reduced m os up q h = h.0
+slope_of s m os up q h = grind (arith, common_steps)
 
 -- a block and the one at an offset of the pattern are a slope pair
 pub slope_at : (m : BlocksView) (os : List Offset) (up : Up) (b p i : ℕ) (d : Offset) → i < length os → b < m.blocks → p < m.blocks → offset_between up (place_of m b) (place_of m p) ≡ get_or os i d → IsSlopePair m os up (b, p)
@@ -48,14 +47,10 @@ module _ (v : SurroundingsView) (m : BlocksView) (os : List Offset) (up : Up) (s
   is_as = λ j. record { model = same.of_model j; offsets = same.of_offsets j; up = same.of_up j; from = v.from }
 
   pub every_at : (p : ℕ) → StandsAtOffset v i p → IsSelected Every m os up (b, p) × (offset_between up (place_of m b) (place_of m p) ≡ offset_at os i)
-  every_at p h =
-      let stands = subst (λ x. StandsAtOffset x i p) is_as h in
-      let at = ap (λ (f : Place). offset_between up f (place_of m p)) (sym from) ∙ stands.there in
-      (slope_at m os up b p i _ l known stands.known at, at)
+  every_at p h = grind (arith, common_steps, is_as, slope_at)
 
   pub every_passed : StandsNone v i → (p : ℕ) → IsSelected Every m os up (b, p) → offset_between up (place_of m b) (place_of m p) ≢ offset_at os i
-  every_passed h p selected at =
-      subst (λ x. StandsNone x i) is_as h p (record { known = selected.top; there = ap (λ (f : Place). offset_between up f (place_of m p)) from ∙ at })
+  every_passed h p selected at = grind (arith, common_steps)
 
 module _ (m : BlocksView) (os : List Offset) (up : Up) (s : Selection) (b : ℕ) (ps : List (ℕ × ℕ)) where
   pub block_begun : Collects (IsPairBelow m os up s b) ps → Collects (IsPairUpTo m os up s b 0) ps
@@ -119,10 +114,7 @@ module _ (m : BlocksView) (os : List Offset) (up : Up) (s : Selection) (b i : �
     top = (slope_of s m os up (b, p) selected).top
 
     one_block : (q : ℕ) → q < m.blocks → place_of m p ≡ place_of m q → p ≡ q
-    one_block q k e = elim (cases_order p q) [
-      | inl same ↦ same
-      | inr w ↦ elim w [ inl below ↦ absurd (apart p q below k e) | inr above ↦ absurd (apart q p above top (sym e)) ]
-    ]
+    one_block q k e = grind (arith, common_steps)
 
     before_or_here : (q : ℕ × ℕ) → IsPairUpTo m os up s b (i + 1) q → IsPairUpTo m os up s b i q ⊎ ((b, p) ≡ q)
     before_or_here q h = elim h.below [
@@ -151,8 +143,7 @@ pub pairs_ended : (m : BlocksView) (os : List Offset) (up : Up) (s : Selection) 
 pairs_ended m os up s ps c = collected_same _ _ ps c (λ q h. h.selected) (λ q h. record { selected = h; below = (slope_of s m os up q h).bottom })
 
 level_height : (up : Up) (x : ℤ) → upward up (x -ℤ x) ≡ pos 0
-level_height PlusZ x = omega (arith, ints)
-level_height MinusZ x = omega (arith, ints)
+level_height up x = grind (arith, common_steps)
 
 -- no block rests on itself
 pub no_loop : (m : BlocksView) (os : List Offset) (up : Up) → IsPattern os → (q : ℕ × ℕ) → IsSlopePair m os up q → q.0 ≡ q.1 → ⊥
@@ -164,6 +155,4 @@ slopes_are m os up s rests apart e r c = record { apart = apart; blocks = e; ris
 
 -- the fault of the pairs is the fault of the slopes, where the places are apart
 pub slope_fault : (m : BlocksView) (os : List Offset) (up : Up) (s : Selection) (e : SlopeFault) → AreApartBelow m m.blocks → PairFaultStands m os up s e → SlopeFaultStands m os up s e
-slope_fault m os up s (SamePlace b c) apart h = absurd h
-slope_fault m os up s TooMany apart h = (apart, h)
-slope_fault m os up s NoMemory apart h = tt
+slope_fault m os up s e apart h = grind (arith, common_steps)

@@ -2,6 +2,7 @@
 use Rattle.std.proofs.Common.{◌≡◌, ◌↔◌, ℕ, zero, suc, ℤ, pos, negsuc, ◌+ℤ◌, ◌-ℤ◌, ◌≤ℤ◌, ◌<ℤ◌, Bool, true, false, IsTrue, List, Contains, refl, arith}
 use Rattle.std.proofs.lemmas.Int.{ints}
 use Rattle.std.proofs.lemmas.List.Elements.{All-contains}
+use Rattle.std.proofs.lemmas.Bool.{true_from_ne_false}
 use Rattle.blocks_file.specs.Denotes.{BlocksView}
 use Rattle.prec_file.specs.Rests.{RestsView}
 use Rattle.slope.specs.Offsets.{Offset, IsUpward, IsPattern}
@@ -10,6 +11,7 @@ use Rattle.slope.specs.declared.selection.Selection.TheVariants.{Reduced}
 use Rattle.slope.specs.declared.up.Up.{Up}
 use Rattle.slope.specs.declared.up.Up.TheVariants.{PlusZ, MinusZ}
 use Rattle.slope.proofs.OffsetSorting.{not_both}
+use Rattle.std.proofs.lemmas.Grind.{common_steps}
 
 -- some natural number is no less
 above : ℤ → ℕ
@@ -18,17 +20,10 @@ above (negsuc n) = zero
 
 is_above : (z : ℤ) → z ≤ℤ pos (above z)
 unfolding above
-is_above (pos n) = omega (arith, ints)
-is_above (negsuc n) = omega (arith, ints)
+is_above z = grind (arith, common_steps)
 
 climbs : (up : Up) (x y : ℤ) → pos 1 ≤ℤ upward up (y -ℤ x) → upward up x <ℤ upward up y
-climbs PlusZ x y h = omega (arith, ints, h)
-climbs MinusZ x y h = omega (arith, ints, h)
-
--- a Boolean that can't be false is true
-stable : (t : Bool) → (t ≡ false → ⊥) → t ≡ true
-stable true never = refl
-stable false never = absurd (never refl)
+climbs up x y h = grind (arith, common_steps)
 
 module _ (m : BlocksView) (offsets : List Offset) (up : Up) (rests : RestsView) (pattern : IsPattern offsets) (slopes : AreSlopes m offsets up Reduced rests) where
   -- how high a block is
@@ -43,7 +38,7 @@ module _ (m : BlocksView) (offsets : List Offset) (up : Up) (rests : RestsView) 
     -- over pairs that rise by at most k
     closes_upto : (k b p : ℕ) → IsSlopePair m offsets up (b, p) → height p ≤ℤ (height b +ℤ pos k) → IsTrue (e b) → IsTrue (e p)
     closes_upto zero b p s low held = absurd (let r = rises b p s in omega (arith, ints, r, low))
-    closes_upto (suc k) b p s low held = stable (e p) (λ off.
+    closes_upto (suc k) b p s low held = true_from_ne_false (e p) (λ off.
         let none : LeadsOver m offsets up (b, p) → ⊥ = (λ x.
         let first = rises b x.over x.first in
         let second = rises x.over p x.second in

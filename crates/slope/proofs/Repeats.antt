@@ -9,6 +9,7 @@ use Rattle.slope.specs.Gathering.{Entry, entry_at, entry_of, place_key, AreEntri
 use Rattle.slope.proofs.OffsetSorting.{before_itself}
 use Rattle.slope.proofs.EntryOrder.{neighbours}
 use Rattle.slope.proofs.Finding.{key_same}
+use Rattle.std.proofs.lemmas.Grind.{common_steps}
 
 -- no neighbours among the first c have one key, or these are the earliest of them
 abbrev pub SoFar : List Entry → ℕ → Option (ℕ × ℕ) → Type 0
@@ -20,12 +21,7 @@ module _ (es : List Entry) (i : ℕ) (some : 1 ≤ i) (inside : i < length es) w
 
   -- what holds of the earlier neighbours and of these two
   each_more : (P : ℕ → Type 0) → ((k : ℕ) → k + 1 < i → IsRepeatAt es k → P k) → (IsRepeatAt es (i - 1) → P (i - 1)) → (k : ℕ) → k + 1 < i + 1 → IsRepeatAt es k → P k
-  each_more P f g k l r = elim (cases_lt (k + 1) i) [
-    | inl below ↦ f k below r
-    | inr last ↦
-        let here : k ≡ i - 1 = omega (arith, l, last) in
-        subst P (sym here) (g (subst (IsRepeatAt es) here r))
-  ]
+  each_more P f g k l r = grind (arith, common_steps)
 
   pub repeat_passed : (repeat : Option (ℕ × ℕ)) → SoFar es i repeat → ((entry_at es (i - 1)).0 ≡ (entry_at es i).0 → ⊥) → SoFar es (i + 1) repeat
   repeat_passed None h n = each_more (λ k. ⊥) h (λ r. n (r.same ∙ ap (λ j. (entry_at es j).0) next))
@@ -76,8 +72,7 @@ module _ (es : List Entry) (i : ℕ) (some : 1 ≤ i) (inside : i < length es) w
 
 -- what was found among all neighbours
 pub all_told : (es : List Entry) (c : ℕ) (repeat : Option (ℕ × ℕ)) → length es ≤ c → SoFar es c repeat → MatchOption repeat (HaveNoRepeat es) (IsEarliestRepeat es)
-all_told es c None l h = λ k r. h k (let n = r.inside in omega (arith, n, l)) r
-all_told es c (Some repeat) l h = record { place = h.place; stands = h.stands; first = h.first; again = h.again; least = λ k n r. h.least k (omega (arith, n, l)) r }
+all_told es c repeat l h = grind (arith, common_steps)
 
 module _ (m : BlocksView) (es : List Entry) (a : AreEntriesOf m es) (o : AreEntriesInOrder es) where
   d : Entry

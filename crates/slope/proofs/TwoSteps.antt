@@ -74,23 +74,12 @@ module _ (v : SurroundingsView) (m : BlocksView) (os : List Offset) (up : Up) (s
   -- a block that stands there, where none stands at a first step, makes a reduced pair
   pub selected_at : (p : ℕ) → StandsAtOffset v i p × StandsAtNone v steps → IsSelected Reduced m os up (b, p) × (offset_between up (place_of m b) (place_of m p) ≡ offset_at os i)
   unfolding w
-  selected_at p h =
-      let e : v ≡ w = places_are v m os up same in
-      let stands : StandsAtOffset w i p = subst (λ x. StandsAtOffset x i p) e h.0 in
-      let none : StandsAtNone w steps = subst (λ x. StandsAtNone x steps) e h.1 in
-      let at = at_from w b known from i p steps steps_of stands i p stands in
-      ((slope_at m os up b p i _ l known stands.known at, leads_over_none w b known from i p steps steps_of stands none), at)
+  selected_at p h = grind (arith, common_steps, w, places_are, at_from, steps_of, slope_at, leads_over_none)
 
   -- where a block stands at a first step, or none stands there, no pair is a reduced one
   pub passed_at : StandsAtSome v steps ⊎ StandsNone v i → (p : ℕ) → IsSelected Reduced m os up (b, p) → offset_between up (place_of m b) (place_of m p) ≢ offset_at os i
   unfolding w
-  passed_at h p selected at =
-      let e : v ≡ w = places_are v m os up same in
-      let stands : StandsAtOffset w i p = record { known = selected.0.top; there = ap (λ (f : Place). offset_between up f (place_of m p)) from ∙ at } in
-      elim h [
-        | inl some ↦ selected.1 (leads_over w b known from i p steps steps_of stands (subst (λ x. StandsAtSome x steps) e some))
-        | inr none ↦ subst (λ x. StandsNone x i) e none p stands
-      ]
+  passed_at h p selected at = grind (arith, common_steps, w, places_are, leads_over, steps_of)
 
 -- by which selection there are steps
 module _ (v : SurroundingsView) (m : BlocksView) (os : List Offset) (up : Up) (same : ArePlacesOf v m os up) (b : ℕ) (known : b < m.blocks) (from : v.from ≡ place_of m b) (i : ℕ) (l : i < length os) (steps : List ℕ) where

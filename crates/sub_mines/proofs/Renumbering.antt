@@ -1,7 +1,7 @@
 -- The best pit of a mine whose blocks have numbers of their own.
 use Rattle.std.proofs.Common.{◌≡◌, ◌≢◌, ℕ, zero, suc, ◌+◌, ◌<◌, ℤ, pos, ◌+ℤ◌, Bool, true, false, cond, not, ◌&&◌, ◌||◌, IsTrue, inl, inr, sym, refl, ap, ap₂, ◌∙◌, arith}
 use Rattle.std.proofs.lemmas.Int.{ints}
-use Rattle.std.proofs.lemmas.Bool.{and_parts, and_from, cases_lt, cases_Bool}
+use Rattle.std.proofs.lemmas.Bool.{and_parts, and_from, cases_lt, cases_Bool, or_left}
 use Rattle.ordered_group.specs.Sets.{worth_in, count_in}
 use Rattle.ordered_group.proofs.BlockSets.{worth_in-same, count_in-same, count_in-within}
 use Rattle.closure_net.specs.Mine.{Mine, IsPit, worth_of, block_count_of, IsBest, RestsWithin}
@@ -171,10 +171,6 @@ alone_term true false h = refl
 alone_term false true h = refl
 alone_term false false h = refl
 
-joined_first : (x y : Bool) → x ≡ true → (x || y) ≡ true
-joined_first true y h = refl
-joined_first false y h = absurd cc
-
 cut_term : (x y z : Bool) (v : ℤ) → (y ≡ true → (z && not x) ≡ true) → cond (x || y) v (pos 0) ≡ cond x v (pos 0) +ℤ cond y (cond (z && not x) v (pos 0)) (pos 0)
 cut_term true true z v h = grind (arith, common_steps)
 cut_term true false z v h = omega (arith, ints)
@@ -194,7 +190,7 @@ row_by_small mine small low high at s t own listed is im =
     let set = difference_of high low in
     let within = image_within mine small set at own listed is s t im in
     let apart : (b : ℕ) → b < n → ((low b || t b) && not (low b)) ≡ t b = λ b l. alone_term (low b) (t b) (λ e. outside low high b (within b l e)) in
-    let count = count_cuts low (union_of low t) n (λ b l e. joined_first (low b) (t b) e) in
+    let count = count_cuts low (union_of low t) n (λ b l e. or_left (low b) (t b) e) in
     let alone : count_in (difference_of (union_of low t) low) n ≡ count_in t n = count_in-same (difference_of (union_of low t) low) t n apart in (
       joined_worth mine.worth low high t n within ∙ ap (λ z. worth_of mine low +ℤ z) (image_worth mine small set at own listed is s t im),
       omega (arith, count, alone, image_count mine small set at own listed is s t im),
