@@ -6,7 +6,7 @@ use Rattle.prec_file.specs.Written.{prec_line, lines_below}
 use Rattle.prec_file.proofs.WrittenPieces.{lines_more, lines_front}
 use Rattle.prec_file.proofs.writing.write_lines.Goals as goal
 use Rattle.fixed_worth.proofs.Results.{on_err}
-use Rattle.fixed_worth.proofs.Sides.{on_err}
+use Rattle.fixed_worth.proofs.Results.{on_err}
 use Rattle.std.proofs.lemmas.Grind.{common_steps}
 
 pub loop-block-preserved : goal.loop-block-preserved
