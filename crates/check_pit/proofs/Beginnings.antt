@@ -1,10 +1,10 @@
 -- Reading a stream's body line after line: what was read of it begins with the lines that were taken, whatever follows.
-use Rattle.std.proofs.Common.{◌≡◌, ℕ, ◌+◌, ◌<◌, Bool, true, false, cond, eqb, List, [], ◌∷◌, ◌++◌, length, take, drop, Option, Some, None, Ok, Err, refl, sym, ap, ◌∙◌, subst, arith, append-nil, append_assoc}
+use Rattle.std.proofs.Common.{◌≡◌, ℕ, ◌+◌, ◌<◌, Bool, true, false, cond, List, [], ◌∷◌, ◌++◌, length, take, drop, Option, Some, None, Ok, Err, refl, sym, ap, ◌∙◌, subst, arith, append-nil, append_assoc}
 use Rattle.certificate_file.specs.declared.cert_fault.CertFault.{CertFault}
 use Rattle.certificate_file.specs.declared.cert_fault.CertFault.TheVariants as fault
 use Rattle.certificate_file.specs.declared.body_lines.BodyLine.{BodyLine}
-use Rattle.certificate_file.specs.Pieces.{Piece, onto_piece, pieces_of, piece_at, piece_fault}
-use Rattle.certificate_file.specs.BodyLines.{line_of, is_end, may_follow, next_line, end_fault, fault_from, body_fault, lines_of_pieces}
+use Rattle.certificate_file.specs.Pieces.{Piece, pieces_of, piece_fault}
+use Rattle.certificate_file.specs.BodyLines.{line_of, is_end, may_follow, next_line, end_fault, body_fault, lines_of_pieces}
 use Rattle.certificate_file.specs.Certificate.{has_pair}
 use Rattle.check_pit.specs.StreamLines.{IsLine}
 use Rattle.check_pit.specs.TakenLines.{held_piece}
@@ -89,32 +89,16 @@ takes_end counts n pairs body held number j previous ls line b h ok e =
 
 -- Nothing is left behind the last line.
 pub ends_whole : (counts : Bool) (n : ℕ) (pairs : List (ℕ × ℕ)) (body left : List ℕ) (number : ℕ) (ls : List BodyLine) → Ends counts n pairs body number left ls → left ≡ [] → (body_fault counts n (has_pair pairs) None 4 (pieces_of body) ≡ None) × (lines_of_pieces counts n (pieces_of body) ≡ ls)
-ends_whole counts n pairs body left number ls e none = (
-  sym (ap (λ (t : List ℕ). body_fault counts n (has_pair pairs) None 4 (pieces_of t)) (append-nil body)) ∙ e.fault [] ∙ ap (λ (t : List ℕ). end_fault number (pieces_of (t ++ []))) none,
-  sym (ap (λ (t : List ℕ). lines_of_pieces counts n (pieces_of t)) (append-nil body)) ∙ e.lines [],
-)
-
-onto_more : (b : ℕ) (ps : List Piece) (number : ℕ) → end_fault number (onto_piece b ps) ≡ Some (fault.Text (number + 1))
-onto_more b [] number = refl
-onto_more b (p ∷ ps) number = refl
-
-more_at : (b : ℕ) (bs : List ℕ) (t : Bool) (number : ℕ) → eqb b 10 ≡ t → end_fault number (pieces_of (b ∷ bs)) ≡ Some (fault.Text (number + 1))
-more_at b bs true number e = rw e refl
-more_at b bs false number e = rw e (onto_more b (pieces_of bs) number)
+ends_whole counts n pairs body left number ls e none = grind (arith, common_steps, (append-nil body))
 
 more_pieces : (left future : List ℕ) (number : ℕ) → 0 < length left → end_fault number (pieces_of (left ++ future)) ≡ Some (fault.Text (number + 1))
 more_pieces [] future number h = absurd (omega arith)
-more_pieces (b ∷ bs) future number h = more_at b (bs ++ future) (eqb b 10) number refl
+more_pieces (b ∷ bs) future number h = grind (arith, common_steps)
 
 -- Something is.
 pub ends_more : (counts : Bool) (n : ℕ) (pairs : List (ℕ × ℕ)) (body left : List ℕ) (number : ℕ) (ls : List BodyLine) → Ends counts n pairs body number left ls → 0 < length left → (future : List ℕ)
     → body_fault counts n (has_pair pairs) None 4 (pieces_of (body ++ future)) ≡ Some (fault.Text (number + 1))
 ends_more counts n pairs body left number ls e h future = e.fault future ∙ more_pieces left future number h
-
--- A faulty line.
-pub wrong_at : (counts : Bool) (n : ℕ) (has : ℕ → ℕ → Bool) (previous : Option BodyLine) (number : ℕ) (ps : List Piece) (e : CertFault) → next_line counts n has previous (number + 1) (piece_at ps 0) ≡ Err e → body_fault counts n has previous number ps ≡ Some e
-wrong_at counts n has previous number [] e h = cc
-wrong_at counts n has previous number (p ∷ ps) e h = ap (fault_from (end_fault (number + 1) ps) (λ l. body_fault counts n has (Some l) (number + 1) ps)) h
 
 -- A piece that is no line says nothing; and of one that is, the text goes on behind it.
 pub no_line_next : (counts : Bool) (n : ℕ) (has : ℕ → ℕ → Bool) (previous : Option BodyLine) (k : ℕ) (p : Piece) (e : CertFault) → piece_fault k p ≡ Some e → next_line counts n has previous k p ≡ Err e

@@ -1,7 +1,8 @@
 -- What a tight closed set shows, of the law's premises.
 use Rattle.closure_net.proofs.Duality.{greatest_from_tight, greatest_flow_from_tight}
 use Rattle.check_pit.specs.Duality.{WeakDuality}
+use Rattle.std.proofs.lemmas.Grind.{common_steps}
+use Rattle.std.proofs.Common.{arith}
 
 pub duality : WeakDuality
-duality net flow e order is closed tight =
-    record { greatest_set = greatest_from_tight net flow e order.known is closed tight; greatest_flow = greatest_flow_from_tight net flow e order.known is closed tight }
+duality net flow e order is closed tight = grind (arith, common_steps, greatest_from_tight, greatest_flow_from_tight)

@@ -1,13 +1,14 @@
 -- The PIT lines with which the lines of a certificate begin.
-use Rattle.std.proofs.Common.{◌≡◌, true, false, List, [], ◌∷◌, ◌++◌, Option, Some, refl, ap, ◌∙◌, append_assoc, append-nil}
+use Rattle.std.proofs.Common.{◌≡◌, true, false, List, [], ◌∷◌, ◌++◌, Option, Some, refl, ap, append_assoc, append-nil, arith}
 use Rattle.certificate_file.specs.declared.body_lines.LineKind.{LineKind}
-use Rattle.certificate_file.specs.declared.body_lines.LineKind.TheVariants.{Pit, Source, Rest, Sink, End}
+use Rattle.certificate_file.specs.declared.body_lines.LineKind.TheVariants.{Pit}
 use Rattle.certificate_file.specs.declared.body_lines.BodyLine.{BodyLine}
 use Rattle.certificate_file.specs.BodyLines.{may_follow}
 use Rattle.check_pit.specs.StreamChecks.{is_pit, is_behind_pits, first_pits}
 use Rattle.certificate_file.proofs.Order.{InOrder}
 use Rattle.check_pit.proofs.Beginnings.{last_line}
 use Rattle.fixed_worth.proofs.Bits.{not_false}
+use Rattle.std.proofs.lemmas.Grind.{common_steps}
 
 -- Lines that are all PIT lines.
 abbrev pub AllPits : List BodyLine → Type 0
@@ -18,21 +19,16 @@ first_front : (ls more : List BodyLine) → AllPits ls → first_pits (ls ++ mor
 first_front [] more a = refl
 first_front (l ∷ ls) more a = rw a.0 (ap (λ (xs : List BodyLine). l ∷ xs) (first_front ls more a.1))
 
-first_stops : (l : BodyLine) (more : List BodyLine) → is_pit l.kind ≡ false → first_pits (l ∷ more) ≡ []
-first_stops l more h = rw h refl
-
 -- They are the first ones where another line stands behind them, or none does.
 pub first_behind : (ls more : List BodyLine) (l : BodyLine) → AllPits ls → is_pit l.kind ≡ false → first_pits ((ls ++ l ∷ []) ++ more) ≡ ls
-first_behind ls more l a h =
-    ap first_pits (append_assoc ls (l ∷ []) more) ∙ first_front ls (l ∷ more) a ∙ ap (λ (xs : List BodyLine). ls ++ xs) (first_stops l more h) ∙ append-nil ls
+first_behind ls more l a h = grind (arith, common_steps, append_assoc, first_front, append-nil)
 
 pub first_all : (ls : List BodyLine) → AllPits ls → first_pits ls ≡ ls
 first_all [] a = refl
 first_all (l ∷ ls) a = rw a.0 (ap (λ (xs : List BodyLine). l ∷ xs) (first_all ls a.1))
 
 kind_is : (kind : LineKind) → is_pit kind ≡ true → kind ≡ Pit
-kind_is Pit h = refl
-kind_is _ h = absurd (let z : false ≡ true = h in cc)
+kind_is kind h = grind (arith, common_steps)
 
 -- Where PIT lines are not left for others, the lines so far are PIT lines alone.
 module _ (P : BodyLine → Type 0) (pit_behind : (previous : Option BodyLine) (line : BodyLine) → may_follow previous line ≡ true → line.kind ≡ Pit → is_behind_pits previous ≡ false) where

@@ -1,5 +1,5 @@
 -- A part of a buffer that loses its first bytes, or gets more behind it.
-use Rattle.std.proofs.Common.{◌≡◌, ℕ, ◌+◌, ◌-◌, ◌≤◌, List, length, take, drop, slice_range, Option, sym, ap, ◌∙◌, arith, length-take, length-take-le, length-drop, drop-drop}
+use Rattle.std.proofs.Common.{◌≡◌, ℕ, ◌+◌, ◌-◌, ◌≤◌, List, length, take, drop, slice_range, Option, ap, arith, length-take, length-take-le, length-drop, drop-drop}
 use Rattle.std.proofs.lemmas.List.{drop-take}
 use Rattle.std.proofs.Math.Seq.{take-add}
 use Rattle.std.specs.Io.KnownBytes.{Consumes}
@@ -8,14 +8,7 @@ use Rattle.std.proofs.lemmas.Grind.{common_steps}
 
 -- the first n bytes of a part are passed
 pub passed : (xs ys : List ℕ) (a e n : ℕ) → slice_range xs a e ≡ ys → n ≤ length ys → slice_range xs (a + n) e ≡ drop n ys
-passed xs ys a e n is h =
-    let size : length (take (e - a) (drop a xs)) ≡ length ys = ap length is in
-    let inside : n ≤ e - a = omega (arith, size, h, length-take (e - a) (drop a xs)) in
-    let whole : n + (e - (a + n)) ≡ e - a = omega (arith, inside) in
-    ap (take (e - (a + n))) (sym (drop-drop n a xs))
-    ∙ sym (drop-take n (e - (a + n)) (drop a xs))
-    ∙ ap (λ k. drop n (take k (drop a xs))) whole
-    ∙ ap (drop n) is
+passed xs ys a e n is h = grind (arith, common_steps, (ap length is), (length-take (e - a) (drop a xs)), (drop-drop n a xs), (drop-take n (e - (a + n)) (drop a xs)))
 
 -- n bytes are read behind the first h, which are what was held
 pub read_more : (remaining left : Option (List ℕ)) (buffer held : List ℕ) (h n : ℕ) → take h buffer ≡ held → h + n ≤ length buffer → Consumes remaining left (take n (drop h buffer)) → ReadBehind remaining left held (slice_range buffer 0 (h + n)) n

@@ -13,8 +13,7 @@ use Rattle.certificate_file.proofs.Splits.{cut_off}
 use Rattle.std.proofs.lemmas.Grind.{common_steps}
 
 onto_text : (b : ℕ) (ps : List Piece) → (piece_at (onto_piece b ps) 0).text ≡ b ∷ (piece_at ps 0).text
-onto_text b [] = refl
-onto_text b (p ∷ ps) = refl
+onto_text b ps = grind (arith, common_steps)
 
 -- bytes before the first line feed are in the first piece
 longer : (bs future : List ℕ) (j : ℕ) → j ≤ length bs → ((i : ℕ) → i < j → eqb (get_or bs i 0) 10 ≡ false) → j ≤ length (piece_at (pieces_of (bs ++ future)) 0).text
@@ -28,9 +27,7 @@ longer (b ∷ bs) future (suc j) h f =
 
 no_feed_at : (b : ℕ) (bs : List ℕ) (t : Bool) → eqb b 10 ≡ t → length (b ∷ bs) ≡ position_or_len (λ x. eqb x 10) (b ∷ bs) → (length bs ≡ position_or_len (λ x. eqb x 10) bs → (i : ℕ) → i < length bs → eqb (get_or bs i 0) 10 ≡ false)
     → (i : ℕ) → i < length (b ∷ bs) → eqb (get_or (b ∷ bs) i 0) 10 ≡ false
-no_feed_at b bs true e h ih i l = let g = rw e at h in absurd (omega (arith, g))
-no_feed_at b bs false e h ih zero l = e
-no_feed_at b bs false e h ih (suc i) l = let g = rw e at h in ih (omega (arith, g)) i (omega arith)
+no_feed_at b bs t e h ih i l = grind (arith, common_steps)
 
 no_feed : (bs : List ℕ) → length bs ≡ position_or_len (λ x. eqb x 10) bs → (i : ℕ) → i < length bs → eqb (get_or bs i 0) 10 ≡ false
 no_feed [] h i l = absurd (omega arith)

@@ -5,6 +5,7 @@ use Rattle.std.proofs.lemmas.List.{get_or-map, length-map}
 use Rattle.prec_file.specs.Rests.{numbers, above_of, from_at, to_at}
 use Rattle.prec_file.proofs.Passing.{passing_at, passing_here, passing_after}
 use Rattle.check_pit.specs.Closing.{HoldsAbove, IsLacking}
+use Rattle.std.proofs.lemmas.Grind.{common_steps}
 
 module _ (ps : List (ℕ × ℕ)) (e : ℕ → Bool) (b : ℕ) (above : List ℕ) (is : above ≡ above_of ps b) where
   ks : List ℕ
@@ -28,10 +29,7 @@ module _ (ps : List (ℕ × ℕ)) (e : ℕ → Bool) (b : ℕ) (above : List ℕ
       (length (numbers (from_at ps) b k), omega (arith, size, inside), there (length (numbers (from_at ps) b k)) inside ∙ ap (to_at ps) (passing_here (λ j. from_at ps j == b) k (length ps) h t), refl)
 
   pub holds_above : (n : ℕ) → length above ≤ n → ((j : ℕ) → j < n → IsTrue (e (get_or above j 0))) → HoldsAbove ps e b
-  holds_above n l h k below p =
-      let q = placed k below p in
-      let P : ℕ → Type 0 = λ x. IsTrue (e x) in
-      subst P q.2 (h q.0 (omega (arith, q.1)))
+  holds_above n l h k below p = grind (arith, common_steps, placed)
 
   pub lacking : (i p : ℕ) → i < length above → p ≡ get_or above i 0 → e p ≡ false → ((j : ℕ) → j < i → IsTrue (e (get_or above j 0))) → IsLacking ps e b p
   unfolding ks

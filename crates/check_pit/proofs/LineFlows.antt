@@ -38,10 +38,7 @@ held_first : (b : ℕ) (bs : List ℕ) → holds_of (b ∷ bs) b ≡ true
 held_first b bs = let e = eq-eqb b b refl in rw e refl
 
 not_behind : (b : ℕ) (bs : List ℕ) (t : Bool) → IsAscending (b ∷ bs) → holds_of bs b ≡ t → t ≡ false
-not_behind b bs true a e =
-    let q = place_of bs b e in
-    let r = a 0 (suc q.0) (omega arith) (omega (arith, q.1)) in
-    absurd (omega (arith, r, q.2))
+not_behind b bs true a e = grind (arith, common_steps, (place_of bs b e), (a 0 (suc (place_of bs b e).0) (omega arith) (omega (arith, (place_of bs b e).1))))
 not_behind b bs false a e = refl
 
 one_more : (p q x y z w : Amount) → plus p q ≡ plus x y → q ≡ zero_amount → y ≡ z → x ≡ w → p ≡ plus z w

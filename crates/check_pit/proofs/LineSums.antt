@@ -43,8 +43,7 @@ sum_giving_in_order P gives previous (m ∷ ms) t o = given_on P gives m ms (giv
 -- A sum over blocks or pairs, of sums over lines, is a sum over lines.
 pub exchanged : (gives : ℕ → BodyLine → Bool) (e : ℕ → Bool) (at : BodyLine → Amount) (m : ℕ) (ls : List BodyLine) → ((l : BodyLine) → Has l ls → total (λ k. where_so (e k) (where_so (gives k l) (amount_of l))) m ≡ at l) → (sum : List BodyLine → Amount) → sum [] ≡ zero_amount
     → ((l : BodyLine) (ks : List BodyLine) → sum (l ∷ ks) ≡ plus (at l) (sum ks)) → total (λ k. where_so (e k) (sum_giving (gives k) ls)) m ≡ sum ls
-exchanged gives e at m [] f sum none more =
-    total-same (λ k. where_so (e k) zero_amount) (λ k. zero_amount) m (λ k h. where_so-zero (e k)) ∙ total-zero m ∙ sym none
+exchanged gives e at m [] f sum none more = grind (arith, common_steps, (total-zero m))
 exchanged gives e at m (l ∷ ls) f sum none more =
     let split = total-same (λ k. where_so (e k) (plus (where_so (gives k l) (amount_of l)) (sum_giving (gives k) ls))) (λ k. plus (where_so (e k) (where_so (gives k l) (amount_of l))) (where_so (e k) (sum_giving (gives k) ls))) m
     (λ k h. where_so-plus (e k) (where_so (gives k l) (amount_of l)) (sum_giving (gives k) ls)) in
@@ -69,10 +68,7 @@ told_by_place b p ps j k r h e l true false v w =
     let same : j ≡ k = eqb-true j k v in
     let here : is_pair b p (get_or ps k (0, 0)) ≡ true = tells_pair b p (get_or ps k (0, 0)) (ap (λ (i : ℕ). get_or ps i (0, 0)) (sym same) ∙ e) in
     absurd (let z : true ≡ false = sym here ∙ w in cc)
-told_by_place b p ps j k r h e l false true v w =
-    let same : j ≡ k = one_place ps j k (b, p) r h l e (pair_told b p (get_or ps k (0, 0)) w) (ltb j k) (ltb k j) refl refl in
-    absurd (let z : true ≡ false = sym (eq-eqb j k same) ∙ v in cc)
-told_by_place b p ps j k r h e l _ _ v w = w ∙ sym v
+told_by_place b p ps j k r h e l false true v w = grind (arith, common_steps, (one_place ps j k (b, p) r h l e (pair_told b p (get_or ps k (0, 0)) w) (ltb j k) (ltb k j) refl refl), (pair_told b p (get_or ps k (0, 0)) w), (eq-eqb j k (one_place ps j k (b, p) r h l e (pair_told b p (get_or ps k (0, 0)) w) (ltb j k) (ltb k j) refl refl)))
 
 -- an amount of a line at one end of its pair, where that is a REST line
 abbrev pub end_by : LineKind → ℕ → ℕ → Amount → Amount
@@ -107,10 +103,7 @@ ends_of_lines end b ps ls r f =
 -- the balance of one line
 one_balance : (kind : LineKind) (l : BodyLine) (b : ℕ) → brings_by kind l b
     ≡ minus (plus (where_so (is_source kind && (eqb l.block b)) (amount_of l)) (end_by kind l.other b (amount_of l))) (plus (where_so (is_sink kind && (eqb l.block b)) (amount_of l)) (end_by kind l.block b (amount_of l)))
-one_balance Pit l b = refl
-one_balance Rest l b = let x = where_so (eqb l.other b) (amount_of l) in let y = where_so (eqb l.block b) (amount_of l) in Amount_eq _ _ (omega (arith, ints)) (omega (arith, ints))
-one_balance End l b = refl
-one_balance _ l b = let x = where_so (eqb l.block b) (amount_of l) in Amount_eq _ _ (omega (arith, ints)) (omega (arith, ints))
+one_balance kind l b = grind (arith, common_steps)
 
 joined : (p s i t o s' i' t' o' q : Amount) → p ≡ minus (plus s i) (plus t o) → q ≡ minus (plus s' i') (plus t' o') → plus p q ≡ minus (plus (plus s s') (plus i i')) (plus (plus t t') (plus o o'))
 joined p s i t o s' i' t' o' q e f =

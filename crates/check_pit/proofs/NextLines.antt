@@ -1,11 +1,8 @@
 -- Why a stream gives no further line.
-use Rattle.std.proofs.Common.{◌≡◌, ℕ, get_or, ◌+◌, ◌<◌, ◌≤◌, Bool, true, false, ltb, List, [], ◌++◌, length, take, drop, Option, Some, None, Result, Ok, Err, refl, sym, ap, ◌∙◌, subst, arith}
-use Rattle.std.specs.Prelude.{cond, nat_lt, unwrap_or, Contains, MatchOption, MatchResult}
-use Rattle.std.specs.Io.KnownBytes.{Consumes}
+use Rattle.std.proofs.Common.{◌≡◌, ℕ, get_or, ◌+◌, ◌<◌, ◌≤◌, Bool, true, List, [], ◌++◌, length, take, Option, Some, None, Result, Ok, Err, refl, sym, ap, ◌∙◌, arith}
+use Rattle.std.specs.Prelude.{cond, nat_lt, Contains, MatchOption, MatchResult}
 use Rattle.std.specs.Option.{is_some}
-use Rattle.std.specs.Result.{result_err}
 use Rattle.std.proofs.lemmas.List.{length-take-le}
-use Rattle.std.proofs.lemmas.Bool.Decides.{nat_tests}
 use Rattle.fixed_worth.specs.declared.limits.TheConstants.{LINE_BYTES}
 use Rattle.certificate_file.specs.declared.cert_fault.CertFault.{CertFault}
 use Rattle.certificate_file.specs.declared.cert_fault.CertFault.TheVariants as fault
@@ -15,10 +12,9 @@ use Rattle.certificate_file.specs.declared.body_lines.LineKind.TheVariants.{Rest
 use Rattle.certificate_file.specs.declared.body_lines.BodyLine.{BodyLine}
 use Rattle.check_pit.specs.declared.pit_fault.PitFault.{PitFault}
 use Rattle.check_pit.specs.declared.stream_fault.StreamFault.{StreamFault}
-use Rattle.check_pit.specs.declared.stream_fault.StreamFault.TheVariants.{Device, InputTooLong, Cert, Pit}
+use Rattle.check_pit.specs.declared.stream_fault.StreamFault.TheVariants.{Cert}
 use Rattle.certificate_file.specs.Pieces.{Piece, pieces_of, piece_at, piece_fault, in_line, unless_fault, read_line}
-use Rattle.certificate_file.specs.Header.{◌>>=◌}
-use Rattle.certificate_file.specs.BodyLines.{line_of, is_of_model, may_follow, in_order, in_model, line_behind, next_line}
+use Rattle.certificate_file.specs.BodyLines.{is_of_model, next_line}
 use Rattle.certificate_file.specs.Certificate.{has_pair}
 use Rattle.check_pit.specs.StreamView.{LineView}
 use Rattle.check_pit.specs.StreamLines.{ReadsSome, IsLine}
@@ -26,6 +22,7 @@ use Rattle.check_pit.specs.TakenLines.{held_piece, PassesLine, GoesBehind, Takes
 use Rattle.certificate_file.proofs.Additions.{absent, present}
 use Rattle.check_pit.proofs.Beginnings.{no_line_next}
 use Rattle.check_pit.proofs.HeldLines.{line_held}
+use Rattle.std.proofs.lemmas.Grind.{common_steps}
 
 -- Only a piece that is no line is cut off, and memory is refused to none.
 abbrev IsOutside : CertFault → Type 0
@@ -33,43 +30,20 @@ IsOutside fault.Truncated = Unit {0}
 IsOutside fault.NoMemory = Unit {0}
 IsOutside _ = ⊥
 
-other_fault : {A : Type 0} (x e : CertFault) → (IsOutside x → ⊥) → IsOutside e → (let r : Result A CertFault = Err x in r ≡ Err e) → ⊥
-other_fault {A = A} x e f o h = f (subst IsOutside (sym (ap (λ (r : Result A CertFault). unwrap_or (result_err r) x) h)) o)
-
 in_line_whole : {A : Type 0} (e : CertFault) (k : ℕ) (r : Result A LineFault) → IsOutside e → in_line k r ≡ Err e → ⊥
-in_line_whole e k (Ok a) o h = cc
-in_line_whole e k (Err Text) o h = other_fault (fault.Text k) e (λ z. z) o h
-in_line_whole e k (Err Number) o h = other_fault (fault.Number k) e (λ z. z) o h
+in_line_whole e k r o h = grind (arith, common_steps)
 
 unless_whole : {A : Type 0} (e : CertFault) (o : Option CertFault) (r : Result A CertFault) → (o ≡ Some e → ⊥) → (r ≡ Err e → ⊥) → unless_fault o r ≡ Err e → ⊥
-unless_whole e (Some x) r f g h = f (ap result_err h)
-unless_whole e None r f g h = g h
-
-bind_whole : {A B : Type 0} (e : CertFault) (r : Result A CertFault) (f : A → Result B CertFault) → (r ≡ Err e → ⊥) → ((a : A) → f a ≡ Err e → ⊥) → (r >>= f) ≡ Err e → ⊥
-bind_whole e (Ok a) f g h z = h a z
-bind_whole {B = B} e (Err x) f g h z = g (ap (λ (r : Result B CertFault). Err (unwrap_or (result_err r) x)) z)
-
-order_whole : (e : CertFault) (previous : Option BodyLine) (k : ℕ) (line : BodyLine) (t : Bool) → may_follow previous line ≡ t → IsOutside e → in_order previous k line ≡ Err e → ⊥
-order_whole e previous k line true t o h = let z = rw t at h in cc
-order_whole e previous k line false t o h = other_fault (fault.OutOfOrder k) e (λ z. z) o (rw t at h)
-
-model_whole : (e : CertFault) (has : ℕ → ℕ → Bool) (k : ℕ) (line : BodyLine) (t : Bool) → is_of_model has line.kind line ≡ t → IsOutside e → in_model has k line ≡ Err e → ⊥
-model_whole e has k line true t o h = let z = rw t at h in cc
-model_whole e has k line false t o h = other_fault (fault.UnknownPair k) e (λ z. z) o (rw t at h)
+unless_whole e o r f g h = grind (arith, common_steps)
 
 read_whole : {A : Type 0} (e : CertFault) (f : List ℕ → Result A LineFault) (k : ℕ) (p : Piece) → IsOutside e → (piece_fault k p ≡ Some e → ⊥) → read_line f k p ≡ Err e → ⊥
 read_whole e f k p o g = unless_whole e (piece_fault k p) (in_line k (f p.text)) g (in_line_whole e k (f p.text) o)
 
 next_whole : (e : CertFault) (counts : Bool) (n : ℕ) (has : ℕ → ℕ → Bool) (previous : Option BodyLine) (k : ℕ) (p : Piece) → IsOutside e → (piece_fault k p ≡ Some e → ⊥) → next_line counts n has previous k p ≡ Err e → ⊥
-next_whole e counts n has previous k p o g =
-    bind_whole e (line_behind counts n previous k p) (in_model has k)
-    (bind_whole e (read_line (line_of counts n) k p) (in_order previous k) (read_whole e (line_of counts n) k p o g) (λ l. order_whole e previous k l (may_follow previous l) refl o))
-    (λ l. model_whole e has k l (is_of_model has l.kind l) refl o)
+next_whole e counts n has previous k p o g = grind (arith, common_steps)
 
 no_fault : (k : ℕ) (text : List ℕ) → length text ≤ LINE_BYTES → piece_fault k (record { text = text; ended = true }) ≡ None
-no_fault k text h =
-    let t : ltb LINE_BYTES (length text) ≡ false = grind (arith, nat_tests) in
-    rw t refl
+no_fault k text h = grind (arith, common_steps)
 
 not_cut : (k : ℕ) (text : List ℕ) → length text ≤ LINE_BYTES → piece_fault k (record { text = text; ended = true }) ≡ Some fault.Truncated → ⊥
 not_cut k text h e = let z = sym (no_fault k text h) ∙ e in cc
@@ -82,16 +56,12 @@ pub record ReadsLines {A : Type 0} (f : ℕ → Piece → Result A CertFault) : 
 read_none : {A : Type 0} (f : List ℕ → Result A LineFault) (k : ℕ) (p : Piece) (e : CertFault) → piece_fault k p ≡ Some e → read_line f k p ≡ Err e
 read_none f k p e h = rw h refl
 
-pub line_reads : {A : Type 0} (f : List ℕ → Result A LineFault) → ReadsLines (read_line f)
-line_reads f = record { none = read_none f; whole = λ k text h. read_whole fault.Truncated f k (record { text = text; ended = true }) tt (not_cut k text h) }
-
 pub next_reads : (counts : Bool) (n : ℕ) (has : ℕ → ℕ → Bool) (previous : Option BodyLine) → ReadsLines (next_line counts n has previous)
 next_reads counts n has previous = record { none = no_line_next counts n has previous; whole = λ k text h. next_whole fault.Truncated counts n has previous k (record { text = text; ended = true }) tt (not_cut k text h) }
 
 -- A fault of the line that is held, whatever follows it.
 stays : {R A : Type 0} (left : Option (List ℕ)) (f : ℕ → Piece → Result A CertFault) (s : LineView R) (e : CertFault) → (e ≡ fault.Truncated → ⊥) → ((future : List ℕ) → f (s.number + 1) (piece_at (pieces_of (s.held ++ future)) 0) ≡ Err e) → NoNextLine left f s (Cert e)
-stays left f s fault.Truncated g h = absurd (g refl)
-stays left f s _ g h = h
+stays left f s e g h = grind (arith, common_steps)
 
 pub line_wrong : {R A : Type 0} (left : Option (List ℕ)) (f : ℕ → Piece → Result A CertFault) (s : LineView R) (count : ℕ) (e : CertFault) → ReadsLines f → IsLine s.held count → f (s.number + 1) (held_piece count s.held) ≡ Err e → NoNextLine left f s (Cert e)
 line_wrong left f s count e r h bad =
@@ -102,61 +72,30 @@ line_wrong left f s count e r h bad =
     (λ future. ap (λ (ps : List Piece). f (s.number + 1) (piece_at ps 0)) (line_held s.held count h.ends future) ∙ bad)
 
 memory_at : (k : ℕ) (long ended : Bool) → cond long (Some (fault.Text k)) (cond ended None (Some fault.Truncated)) ≡ Some fault.NoMemory → ⊥
-memory_at k true ended h = cc
-memory_at k false true h = cc
-memory_at k false false h = cc
+memory_at k long ended h = grind (arith, common_steps)
 
 -- That there is no further line is no want of memory.
 pub lacks_no_memory : {R T : Type 0} (left : Option (List ℕ)) (counts : Bool) (n : ℕ) (has : ℕ → ℕ → Bool) (previous : Option BodyLine) (s : LineView R) (e : StreamFault) → NoNextLine left (next_line counts n has previous) s e → (let r : Result T StreamFault = Err e in r ≡ Err (Cert fault.NoMemory)) → ⊥
-lacks_no_memory left counts n has previous s (Cert fault.NoMemory) h z =
-    let p = piece_at (pieces_of (s.held ++ [])) 0 in
-    next_whole fault.NoMemory counts n has previous (s.number + 1) p tt (memory_at (s.number + 1) (nat_lt LINE_BYTES (length p.text)) p.ended) (h [])
-lacks_no_memory left counts n has previous s _ h z = cc
+lacks_no_memory left counts n has previous s e h z = grind (arith, common_steps, (piece_at (pieces_of (s.held ++ [])) 0), (memory_at (s.number + 1) (nat_lt LINE_BYTES (length (piece_at (pieces_of (s.held ++ [])) 0).text)) (piece_at (pieces_of (s.held ++ [])) 0).ended))
 
 -- A fault of one thing, as one of another.
 pub fault_as : (left : Option (List ℕ)) (taken : ℕ) (has had : List ℕ → CertFault → Type 0) (p q : PitFault → Type 0) (e : StreamFault) → ((future : List ℕ) (x : CertFault) → has future x → had future x) → ((x : PitFault) → p x → q x) → FaultIs left taken has p e → FaultIs left taken had q e
-fault_as left taken has had p q Device f g h = tt
-fault_as left taken has had p q InputTooLong f g h = h
-fault_as left taken has had p q (Cert fault.Truncated) f g h = (h.0, h.1, f [] fault.Truncated h.2)
-fault_as left taken has had p q (Cert (fault.Text k)) f g h = λ future. f future (fault.Text k) (h future)
-fault_as left taken has had p q (Cert (fault.Number k)) f g h = λ future. f future (fault.Number k) (h future)
-fault_as left taken has had p q (Cert (fault.OutOfOrder k)) f g h = λ future. f future (fault.OutOfOrder k) (h future)
-fault_as left taken has had p q (Cert (fault.UnknownPair k)) f g h = λ future. f future (fault.UnknownPair k) (h future)
-fault_as left taken has had p q (Cert fault.NoMemory) f g h = λ future. f future fault.NoMemory (h future)
-fault_as left taken has had p q (Pit e) f g h = g e h
+fault_as left taken has had p q e f g h = grind (arith, common_steps)
 
 -- A line that was passed, or not.
 pub passes : {R : Type 0} (remaining : R → Option (List ℕ)) (before mid later : LineView R) (count : ℕ) (m : ReadsSome remaining before mid) → IsLine mid.held count → GoesBehind count mid later → PassesLine remaining before later m.0 count
-passes {R = R} remaining before mid later count m h b =
-    let r = m.1 in
-    record {
-      given = subst (λ (x : R). Consumes (remaining before.from) (remaining x) m.0) (sym b.from) r.given;
-      line = subst (λ (t : List ℕ). IsLine t count) r.held h;
-      held = b.held ∙ ap (drop (count + 1)) r.held;
-      taken = b.taken ∙ r.taken;
-      number = b.number ∙ ap (λ (k : ℕ). k + 1) r.number;
-    }
+passes {R = R} remaining before mid later count m h b = grind (arith, common_steps)
 
 -- What a line gives, as the line of its text.
 gives : {A : Type 0} (f : List ℕ → Result A LineFault) (held text : List ℕ) (count k : ℕ) → IsLine held count → text ≡ take count held → in_line k (f text) ≡ read_line f k (held_piece count held)
-gives f held text count k h e =
-    let size : length (take count held) ≡ count = length-take-le count held (let i = h.inside in omega (arith, i)) in
-    let short : length (take count held) ≤ LINE_BYTES = let i = h.short in omega (arith, size, i) in
-    ap (λ (t : List ℕ). in_line k (f t)) e ∙ sym (ap (λ (o : Option CertFault). unless_fault o (in_line k (f (take count held)))) (no_fault k (take count held) short))
+gives f held text count k h e = grind (arith, common_steps)
 
 abbrev pub PassedWhere : {R A : Type 0} → LineView R → LineView R → ℕ → Result A StreamFault → Result A CertFault → Type 0
 PassedWhere before later count result read = MatchResult read (λ x. (result ≡ Ok x) × GoesBehind count before later) (λ e. (result ≡ Err (Cert e)) × (later ≡ before))
 
 given_by : {R A : Type 0} (remaining : R → Option (List ℕ)) (f : List ℕ → Result A LineFault) (before mid later : LineView R) (count : ℕ) (result : Result A StreamFault) (read : Result A CertFault) (m : ReadsSome remaining before mid) → IsLine mid.held count
     → read_line f (mid.number + 1) (held_piece count mid.held) ≡ read → PassedWhere mid later count result read → MatchResult result (λ x. TakesLine remaining (read_line f) before later x) (λ e. LacksLine remaining (read_line f) before later e)
-given_by {R = R} {A = A} remaining f before mid later count result (Ok x) m h e p =
-    let r = m.1 in
-    let here : read_line f (before.number + 1) (held_piece count (before.held ++ m.0)) ≡ Ok x = ap (λ (k : ℕ). read_line f (k + 1) (held_piece count (before.held ++ m.0))) (sym r.number) ∙ ap (λ (t : List ℕ). read_line f (mid.number + 1) (held_piece count t)) (sym r.held) ∙ e in
-    subst (λ (y : Result A StreamFault). MatchResult y (λ x. TakesLine remaining (read_line f) before later x) (λ e. LacksLine remaining (read_line f) before later e)) (sym p.0)
-    (m.0, count, passes remaining before mid later count m h p.1, here)
-given_by {R = R} {A = A} remaining f before mid later count result (Err x) m h e p =
-    subst (λ (y : Result A StreamFault). MatchResult y (λ x. TakesLine remaining (read_line f) before later x) (λ e. LacksLine remaining (read_line f) before later e)) (sym p.0)
-    (subst (λ (s : LineView R). LacksLine remaining (read_line f) before s (Cert x)) (sym p.1) (m, line_wrong (remaining mid.from) (read_line f) mid count x (line_reads f) h e))
+given_by {R = R} {A = A} remaining f before mid later count result read m h e p = grind (arith, common_steps, passes, line_wrong, read_none, read_whole, not_cut)
 
 pub line_given : {R A : Type 0} (remaining : R → Option (List ℕ)) (f : List ℕ → Result A LineFault) (before mid later : LineView R) (count number : ℕ) (text : List ℕ) (result : Result A StreamFault) (read : Result A CertFault) → ReadsSome remaining before mid → IsLine mid.held count
     → number ≡ mid.number → text ≡ take count mid.held → read ≡ in_line (number + 1) (f text) → PassedWhere mid later count result read → MatchResult result (λ x. TakesLine remaining (read_line f) before later x) (λ e. LacksLine remaining (read_line f) before later e)
@@ -165,13 +104,11 @@ line_given remaining f before mid later count number text result read m h k t e 
 
 -- What holds of a result by every i of a kind, case by case.
 pub each_case : {I A E : Type 0} (J : I → Type 0) (P : I → A → Type 0) (Q : I → E → Type 0) (r : Result A E) → ((i : I) → J i → MatchResult r (P i) (Q i)) → MatchResult r (λ x. (i : I) → J i → P i x) (λ e. (i : I) → J i → Q i e)
-each_case J P Q (Ok x) h = h
-each_case J P Q (Err e) h = h
+each_case J P Q r h = grind (arith, common_steps)
 
 -- Whether a pair was found among the model's.
 pub found_or_not : (pairs : List (ℕ × ℕ)) (b p : ℕ) (o : Option ℕ) → MatchOption o (Contains pairs (b, p) → ⊥) (λ k. (k < length pairs) × (get_or pairs k (0, 0) ≡ (b, p))) → is_some o ≡ has_pair pairs b p
-found_or_not pairs b p (Some k) h = sym (present b p pairs k h.0 h.1)
-found_or_not pairs b p None h = sym (absent b p pairs h)
+found_or_not pairs b p o h = grind (arith, common_steps, present, absent)
 
 pub rest_of_model : (has : ℕ → ℕ → Bool) (line : BodyLine) (t : Bool) → line.kind ≡ Rest → t ≡ has line.block line.other → t ≡ is_of_model has line.kind line
 rest_of_model has line t e h = rw e h

@@ -9,6 +9,7 @@ use Rattle.ordered_group.proofs.Numbers.{over, over-numbers, over-first}
 use Rattle.ordered_group.proofs.Steps.{total_step, fits_there}
 use Rattle.prec_file.specs.Rests.{numbers}
 use Rattle.prec_file.proofs.Passing.{passing_at, passing_here, passing_after}
+use Rattle.std.proofs.lemmas.Grind.{common_steps}
 
 -- the sum over the pairs that end at b, by their list
 all_over : (end : ℕ → ℕ) (f : ℕ → Amount) (m b : ℕ) → over f (numbers end b m) (length (numbers end b m)) ≡ at_end end f m b
@@ -49,21 +50,13 @@ sum_more start f ks i old new x p q r =
 pub fits_more : (start : Amount) (f : ℕ → Amount) (ks : List ℕ) (i : ℕ) (old x : Amount) → old ≡ plus start (over f ks i) → f (get_or ks i 0) ≡ x → FitsPair (plus old x) → ListFits start f ks i → ListFits start f ks (i + 1)
 fits_more start f ks i old x p q h l = below_more _ i l (fits_there old x (plus start (over f ks i)) (f (get_or ks i 0)) p q h)
 
-pub overflows_here : (start : Amount) (f : ℕ → Amount) (ks : List ℕ) (i : ℕ) (old x : Amount) → old ≡ plus start (over f ks i) → f (get_or ks i 0) ≡ x → ¬ (FitsPair (plus old x)) → ¬ (FitsPair (plus (plus start (over f ks i)) (f (get_or ks i 0))))
-overflows_here start f ks i old x p q h = λ k. h (fits_there (plus start (over f ks i)) (f (get_or ks i 0)) old x (sym p) (sym q) k)
-
 -- sums over a list that was handed over as the numbers of the pairs that end at b
 module _ (start : Amount) (end : ℕ → ℕ) (f : ℕ → Amount) (b m : ℕ) (ks : List ℕ) (is : ks ≡ numbers end b m) where
   pub number_below : (i : ℕ) → i < length ks → get_or ks i 0 < m
-  number_below i l =
-      let P : List ℕ → Type 0 = λ xs. (i : ℕ) → i < length xs → get_or xs i 0 < m in
-      subst P (sym is) (λ j h. (passing_at (λ k. end k == b) m j h).below) i l
+  number_below i l = grind (arith, common_steps, passing_at)
 
   pub all_in : (i : ℕ) (sum : Amount) → i ≡ length ks → sum ≡ plus start (over f ks i) → sum ≡ plus start (at_end end f m b)
-  all_in i sum e h =
-      let Q : ℕ → Type 0 = λ j. sum ≡ plus start (over f ks j) in
-      let P : List ℕ → Type 0 = λ xs. sum ≡ plus start (over f xs (length xs)) in
-      subst P is (subst Q e h) ∙ ap (plus start) (all_over end f m b)
+  all_in i sum e h = grind (arith, common_steps, over, all_over)
 
   pub all_fit : (i : ℕ) → i ≡ length ks → ListFits start f ks i → EndFits start end f b m
   all_fit i e h =
@@ -72,7 +65,4 @@ module _ (start : Amount) (end : ℕ → ℕ) (f : ℕ → Amount) (b m : ℕ) (
       fits_from_list start end f b m (subst P is (subst Q e h))
 
   pub one_overflows : (i : ℕ) (old x : Amount) → i < length ks → old ≡ plus start (over f ks i) → f (get_or ks i 0) ≡ x → ¬ (FitsPair (plus old x)) → EndOverflows start end f b m
-  one_overflows i old x l p q h =
-      let P : List ℕ → Type 0 = λ xs. (i < length xs) × ¬ (FitsPair (plus (plus start (over f xs i)) (f (get_or xs i 0)))) in
-      let z = subst P is (l, overflows_here start f ks i old x p q h) in
-      overflows_from_list start end f b m i z.0 z.1
+  one_overflows i old x l p q h = grind (arith, common_steps, over, overflows_from_list, fits_there)

@@ -5,7 +5,7 @@ use Rattle.ordered_group.specs.Amount.{zero_amount}
 use Rattle.ordered_group.specs.Sums.{amount_at}
 use Rattle.prec_file.specs.Rests.{IsFirstNot}
 use Rattle.closure_net.specs.Network.{NetView, holds_of}
-use Rattle.closure_net.specs.Flows.{IsBalancedAt, IsTight}
+use Rattle.closure_net.specs.Flows.{IsTight}
 use Rattle.certificate_file.specs.declared.body_lines.BodyLine.{BodyLine}
 use Rattle.certificate_file.specs.Certificate.{pit_of}
 use Rattle.check_pit.specs.LineSums.{flow_of}
@@ -15,17 +15,12 @@ use Rattle.std.proofs.lemmas.Grind.{common_steps}
 
 -- ---- all lines
 
--- the first balance other than zero is that of the first block that the flow doesn't balance
-pub unbalanced_flow : (net : NetView) (ls : List BodyLine) (room : RoomView) (b : ℕ) → LinesTell net ls → AreSumsOf net ls room → IsFirstNot (λ k. amount_at room.balances k ≡ zero_amount) (length net.worths) b
-    → IsFirstNot (IsBalancedAt net (flow_of (length net.worths) net.pairs ls)) (length net.worths) b
-unbalanced_flow net ls room b t s h = grind (arith, common_steps)
-
 -- the pit is tight by the flow exactly where it is worth what is left
 pub tight_flow : (net : NetView) (ls : List BodyLine) (room : RoomView) → LinesTell net ls → AreSumsOf net ls room → (room.worth ≡ room.left) ↔ IsTight net (flow_of (length net.worths) net.pairs ls) (holds_of (pit_of ls))
 tight_flow net ls room t s = (λ e. t.tight.1 (sym s.worth ∙ e ∙ s.left), λ h. s.worth ∙ t.tight.0 h ∙ sym s.left)
 
 pub first_told : (net : NetView) (room : RoomView) (b : ℕ) → IsFirstNot (λ k. amount_at room.balances k ≡ zero_amount) (length net.worths) b → IsFirstUnbalanced net room b
-first_told net room b h = λ ls t s. unbalanced_flow net ls room b t s h
+first_told net room b h = λ ls t s. grind (arith, common_steps)
 
 pub tight_told : (net : NetView) (room : RoomView) (r : Bool) → IsTrue r ↔ (room.worth ≡ room.left) → TellsTight net room r
 tight_told net room r e = λ ls t s. let q = tight_flow net ls room t s in (λ h. q.0 (e.0 h), λ h. e.1 (q.1 h))

@@ -1,5 +1,5 @@
 -- What comes of putting a line of each kind into a room.
-use Rattle.std.proofs.Common.{◌≡◌, ◌≢◌, ℕ, ◌<◌, ◌≤◌, eqb, inl, inr, List, [], ◌∷◌, ◌++◌, length, refl, sym, ap, ◌∙◌, subst, arith, Result, Ok, Err, MatchResult, get_or-set_other}
+use Rattle.std.proofs.Common.{◌≡◌, ◌≢◌, ℕ, ◌<◌, eqb, length, refl, sym, subst, arith, Result, Ok, Err, MatchResult, get_or-set_other}
 use Rattle.std.specs.Prelude.{IfOk, IfErr}
 use Rattle.std.proofs.lemmas.List.{length-append}
 use Rattle.std.proofs.Math.Seq.{get_or-append_seam}
@@ -9,7 +9,7 @@ use Rattle.ordered_group.specs.Amount.{Amount, zero_amount, plus, minus, AtMost,
 use Rattle.ordered_group.specs.Sums.{where_so, amount_at}
 use Rattle.ordered_group.proofs.Steps.{fits_same}
 use Rattle.ordered_group.proofs.Totals.{plus-zero_right}
-use Rattle.closure_net.specs.Network.{NetView, IsAscending}
+use Rattle.closure_net.specs.Network.{NetView}
 use Rattle.closure_net.proofs.Ascending.{apart_by_places}
 use Rattle.check_pit.specs.declared.pit_fault.PitFault.{PitFault}
 use Rattle.check_pit.specs.declared.pit_fault.PitFault.TheVariants.{TooLarge}
@@ -17,39 +17,25 @@ use Rattle.certificate_file.specs.declared.body_lines.LineKind.TheVariants.{Pit,
 use Rattle.certificate_file.specs.declared.body_lines.BodyLine.{BodyLine}
 use Rattle.certificate_file.specs.Certificate.{amount_of}
 use Rattle.check_pit.specs.LineSums.{keeps_by}
-use Rattle.check_pit.specs.Rooms.{RoomView, MayPut, TakesBlock, WithLine, SumOverflowsWith, RefusedWhere, PutsLine, RefusesLine, with_balance, with_left}
-use Rattle.check_pit.proofs.RoomSums.{puts_line, refuses_line, with_source, with_sink}
+use Rattle.check_pit.specs.Rooms.{RoomView, MayPut, WithLine, SumOverflowsWith, RefusedWhere, PutsLine, RefusesLine, with_balance, with_left}
+use Rattle.check_pit.proofs.RoomSums.{puts_line, refuses_line, with_sink}
 use Rattle.std.proofs.lemmas.Grind.{common_steps}
 
 -- ---- space for a block that stands behind those before it
 
-pub space_for : (xs : List ℕ) (b n s : ℕ) → IsAscending (xs ++ b ∷ []) → b < n → n ≤ s → length xs < s
-space_for xs b n s a h k = grind (arith, common_steps, length-append, get_or-append_seam, apart_by_places)
-
 pub block_space : (net : NetView) (room : RoomView) (line : BodyLine) → line.kind ≡ Pit → MayPut net room line → length room.blocks < room.space
-block_space net room line is may =
-    let takes : TakesBlock Pit room line.block = rw is at may.takes in
-    space_for room.blocks line.block (length net.worths) room.space takes.1 may.block (may.fits.space takes.0)
+block_space net room line is may = grind (arith, common_steps, length-append, get_or-append_seam, apart_by_places)
 
 -- ---- sums that don't fit
 
 pub block_over : (net : NetView) (l : BodyLine) (room : RoomView) (x : Amount) → l.kind ≡ Pit → x ≡ amount_at net.worths l.block → ¬ (FitsPair (plus room.worth x)) → RefusedWhere net l (SumOverflowsWith net room l) TooLarge
-block_over net l room x is e n =
-    rw is (tt, inr (inl (λ f. n (fits_same _ _ (ap (plus room.worth) (e ∙ sym (plus-zero_right (amount_at net.worths l.block)))) f))))
+block_over net l room x is e n = grind (arith, common_steps, fits_same, plus-zero_right)
 
 sink_here : (y x : Amount) (b : ℕ) → minus y x ≡ plus y (minus zero_amount (where_so (eqb b b) x))
 sink_here y x b = let e = eq-eqb b b refl in rw e (Amount_eq _ _ (omega (arith, ints)) (omega (arith, ints)))
 
 to_here : (y x : Amount) (b p : ℕ) → b ≢ p → plus y x ≡ plus y (minus (where_so (eqb p p) x) (where_so (eqb b p) x))
 to_here y x b p d = let e = eq-eqb p p refl in let f = ne_eqb b p d in rw (e, f) (Amount_eq _ _ (omega (arith, ints)) (omega (arith, ints)))
-
-left_over : (net : NetView) (l : BodyLine) (room : RoomView) (x : Amount) → l.kind ≡ Source → x ≡ amount_of l → keeps_by Source net.worths l → ¬ (FitsPair (minus room.left x)) → RefusedWhere net l (SumOverflowsWith net room l) TooLarge
-left_over net l room x is e k n = rw is (k, inr (inr (λ f. n (fits_same _ _ (ap (minus room.left) e) f))))
-
-sink_over : (net : NetView) (l : BodyLine) (room : RoomView) (x : Amount) → l.kind ≡ Sink → l.block < length net.worths → x ≡ amount_of l → keeps_by Sink net.worths l
-    → ¬ (FitsPair (minus (amount_at room.balances l.block) x)) → RefusedWhere net l (SumOverflowsWith net room l) TooLarge
-sink_over net l room x is h e k n =
-    rw is (k, inl (l.block, h, λ f. n (fits_same _ _ (ap (minus (amount_at room.balances l.block)) e ∙ sink_here (amount_at room.balances l.block) (amount_of l) l.block) f)))
 
 pub to_over : (net : NetView) (l : BodyLine) (room mid : RoomView) (x : Amount) → l.kind ≡ Rest → l.block ≢ l.other → l.other < length net.worths → x ≡ amount_of l → AtMost zero_amount (amount_of l)
     → mid ≡ with_balance l.block (minus (amount_at room.balances l.block) x) room → ¬ (FitsPair (plus (amount_at mid.balances l.other) x)) → RefusedWhere net l (SumOverflowsWith net room l) TooLarge
@@ -61,17 +47,13 @@ pub source_put : {U : Type 0} (net : NetView) (l : BodyLine) (before mid later :
     → mid ≡ with_balance l.block (plus (amount_at before.balances l.block) x) before
     → MatchResult r (λ _. later ≡ with_left (minus mid.left x) mid) (λ e. (e ≡ TooLarge) × (later ≡ mid) × ¬ (FitsPair (minus mid.left x)))
     → MatchResult r (λ _. WithLine net l before later × keeps_by Source net.worths l) (λ e. RefusedWhere net l (SumOverflowsWith net before l) e)
-source_put net l before mid later x (Ok u) is h e k m w = (with_source net l before mid later x is h e m w, k)
-source_put net l before mid later x (Err d) is h e k m w =
-    let same : mid.left ≡ before.left = ap (λ (r : RoomView). r.left) m in
-    subst (λ (f : PitFault). RefusedWhere net l (SumOverflowsWith net before l) f) (sym w.0)
-    (left_over net l before x is e k (λ f. w.2 (fits_same _ _ (ap (λ (y : Amount). minus y x) same) f)))
+source_put net l before mid later x r is h e k m w = grind (arith, common_steps)
 
 pub sink_put : {U : Type 0} (net : NetView) (l : BodyLine) (before later : RoomView) (x : Amount) (r : Result U PitFault) → l.kind ≡ Sink → l.block < length net.worths → length before.balances ≡ length net.worths → x ≡ amount_of l → keeps_by Sink net.worths l
     → MatchResult r (λ _. later ≡ with_balance l.block (minus (amount_at before.balances l.block) x) before) (λ e. (e ≡ TooLarge) × (later ≡ before) × ¬ (FitsPair (minus (amount_at before.balances l.block) x)))
     → MatchResult r (λ _. WithLine net l before later × keeps_by Sink net.worths l) (λ e. RefusedWhere net l (SumOverflowsWith net before l) e)
 sink_put net l before later x (Ok u) is h s e k w = (with_sink net l before later x is (omega (arith, h, s)) e w, k)
-sink_put net l before later x (Err d) is h s e k w = subst (λ (f : PitFault). RefusedWhere net l (SumOverflowsWith net before l) f) (sym w.0) (sink_over net l before x is h e k w.2)
+sink_put net l before later x (Err d) is h s e k w = subst (λ (f : PitFault). RefusedWhere net l (SumOverflowsWith net before l) f) (sym w.0) (grind (arith, common_steps, fits_same, sink_here))
 
 -- ---- a line behind those whose sums the room has
 

@@ -1,22 +1,20 @@
 -- The sums of a room, with one line more.
-use Rattle.std.proofs.Common.{◌≡◌, ◌≢◌, ℕ, suc, set, ◌+◌, ◌⊎◌, ◌<◌, Bool, true, false, eqb, inl, inr, List, [], ◌∷◌, ◌++◌, length, map, refl, sym, ap, ◌∙◌, subst, arith, append-nil, Option, Some, None, get_or-set_same, get_or-set_other}
+use Rattle.std.proofs.Common.{◌≡◌, ℕ, set, ◌+◌, ◌<◌, Bool, false, eqb, List, [], ◌∷◌, ◌++◌, length, map, refl, sym, ap, ◌∙◌, arith, append-nil, Option}
 use Rattle.std.proofs.lemmas.Int.{ints}
-use Rattle.std.proofs.lemmas.List.{length-map, length-set, map-set}
-use Rattle.std.proofs.lemmas.Bool.{cases_eq, eqb-true, eqb-false}
+use Rattle.std.proofs.lemmas.List.{length-set, map-set}
 use Rattle.ordered_group.specs.Amount.{Amount, zero_amount, plus, minus, Amount_eq}
 use Rattle.ordered_group.specs.Sums.{where_so, amount_at}
 use Rattle.ordered_group.proofs.Totals.{plus-zero_left, plus-zero_right, plus-assoc}
 use Rattle.ordered_group.proofs.Steps.{fits_same}
 use Rattle.closure_net.specs.Network.{NetView}
 use Rattle.check_pit.specs.declared.pit_fault.PitFault.{PitFault}
-use Rattle.check_pit.specs.declared.pit_fault.PitFault.TheVariants.{WrongSize, NotClosed, Negative, OverCapacity, Unbalanced, NotTight, TooLarge}
-use Rattle.certificate_file.specs.declared.body_lines.LineKind.TheVariants.{Source, Rest, Sink, End}
+use Rattle.certificate_file.specs.declared.body_lines.LineKind.TheVariants.{Rest, Sink, End}
 use Rattle.certificate_file.specs.declared.body_lines.BodyLine.{BodyLine}
 use Rattle.certificate_file.specs.Certificate.{block_if_pit, pit_of, amount_of}
 use Rattle.check_pit.specs.LineSums.{brings_by, balance_of, source_by, source_sum, worth_of_blocks, residual_behind, SomeLineSumOverflows}
 use Rattle.std.specs.Option.{is_some}
 use Rattle.check_pit.specs.PitLists.{blocks_of_pit}
-use Rattle.check_pit.specs.Rooms.{RoomView, IsRoomFor, AreSumsOf, WithLine, SumOverflowsWith, RefusedWhere, PutsLine, RefusesLine, with_balance, with_left}
+use Rattle.check_pit.specs.Rooms.{RoomView, AreSumsOf, WithLine, SumOverflowsWith, RefusedWhere, PutsLine, RefusesLine, with_balance}
 use Rattle.certificate_file.proofs.ValueLines.{joins}
 use Rattle.std.proofs.lemmas.Grind.{common_steps}
 
@@ -49,22 +47,14 @@ worth_with ws ls l = ap (worth_of_blocks ws) (pit_more ls l) ∙ worth_more ws (
 
 -- ---- a line that is put, and one that is refused, behind the lines whose sums the room has
 
-fits_still : (net : NetView) (l : BodyLine) (before later : RoomView) → WithLine net l before later → IsRoomFor net before → IsRoomFor net later
-fits_still net l before later w f = grind (arith, common_steps)
-
 pub puts_line : (net : NetView) (l : BodyLine) (before later : RoomView) → WithLine net l before later → PutsLine net l before later
-puts_line net l before later w = grind (arith, common_steps, fits_still, balance_more, pit_more, worth_with, left_more)
+puts_line net l before later w = grind (arith, common_steps, balance_more, pit_more, worth_with, left_more)
 
 overflows : (net : NetView) (ls : List BodyLine) (l : BodyLine) (room : RoomView) → AreSumsOf net ls room → SumOverflowsWith net room l → SomeLineSumOverflows net (ls ++ l ∷ [])
-overflows net ls l room s (inl h) = inl (h.0, h.1, λ f. h.2 (fits_same _ _ (ap (λ (x : Amount). plus x (brings_by l.kind l h.0)) (s.balances h.0 h.1) ∙ sym (balance_more ls l h.0)) f))
-overflows net ls l room s (inr (inl h)) = inr (inl (λ f. h (fits_same _ _ (ap (λ (x : Amount). plus x (worth_of_blocks net.worths (block_if_pit l.kind l.block []))) s.worth ∙ sym (worth_with net.worths ls l)) f)))
-overflows net ls l room s (inr (inr h)) = inr (inr (λ f. h (fits_same _ _ (ap (λ (x : Amount). minus x (source_by l.kind (amount_of l))) s.left ∙ sym (left_more net.worths ls l)) f)))
+overflows net ls l room s h = grind (arith, common_steps, fits_same, balance_more, worth_with, left_more)
 
 refused_more : (net : NetView) (l : BodyLine) (P Q : Type 0) → (P → Q) → (e : PitFault) → RefusedWhere net l P e → RefusedWhere net l Q e
-refused_more net l P Q f Negative h = h
-refused_more net l P Q f (OverCapacity b) h = h
-refused_more net l P Q f TooLarge h = (h.0, f h.1)
-refused_more net l P Q f _ h = absurd h
+refused_more net l P Q f e h = grind (arith, common_steps)
 
 pub refuses_line : (net : NetView) (l : BodyLine) (room : RoomView) (e : PitFault) → RefusedWhere net l (SumOverflowsWith net room l) e → RefusesLine net l room e
 refuses_line net l room e h = λ ls s. refused_more net l (SumOverflowsWith net room l) (SomeLineSumOverflows net (ls ++ l ∷ [])) (overflows net ls l room s) e h
@@ -72,29 +62,15 @@ refuses_line net l room e h = λ ls s. refused_more net l (SumOverflowsWith net 
 -- ---- one balance changed
 
 added_at : (xs : List Amount) (b k : ℕ) (x : Amount) (t : Bool) → b < length xs → eqb b k ≡ t → amount_at (set xs b (plus (amount_at xs b) x)) k ≡ plus (amount_at xs k) (where_so t x)
-added_at xs b k x true h e =
-    subst (λ (i : ℕ). amount_at (set xs b (plus (amount_at xs b) x)) i ≡ plus (amount_at xs i) x) (eqb-true b k e) (get_or-set_same xs b (plus (amount_at xs b) x) zero_amount h)
-added_at xs b k x false h e = get_or-set_other xs b k (plus (amount_at xs b) x) zero_amount (λ d. eqb-false b k e (sym d)) ∙ sym (plus-zero_right (amount_at xs k))
-
-less_as_more : (y x : Amount) → minus y x ≡ plus y (minus zero_amount x)
-less_as_more y x = Amount_eq _ _ (omega (arith, ints)) (omega (arith, ints))
+added_at xs b k x t h e = grind (arith, common_steps)
 
 taken_at : (xs : List Amount) (b k : ℕ) (x : Amount) (t : Bool) → b < length xs → eqb b k ≡ t → amount_at (set xs b (minus (amount_at xs b) x)) k ≡ plus (amount_at xs k) (minus zero_amount (where_so t x))
-taken_at xs b k x true h e =
-    subst (λ (i : ℕ). amount_at (set xs b (minus (amount_at xs b) x)) i ≡ plus (amount_at xs i) (minus zero_amount x)) (eqb-true b k e) (get_or-set_same xs b (minus (amount_at xs b) x) zero_amount h ∙ less_as_more (amount_at xs b) x)
-taken_at xs b k x false h e = get_or-set_other xs b k (minus (amount_at xs b) x) zero_amount (λ d. eqb-false b k e (sym d)) ∙ sym (plus-zero_right (amount_at xs k))
+taken_at xs b k x t h e = grind (arith, common_steps)
 
 moved : (y u v : Amount) → plus (plus y (minus zero_amount u)) v ≡ plus y (minus v u)
 moved y u v = Amount_eq _ _ (omega (arith, ints)) (omega (arith, ints))
 
-none_taken : (y : Amount) → y ≡ minus y zero_amount
-none_taken y = Amount_eq _ _ (omega (arith, ints)) (omega (arith, ints))
-
 -- ---- what lines of each kind bring
-
-pub with_source : (net : NetView) (l : BodyLine) (before mid later : RoomView) (x : Amount) → l.kind ≡ Source → l.block < length before.balances → x ≡ amount_of l
-    → mid ≡ with_balance l.block (plus (amount_at before.balances l.block) x) before → later ≡ with_left (minus mid.left x) mid → WithLine net l before later
-with_source net l before mid later x is h e m w = grind (arith, common_steps)
 
 pub with_sink : (net : NetView) (l : BodyLine) (before later : RoomView) (x : Amount) → l.kind ≡ Sink → l.block < length before.balances → x ≡ amount_of l
     → later ≡ with_balance l.block (minus (amount_at before.balances l.block) x) before → WithLine net l before later
@@ -102,13 +78,12 @@ with_sink net l before later x is h e w = grind (arith, common_steps)
 
 pub with_rest : (net : NetView) (l : BodyLine) (before mid later : RoomView) (x : Amount) → l.kind ≡ Rest → l.block < length before.balances → l.other < length before.balances → x ≡ amount_of l
     → mid ≡ with_balance l.block (minus (amount_at before.balances l.block) x) before → later ≡ with_balance l.other (plus (amount_at mid.balances l.other) x) mid → WithLine net l before later
-with_rest net l before mid later x is h i e m w = grind (arith, common_steps, length-set, added_at, eqb, taken_at, moved, append-nil, plus-zero_right, none_taken)
+with_rest net l before mid later x is h i e m w = grind (arith, common_steps, length-set, added_at, eqb, taken_at, moved, append-nil, plus-zero_right)
 
 -- ---- the list of a pit that is not made yet
 
 pub blocks_open : (bs : List ℕ) (p : Option (List ℕ)) → is_some p ≡ false → blocks_of_pit bs p ≡ bs
-blocks_open bs None h = refl
-blocks_open bs (Some pit) h = absurd (let z : true ≡ false = h in cc)
+blocks_open bs p h = grind (arith, common_steps)
 
 -- ---- fields of a room changed in place
 
@@ -124,10 +99,5 @@ with_end net l room is = grind (arith, common_steps)
 pub cleared_size : {X : Type 0} (xs : List X) (b : ℕ) (x : X) (n : ℕ) → length xs ≡ n → length (set xs b x) ≡ n
 cleared_size xs b x n e = length-set xs b x ∙ e
 
-cleared_at : {X : Type 0} (f : X → Amount) (xs : List X) (b k : ℕ) (x : X) → b < length xs → f x ≡ zero_amount → ((k : ℕ) → k < b → amount_at (map f xs) k ≡ zero_amount) → k < suc b → (k ≡ b) ⊎ (k ≢ b) → amount_at (map f (set xs b x)) k ≡ zero_amount
-cleared_at f xs b k x h z i l (inl e) = grind (arith, common_steps, map-set, get_or-set_same, length-map)
-cleared_at f xs b k x h z i l (inr d) =
-    ap (λ (ys : List Amount). amount_at ys k) (map-set f xs b x) ∙ get_or-set_other (map f xs) b k (f x) zero_amount d ∙ i k (let j : k ≢ b = d in omega arith)
-
 pub cleared_more : {X : Type 0} (f : X → Amount) (xs : List X) (b : ℕ) (x : X) → b < length xs → f x ≡ zero_amount → ((k : ℕ) → k < b → amount_at (map f xs) k ≡ zero_amount) → (k : ℕ) → k < b + 1 → amount_at (map f (set xs b x)) k ≡ zero_amount
-cleared_more f xs b x h z i k l = cleared_at f xs b k x h z i (omega arith) (cases_eq k b)
+cleared_more f xs b x h z i k l = grind (arith, common_steps, (map-set f xs b x))

@@ -2,7 +2,7 @@
 use Rattle.std.proofs.Common.{◌≡◌, ℕ, ◌+◌, List, [], ◌∷◌, ◌++◌, length, drop, Option, Result, Ok, Err, refl, sym, ap, ◌∙◌, arith, append-nil, append_assoc}
 use Rattle.std.specs.Prelude.{None}
 use Rattle.std.specs.Io.KnownBytes.{Consumes}
-use Rattle.std.proofs.KnownBytes.{Consumes-nil, Consumes-trans}
+use Rattle.std.proofs.KnownBytes.{Consumes-nil}
 use Rattle.std.proofs.lemmas.List.{length-append}
 use Rattle.ordered_group.specs.declared.groups.Group.{Group}
 use Rattle.certificate_file.specs.declared.header.Price.{Price}
@@ -19,6 +19,7 @@ use Rattle.check_pit.specs.StreamHeaders.{GivesHeader, LacksHeader}
 use Rattle.certificate_file.proofs.HeaderLines.{all_ok}
 use Rattle.check_pit.proofs.HeldLines.{line_held}
 use Rattle.check_pit.proofs.NextLines.{fault_as}
+use Rattle.std.proofs.lemmas.Grind.{common_steps}
 
 -- k lines were passed, which the text begins with.
 pub record Heads {R : Type 0} (remaining : R → Option (List ℕ)) (before later : LineView R) (bytes : List ℕ) (ps : List Piece) (k : ℕ) : Type 0 where
@@ -34,34 +35,11 @@ shifted : (a b c d : List ℕ) → (a ++ (b ++ c)) ++ d ≡ (a ++ b) ++ (c ++ d)
 shifted a b c d = simp append_assoc
 
 heads_stop : {R : Type 0} (remaining : R → Option (List ℕ)) (before mid later : LineView R) (bytes more : List ℕ) (ps : List Piece) (k : ℕ) → Heads remaining before mid bytes ps k → ReadsBytes remaining mid later more → Heads remaining before later (bytes ++ more) ps k
-heads_stop remaining before mid later bytes more ps k h r =
-    let size = length-append bytes more in
-    let a = h.taken in
-    let b = r.taken in
-    record {
-      given = Consumes-trans (remaining before.from) (remaining mid.from) (remaining later.from) bytes more h.given r.given;
-      taken = omega (arith, size, a, b);
-      number = r.number ∙ h.number;
-      pieces = λ future. ap pieces_of (shifted before.held bytes more future) ∙ h.pieces (more ++ future) ∙ ap (λ (t : List ℕ). ps ++ pieces_of t) (sym (append_assoc mid.held more future)) ∙ ap (λ (t : List ℕ). ps ++ pieces_of (t ++ future)) (sym r.held);
-    }
+heads_stop remaining before mid later bytes more ps k h r = grind (arith, common_steps)
 
 heads_pass : {R : Type 0} (remaining : R → Option (List ℕ)) (before mid later : LineView R) (bytes more : List ℕ) (ps : List Piece) (k count : ℕ) → Heads remaining before mid bytes ps k → PassesLine remaining mid later more count
     → Heads remaining before later (bytes ++ more) (ps ++ held_piece count (mid.held ++ more) ∷ []) (k + 1)
-heads_pass remaining before mid later bytes more ps k count h r =
-    let size = length-append bytes more in
-    let a = h.taken in
-    let b = r.taken in
-    let p = held_piece count (mid.held ++ more) in
-    record {
-      given = Consumes-trans (remaining before.from) (remaining mid.from) (remaining later.from) bytes more h.given r.given;
-      taken = omega (arith, size, a, b);
-      number = r.number ∙ ap (λ (j : ℕ). j + 1) h.number;
-      pieces = λ future. ap pieces_of (shifted before.held bytes more future) ∙ h.pieces (more ++ future)
-          ∙ ap (λ (t : List ℕ). ps ++ pieces_of t) (sym (append_assoc mid.held more future))
-          ∙ ap (λ (qs : List Piece). ps ++ qs) (line_held (mid.held ++ more) count r.line.ends future)
-          ∙ ap (λ (t : List ℕ). ps ++ (p ∷ pieces_of (t ++ future))) (sym r.held)
-          ∙ sym (append_assoc ps (p ∷ []) (pieces_of (later.held ++ future)));
-    }
+heads_pass remaining before mid later bytes more ps k count h r = grind (arith, common_steps, length-append, shifted, append_assoc, line_held)
 
 -- One line more.
 pub record OneMore {R A : Type 0} (remaining : R → Option (List ℕ)) (f : ℕ → Piece → Result A CertFault) (before later : LineView R) (ps : List Piece) (k : ℕ) (x : A) : Type 0 where
@@ -71,12 +49,7 @@ pub record OneMore {R A : Type 0} (remaining : R → Option (List ℕ)) (f : ℕ
   pub said : f (k + 1) piece ≡ Ok x
 
 pub heads_on : {R A : Type 0} (remaining : R → Option (List ℕ)) (f : ℕ → Piece → Result A CertFault) (before mid later : LineView R) (bytes : List ℕ) (ps : List Piece) (k : ℕ) (x : A) → Heads remaining before mid bytes ps k → TakesLine remaining f mid later x → OneMore remaining f before later ps k x
-heads_on remaining f before mid later bytes ps k x h t = record {
-  bytes = bytes ++ t.0;
-  piece = held_piece t.1 (mid.held ++ t.0);
-  heads = heads_pass remaining before mid later bytes t.0 ps k t.1 h t.2;
-  said = ap (λ (j : ℕ). f (j + 1) (held_piece t.1 (mid.held ++ t.0))) (sym h.number) ∙ t.3;
-}
+heads_on remaining f before mid later bytes ps k x h t = grind (arith, common_steps, (heads_pass remaining before mid later bytes t.0 ps k t.1 h t.2))
 
 -- No line more.
 heads_lack : {R A : Type 0} (remaining : R → Option (List ℕ)) (f : ℕ → Piece → Result A CertFault) (before mid later : LineView R) (bytes : List ℕ) (ps : List Piece) (k : ℕ) (e : StreamFault) → Heads remaining before mid bytes ps k → LacksLine remaining f mid later e
@@ -97,15 +70,6 @@ heads_lack remaining f before mid later bytes ps k e h l bad =
 first_bad : (qs : List Piece) (x : CertFault) → read_line version_in 1 (piece_at qs 0) ≡ Err x → header_of qs ≡ Err x
 first_bad qs x h = rw h refl
 
-second_bad : (p : Piece) (v : Version) (qs : List Piece) (x : CertFault) → read_line version_in 1 p ≡ Ok v → read_line (blocks_in None) 2 (piece_at qs 0) ≡ Err x → header_of (p ∷ qs) ≡ Err x
-second_bad p v qs x e h = rw (e, h) refl
-
-third_bad : (p q : Piece) (v : Version) (n : ℕ) (qs : List Piece) (x : CertFault) → read_line version_in 1 p ≡ Ok v → read_line (blocks_in None) 2 q ≡ Ok n → read_line (price_in v) 3 (piece_at qs 0) ≡ Err x → header_of (p ∷ q ∷ qs) ≡ Err x
-third_bad p q v n qs x e f h = rw (e, f, h) refl
-
-fourth_bad : (p q r : Piece) (v : Version) (n : ℕ) (price : Price) (qs : List Piece) (x : CertFault) → read_line version_in 1 p ≡ Ok v → read_line (blocks_in None) 2 q ≡ Ok n → read_line (price_in v) 3 r ≡ Ok price → read_line (group_in None) 4 (piece_at qs 0) ≡ Err x → header_of (p ∷ q ∷ r ∷ qs) ≡ Err x
-fourth_bad p q r v n price qs x e f g h = rw (e, f, g, h) refl
-
 -- The four lines, and each of them missing.
 pub record Two {R : Type 0} (remaining : R → Option (List ℕ)) (s a b : LineView R) (v : Version) (n : ℕ) : Type 0 where
   pub zero : s.number ≡ 0
@@ -121,25 +85,23 @@ one_head remaining s a v z t = heads_on remaining (read_line version_in) s s a [
 pub lacks_second : {R : Type 0} (remaining : R → Option (List ℕ)) (s a b : LineView R) (v : Version) (e : StreamFault) → s.number ≡ 0 → TakesLine remaining (read_line version_in) s a v → LacksLine remaining (read_line (blocks_in None)) a b e → LacksHeader remaining s b e
 lacks_second remaining s a b v e z t l =
     let o = one_head remaining s a v z t in
-    heads_lack remaining (read_line (blocks_in None)) s a b o.bytes (o.piece ∷ []) 1 e o.heads l (λ qs x h. second_bad o.piece v qs x o.said h)
+    heads_lack remaining (read_line (blocks_in None)) s a b o.bytes (o.piece ∷ []) 1 e o.heads l (λ qs x h. rw (o.said, h) refl)
 
 two_heads : {R : Type 0} (remaining : R → Option (List ℕ)) (s a b : LineView R) (v : Version) (n : ℕ) (t : Two remaining s a b v n) → OneMore remaining (read_line (blocks_in None)) s b ((one_head remaining s a v t.zero t.first).piece ∷ []) 1 n
-two_heads remaining s a b v n t =
-    let o = one_head remaining s a v t.zero t.first in
-    heads_on remaining (read_line (blocks_in None)) s a b o.bytes (o.piece ∷ []) 1 n o.heads t.second
+two_heads remaining s a b v n t = grind (arith, common_steps, (one_head remaining s a v t.zero t.first), (heads_on remaining (read_line (blocks_in None)) s a b (one_head remaining s a v t.zero t.first).bytes ((one_head remaining s a v t.zero t.first).piece ∷ []) 1 n (one_head remaining s a v t.zero t.first).heads t.second))
 
 pub lacks_third : {R : Type 0} (remaining : R → Option (List ℕ)) (s a b c : LineView R) (v : Version) (n : ℕ) (e : StreamFault) → Two remaining s a b v n → LacksLine remaining (read_line (price_in v)) b c e → LacksHeader remaining s c e
 lacks_third remaining s a b c v n e t l =
     let o = one_head remaining s a v t.zero t.first in
     let w = two_heads remaining s a b v n t in
-    heads_lack remaining (read_line (price_in v)) s b c w.bytes (o.piece ∷ w.piece ∷ []) 2 e w.heads l (λ qs x h. third_bad o.piece w.piece v n qs x o.said w.said h)
+    heads_lack remaining (read_line (price_in v)) s b c w.bytes (o.piece ∷ w.piece ∷ []) 2 e w.heads l (λ qs x h. rw (o.said, w.said, h) refl)
 
 pub lacks_fourth : {R : Type 0} (remaining : R → Option (List ℕ)) (s a b c d : LineView R) (v : Version) (n : ℕ) (price : Price) (e : StreamFault) → Two remaining s a b v n → TakesLine remaining (read_line (price_in v)) b c price → LacksLine remaining (read_line (group_in None)) c d e → LacksHeader remaining s d e
 lacks_fourth remaining s a b c d v n price e t u l =
     let o = one_head remaining s a v t.zero t.first in
     let w = two_heads remaining s a b v n t in
     let x = heads_on remaining (read_line (price_in v)) s b c w.bytes (o.piece ∷ w.piece ∷ []) 2 price w.heads u in
-    heads_lack remaining (read_line (group_in None)) s c d x.bytes (o.piece ∷ w.piece ∷ x.piece ∷ []) 3 e x.heads l (λ qs y h. fourth_bad o.piece w.piece x.piece v n price qs y o.said w.said x.said h)
+    heads_lack remaining (read_line (group_in None)) s c d x.bytes (o.piece ∷ w.piece ∷ x.piece ∷ []) 3 e x.heads l (λ qs y h. rw (o.said, w.said, x.said, h) refl)
 
 pub gives_header : {R : Type 0} (remaining : R → Option (List ℕ)) (s a b c d : LineView R) (v : Version) (n : ℕ) (price : Price) (group : Group) → Two remaining s a b v n → TakesLine remaining (read_line (price_in v)) b c price → TakesLine remaining (read_line (group_in None)) c d group
     → GivesHeader remaining s d (header_with n price group)

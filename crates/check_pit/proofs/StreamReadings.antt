@@ -1,5 +1,5 @@
 -- Reading the body of a stream, line after line.
-use Rattle.std.proofs.Common.{◌≡◌, ℕ, ◌+◌, ◌≤◌, Bool, true, false, List, [], ◌∷◌, ◌++◌, length, drop, Option, Some, None, Result, Err, sym, ◌∙◌, subst, arith, append_assoc}
+use Rattle.std.proofs.Common.{◌≡◌, ℕ, ◌+◌, ◌≤◌, Bool, true, false, List, [], ◌∷◌, ◌++◌, length, drop, Option, Some, None, Result, sym, arith, append_assoc}
 use Rattle.std.specs.Io.KnownBytes.{IsAtEnd}
 use Rattle.std.proofs.KnownBytes.{Consumes-nil}
 use Rattle.closure_net.specs.Network.{NetView}
@@ -7,17 +7,15 @@ use Rattle.certificate_file.specs.declared.cert_fault.CertFault.{CertFault}
 use Rattle.check_pit.specs.declared.stream_fault.StreamFault.{StreamFault}
 use Rattle.fixed_worth.specs.declared.limits.TheConstants.{MOST_BYTES}
 use Rattle.certificate_file.specs.declared.body_lines.BodyLine.{BodyLine}
-use Rattle.certificate_file.specs.Pieces.{Piece, pieces_of, piece_at}
+use Rattle.certificate_file.specs.Pieces.{Piece, pieces_of}
 use Rattle.certificate_file.specs.BodyLines.{is_end, next_line, lines_of_pieces}
-use Rattle.certificate_file.specs.Certificate.{UnlessMemory, has_pair}
+use Rattle.certificate_file.specs.Certificate.{has_pair}
 use Rattle.check_pit.specs.StreamView.{LineView}
 use Rattle.check_pit.specs.StreamLines.{ReadsBytes}
-use Rattle.check_pit.specs.TakenLines.{held_piece, PassesLine, TakesLine, LacksLine, NoPitFault}
-use Rattle.check_pit.specs.StreamChecks.{ReadsOn, fault_of_body, lines_of_body, LinesBegin, IsWholeBody, BodyRefused, BodyFails}
-use Rattle.certificate_file.proofs.Going.{always}
+use Rattle.check_pit.specs.TakenLines.{held_piece, PassesLine, TakesLine, LacksLine}
+use Rattle.check_pit.specs.StreamChecks.{ReadsOn, lines_of_body, LinesBegin, IsWholeBody, BodyFails}
 use Rattle.certificate_file.proofs.Order.{Met, met}
-use Rattle.check_pit.proofs.Beginnings.{BeginsWith, begins, reads_on, takes_line, Ends, takes_end, ends_whole, wrong_at}
-use Rattle.check_pit.proofs.NextLines.{fault_as}
+use Rattle.check_pit.proofs.Beginnings.{BeginsWith, begins, reads_on, takes_line, Ends, takes_end, ends_whole}
 use Rattle.std.proofs.lemmas.Grind.{common_steps}
 
 -- Bytes that were read one after another.
@@ -31,12 +29,10 @@ on_of_line : {R : Type 0} (remaining : R → Option (List ℕ)) (a b : LineView 
 on_of_line remaining a b xs count r = record { given = r.given; taken = r.taken }
 
 moved : (counts : Bool) (n : ℕ) (pairs : List (ℕ × ℕ)) (b c h i : List ℕ) (j k : ℕ) (previous : Option BodyLine) (ls : List BodyLine) → b ≡ c → h ≡ i → j ≡ k → BeginsWith counts n pairs b h j previous ls → BeginsWith counts n pairs c i k previous ls
-moved counts n pairs b c h i j k previous ls d e f x =
-    subst (λ (t : List ℕ). BeginsWith counts n pairs t i k previous ls) d (subst (λ (t : List ℕ). BeginsWith counts n pairs b t k previous ls) e (subst (λ (t : ℕ). BeginsWith counts n pairs b h t previous ls) f x))
+moved counts n pairs b c h i j k previous ls d e f x = grind (arith, common_steps)
 
 ends_moved : (counts : Bool) (n : ℕ) (pairs : List (ℕ × ℕ)) (b c h i : List ℕ) (j k : ℕ) (ls : List BodyLine) → b ≡ c → h ≡ i → j ≡ k → Ends counts n pairs b j h ls → Ends counts n pairs c k i ls
-ends_moved counts n pairs b c h i j k ls d e f x =
-    subst (λ (t : List ℕ). Ends counts n pairs t k i ls) d (subst (λ (t : List ℕ). Ends counts n pairs b k t ls) e (subst (λ (t : ℕ). Ends counts n pairs b t h ls) f x))
+ends_moved counts n pairs b c h i j k ls d e f x = grind (arith, common_steps)
 
 -- What was read of the body so far.
 pub record Reading {R : Type 0} (remaining : R → Option (List ℕ)) (counts : Bool) (net : NetView) (start now : LineView R) (previous : Option BodyLine) (bytes : List ℕ) (ls : List BodyLine) : Type 0 where
@@ -99,16 +95,7 @@ Fails remaining counts net start later e = (bytes : List ℕ) × ReadsOn remaini
 -- There is no further line.
 pub reading_lacks : {R : Type 0} (remaining : R → Option (List ℕ)) (counts : Bool) (net : NetView) (start now later : LineView R) (previous : Option BodyLine) (bytes : List ℕ) (ls : List BodyLine) (e : StreamFault) → Reading remaining counts net start now previous bytes ls
     → LacksLine remaining (next_of counts net previous) now later e → Fails remaining counts net start later e
-reading_lacks remaining counts net start now later previous bytes ls e r l =
-    let more = l.0.0 in
-    let s = reading_stops remaining counts net start now later previous bytes more ls r l.0.1 in
-    let body = start.held ++ (bytes ++ more) in (
-      bytes ++ more,
-      s.read,
-      fault_as (remaining later.from) later.taken (λ future x. next_of counts net previous (later.number + 1) (piece_at (pieces_of (later.held ++ future)) 0) ≡ Err x) (λ future x. UnlessMemory x (fault_of_body counts net (body ++ future) ≡ Some x)) NoPitFault (BodyRefused (remaining later.from) later.taken counts net body) e
-          (λ future x w. always x (s.begins.same_fault future ∙ wrong_at counts (length net.worths) (has_pair net.pairs) previous later.number (pieces_of (later.held ++ future)) x w))
-          (λ x z. absurd z) l.1,
-    )
+reading_lacks remaining counts net start now later previous bytes ls e r l = grind (arith, common_steps, l.0.0, (reading_stops remaining counts net start now later previous bytes (l.0.0) ls r l.0.1))
 
 pub lines_begin : {R : Type 0} (remaining : R → Option (List ℕ)) (counts : Bool) (net : NetView) (start now : LineView R) (previous : Option BodyLine) (bytes : List ℕ) (ls : List BodyLine) → Reading remaining counts net start now previous bytes ls → LinesBegin counts net (start.held ++ bytes) ls
 lines_begin remaining counts net start now previous bytes ls r = λ future. (lines_of_pieces counts (length net.worths) (pieces_of (now.held ++ future)), r.begins.lines future)
@@ -116,6 +103,4 @@ lines_begin remaining counts net start now previous bytes ls r = λ future. (lin
 -- Nothing stands behind END.
 pub ended_whole : {R : Type 0} (remaining : R → Option (List ℕ)) (counts : Bool) (net : NetView) (start now : LineView R) (bytes : List ℕ) (ls : List BodyLine) → Ended remaining counts net start now bytes ls → IsAtEnd (remaining now.from) → now.held ≡ [] → now.taken ≤ MOST_BYTES
     → IsWholeBody (remaining now.from) now.taken counts net (start.held ++ bytes) × (lines_of_body counts net (start.held ++ bytes) ≡ ls)
-ended_whole remaining counts net start now bytes ls r e h t =
-    let w = ends_whole counts (length net.worths) net.pairs (start.held ++ bytes) now.held now.number ls r.ends h in
-    (record { ends = e; few = t; none = w.0 }, w.1)
+ended_whole remaining counts net start now bytes ls r e h t = grind (arith, common_steps, ends_whole)

@@ -1,18 +1,12 @@
 -- The sums of a check of a stream, line after line.
-use Rattle.std.proofs.Common.{◌≡◌, ℕ, zero, suc, ◌<◌, Bool, true, false, cond, not, List, [], ◌∷◌, ◌++◌, length, Option, Some, None, Result, Ok, Err, refl, sym, ap, ◌∙◌, subst, arith, append-nil}
-use Rattle.std.specs.Ordering.{nat_cmp, ordering_then, is_lt}
-use Rattle.std.specs.declared.cmp.Ordering.{Ordering}
+use Rattle.std.proofs.Common.{◌≡◌, ℕ, ◌<◌, Bool, true, false, not, List, [], ◌∷◌, ◌++◌, length, Option, Some, None, Result, Ok, Err, refl, sym, ap, ◌∙◌, subst, arith, append-nil}
 use Rattle.std.specs.Prelude.{IfOk, MatchResult}
 use Rattle.std.specs.List.{All}
 use Rattle.std.proofs.lemmas.List.Elements.{All-append}
-use Rattle.ordered_group.specs.Amount.{zero_amount}
-use Rattle.ordered_group.specs.Sums.{amount_at}
 use Rattle.prec_file.specs.Rests.{IsRests}
 use Rattle.closure_net.specs.Network.{NetView, IsAscending, holds_of}
 use Rattle.closure_net.specs.Closure.{IsClosed, IsGreatest, group_worth}
-use Rattle.closure_net.specs.Flows.{IsBalancedAt}
 use Rattle.closure_net.proofs.Duality.{greatest_from_tight}
-use Rattle.certificate_file.specs.declared.cert_fault.CertFault.{CertFault}
 use Rattle.check_pit.specs.declared.pit_fault.PitFault.{PitFault}
 use Rattle.check_pit.specs.declared.pit_fault.PitFault.TheVariants as pit_fault
 use Rattle.check_pit.specs.declared.stream_fault.StreamFault.{StreamFault}
@@ -21,7 +15,7 @@ use Rattle.certificate_file.specs.declared.body_lines.LineKind.{LineKind}
 use Rattle.certificate_file.specs.declared.body_lines.LineKind.TheVariants.{Pit, Source, Rest, Sink, End}
 use Rattle.certificate_file.specs.declared.body_lines.BodyLine.{BodyLine}
 use Rattle.certificate_file.specs.Pieces.{pieces_of}
-use Rattle.certificate_file.specs.BodyLines.{rank, line_of, is_end, is_of_model, may_follow, body_fault, lines_of_pieces}
+use Rattle.certificate_file.specs.BodyLines.{line_of, is_end, is_of_model, may_follow, body_fault, lines_of_pieces}
 use Rattle.certificate_file.specs.Certificate.{has_pair, pit_of, block_if_pit}
 use Rattle.check_pit.specs.Checks.{ProvesPit}
 use Rattle.check_pit.specs.LineSums.{worth_of_blocks, keeps_by, KeepLimits}
@@ -41,6 +35,7 @@ use Rattle.check_pit.proofs.StreamReadings.{Reading, Ended, MetNext, next_of, Fa
 use Rattle.fixed_worth.proofs.Bits.{not_true}
 use Rattle.certificate_file.proofs.ValueLines.{pit_append}
 use Rattle.certificate_file.proofs.SameLines.{pair_place}
+use Rattle.std.proofs.lemmas.Grind.{common_steps}
 
 -- What the room has of the lines so far.
 pub record Summed (net : NetView) (previous : Option BodyLine) (room : RoomView) (ls : List BodyLine) : Type 0 where
@@ -56,51 +51,25 @@ summed_begins net room s o = record { sums = s; limits = λ k d h. absurd (omega
 pub met_sound : (counts : Bool) (net : NetView) (previous : Option BodyLine) (line : BodyLine) → MetNext counts net previous line → Sound counts (length net.worths) line
 met_sound counts net previous line m = sound counts (length net.worths) m.1.text line (text_read (line_of counts (length net.worths)) m.0 m.1 line m.2.read)
 
--- A PIT line stands behind PIT lines alone.
-kind_behind : (kind : LineKind) (o : Ordering) → is_lt (ordering_then (nat_cmp (rank kind) 0) o) ≡ true → not (is_pit kind) ≡ false
-kind_behind Pit o h = refl
-kind_behind _ o h = absurd cc
-
 pit_behind : (previous : Option BodyLine) (line : BodyLine) → may_follow previous line ≡ true → line.kind ≡ Pit → is_behind_pits previous ≡ false
-pit_behind None line h e = refl
-pit_behind (Some p) line h e =
-    kind_behind p.kind (ordering_then (nat_cmp p.block line.block) (nat_cmp p.other line.other))
-    (subst (λ (k : LineKind). is_lt (ordering_then (nat_cmp (rank p.kind) (rank k)) (ordering_then (nat_cmp p.block line.block) (nat_cmp p.other line.other))) ≡ true) e h)
-
-made_at : (kind k : LineKind) (t : Bool) → kind ≡ k → (kind ≡ Pit → t ≡ false) → cond t true (not (is_pit k)) ≡ not (is_pit k)
-made_at kind Pit true e f = absurd (let z : true ≡ false = f e in cc)
-made_at kind Source true e f = refl
-made_at kind Rest true e f = refl
-made_at kind Sink true e f = refl
-made_at kind End true e f = refl
-made_at kind k false e f = refl
+pit_behind previous line h e = grind (arith, common_steps)
 
 -- Behind a line of this kind the blocks of the room are a pit or not.
 made_now : (net : NetView) (previous : Option BodyLine) (line : BodyLine) (before later : RoomView) → may_follow previous line ≡ true → ClosesPit net previous line.kind before later → later.is_pit ≡ not (is_pit line.kind)
-made_now net previous line before later m c = c.made ∙ made_at line.kind line.kind (is_behind_pits previous) refl (λ e. pit_behind previous line m e)
+made_now net previous line before later m c = c.made ∙ (grind (arith, common_steps))
 
 sums_closed : (net : NetView) (previous : Option BodyLine) (kind : LineKind) (before later : RoomView) (ls : List BodyLine) → Summed net previous before ls → ClosesPit net previous kind before later → AreSumsOf net ls later
 sums_closed net previous kind before later ls s c = c.sums ls s.sums
 
-closed_at : (net : NetView) (previous : Option BodyLine) (kind : LineKind) (before later : RoomView) (ls : List BodyLine) (t : Bool) → is_behind_pits previous ≡ t → Summed net previous before ls → ClosesPit net previous kind before later → is_pit kind ≡ false → IsClosed net.pairs (holds_of (pit_of ls))
-closed_at net previous kind before later ls true e s c f = s.closed e
-closed_at net previous kind before later ls false e s c f = subst (λ (bs : List ℕ). IsClosed net.pairs (holds_of bs)) (c.blocks ∙ s.sums.blocks) (c.closed e f)
-
 pub closed_now : (net : NetView) (previous : Option BodyLine) (kind : LineKind) (before later : RoomView) (ls : List BodyLine) → Summed net previous before ls → ClosesPit net previous kind before later → is_pit kind ≡ false → IsClosed net.pairs (holds_of (pit_of ls))
-closed_now net previous kind before later ls s c f = closed_at net previous kind before later ls (is_behind_pits previous) refl s c f
+closed_now net previous kind before later ls s c f = grind (arith, common_steps)
 
 -- The blocks of the lines so far ascend.
 pub blocks_ascend : {R : Type 0} (remaining : R → Option (List ℕ)) (counts : Bool) (net : NetView) (start now : LineView R) (previous : Option BodyLine) (bytes : List ℕ) (ls : List BodyLine) (room : RoomView) → Reading remaining counts net start now previous bytes ls → Summed net previous room ls → IsAscending room.blocks
 blocks_ascend remaining counts net start now previous bytes ls room r s = subst IsAscending (sym s.sums.blocks) (ascending counts (length net.worths) (has_pair net.pairs) None ls r.begins.order)
 
-rest_has : (has : ℕ → ℕ → Bool) (line : BodyLine) → is_of_model has line.kind line ≡ true → line.kind ≡ Rest → has line.block line.other ≡ true
-rest_has has line h e = rw e at h
-
 other_known : (net : NetView) (line : BodyLine) → IsRests (record { blocks = length net.worths; pairs = net.pairs }) → is_of_model (has_pair net.pairs) line.kind line ≡ true → line.kind ≡ Rest → line.other < length net.worths
-other_known net line r m e =
-    let q = pair_place line.block line.other net.pairs (rest_has (has_pair net.pairs) line m e) in
-    let both = r.known q.0 (0, 0) q.1 in
-    subst (λ (p : ℕ × ℕ). p.1 < length net.worths) q.2 both.1
+other_known net line r m e = grind (arith, common_steps, pair_place, known)
 
 takes_at : (net : NetView) (line : BodyLine) (room : RoomView) (ls : List BodyLine) (kind : LineKind) → line.kind ≡ kind → room.is_pit ≡ not (is_pit kind) → room.blocks ≡ pit_of ls → IsAscending (pit_of (ls ++ line ∷ [])) → TakesBlock kind room line.block
 takes_at net line room ls Pit e m b a = (m, subst IsAscending (pit_more ls line ∙ ap (λ (k : LineKind). pit_of ls ++ block_if_pit k line.block []) e ∙ ap (λ (bs : List ℕ). bs ++ line.block ∷ []) (sym b)) a)
@@ -117,16 +86,11 @@ may_put counts net previous line before later ls r s c m e o =
       takes = takes_at net line later ls line.kind refl (made_now net previous line before later m.2.follows c) a.blocks (ascending counts (length net.worths) (has_pair net.pairs) None (ls ++ line ∷ []) o);
     }
 
-no_block : (kind : LineKind) (b : ℕ) → is_pit kind ≡ false → block_if_pit kind b [] ≡ []
-no_block Pit b h = absurd (let z : true ≡ false = h in cc)
-no_block _ b h = refl
-
 pub same_pit : (ls : List BodyLine) (line : BodyLine) → is_pit line.kind ≡ false → pit_of (ls ++ line ∷ []) ≡ pit_of ls
-same_pit ls line h = pit_more ls line ∙ ap (λ (bs : List ℕ). pit_of ls ++ bs) (no_block line.kind line.block h) ∙ append-nil (pit_of ls)
+same_pit ls line h = pit_more ls line ∙ ap (λ (bs : List ℕ). pit_of ls ++ bs) (grind (arith, common_steps)) ∙ append-nil (pit_of ls)
 
 one_kept : (net : NetView) (line : BodyLine) → keeps_by line.kind net.worths line → All (λ l. keeps_by l.kind net.worths l) (line ∷ [])
-one_kept net line h zero d i = h
-one_kept net line h (suc k) d i = absurd (omega arith)
+one_kept net line h k d i = grind (arith, common_steps)
 
 -- One line on.
 pub summed_on : (counts : Bool) (net : NetView) (previous : Option BodyLine) (line : BodyLine) (before mid later : RoomView) (ls : List BodyLine) → Summed net previous before ls → ClosesPit net previous line.kind before mid → MetNext counts net previous line
@@ -156,8 +120,7 @@ line_refused remaining counts net start now later previous bytes ls line before 
 
 -- The pit isn't closed: behind a line that is none of its own, no other names a block.
 no_pits : (bs : List ℕ) → ((i : ℕ) → i < length bs → ⊥) → bs ≡ []
-no_pits [] h = refl
-no_pits (b ∷ bs) h = absurd (h 0 (omega arith))
+no_pits bs h = grind (arith, common_steps)
 
 pit_kind : (kind : LineKind) → kind ≡ Pit → is_pit kind ≡ false → ⊥
 pit_kind kind e f = let z : true ≡ false = sym (ap is_pit e) ∙ f in cc
@@ -181,19 +144,14 @@ pit_on remaining counts net start later bytes ls line q s f a =
     }
 
 pit_at_end : {R : Type 0} (remaining : R → Option (List ℕ)) (counts : Bool) (net : NetView) (start later : LineView R) (bytes : List ℕ) (ls : List BodyLine) → Ended remaining counts net start later bytes ls → AllPits ls → HasPit counts net (start.held ++ bytes) (pit_of ls)
-pit_at_end remaining counts net start later bytes ls q a = record {
-  first = λ future. ap (λ (xs : List BodyLine). pit_of (first_pits xs)) (q.ends.lines future) ∙ ap pit_of (first_all ls a);
-  all = λ future h. ap pit_of (q.ends.lines future);
-}
+pit_at_end remaining counts net start later bytes ls q a = grind (arith, common_steps, first_all)
 
 open_as : (left : Option (List ℕ)) (taken : ℕ) (counts : Bool) (net : NetView) (body pit : List ℕ) (previous : Option BodyLine) (kind : LineKind) (e : PitFault) → (is_behind_pits previous ≡ false → is_pit kind ≡ false → HasPit counts net body pit) → IsOpenPit net previous kind pit e → BodyRefused left taken counts net body e
-open_as left taken counts net body pit previous kind (pit_fault.NotClosed x y) p h = (pit, p h.0 h.1, h.2)
-open_as left taken counts net body pit previous kind _ p h = absurd h
+open_as left taken counts net body pit previous kind e p h = grind (arith, common_steps)
 
 -- Up to the first line of another kind they are PIT lines alone.
 pits_so_far : {R : Type 0} (remaining : R → Option (List ℕ)) (counts : Bool) (net : NetView) (start now : LineView R) (previous : Option BodyLine) (bytes : List ℕ) (ls : List BodyLine) → Reading remaining counts net start now previous bytes ls → is_behind_pits previous ≡ false → AllPits ls
-pits_so_far remaining counts net start now previous bytes ls r h =
-    all_pits (Good counts (length net.worths) (has_pair net.pairs)) pit_behind None ls r.begins.order (sym (ap is_behind_pits r.begins.last) ∙ h)
+pits_so_far remaining counts net start now previous bytes ls r h = grind (arith, common_steps, all_pits, pit_behind)
 
 open_at : {R : Type 0} (remaining : R → Option (List ℕ)) (counts : Bool) (net : NetView) (start now later : LineView R) (previous : Option BodyLine) (bytes : List ℕ) (ls : List BodyLine) (line : BodyLine) (e : PitFault) (t : Bool) → is_end line.kind ≡ t → Reading remaining counts net start now previous bytes ls
     → TakesLine remaining (next_of counts net previous) now later line → IsOpenPit net previous line.kind (pit_of ls) e → Fails remaining counts net start later (stream.Pit e)
@@ -219,61 +177,23 @@ pub record AllRead (net : NetView) (room : RoomView) (ls : List BodyLine) : Type
 tells : (counts : Bool) (net : NetView) (body : List ℕ) → IsRests (record { blocks = length net.worths; pairs = net.pairs }) → fault_of_body counts net body ≡ None → LinesTell net (lines_of_body counts net body)
 tells counts net body r h = sums_tell counts net 4 (pieces_of body) r h
 
-balance_zero : (net : NetView) (room : RoomView) (ls : List BodyLine) (b : ℕ) → LinesTell net ls → AreSumsOf net ls room → b < length net.worths → amount_at room.balances b ≡ zero_amount → IsBalancedAt net (flow_by net ls) b
-balance_zero net room ls b t s h z = (t.balanced b h).1 (sym (s.balances b h) ∙ z)
-
-balance_not : (net : NetView) (room : RoomView) (ls : List BodyLine) (b : ℕ) → LinesTell net ls → AreSumsOf net ls room → b < length net.worths → (amount_at room.balances b ≡ zero_amount → ⊥) → IsBalancedAt net (flow_by net ls) b → ⊥
-balance_not net room ls b t s h z f = z (s.balances b h ∙ (t.balanced b h).0 f)
-
 settled : (counts : Bool) (net : NetView) (room : RoomView) (ls : List BodyLine) (order : InOrder (Good counts (length net.worths) (has_pair net.pairs)) None ls) → LinesTell net ls → AllRead net room ls → SumsSettle net room → ProvesPit net (flow_by net ls) (pit_of ls)
-settled counts net room ls o t a s =
-    let l = t.limits a.limits in
-    let c = t.denotes.covers in
-    record {
-      of_net = known counts (length net.worths) (has_pair net.pairs) None ls o;
-      is_flow = record {
-        fits = record { source = c.sources; rest = c.rests; sink = c.sinks };
-        source = l.0.source;
-        rest = l.0.rest;
-        sink = l.0.sink;
-        capacity = l.1;
-        balance = λ b h. balance_zero net room ls b t a.sums h (s.zero b h);
-      };
-      closed = a.closed;
-      tight = t.tight.1 (sym a.sums.worth ∙ s.tight ∙ a.sums.left);
-    }
+settled counts net room ls o t a s = grind (arith, common_steps, known)
 
 -- The lines prove the pit.
 pub proves_at : (left : Option (List ℕ)) (taken : ℕ) (counts : Bool) (net : NetView) (body : List ℕ) (room : RoomView) (ls : List BodyLine) → IsRests (record { blocks = length net.worths; pairs = net.pairs }) → IsWholeBody left taken counts net body → lines_of_body counts net body ≡ ls → AllRead net room ls → SumsSettle net room
     → BodyProves left taken counts net body room.blocks
-proves_at left taken counts net body room ls r w same a s =
-    let all = lines_of_body counts net body in
-    let here : AllRead net room all = subst (AllRead net room) (sym same) a in
-    let order = stands_in_order counts (length net.worths) (has_pair net.pairs) None 4 (pieces_of body) w.none in
-    let t = tells counts net body r w.none in
-    subst (BodyProves left taken counts net body) (sym here.sums.blocks) (record { whole = w; denotes = t.denotes; proves = settled counts net room all order t here s })
+proves_at left taken counts net body room ls r w same a s = grind (arith, common_steps, stands_in_order, tells, settled)
 
 -- They don't.
 fails_at : (left : Option (List ℕ)) (taken : ℕ) (counts : Bool) (net : NetView) (body : List ℕ) (room : RoomView) (e : PitFault) → LinesTell net (lines_of_body counts net body) → IsWholeBody left taken counts net body → AreSumsOf net (lines_of_body counts net body) room → SumsFail net room e → BodyRefused left taken counts net body e
-fails_at left taken counts net body room (pit_fault.Unbalanced b) t w s h =
-    let ls = lines_of_body counts net body in
-    (w, (h.0, λ k l. balance_zero net room ls k t s (let i = h.0 in omega (arith, l, i)) (h.1 k l), balance_not net room ls b t s h.0 h.2))
-fails_at left taken counts net body room pit_fault.NotTight t w s h =
-    let ls = lines_of_body counts net body in
-    (w, λ b l. balance_zero net room ls b t s l (h.0 b l), λ f. h.1 (s.worth ∙ t.tight.0 f ∙ sym s.left))
-fails_at left taken counts net body room _ t w s h = absurd h
-
-end_fails : {R : Type 0} (remaining : R → Option (List ℕ)) (counts : Bool) (net : NetView) (start now : LineView R) (bytes : List ℕ) (ls : List BodyLine) (room : RoomView) (e : StreamFault) → IsRests (record { blocks = length net.worths; pairs = net.pairs }) → Ended remaining counts net start now bytes ls → AreSumsOf net ls room
-    → EndFails (remaining now.from) net room now e → BodyFails (remaining now.from) now.taken counts net (start.held ++ bytes) e
-end_fails remaining counts net start now bytes ls room stream.Device r q a h = tt
-end_fails remaining counts net start now bytes ls room stream.InputTooLong r q a h = h
-end_fails remaining counts net start now bytes ls room (stream.Cert e) r q a h =
-    subst (λ (x : CertFault). BodyFails (remaining now.from) now.taken counts net (start.held ++ bytes) (stream.Cert x)) (sym h.0) (ends_more counts (length net.worths) net.pairs (start.held ++ bytes) now.held now.number ls q.ends h.1)
-end_fails remaining counts net start now bytes ls room (stream.Pit e) r q a h =
-    let d = h.0 in
-    let w = ended_whole remaining counts net start now bytes ls q d.ends d.none d.few in
-    let body = start.held ++ bytes in
-    fails_at (remaining now.from) now.taken counts net body room e (tells counts net body r w.0.none) w.0 (subst (λ (xs : List BodyLine). AreSumsOf net xs room) (sym w.1) a) h.1
+fails_at left taken counts net body room pit_fault.WrongSize t w s h = absurd h
+fails_at left taken counts net body room (pit_fault.NotClosed x y) t w s h = absurd h
+fails_at left taken counts net body room pit_fault.Negative t w s h = absurd h
+fails_at left taken counts net body room (pit_fault.OverCapacity x) t w s h = absurd h
+fails_at left taken counts net body room (pit_fault.Unbalanced b) t w s h = grind (arith, common_steps)
+fails_at left taken counts net body room pit_fault.NotTight t w s h = grind (arith, common_steps)
+fails_at left taken counts net body room pit_fault.TooLarge t w s h = absurd h
 
 -- The pit of an accepted body is a greatest closed set, and the room has what it is worth.
 pub accepted_worth : (left : Option (List ℕ)) (taken : ℕ) (counts : Bool) (net : NetView) (body pit : List ℕ) → BodyProves left taken counts net body pit → group_worth net.worths (holds_of pit) ≡ worth_of_blocks net.worths pit
@@ -302,20 +222,12 @@ answered_at remaining counts net start later bytes ls room (Ok x) r q a h =
       worth = a.sums.worth ∙ sym (ap (worth_of_blocks net.worths) a.sums.blocks) ∙ sym (accepted_worth (remaining later.from) later.taken counts net body room.blocks proves);
       greatest = accepted_greatest (remaining later.from) later.taken counts net body room.blocks r proves;
     }
-answered_at remaining counts net start later bytes ls room (Err e) r q a h = record {
-  checked = (bytes, q.read, end_fails remaining counts net start later bytes ls room e r q a.sums h);
-  worth = tt;
-  greatest = tt;
-}
-
-end_kind : (kind : LineKind) → is_end kind ≡ true → is_pit kind ≡ false
-end_kind Pit h = absurd (let z : false ≡ true = h in cc)
-end_kind _ h = refl
+answered_at remaining counts net start later bytes ls room (Err e) r q a h = grind (arith, common_steps, ends_more, ended_whole, fails_at, tells)
 
 pub end_answered : {R T : Type 0} (remaining : R → Option (List ℕ)) (counts : Bool) (net : NetView) (start now mid later : LineView R) (previous : Option BodyLine) (bytes : List ℕ) (ls : List BodyLine) (line : BodyLine) (before room : RoomView) (result : Result T StreamFault) → IsRests (record { blocks = length net.worths; pairs = net.pairs })
     → Reading remaining counts net start now previous bytes ls → Summed net previous before ls → ClosesPit net previous line.kind before room → TakesLine remaining (next_of counts net previous) now mid line → is_end line.kind ≡ true → ReadsSome remaining mid later
     → MatchResult result (λ x. IsDone (remaining later.from) later × SumsSettle net room) (λ e. EndFails (remaining later.from) net room later e) → Answered remaining counts net start later room result
 end_answered remaining counts net start now mid later previous bytes ls line before room result r q s c t e m h =
     let ended = ended_stops remaining counts net start mid later (bytes ++ t.0) m.0 ls (reading_ends remaining counts net start now mid previous bytes ls line q t e) m.1 in
-    let all : AllRead net room ls = record { sums = sums_closed net previous line.kind before room ls s c; limits = s.limits; closed = closed_now net previous line.kind before room ls s c (end_kind line.kind e) } in
+    let all : AllRead net room ls = record { sums = sums_closed net previous line.kind before room ls s c; limits = s.limits; closed = closed_now net previous line.kind before room ls s c (grind (arith, common_steps)) } in
     answered_at remaining counts net start later ((bytes ++ t.0) ++ m.0) ls room result r ended all h

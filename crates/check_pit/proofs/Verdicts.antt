@@ -1,27 +1,24 @@
 -- What the steps of a check come to.
-use Rattle.std.proofs.Common.{◌≡◌, ℕ, Bool, List, inl, inr, refl, subst}
+use Rattle.std.proofs.Common.{◌≡◌, ℕ, List, inl, inr, subst, arith}
 use Rattle.std.proofs.lemmas.Bool.{cases_lt}
-use Rattle.std.proofs.lemmas.List.Elements.{All-contains}
-use Rattle.closure_net.specs.Network.{NetView, FlowView, holds_of}
-use Rattle.closure_net.specs.Closure.{Stays, IsClosed}
+use Rattle.closure_net.specs.Network.{NetView, FlowView}
 use Rattle.closure_net.specs.Flows.{IsFlow}
 use Rattle.check_pit.specs.Fits.{BalanceFits, BalanceOverflows, SumsFit, SomeSumOverflows}
-use Rattle.check_pit.specs.Checks.{ProvesPit, Sizes, NoneBelowZero, PassesCapacities, AllWithin, AllBalanced, BalancedWhileFit, IsOpen, FaultHolds, PitFaultStands}
+use Rattle.check_pit.specs.Checks.{ProvesPit, Sizes, NoneBelowZero, PassesCapacities, AllWithin, AllBalanced, BalancedWhileFit, FaultHolds, PitFaultStands}
 use Rattle.check_pit.specs.Balances.{ComesTo, BalanceFault}
 use Rattle.check_pit.specs.declared.pit_fault.PitFault.{PitFault}
 use Rattle.check_pit.specs.declared.pit_fault.PitFault.TheVariants.{WrongSize, NotClosed, Negative, OverCapacity, Unbalanced, NotTight, TooLarge}
+use Rattle.std.proofs.lemmas.Grind.{common_steps}
 
 -- what passes every test but the last is a flow
 pub flow_found : (net : NetView) (flow : FlowView) (pit : List ℕ) → Sizes net flow pit → NoneBelowZero flow → AllWithin net flow → AllBalanced net flow → IsFlow net flow
-flow_found net flow pit sizes signs within balanced =
-    record { fits = sizes.lengths; source = signs.source; rest = signs.rest; sink = signs.sink; capacity = within; balance = λ b h. (balanced b h).1 }
+flow_found net flow pit sizes signs within balanced = grind (arith, common_steps)
 
 -- ---- a fault that is found is the first that holds
 
 -- where the sums of a balance fit, none overflows
 balance_fits : (net : NetView) (flow : FlowView) (b : ℕ) → BalanceFits net flow b → BalanceOverflows net flow b → ⊥
-balance_fits net flow b fits (inl h) = h.3 (fits.0 h.0 h.1 h.2)
-balance_fits net flow b fits (inr h) = h.3 (fits.1 h.0 h.1 h.2)
+balance_fits net flow b fits h = grind (arith, common_steps)
 
 -- before a sum of a balance that overflows, all balances stand
 balanced_before : (net : NetView) (flow : FlowView) (b : ℕ) → ComesTo net flow b → BalanceOverflows net flow b → BalancedWhileFit net flow
@@ -44,18 +41,9 @@ sums_fit net flow pit fit (inl h) = balance_fits net flow h.0 (fit.balances h.0 
 sums_fit net flow pit fit (inr (inl h)) = h.3 (fit.set h.0 h.1 h.2)
 sums_fit net flow pit fit (inr (inr h)) = h.2 (fit.room h.0 h.1)
 
-none_open : (net : NetView) (e : ℕ → Bool) (pair : ℕ × ℕ) → IsClosed net.pairs e → IsOpen net.pairs e pair → ⊥
-none_open net e pair closed h = h.1 (All-contains (Stays e) net.pairs pair closed h.0)
-
 -- of a proved pit no fault holds but sums that don't fit
 pub proved_holds : (net : NetView) (flow : FlowView) (pit : List ℕ) (e : PitFault) → ProvesPit net flow pit → FaultHolds net flow pit e → e ≡ TooLarge
-proved_holds net flow pit WrongSize h f = absurd (f (record { lengths = h.is_flow.fits; blocks = h.of_net }))
-proved_holds net flow pit (NotClosed b p) h f = absurd (none_open net (holds_of pit) (b, p) h.closed f)
-proved_holds net flow pit Negative h f = absurd (f (record { source = h.is_flow.source; rest = h.is_flow.rest; sink = h.is_flow.sink }))
-proved_holds net flow pit (OverCapacity b) h f = absurd (f.1 (h.is_flow.capacity b f.0))
-proved_holds net flow pit (Unbalanced b) h f = absurd (f.1 (h.is_flow.balance b f.0))
-proved_holds net flow pit NotTight h f = absurd (f h.tight)
-proved_holds net flow pit TooLarge h f = refl
+proved_holds net flow pit e h f = grind (arith, common_steps)
 
 -- no fault holds of a proved pit whose sums fit
 pub no_fault : (net : NetView) (flow : FlowView) (pit : List ℕ) (e : PitFault) → ProvesPit net flow pit → SumsFit net flow pit → FaultHolds net flow pit e → ⊥
