@@ -17,9 +17,8 @@ under None P Q h f = tt
 under (Some x) P Q h f = f x h
 
 pub under2 : (o r : Option (List ℕ)) (P Q : List ℕ → List ℕ → Type 0) → IfSome o (λ u. IfSome r (λ p. P u p)) → ((u p : List ℕ) → P u p → Q u p) → IfSome o (λ u. IfSome r (λ p. Q u p))
-under2 None r P Q h f = tt
-under2 (Some u) None P Q h f = tt
 under2 (Some u) (Some p) P Q h f = f u p h
+under2 _ _ P Q h f = tt
 
 -- what holds of all texts
 all_worths : {D : Type 0} (inputs : WorthInputs D) (remaining : D → Option (List ℕ)) (factor : ℕ) (precedence : List ℕ) (Q : MineTexts → Type 0) → ((texts : MineTexts) → Q texts) → ForWorths inputs remaining factor precedence Q
@@ -43,14 +42,12 @@ for_texts mine remaining factor P Q h f = under (remaining mine.prec) (λ p. For
 worths_kept : {D : Type 0} (old new : WorthInputs D) (failed : D → ℕ) → NoWorthsFailed old new failed → worths_failures new failed ≡ worths_failures old failed
 worths_kept (Values upit) (Values upit') failed h = h
 worths_kept (Prices settings blocks) (Prices settings' blocks') failed h = omega (arith, h.0, h.1)
-worths_kept (Values upit) (Prices settings blocks) failed h = absurd h
-worths_kept (Prices settings blocks) (Values upit) failed h = absurd h
+worths_kept _ _ failed h = absurd h
 
 kind_kept : {D : Type 0} (old new : WorthInputs D) (failed : D → ℕ) → NoWorthsFailed old new failed → is_priced new ≡ is_priced old
 kind_kept (Values upit) (Values upit') failed h = refl
 kind_kept (Prices settings blocks) (Prices settings' blocks') failed h = refl
-kind_kept (Values upit) (Prices settings blocks) failed h = absurd h
-kind_kept (Prices settings blocks) (Values upit) failed h = absurd h
+kind_kept _ _ failed h = absurd h
 
 -- one of the mine's failed, and none of those beside them
 pub mine_once : {D : Type 0} (old new : MineInputs D) (failed : D → ℕ) (others others' : ℕ) → OneFailed old new failed 0 0 → others' ≡ others → OneFailed old new failed others others'

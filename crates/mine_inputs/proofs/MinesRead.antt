@@ -42,13 +42,7 @@ priced_fails s b p k (engine.Prices q) h = h
 priced_fails s b p k (engine.Prec q) h = h
 priced_fails s b p k engine.Memory h = h
 priced_fails s b p k engine.Device h = h
-priced_fails s b p k (engine.Upit q) h = absurd h
-priced_fails s b p k (engine.Slope q) h = absurd h
-priced_fails s b p k (engine.Model q) h = absurd h
-priced_fails s b p k (engine.Certificate q) h = absurd h
-priced_fails s b p k (engine.Trace q) h = absurd h
-priced_fails s b p k engine.Thread h = absurd h
-priced_fails s b p k engine.Stranger h = absurd h
+priced_fails s b p k _ h = absurd h
 
 module _ (o q : Option (List ℕ)) (p : List ℕ) (k : ℕ) where
   unread : (e : EngineFault) → IfSome o (λ s. IfSome q (λ b. PricedMineFails s b p e)) → IfSome o (λ s. IfSome q (λ b. MineFails (priced_texts s b p k) e))
@@ -88,16 +82,7 @@ prec_fails : (texts : MineTexts) (n : ℕ) (p : List ℕ) (e : EngineFault) → 
 prec_fails texts n p (engine.Prec q) same v h = (n, v, subst (λ (x : List ℕ). PrecFails n x q) (sym same) h)
 prec_fails texts n p engine.Memory same v h = h
 prec_fails texts n p engine.Device same v h = h
-prec_fails texts n p (engine.Upit q) same v h = absurd h
-prec_fails texts n p (engine.Model q) same v h = absurd h
-prec_fails texts n p (engine.Certificate q) same v h = absurd h
-prec_fails texts n p (engine.Trace q) same v h = absurd h
-prec_fails texts n p (engine.Blocks q) same v h = absurd h
-prec_fails texts n p (engine.Slope q) same v h = absurd h
-prec_fails texts n p (engine.Settings q) same v h = absurd h
-prec_fails texts n p (engine.Prices q) same v h = absurd h
-prec_fails texts n p engine.Thread same v h = absurd h
-prec_fails texts n p engine.Stranger same v h = absurd h
+prec_fails texts n p _ same v h = absurd h
 
 -- what was read of worths, said of a list that is theirs
 pub read_as : (texts : MineTexts) (worths shown : List ℤ) (rests : RestsView) → shown ≡ worths → AreRead texts worths rests → AreRead texts shown rests

@@ -74,11 +74,9 @@ table_is columns text m table d is =
 
 -- what the reader tells of a text of settings stands in it
 pub settings_told : (text : List ℕ) (fault : SettingsFault) → IsWithinLimit text → ReadsSettings text (Err fault) → SettingsReadFails text (of_settings fault)
-settings_told text settings_fault.NotToml within h = (within, h)
-settings_told text settings_fault.UnknownKey within h = (within, h)
-settings_told text (settings_fault.BadValue key) within h = (within, h)
 settings_told text (settings_fault.Missing key) within h = absurd h
 settings_told text settings_fault.NoMemory within h = tt
+settings_told text _ within h = (within, h)
 
 -- the prices were made of the columns of the text
 prices_made : (text : List ℕ) (columns : PriceColumns) (m : BlocksView) (table : PricesView) → ReadsBlocks (column_list columns) text m → table ≡ first_columns columns.charges m → ReadsPrices columns text table
@@ -92,16 +90,7 @@ prices_fail text columns m (engine.Prices fault) h f =
     (h.0, h.1, subst S table f)
 prices_fail text columns m engine.Memory h f = tt
 prices_fail text columns m engine.Device h f = tt
-prices_fail text columns m (engine.Settings p) h f = absurd f
-prices_fail text columns m (engine.Blocks p) h f = absurd f
-prices_fail text columns m (engine.Upit p) h f = absurd f
-prices_fail text columns m (engine.Prec p) h f = absurd f
-prices_fail text columns m (engine.Slope p) h f = absurd f
-prices_fail text columns m (engine.Model p) h f = absurd f
-prices_fail text columns m (engine.Certificate p) h f = absurd f
-prices_fail text columns m (engine.Trace p) h f = absurd f
-prices_fail text columns m engine.Thread h f = absurd f
-prices_fail text columns m engine.Stranger h f = absurd f
+prices_fail text columns m _ h f = absurd f
 
 -- what is made of the columns of the text is told of it
 pub prices_told : (o : Option (List ℕ)) (columns : PriceColumns) (m : BlocksView) (made : Result PricesView EngineFault) → IfSome o (λ text. ReadsBlocks (column_list columns) text m)

@@ -21,10 +21,8 @@ use Rattle.mine_inputs.proofs.Priced.{all_read}
 -- ---- readers that tell their bytes
 
 pub under3 : (o q r : Option (List ℕ)) (P Q : List ℕ → List ℕ → List ℕ → Type 0) → IfSome o (λ s. IfSome q (λ b. IfSome r (λ p. P s b p))) → ((s b p : List ℕ) → P s b p → Q s b p) → IfSome o (λ s. IfSome q (λ b. IfSome r (λ p. Q s b p)))
-under3 None q r P Q h f = tt
-under3 (Some s) None r P Q h f = tt
-under3 (Some s) (Some b) None P Q h f = tt
 under3 (Some s) (Some b) (Some p) P Q h f = f s b p h
+under3 _ _ _ P Q h f = tt
 
 pub anything : (o : Option (List ℕ)) → IfSome o (λ c. Unit {0})
 anything None = tt
@@ -41,22 +39,11 @@ settings_fail s b p (engine.Settings (problem.Fault (settings_fault.Missing key)
 settings_fail s b p (engine.Settings (problem.Fault settings_fault.NoMemory)) h = h
 settings_fail s b p engine.Memory h = tt
 settings_fail s b p engine.Device h = tt
-settings_fail s b p (engine.Blocks q) h = absurd h
-settings_fail s b p (engine.Prices q) h = absurd h
-settings_fail s b p (engine.Upit q) h = absurd h
-settings_fail s b p (engine.Prec q) h = absurd h
-settings_fail s b p (engine.Slope q) h = absurd h
-settings_fail s b p (engine.Model q) h = absurd h
-settings_fail s b p (engine.Certificate q) h = absurd h
-settings_fail s b p (engine.Trace q) h = absurd h
-settings_fail s b p engine.Thread h = absurd h
-settings_fail s b p engine.Stranger h = absurd h
+settings_fail s b p _ h = absurd h
 
 pub settings_answer : (o q r : Option (List ℕ)) (e : EngineFault) → IfSome o (λ s. SettingsReadFails s e) → IfSome o (λ s. IfSome q (λ b. IfSome r (λ p. PricedMineFails s b p e)))
-settings_answer None q r e h = tt
-settings_answer (Some s) None r e h = tt
-settings_answer (Some s) (Some b) None e h = tt
 settings_answer (Some s) (Some b) (Some p) e h = settings_fail s b p e h
+settings_answer _ _ _ e h = tt
 
 -- of the keys that are needed this is the first that is missing
 pub key_missing : (needed : SettingsView → List Key) (s : List ℕ) (said : SettingsView) (key : Key) → ReadsSettingsText s said → first_missing (needed said) said ≡ Some key → SettingsFails needed s (problem.Fault (settings_fault.Missing key))
@@ -68,10 +55,8 @@ missing_at : (s b p : List ℕ) (said : SettingsView) (e : EngineFault) → Read
 missing_at s b p said e a m = subst (λ (f : EngineFault). PricedMineFails s b p f) (sym m.1) (key_missing price_keys s said m.0 a m.2)
 
 pub missing_answer : (o q r : Option (List ℕ)) (said : SettingsView) (e : EngineFault) → IfSome o (λ s. ReadsSettingsText s said) → IsMissing (price_keys said) said e → IfSome o (λ s. IfSome q (λ b. IfSome r (λ p. PricedMineFails s b p e)))
-missing_answer None q r said e h m = tt
-missing_answer (Some s) None r said e h m = tt
-missing_answer (Some s) (Some b) None said e h m = tt
 missing_answer (Some s) (Some b) (Some p) said e h m = missing_at s b p said e h m
+missing_answer _ _ _ said e h m = tt
 
 -- none of the keys that are needed is missing
 pub keys_said : (needed : SettingsView → List Key) (s : List ℕ) (said : SettingsView) → ReadsSettingsText s said → first_missing (needed said) said ≡ None → KeysSaid needed s
@@ -92,21 +77,11 @@ prices_fail_at s b p said (engine.Prices f) a whole h =
     record { columns = columns_known s said a whole; within = h.0; read = subst F known h.1; stands = subst S known h.2 }
 prices_fail_at s b p said engine.Memory a whole h = tt
 prices_fail_at s b p said engine.Device a whole h = tt
-prices_fail_at s b p said (engine.Settings q) a whole h = absurd h
-prices_fail_at s b p said (engine.Upit q) a whole h = absurd h
-prices_fail_at s b p said (engine.Prec q) a whole h = absurd h
-prices_fail_at s b p said (engine.Slope q) a whole h = absurd h
-prices_fail_at s b p said (engine.Model q) a whole h = absurd h
-prices_fail_at s b p said (engine.Certificate q) a whole h = absurd h
-prices_fail_at s b p said (engine.Trace q) a whole h = absurd h
-prices_fail_at s b p said engine.Thread a whole h = absurd h
-prices_fail_at s b p said engine.Stranger a whole h = absurd h
+prices_fail_at s b p said _ a whole h = absurd h
 
 pub prices_answer : (o q r : Option (List ℕ)) (said : SettingsView) (e : EngineFault) → IfSome o (λ s. ReadsSettingsText s said) → first_missing (price_keys said) said ≡ None → IfSome q (λ b. PricesReadFail (columns_said said) b e) → IfSome o (λ s. IfSome q (λ b. IfSome r (λ p. PricedMineFails s b p e)))
-prices_answer None q r said e a whole h = tt
-prices_answer (Some s) None r said e a whole h = tt
-prices_answer (Some s) (Some b) None said e a whole h = tt
 prices_answer (Some s) (Some b) (Some p) said e a whole h = prices_fail_at s b p said e a whole h
+prices_answer _ _ _ said e a whole h = tt
 
 -- what is said of the columns is said of those that settings name
 pub prices_said : (q : Option (List ℕ)) (columns : PriceColumns) (said : SettingsView) (table : PricesView) → columns ≡ columns_said said → IfSome q (λ b. ReadsPrices columns b table) → IfSome q (λ b. ReadsPrices (columns_said said) b table)
@@ -128,27 +103,14 @@ prec_fails_at : (s b p : List ℕ) (said : SettingsView) (table : PricesView) (n
 prec_fails_at s b p said table n (engine.Prec q) size positive whole a t h = (n, priced s b said table n size positive whole a t, h)
 prec_fails_at s b p said table n engine.Memory size positive whole a t h = tt
 prec_fails_at s b p said table n engine.Device size positive whole a t h = tt
-prec_fails_at s b p said table n (engine.Settings q) size positive whole a t h = absurd h
-prec_fails_at s b p said table n (engine.Blocks q) size positive whole a t h = absurd h
-prec_fails_at s b p said table n (engine.Prices q) size positive whole a t h = absurd h
-prec_fails_at s b p said table n (engine.Upit q) size positive whole a t h = absurd h
-prec_fails_at s b p said table n (engine.Slope q) size positive whole a t h = absurd h
-prec_fails_at s b p said table n (engine.Model q) size positive whole a t h = absurd h
-prec_fails_at s b p said table n (engine.Certificate q) size positive whole a t h = absurd h
-prec_fails_at s b p said table n (engine.Trace q) size positive whole a t h = absurd h
-prec_fails_at s b p said table n engine.Thread size positive whole a t h = absurd h
-prec_fails_at s b p said table n engine.Stranger size positive whole a t h = absurd h
+prec_fails_at s b p said table n _ size positive whole a t h = absurd h
 
 pub prec_answer : (o q r : Option (List ℕ)) (said : SettingsView) (table : PricesView) (n : ℕ) (e : EngineFault) → n ≡ priced_count table → NoRevenueNegative table → first_missing (price_keys said) said ≡ None → IfSome o (λ s. ReadsSettingsText s said) → IfSome q (λ b. ReadsPrices (columns_said said) b table) → IfSome r (λ p. PrecReadFails n p e)
     → IfSome o (λ s. IfSome q (λ b. IfSome r (λ p. PricedMineFails s b p e)))
-prec_answer None q r said table n e size positive whole a t h = tt
-prec_answer (Some s) None r said table n e size positive whole a t h = tt
-prec_answer (Some s) (Some b) None said table n e size positive whole a t h = tt
 prec_answer (Some s) (Some b) (Some p) said table n e size positive whole a t h = prec_fails_at s b p said table n e size positive whole a t h
+prec_answer _ _ _ said table n e size positive whole a t h = tt
 
 pub mine_answer : (o q r : Option (List ℕ)) (said : SettingsView) (table : PricesView) (rests : RestsView) (n : ℕ) → n ≡ priced_count table → NoRevenueNegative table → first_missing (price_keys said) said ≡ None → IfSome o (λ s. ReadsSettingsText s said) → IfSome q (λ b. ReadsPrices (columns_said said) b table) → IfSome r (λ p. ReadsPrec n p rests)
     → IfSome o (λ s. IfSome q (λ b. IfSome r (λ p. ArePricesRead s b p table rests)))
-mine_answer None q r said table rests n size positive whole a t h = tt
-mine_answer (Some s) None r said table rests n size positive whole a t h = tt
-mine_answer (Some s) (Some b) None said table rests n size positive whole a t h = tt
 mine_answer (Some s) (Some b) (Some p) said table rests n size positive whole a t h = all_read s b p said table rests n size positive whole a t h
+mine_answer _ _ _ said table rests n size positive whole a t h = tt

@@ -44,8 +44,7 @@ is_priced (Prices settings blocks) = true
 abbrev pub NoWorthsFailed : {D : Type 0} → WorthInputs D → WorthInputs D → (D → ℕ) → Type 0
 NoWorthsFailed (Values upit) (Values upit') failed = failed upit' ≡ failed upit
 NoWorthsFailed (Prices settings blocks) (Prices settings' blocks') failed = (failed settings' ≡ failed settings) × (failed blocks' ≡ failed blocks)
-NoWorthsFailed (Values upit) (Prices settings blocks) failed = ⊥
-NoWorthsFailed (Prices settings blocks) (Values upit) failed = ⊥
+NoWorthsFailed _ _ failed = ⊥
 
 abbrev pub NoneFailed : {D : Type 0} → MineInputs D → MineInputs D → (D → ℕ) → Type 0
 NoneFailed old new failed = NoWorthsFailed old.worths new.worths failed × (failed new.prec ≡ failed old.prec)
