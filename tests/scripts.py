@@ -9,6 +9,7 @@ import tempfile
 from pathlib import Path
 
 import edit_groups
+import imports
 import must_fail
 import pages
 
@@ -178,6 +179,21 @@ def wrong_pages_are_told(tree):
     return len(told) == len(wanted) and all(sum(one in said for said in told) == 1 for one in wanted), "\n".join(told)
 
 
+def imports_are_right(top):
+    """Whether each file takes the names of a crate's specs from one file."""
+    wrong = imports.scattered(top)
+    return not wrong, "\n".join(wrong)
+
+
+def scattered_imports_are_told(tree):
+    """Whether a file is told that takes names of a crate from two files of its specs; and none for variants, or in those specs."""
+    write(tree, "small/proofs/Told.antt", "use Rattle.small.specs.Prelude.{IsNext}\nuse Rattle.small.specs.Small.{IsNext}\n")
+    write(tree, "small/proofs/Right.antt", "use Rattle.small.specs.Prelude.{IsNext}\nuse Rattle.small.specs.declared.T.TheVariants.{A}\n"
+                                           "use Rattle.std.specs.Prelude.{List}\nuse Rattle.std.specs.List.{All}\n")
+    write(tree, "small/specs/Next.antt", "use Rattle.small.specs.Small.{IsNext}\nuse Rattle.small.specs.Other.{other}\n")
+    return imports.scattered(tree) == ["crates/small/proofs/Told.antt: names of small come from Prelude, Small"], "\n".join(imports.scattered(tree))
+
+
 # What the prover printed where a proof names a goal or a value that is gone: a long message goes on over lines.
 GONE_GOAL = """./proofs/long_module/long_function/Answers.antt:4:15: error: `returns`: `goal.returns-then-long`
   module `Rattle.small.proofs.long_module.long_function.Goals`
@@ -232,7 +248,7 @@ def goals_are_of_their_function(top):
     return not wrong, "\n".join(wrong)
 
 
-OF_THIS_TREE = [version_is_up_to_date, pages_are_right, refusals_are_read, goals_are_of_their_function]
+OF_THIS_TREE = [version_is_up_to_date, pages_are_right, imports_are_right, refusals_are_read, goals_are_of_their_function]
 
 
 TABLE = "x,y,z,value\n0,0,0,1\n20,0,0,-2.5\n"
@@ -319,7 +335,7 @@ def installs_where_the_caller_stands(top, folder):
 
 # the build comes first: the copies in which edits are tried begin with what it made
 CASES = [a_build_says_what_it_proved, edits_are_tried_by_their_function, edits_of_several_functions_are_tried_by_one_check, refused_edits_pass, an_accepted_edit_fails, named_edits_are_tried_alone,
-         a_failed_proof_fails_the_example, wrong_pages_are_told]
+         a_failed_proof_fails_the_example, wrong_pages_are_told, scattered_imports_are_told]
 
 
 def test(top):
