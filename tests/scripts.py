@@ -190,6 +190,8 @@ def scattered_imports_are_told(tree):
     write(tree, "small/proofs/Told.antt", "use Rattle.small.specs.Prelude.{IsNext}\nuse Rattle.small.specs.Small.{IsNext}\n")
     write(tree, "small/proofs/Right.antt", "use Rattle.small.specs.Prelude.{IsNext}\nuse Rattle.small.specs.declared.T.TheVariants.{A}\n"
                                            "use Rattle.std.specs.Prelude.{List}\nuse Rattle.std.specs.List.{All}\n")
+    for name in ("Prelude", "Small", "Other"):
+        write(tree, "small/specs/%s.antt" % name, "")
     write(tree, "small/specs/Next.antt", "use Rattle.small.specs.Small.{IsNext}\nuse Rattle.small.specs.Other.{other}\n")
     return imports.scattered(tree) == ["crates/small/proofs/Told.antt: names of small come from Prelude, Small"], "\n".join(imports.scattered(tree))
 
