@@ -11,7 +11,11 @@ pub returns-in_default-clause-checked : goal.returns-in_default-clause-checked
 returns-in_default-clause-checked g c = ([], reads_nothing g.R.Read.remaining c.args.lines.now, λ future. tt)
 
 pub loop-line-init : goal.loop-line-init
-loop-line-init g c = record { so_far = ([], [], reading_begins _ _ _ _ c.requires.behind, summed_begins _ _ c.in-Ok.ensures.sums c.in-Ok.ensures.open); kept = refl; size = c.in-Ok.ensures.size; }
+loop-line-init g c = record {
+  so_far = ([], [], reading_begins _ _ _ _ c.requires.behind, summed_begins _ _ c.in-Ok.ensures.sums c.in-Ok.ensures.open);
+  kept = refl;
+  size = c.in-Ok.ensures.size;
+}
 
 pub returns-in_err-line-clause-checked : goal.returns-in_err-line-clause-checked
 returns-in_err-line-clause-checked g c =
@@ -35,7 +39,16 @@ pub returns-then-is_end : goal.returns-then-is_end
 returns-then-is_end g c =
     let q = c.loop-line.invariant.so_far in
     let answered = end_answered _ _ _ _ _ _ _ _ _ _ _ _ _ _ c.worths-worths.ensures.net.rests q.2 q.3 c.in_default-close_pit.ensures.closes c.in_ok-line.ensures.line (sym c.is_end.ensures ∙ c.if-is_end.true) c.check_end.ensures.reads c.check_end.ensures.end in
-    record { size = grind (arith, common_steps); checked = answered.checked; pit = grind (arith, common_steps); worth = answered.worth; greatest = answered.greatest; device = grind (arith, common_steps); kept = grind (arith, common_steps); memory = grind (arith, common_steps); }
+    record {
+      size = grind (arith, common_steps);
+      checked = answered.checked;
+      pit = grind (arith, common_steps);
+      worth = answered.worth;
+      greatest = answered.greatest;
+      device = grind (arith, common_steps);
+      kept = grind (arith, common_steps);
+      memory = grind (arith, common_steps);
+    }
 
 pub put-requires-clause-may : goal.put-requires-clause-may
 put-requires-clause-may g c κs within =
