@@ -56,7 +56,7 @@ put-requires-clause-may g c κs within =
     let net = c.args.net.now in
     let e = sym c.is_end.ensures ∙ c.if-is_end.false in
     may_put _ _ _ _ _ _ _ c.worths-worths.ensures.net.rests q.3 c.in_default-close_pit.ensures.closes (line_met _ _ _ _ _ _ _ c.in_ok-line.ensures.line) e
-        (reading_on _ _ net _ _ _ _ _ _ _ q.2 c.in_ok-line.ensures.line e).begins.order
+    (reading_on _ _ net _ _ _ _ _ _ _ q.2 c.in_ok-line.ensures.line e).begins.order
 
 pub put-requires-clause-counted : goal.put-requires-clause-counted
 put-requires-clause-counted g c κs within = (met_sound _ _ _ _ (line_met _ _ _ _ _ _ _ c.in_ok-line.ensures.line)).count

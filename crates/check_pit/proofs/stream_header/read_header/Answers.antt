@@ -18,11 +18,11 @@ returns-in_err-price-clause-header g c =
 pub returns-in_err-group-clause-header : goal.returns-in_err-group-clause-header
 returns-in_err-group-clause-header g c =
     let two : Two g.R.Read.remaining c.args.lines.now c.take_line.new.lines c.take_line-2.new.lines c.in_ok-version.version c.in_ok-blocks.blocks = record
-        { zero = c.requires.first; first = c.in_ok-version.ensures.line version_in (λ t r h. search rules); second = c.in_ok-blocks.ensures.line (blocks_in None) (λ t r h. search rules) } in
+    { zero = c.requires.first; first = c.in_ok-version.ensures.line version_in (λ t r h. search rules); second = c.in_ok-blocks.ensures.line (blocks_in None) (λ t r h. search rules) } in
     search (rules, lacks_fourth _ _ _ _ _ _ _ _ _ _ two (c.in_ok-price.ensures.line (price_in c.in_ok-version.version) (λ t r h. search rules)) (c.in_err-group.ensures.line (group_in None) (λ t r h. search rules)))
 
 pub returns-clause-header : goal.returns-clause-header
 returns-clause-header g c =
     let two : Two g.R.Read.remaining c.args.lines.now c.take_line.new.lines c.take_line-2.new.lines c.in_ok-version.version c.in_ok-blocks.blocks = record
-        { zero = c.requires.first; first = c.in_ok-version.ensures.line version_in (λ t r h. search rules); second = c.in_ok-blocks.ensures.line (blocks_in None) (λ t r h. search rules) } in
+    { zero = c.requires.first; first = c.in_ok-version.ensures.line version_in (λ t r h. search rules); second = c.in_ok-blocks.ensures.line (blocks_in None) (λ t r h. search rules) } in
     gives_header _ _ _ _ _ _ _ _ _ _ two (c.in_ok-price.ensures.line (price_in c.in_ok-version.version) (λ t r h. search rules)) (c.in_ok-group.ensures.line (group_in None) (λ t r h. search rules))
