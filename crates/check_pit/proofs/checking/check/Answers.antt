@@ -1,4 +1,4 @@
-use Rattle.std.proofs.Common.{◌∙◌, sym, subst}
+use Rattle.std.proofs.Common.{◌∙◌, sym, subst, arith}
 use Rattle.std.proofs.lemmas.Result.{err_from_is_err_and}
 use Rattle.closure_net.specs.Network.{NetView, holds_of}
 use Rattle.closure_net.specs.Closure.{IsGreatest}
@@ -6,15 +6,10 @@ use Rattle.check_pit.specs.Checks.{PassesCapacities}
 use Rattle.check_pit.proofs.Verdicts.{flow_found, balance_fault, no_fault}
 use Rattle.closure_net.proofs.Duality.{greatest_from_tight}
 use Rattle.check_pit.proofs.checking.check.Goals as goal
+use Rattle.std.proofs.lemmas.Grind.{common_steps}
 
 pub returns-in_err-balances-clause-found : goal.returns-in_err-balances-clause-found
-returns-in_err-balances-clause-found g c =
-    let passes : PassesCapacities c.args.net.now c.args.flow.now c.args.pit.now = record {
-      signs = record { sizes = c.sizes_agree.ensures.0 c.if-not-sizes_agree.false; closed = c.in_default.ensures; signs = c.none_below_zero.ensures.0 c.if-not-none_below_zero.false };
-      within = c.in_default-first_over.ensures;
-    } in
-    let p = err_from_is_err_and c.from_residual.result c.from_residual.ensures.1 in
-    rw (p.1, p.2) (balance_fault c.args.net.now c.args.flow.now c.args.pit.now c.in_err-balances.field-0.0 passes c.in_err-balances.ensures)
+returns-in_err-balances-clause-found g c = grind (arith, common_steps, err_from_is_err_and, balance_fault)
 
 pub returns-in_err-balances-clause-complete : goal.returns-in_err-balances-clause-complete
 returns-in_err-balances-clause-complete g c =

@@ -12,16 +12,15 @@ returns-in_default-clause-checked g c = ([], reads_nothing g.R.Read.remaining c.
 
 pub loop-line-init : goal.loop-line-init
 loop-line-init g c = record {
-  so_far = ([], [], reading_begins g.R.Read.remaining g.G.OrderedGroup.counts c.args.net.now c.args.lines.now c.requires.behind, summed_begins c.args.net.now c.begin.new.self c.in-Ok.ensures.sums c.in-Ok.ensures.open);
+  so_far = ([], [], reading_begins _ _ _ _ c.requires.behind, summed_begins _ _ c.in-Ok.ensures.sums c.in-Ok.ensures.open);
   kept = refl;
   size = c.in-Ok.ensures.size;
 }
 
 pub returns-in_err-line-clause-checked : goal.returns-in_err-line-clause-checked
 returns-in_err-line-clause-checked g c =
-    let q = c.loop-line.invariant.so_far in
     let p = err_from_is_err_and c.from_residual.result c.from_residual.ensures.1 in
-    rw (p.1, p.2) (reading_lacks g.R.Read.remaining g.G.OrderedGroup.counts c.args.net.now c.args.lines.now c.loop-line.lines c.next_line.new.lines c.loop-line.previous q.0 q.1 c.in_err-line.field-0.0 q.2 c.in_err-line.ensures.line)
+    rw (p.1, p.2) (reading_lacks _ _ _ _ _ _ _ _ _ _ c.loop-line.invariant.so_far.2 c.in_err-line.ensures.line)
 
 pub returns-in_err-line-clause-memory : goal.returns-in_err-line-clause-memory
 returns-in_err-line-clause-memory g c = λ fresh space.
@@ -31,20 +30,15 @@ returns-in_err-line-clause-memory g c = λ fresh space.
     rw (p.1, p.2) (lacks_no_memory (g.R.Read.remaining lines.from) g.G.OrderedGroup.counts (length net.worths) (has_pair net.pairs) c.loop-line.previous lines c.in_err-line.field-0.0 c.in_err-line.ensures.line.1)
 
 pub close_pit-requires-clause-ascending : goal.close_pit-requires-clause-ascending
-close_pit-requires-clause-ascending g c κs within =
-    let q = c.loop-line.invariant.so_far in
-    blocks_ascend g.R.Read.remaining g.G.OrderedGroup.counts c.args.net.now c.args.lines.now c.loop-line.lines c.loop-line.previous q.0 q.1 c.loop-line.room q.2 q.3
+close_pit-requires-clause-ascending g c κs within = blocks_ascend _ _ _ _ _ _ _ _ _ c.loop-line.invariant.so_far.2 c.loop-line.invariant.so_far.3
 
 pub returns-in-Err-clause-checked : goal.returns-in-Err-clause-checked
-returns-in-Err-clause-checked g c =
-    let q = c.loop-line.invariant.so_far in
-    pit_open g.R.Read.remaining g.G.OrderedGroup.counts c.args.net.now c.args.lines.now c.loop-line.lines c.next_line.new.lines c.loop-line.previous q.0 q.1 c.in_ok-line.line c.loop-line.room c.in-Err.fault q.2 q.3 c.in_ok-line.ensures.line c.in-Err.ensures.closes
+returns-in-Err-clause-checked g c = pit_open _ _ _ _ _ _ _ _ _ _ _ _ c.loop-line.invariant.so_far.2 c.loop-line.invariant.so_far.3 c.in_ok-line.ensures.line c.in-Err.ensures.closes
 
 pub returns-then-is_end : goal.returns-then-is_end
 returns-then-is_end g c =
     let q = c.loop-line.invariant.so_far in
-    let answered = end_answered g.R.Read.remaining g.G.OrderedGroup.counts c.args.net.now c.args.lines.now c.loop-line.lines c.next_line.new.lines c.check_end.new.lines c.loop-line.previous q.0 q.1 c.in_ok-line.line c.loop-line.room c.close_pit.new.room c.check_end.result c.worths-worths.ensures.net.rests q.2 q.3
-    c.in_default-close_pit.ensures.closes c.in_ok-line.ensures.line (sym c.is_end.ensures ∙ c.if-is_end.true) c.check_end.ensures.reads c.check_end.ensures.end in
+    let answered = end_answered _ _ _ _ _ _ _ _ _ _ _ _ _ _ c.worths-worths.ensures.net.rests q.2 q.3 c.in_default-close_pit.ensures.closes c.in_ok-line.ensures.line (sym c.is_end.ensures ∙ c.if-is_end.true) c.check_end.ensures.reads c.check_end.ensures.end in
     record {
       size = grind (arith, common_steps);
       checked = answered.checked;
@@ -59,23 +53,16 @@ returns-then-is_end g c =
 pub put-requires-clause-may : goal.put-requires-clause-may
 put-requires-clause-may g c κs within =
     let q = c.loop-line.invariant.so_far in
-    let remaining = g.R.Read.remaining in
-    let counts = g.G.OrderedGroup.counts in
     let net = c.args.net.now in
     let e = sym c.is_end.ensures ∙ c.if-is_end.false in
-    may_put counts net c.loop-line.previous c.in_ok-line.line c.loop-line.room c.close_pit.new.room q.1 c.worths-worths.ensures.net.rests q.3 c.in_default-close_pit.ensures.closes
-    (line_met remaining counts net c.loop-line.lines c.next_line.new.lines c.loop-line.previous c.in_ok-line.line c.in_ok-line.ensures.line) e
-    (reading_on remaining counts net c.args.lines.now c.loop-line.lines c.next_line.new.lines c.loop-line.previous q.0 q.1 c.in_ok-line.line q.2 c.in_ok-line.ensures.line e).begins.order
+    may_put _ _ _ _ _ _ _ c.worths-worths.ensures.net.rests q.3 c.in_default-close_pit.ensures.closes (line_met _ _ _ _ _ _ _ c.in_ok-line.ensures.line) e
+    (reading_on _ _ net _ _ _ _ _ _ _ q.2 c.in_ok-line.ensures.line e).begins.order
 
 pub put-requires-clause-counted : goal.put-requires-clause-counted
-put-requires-clause-counted g c κs within =
-    let counts = g.G.OrderedGroup.counts in
-    (met_sound counts c.args.net.now c.loop-line.previous c.in_ok-line.line (line_met g.R.Read.remaining counts c.args.net.now c.loop-line.lines c.next_line.new.lines c.loop-line.previous c.in_ok-line.line c.in_ok-line.ensures.line)).count
+put-requires-clause-counted g c κs within = (met_sound _ _ _ _ (line_met _ _ _ _ _ _ _ c.in_ok-line.ensures.line)).count
 
 pub returns-in-Err-put-clause-checked : goal.returns-in-Err-put-clause-checked
-returns-in-Err-put-clause-checked g c =
-    let q = c.loop-line.invariant.so_far in
-    line_refused g.R.Read.remaining g.G.OrderedGroup.counts c.args.net.now c.args.lines.now c.loop-line.lines c.next_line.new.lines c.loop-line.previous q.0 q.1 c.in_ok-line.line c.loop-line.room c.close_pit.new.room c.in-Err-put.fault q.2 q.3 c.in_default-close_pit.ensures.closes c.in_ok-line.ensures.line (sym c.is_end.ensures ∙ c.if-is_end.false) c.in-Err-put.ensures.fault
+returns-in-Err-put-clause-checked g c = line_refused _ _ _ _ _ _ _ _ _ _ _ _ _ c.loop-line.invariant.so_far.2 c.loop-line.invariant.so_far.3 c.in_default-close_pit.ensures.closes c.in_ok-line.ensures.line (sym c.is_end.ensures ∙ c.if-is_end.false) c.in-Err-put.ensures.fault
 
 pub loop-line-preserved : goal.loop-line-preserved
 loop-line-preserved g c =

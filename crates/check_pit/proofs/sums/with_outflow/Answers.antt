@@ -19,19 +19,13 @@ module _ (ps : List (ℕ × ℕ)) (rising : IsRising ps) (b i first : ℕ) (abov
   below = let k = (passing_at (λ k. from_at ps k == b) (length ps) i inside).below in omega (arith, own, k)
 
 pub overflow_cast-i : goal.overflow_cast-i
-overflow_cast-i g c =
-    let l = below c.args.rests.now.pairs c.len-n.ensures.all.rising c.args.b c.loop-i.i c.first-first.result c.above-count.result.now c.above-count.ensures c.first-first.ensures (omega arith) in
-    omega (arith, l, c.len-n.ensures.all.few)
+overflow_cast-i g c = omega (arith, below _ c.len-n.ensures.all.rising _ c.loop-i.i _ _ c.above-count.ensures c.first-first.ensures (omega arith), c.len-n.ensures.all.few)
 
 pub overflow_add-first : goal.overflow_add-first
-overflow_add-first g c =
-    let l = below c.args.rests.now.pairs c.len-n.ensures.all.rising c.args.b c.loop-i.i c.first-first.result c.above-count.result.now c.above-count.ensures c.first-first.ensures (omega arith) in
-    omega (arith, l, c.len-n.ensures.all.few)
+overflow_add-first g c = omega (arith, below _ c.len-n.ensures.all.rising _ c.loop-i.i _ _ c.above-count.ensures c.first-first.ensures (omega arith), c.len-n.ensures.all.few)
 
 pub at-requires-after_bounds : goal.at-requires-after_bounds
-at-requires-after_bounds g c =
-    let l = below c.args.rests.now.pairs c.len-n.ensures.all.rising c.args.b c.loop-i.i c.first-first.result c.above-count.result.now c.above-count.ensures c.first-first.ensures (omega arith) in
-    omega (arith, l, c.requires.lengths)
+at-requires-after_bounds g c = omega (arith, below _ c.len-n.ensures.all.rising _ c.loop-i.i _ _ c.above-count.ensures c.first-first.ensures (omega arith), c.requires.lengths)
 
 pub returns-in_err-sum : goal.returns-in_err-sum
 returns-in_err-sum g c =
@@ -43,22 +37,15 @@ returns-in_err-sum g c =
 
 pub loop-i-preserved : goal.loop-i-preserved
 loop-i-preserved g c =
-    let ps = c.args.rests.now.pairs in
-    let ks = numbers (from_at ps) c.args.b (length ps) in
-    let start = g.G.OrderedGroup.parts_of c.args.start in
     let f = amount_at c.args.carried.now in
-    let q = ap f (own ps c.len-n.ensures.all.rising c.args.b c.loop-i.i c.first-first.result c.above-count.result.now c.above-count.ensures c.first-first.ensures (omega arith)) ∙ sym c.at.ensures in
+    let q = ap f (own _ c.len-n.ensures.all.rising _ _ _ _ c.above-count.ensures c.first-first.ensures (omega arith)) ∙ sym c.at.ensures in
     record {
-      so_far = sum_more start f ks c.loop-i.i _ _ _ c.loop-i.invariant.so_far q c.in_ok-sum.ensures.1;
-      fits = fits_more start f ks c.loop-i.i _ _ c.loop-i.invariant.so_far q c.in_ok-sum.ensures.0 c.loop-i.invariant.fits;
+      so_far = sum_more _ f (numbers (from_at c.args.rests.now.pairs) c.args.b (length c.args.rests.now.pairs)) _ _ _ _ c.loop-i.invariant.so_far q c.in_ok-sum.ensures.1;
+      fits = fits_more _ f _ _ _ _ c.loop-i.invariant.so_far q c.in_ok-sum.ensures.0 c.loop-i.invariant.fits;
     }
 
 pub returns : goal.returns
 returns g c =
-    let ps = c.args.rests.now.pairs in
-    let ks = numbers (from_at ps) c.args.b (length ps) in
-    let start = g.G.OrderedGroup.parts_of c.args.start in
-    let f = amount_at c.args.carried.now in
-    let size = ap length c.above-count.ensures ∙ length-map ks (to_at ps) in
-    let all : c.loop-i.i ≡ length ks = omega (arith, size) in
-    (all_in start (from_at ps) f c.args.b (length ps) ks refl c.loop-i.i _ all c.loop-i.invariant.so_far, all_fit start (from_at ps) f c.args.b (length ps) ks refl c.loop-i.i all c.loop-i.invariant.fits)
+    let ks = numbers (from_at c.args.rests.now.pairs) c.args.b (length c.args.rests.now.pairs) in
+    let all : c.loop-i.i ≡ length ks = omega (arith, ap length c.above-count.ensures ∙ length-map ks _) in
+    (all_in _ _ _ c.args.b _ _ refl _ _ all c.loop-i.invariant.so_far, all_fit _ _ _ _ _ _ refl _ all c.loop-i.invariant.fits)

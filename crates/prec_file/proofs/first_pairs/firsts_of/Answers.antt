@@ -27,4 +27,4 @@ pub returns : goal.returns
 returns c =
     let put = c.fill-2.ensures in
     firsts_all _ _ _ _ (subst (λ (k : ℕ). FirstsSoFar c.args.pairs.now c.args.n k c.loop-k.firsts.items) (omega arith) c.loop-k.invariant.so_far) put.size put.kept
-        (λ i l m. put.filled i l (omega (arith, put.size)))
+    (λ i l m. put.filled i l (omega (arith, put.size)))

@@ -14,7 +14,7 @@ pub push_row-requires-clause-known : goal.push_row-requires-clause-known
 push_row-requires-clause-known c =
     let q = rw c.in-Some.is at c.in_ok-record.ensures in
     subst (λ (x : ℕ). All (λ p. p < x) c.deref.result.now) (sym c.requires.blocks ∙ sym (ap (λ (v : RowsView). v.blocks) c.in-Ok.ensures))
-        (subst (λ (xs : List ℕ). All (λ p. p < c.args.n) xs) (sym (c.deref.ensures.value ∙ q.1)) (predecessors_known _ _ _ _ _ _ q.0))
+    (subst (λ (xs : List ℕ). All (λ p. p < c.args.n) xs) (sym (c.deref.ensures.value ∙ q.1)) (predecessors_known _ _ _ _ _ _ q.0))
 
 pub push_row-requires-clause-few : goal.push_row-requires-clause-few
 push_row-requires-clause-few c =

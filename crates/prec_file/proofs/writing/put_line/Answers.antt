@@ -22,4 +22,4 @@ returns-clause-held g c = grind (arith, common_steps, on_ok_weaker, held_both)
 pub returns-clause-prefix : goal.returns-clause-prefix
 returns-clause-prefix g c =
     subst (λ above. OnErr c.put_rest.result (ReceivedPrefix (g.W.Write.contents c.args.out.now) (g.W.Write.contents c.put_rest.new.out) (c.args.page.now ++ (front c.args.block above ++ back above))))
-        c.above-above.ensures (on_err_weaker _ (prefix_in_second _ _ _ _ _ _ _ c.in_ok-put_head.ensures.held) c.put_rest.ensures.prefix)
+    c.above-above.ensures (on_err_weaker _ (prefix_in_second _ _ _ _ _ _ _ c.in_ok-put_head.ensures.held) c.put_rest.ensures.prefix)

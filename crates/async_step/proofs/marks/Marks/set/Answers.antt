@@ -18,4 +18,4 @@ count_after_shift-self-inside-requires c = grind (arith, common_steps, all_can_s
 pub invariant_of-self : goal.invariant_of-self
 invariant_of-self c =
     marks_set _ _ _ _ _ _ _ _ _ _ _ _ _ _ _ c.self.invariant (omega (arith, c.requires, ap length c.self.view_is)) c.index.ensures (differ _ _ c.if-index-marked.false) c.index-2.ensures
-        c.count_after_shift.ensures c.index-3.ensures c.count_after_shift-2.ensures c.index-4.ensures c.count_after_shift-3.ensures c.count_after_shift-self-inside.ensures
+    c.count_after_shift.ensures c.index-3.ensures c.count_after_shift-2.ensures c.index-4.ensures c.count_after_shift-3.ensures c.count_after_shift-self-inside.ensures

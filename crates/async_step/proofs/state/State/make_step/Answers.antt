@@ -12,7 +12,10 @@ use Rattle.async_step.proofs.Becoming.{not_full, fits_changed, goes}
 use Rattle.async_step.proofs.state.State.make_step.Goals as goal
 
 pub returns-then-is_full : goal.returns-then-is_full
-returns-then-is_full g c = record { same = refl; why = (fits_changed _ _ c.requires.over _ c.requires.block _ _ c.requires.can, c.is_full.ensures.0 c.if-is_full.true) }
+returns-then-is_full g c = record {
+  same = refl;
+  why = (fits_changed _ _ c.requires.over _ c.requires.block _ _ c.requires.can, c.is_full.ensures.0 c.if-is_full.true);
+}
 
 pub returns : goal.returns
 returns g c =

@@ -32,11 +32,11 @@ invariant_of-result g c =
 pub returns-clause-opening : goal.returns-clause-opening
 returns-clause-opening g c =
     shows_opening c.args.net.now _ _ _ c.in_ok-excess.ensures.are (c.in_ok-label.ensures.items_if_clones_equal (λ y h. search rules)) c.in_ok-source.ensures.are c.in_ok-sink.ensures c.in_ok-flow.ensures
-        (ap (map (operation_as g.G.OrderedGroup.parts_of)) c.in_ok-operation.ensures ∙ mapped_replicate _ _ _) c.zero.ensures c.zero-2.ensures refl
+    (ap (map (operation_as g.G.OrderedGroup.parts_of)) c.in_ok-operation.ensures ∙ mapped_replicate _ _ _) c.zero.ensures c.zero-2.ensures refl
 
 pub returns-clause-state : goal.returns-clause-state
 returns-clause-state g c =
     let o : (view_of g.G.OrderedGroup.parts_of c.in_ok-excess.excess.items c.in_ok-label.label.items c.in_ok-source.source.items c.in_ok-sink.sink.items c.in_ok-flow.flow.items c.in_ok-operation.operation.items c.zero.result c.zero-2.result 0).operation ≡ replicate
-        (length c.worths.result.now) Idle = ap (map (operation_as g.G.OrderedGroup.parts_of)) c.in_ok-operation.ensures ∙ mapped_replicate _ _ _ in
+    (length c.worths.result.now) Idle = ap (map (operation_as g.G.OrderedGroup.parts_of)) c.in_ok-operation.ensures ∙ mapped_replicate _ _ _ in
     opens _ _ _ _ c.worths.ensures.net (sym (length-map c.worths.result.now g.G.OrderedGroup.parts_of) ∙ ap length c.worths.ensures.is) (c.pairs-pairs.ensures ∙ ap length c.rests-rests.ensures.pairs) c.in_ok-excess.ensures.fit c.in_ok-excess.ensures.are
-        c.in_ok-flow.ensures o (shows_opening c.args.net.now _ _ _ c.in_ok-excess.ensures.are (c.in_ok-label.ensures.items_if_clones_equal (λ y h. search rules)) c.in_ok-source.ensures.are c.in_ok-sink.ensures c.in_ok-flow.ensures o c.zero.ensures c.zero-2.ensures refl)
+    c.in_ok-flow.ensures o (shows_opening c.args.net.now _ _ _ c.in_ok-excess.ensures.are (c.in_ok-label.ensures.items_if_clones_equal (λ y h. search rules)) c.in_ok-source.ensures.are c.in_ok-sink.ensures c.in_ok-flow.ensures o c.zero.ensures c.zero-2.ensures refl)

@@ -24,7 +24,7 @@ look-requires-clause-scan g c κs within = scan_is _ _ _ _ c.requires.scan (scan
 pub returns-then-is_read : goal.returns-then-is_read
 returns-then-is_read g c =
     scan_reads _ _ _ _ _ _ _ _ _ (subst (λ (t : Bool). IsScanAt c.args.place t ((state_of c.args.self.now).operation c.args.block)) c.if-is_read.true c.requires.scan)
-        c.port-port.ensures c.read_label.ensures
+    c.port-port.ensures c.read_label.ensures
 
 pub returns-else-is_read : goal.returns-else-is_read
 returns-else-is_read g c = grind (arith, common_steps, scan_looks)

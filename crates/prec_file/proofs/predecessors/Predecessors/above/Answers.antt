@@ -9,7 +9,10 @@ pub part-requires : goal.part-requires
 part-requires c =
     let ps = pairs_by c.self.inside.firsts.items c.self.inside.predecessors.items in
     let r = starts_rise _ (length ps) _ _ _ _ _ c.self.invariant.firsts (omega (arith, c.requires, ap (λ v. v.blocks) c.self.view_is)) c.index-from.ensures c.index-to.ensures in
-    record { rises = r.0; inside = omega (arith, r.1, ap length c.deref.ensures.value ∙ ap length c.self.invariant.predecessors ∙ length-map ps (λ (p : ℕ × ℕ). p.1)) }
+    record {
+      rises = r.0;
+      inside = omega (arith, r.1, ap length c.deref.ensures.value ∙ ap length c.self.invariant.predecessors ∙ length-map ps (λ (p : ℕ × ℕ). p.1));
+    }
 
 pub returns : goal.returns
 returns c =

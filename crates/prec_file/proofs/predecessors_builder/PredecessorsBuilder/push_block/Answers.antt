@@ -9,11 +9,11 @@ pub invariant_of-self-2 : goal.invariant_of-self-2
 invariant_of-self-2 c =
     let next = c.self.inside.next in
     pushed_rows _ _ _ _ _ _ c.self.invariant (subst (λ (v : RowsView). v.next < v.blocks) (sym c.self.view_is) c.requires.next)
-        (omega (arith, subst (λ (v : RowsView). length v.pairs + length c.args.pairs.items ≤ MOST_PAIRS) (sym c.self.view_is) c.requires.few, c.sorted_apart-added.ensures.fewer))
-        c.sorted_apart-added.ensures.same.rising c.sorted_apart-added.ensures.apart
-        (own_kept _ _ _ _ c.sorted_apart-added.ensures.same (subst (λ (v : RowsView). All (IsOfBlock v.blocks v.next) c.args.pairs.items) (sym c.self.view_is) c.requires.own))
-        c.push_reserved.new.self.items c.append.new.list.items c.len.result (c.push_reserved.ensures.items ∙ ap (λ xs. xs ++ c.len.result ∷ []) c.in_ok-reserve.ensures.items)
-        (c.in_ok-append.ensures.added ∙ ap (λ xs. c.self.inside.predecessors.items ++ map (λ p. p.1) xs) c.deref.ensures.value) (omega (arith, c.append.new.list.ok, c.len.ensures))
+    (omega (arith, subst (λ (v : RowsView). length v.pairs + length c.args.pairs.items ≤ MOST_PAIRS) (sym c.self.view_is) c.requires.few, c.sorted_apart-added.ensures.fewer))
+    c.sorted_apart-added.ensures.same.rising c.sorted_apart-added.ensures.apart
+    (own_kept _ _ _ _ c.sorted_apart-added.ensures.same (subst (λ (v : RowsView). All (IsOfBlock v.blocks v.next) c.args.pairs.items) (sym c.self.view_is) c.requires.own))
+    c.push_reserved.new.self.items c.append.new.list.items c.len.result (c.push_reserved.ensures.items ∙ ap (λ xs. xs ++ c.len.result ∷ []) c.in_ok-reserve.ensures.items)
+    (c.in_ok-append.ensures.added ∙ ap (λ xs. c.self.inside.predecessors.items ++ map (λ p. p.1) xs) c.deref.ensures.value) (omega (arith, c.append.new.list.ok, c.len.ensures))
 
 pub returns : goal.returns
 returns c =

@@ -8,9 +8,9 @@ pub invariant_of-self-2 : goal.invariant_of-self-2
 invariant_of-self-2 c =
     let same = ap length c.in_ok-reserve.ensures.items in
     skipped_rows c.self.inside.blocks c.self.inside.next c.args.block c.len.result c.self.inside.firsts.items c.fill.new.list.items c.self.inside.predecessors.items c.self.invariant
-        (subst (λ (v : RowsView). v.next ≤ c.args.block) (sym c.self.view_is) c.requires.behind) (subst (λ (v : RowsView). c.args.block ≤ v.blocks) (sym c.self.view_is) c.requires.within)
-        (omega (arith, c.self.inside.predecessors.ok, c.len.ensures)) c.fill.ensures.size
-        (λ i h. c.fill.ensures.kept i (omega (arith, same)) ∙ ap (λ xs. get_or xs i 0) c.in_ok-reserve.ensures.items) (λ i h k. c.fill.ensures.filled i (omega (arith, same)) k)
+    (subst (λ (v : RowsView). v.next ≤ c.args.block) (sym c.self.view_is) c.requires.behind) (subst (λ (v : RowsView). c.args.block ≤ v.blocks) (sym c.self.view_is) c.requires.within)
+    (omega (arith, c.self.inside.predecessors.ok, c.len.ensures)) c.fill.ensures.size
+    (λ i h. c.fill.ensures.kept i (omega (arith, same)) ∙ ap (λ xs. get_or xs i 0) c.in_ok-reserve.ensures.items) (λ i h k. c.fill.ensures.filled i (omega (arith, same)) k)
 
 pub returns : goal.returns
 returns c =
