@@ -1,7 +1,6 @@
 -- Digits of a fraction, and their trailing zeros.
-use Rattle.std.proofs.Common.{◌≡◌, ℕ, zero, suc, ◌+◌, ◌-◌, ◌/◌, ◌%◌, ◌^◌, ◌<◌, ◌≤◌, false, eqb, List, [], ◌∷◌, ◌++◌, refl, sym, ap, ◌∙◌, arith}
+use Rattle.std.proofs.Common.{◌≡◌, ℕ, ◌+◌, ◌-◌, ◌/◌, ◌%◌, ◌^◌, ◌<◌, ◌≤◌, false, eqb, List, [], ◌∷◌, ◌++◌, refl, sym, ap, ◌∙◌, arith}
 use Rattle.std.proofs.lemmas.Fmt.{decimal_digit, decimal_step_wide}
-use Rattle.fixed_worth.proofs.Powers.{ten_more}
 use Rattle.fixed_worth.specs.Printed.{fixed_width, digit_before, without_trailing_zeros}
 use Rattle.std.proofs.lemmas.Grind.{common_steps}
 
@@ -9,13 +8,9 @@ pub zero_dropped : (xs : List ℕ) → without_trailing_zeros (xs ++ (48 ∷ [])
 zero_dropped [] = refl
 zero_dropped (x ∷ xs) = ap (digit_before x) (zero_dropped xs)
 
-before_more : (x d : ℕ) (xs : List ℕ) → digit_before x (xs ++ (d ∷ [])) ≡ x ∷ (xs ++ (d ∷ []))
-before_more x d [] = refl
-before_more x d (y ∷ ys) = refl
-
 pub digit_kept : (xs : List ℕ) (d : ℕ) → eqb d 48 ≡ false → without_trailing_zeros (xs ++ (d ∷ [])) ≡ xs ++ (d ∷ [])
 digit_kept [] d e = rw e refl
-digit_kept (x ∷ xs) d e = ap (digit_before x) (digit_kept xs d e) ∙ before_more x d xs
+digit_kept (x ∷ xs) d e = ap (digit_before x) (digit_kept xs d e) ∙ (grind (arith, common_steps))
 
 -- a number of several digits: the digits in front, and the last one
 last_digit : (w n : ℕ) → 10 ≤ n → n < 10 ^ 64 → fixed_width w n ≡ fixed_width (w - 1) (n / 10) ++ ((48 + n % 10) ∷ [])
@@ -30,14 +25,11 @@ kept_by : (w n : ℕ) (xs : List ℕ) (d : ℕ) → fixed_width w n ≡ xs ++ (d
 kept_by w n xs d e f = ap without_trailing_zeros e ∙ digit_kept xs d f ∙ sym e
 
 pub last_digit_kept : (w n : ℕ) → n < 10 ^ 64 → 0 < n % 10 → without_trailing_zeros (fixed_width w n) ≡ fixed_width w n
-last_digit_kept w n s h = grind (arith, common_steps, kept_by, decimal_digit, last_digit)
+last_digit_kept w n s h = grind (arith, common_steps, decimal_digit, last_digit, digit_kept)
 
 -- a tenth of a fraction has one place less
 pub has_place : (w n : ℕ) → 10 ≤ n → n < 10 ^ w → 0 < w
-has_place zero n h s = omega arith
-has_place (suc w) n h s = omega arith
+has_place w n h s = grind (arith, common_steps)
 
 pub tenth_below : (w n : ℕ) → 10 ≤ n → n < 10 ^ w → n / 10 < 10 ^ (w - 1)
-tenth_below w n h s =
-    let e : w ≡ (w - 1) + 1 = omega (arith, has_place w n h s) in
-    grind (arith, common_steps, has_place, ten_more)
+tenth_below w n h s = grind (arith, common_steps, (has_place w n h s))
