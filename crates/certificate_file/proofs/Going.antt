@@ -10,7 +10,7 @@ use Rattle.certificate_file.specs.declared.body_lines.LineKind.{LineKind}
 use Rattle.certificate_file.specs.declared.body_lines.LineKind.TheVariants.{Pit, Source, Rest, Sink, End}
 use Rattle.certificate_file.specs.declared.body_lines.BodyLine.{BodyLine}
 use Rattle.certificate_file.specs.Pieces.{Piece, Unread, IsPieceRead, read_line, number_below, words_of}
-use Rattle.certificate_file.specs.BodyLines.{kind_of, amount_in, is_amount, numbered_line, block_line, rest_line, end_line, line_with, line_of_words, line_of, is_end, is_of_model, may_follow, next_line, end_fault, fault_from, body_fault, lines_of_pieces}
+use Rattle.certificate_file.specs.BodyLines.{kind_of, amount_in, is_amount, numbered_line, block_line, rest_line, line_with, line_of_words, line_of, is_end, is_of_model, may_follow, next_line, end_fault, fault_from, body_fault, lines_of_pieces}
 use Rattle.certificate_file.specs.Certificate.{Covers, UnlessMemory, has_pair, pit_of, block_if_pit, given_amount, gives_source, gives_rest, gives_sink, is_rest, amount_of}
 use Rattle.certificate_file.specs.Gathered.{Gathered, Adds}
 use Rattle.std.proofs.lemmas.Grind.{common_steps}
@@ -63,16 +63,13 @@ sound_rest : (counts : Bool) (n : ℕ) (words : List (List ℕ)) (line : BodyLin
 sound_rest counts n (b ∷ p ∷ w ∷ c ∷ []) line h = sound_amount counts n Rest b w c (number_below n p) line (numbered Rest (number_below n b) (number_below n p) (amount_in counts w c) line h) (λ e. absurd (let z : true ≡ false = e in cc)) refl
 sound_rest counts n _ line h = no_line_is line h
 
-sound_end : (counts : Bool) (n : ℕ) (words : List (List ℕ)) (line : BodyLine) → end_line words ≡ Ok line → Sound counts n line
-sound_end counts n words line h = grind (arith, common_steps)
-
 sound_with : (counts : Bool) (n : ℕ) (o : Option LineKind) (words : List (List ℕ)) (line : BodyLine) → line_with counts n o words ≡ Ok line → Sound counts n line
 sound_with counts n None words line h = no_line_is line h
 sound_with counts n (Some Pit) words line h = grind (arith, common_steps)
 sound_with counts n (Some Source) words line h = sound_block counts n Source words line refl h
 sound_with counts n (Some Rest) words line h = sound_rest counts n words line h
 sound_with counts n (Some Sink) words line h = sound_block counts n Sink words line refl h
-sound_with counts n (Some End) words line h = sound_end counts n words line h
+sound_with counts n (Some End) words line h = grind (arith, common_steps)
 
 sound_words : (counts : Bool) (n : ℕ) (words : List (List ℕ)) (line : BodyLine) → line_of_words counts n words ≡ Ok line → Sound counts n line
 sound_words counts n [] line h = no_line_is line h
@@ -95,12 +92,9 @@ fault_at : (counts : Bool) (n : ℕ) (has : ℕ → ℕ → Bool) (previous : Op
     → body_fault counts n has previous left.number left.pieces ≡ fault_from (end_fault (left.number + 1) ps) (λ line. body_fault counts n has (Some line) (left.number + 1) ps) (next_line counts n has previous (left.number + 1) p)
 fault_at counts n has previous left p ps e = ap (body_fault counts n has previous left.number) e
 
-pit_joins : (kind : LineKind) (b : ℕ) (bs : List ℕ) → block_if_pit kind b [] ++ bs ≡ block_if_pit kind b bs
-pit_joins kind b bs = grind (arith, common_steps)
-
 pub goes_on : (counts : Bool) (n : ℕ) (pairs : List (ℕ × ℕ)) (all : Unread) (start : Gathered) (previous : Option BodyLine) (left next : Unread) (so later : Gathered) (line : BodyLine) → Going counts n pairs all start previous left so → IsPieceRead (line_of counts n) left next line
     → may_follow previous line ≡ true → is_end line.kind ≡ false → is_of_model (has_pair pairs) line.kind line ≡ true → Covers n (length pairs) later.flow → Adds n pairs (line ∷ []) so later → Going counts n pairs all start (Some line) next later
-goes_on counts n pairs all start previous left next so later line g p f e m c a = grind (arith, common_steps, (has_pair pairs), (text_read (line_of counts n) next.number p.piece line p.read), (fault_at counts n (has_pair pairs) previous left p.piece next.pieces p.pieces), (append_assoc so.pit (block_if_pit line.kind line.block []) (pit_of (lines_of_pieces counts n next.pieces))), (pit_joins line.kind line.block (pit_of (lines_of_pieces counts n next.pieces))))
+goes_on counts n pairs all start previous left next so later line g p f e m c a = grind (arith, common_steps, (has_pair pairs), (text_read (line_of counts n) next.number p.piece line p.read), (fault_at counts n (has_pair pairs) previous left p.piece next.pieces p.pieces), (append_assoc so.pit (block_if_pit line.kind line.block []) (pit_of (lines_of_pieces counts n next.pieces))))
 
 pub always : (e : CertFault) {P : Type 0} → P → UnlessMemory e P
 always e h = grind (arith, common_steps)

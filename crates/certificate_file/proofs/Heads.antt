@@ -7,7 +7,7 @@ use Rattle.std.proofs.lemmas.Slice.Eq.{bytes_eq-Decides}
 use lib.Chars.{codes}
 use Rattle.fixed_worth.specs.declared.limits.TheConstants.{MOST_BLOCKS, MOST_FACTOR}
 use Rattle.ordered_group.specs.declared.groups.Group.{Group}
-use Rattle.ordered_group.specs.Group.{group_name, group_of}
+use Rattle.ordered_group.specs.Group.{group_name}
 use Rattle.ordered_group.proofs.Names.{group_spelled}
 use Rattle.certificate_file.specs.declared.header.Header.{Header}
 use Rattle.certificate_file.specs.declared.header.Wanted.{Wanted}
@@ -18,7 +18,7 @@ use Rattle.certificate_file.specs.declared.header.Version.TheVariants.{One, Two}
 use Rattle.certificate_file.specs.declared.cert_fault.LineFault.{LineFault}
 use Rattle.certificate_file.specs.declared.cert_fault.LineFault.TheVariants.{Text}
 use Rattle.certificate_file.specs.Pieces.{Piece, piece_at, read_line, words_of, number_below}
-use Rattle.certificate_file.specs.Header.{header_for, version_in, value_behind, value_behind_both, or_number, blocks_said, blocks_in, factor_of, price_said, mill_said, price_in, group_named, group_said, group_in}
+use Rattle.certificate_file.specs.Header.{header_for, version_in, value_behind, value_behind_both, or_number, blocks_said, blocks_in, factor_of, price_said, mill_said, price_in, group_said, group_in}
 use Rattle.certificate_file.specs.Written.{spaced_words, lines_text, version_for, version_word, price_words, header_words}
 use Rattle.certificate_file.proofs.Texts.{pieces_text, words_make_line}
 use Rattle.certificate_file.proofs.Going.{text_read}
@@ -83,11 +83,8 @@ price_at Two text price h = milled_at (words_of text) (value_behind_both (codes 
 price_text : (v : Version) (text : List ℕ) (price : Price) → price_in v text ≡ Ok price → text ≡ spaced_words (price_words price)
 price_text v text price h = sym (words_make_line text) ∙ ap spaced_words (price_at v text price h).words_are
 
-group_kind : (wanted : Option Wanted) (w : List ℕ) (o : Option Group) (g : Group) → group_of w ≡ o → group_named wanted o ≡ Ok g → w ≡ group_name g
-group_kind wanted w o g e h = grind (arith, common_steps, group_spelled)
-
 group_at : (wanted : Option Wanted) (text : List ℕ) (o : Option (List ℕ)) (g : Group) → value_behind (codes "GROUP") (words_of text) ≡ o → group_said wanted o ≡ Ok g → text ≡ spaced_words (codes "GROUP" ∷ group_name g ∷ [])
-group_at wanted text (Some w) g e h = keyed (codes "GROUP") w text e ∙ ap (λ (x : List ℕ). spaced_words (codes "GROUP" ∷ x ∷ [])) (group_kind wanted w (group_of w) g refl h)
+group_at wanted text (Some w) g e h = keyed (codes "GROUP") w text e ∙ ap (λ (x : List ℕ). spaced_words (codes "GROUP" ∷ x ∷ [])) (grind (arith, common_steps, group_spelled))
 group_at wanted text None g e h = absurd cc
 
 -- A text that has no more lines can't be read.

@@ -14,7 +14,7 @@ use Rattle.certificate_file.specs.declared.body_lines.LineKind.{LineKind}
 use Rattle.certificate_file.specs.declared.body_lines.LineKind.TheVariants.{Pit, Source, Rest, Sink, End}
 use Rattle.certificate_file.specs.declared.body_lines.BodyLine.{BodyLine}
 use Rattle.certificate_file.specs.Pieces.{Piece, number_below, words_of, read_line}
-use Rattle.certificate_file.specs.BodyLines.{kind_of, amount_said, amount_in, pit_line, block_line, rest_line, line_with, line_of_words, line_of, is_end, next_line, end_fault, fault_from, body_fault, lines_from, lines_of_pieces}
+use Rattle.certificate_file.specs.BodyLines.{kind_of, amount_said, amount_in, block_line, rest_line, line_with, line_of_words, line_of, is_end, next_line, end_fault, fault_from, body_fault, lines_from, lines_of_pieces}
 use Rattle.certificate_file.specs.Written.{spaced_words, words_with, line_words, body_text, end_text}
 use Rattle.certificate_file.proofs.Texts.{pieces_text, words_make_line}
 use Rattle.certificate_file.proofs.Going.{numbered, text_read, no_line_is}
@@ -32,9 +32,6 @@ key_word End = codes "END"
 named : (key word : List ℕ) (k j : LineKind) → word ≡ key_word j → Some j ≡ Some k → key ≡ word → key ≡ key_word k
 named key word k j w e h = h ∙ w ∙ ap key_word (ap (λ (o : Option LineKind). unwrap_or o k) e)
 
-pub key_is : (key : List ℕ) (k : LineKind) → kind_of key ≡ Some k → key ≡ key_word k
-key_is key k h = grind (arith, common_steps, bytes_eq-Decides)
-
 -- Numbers are spelled as they are printed.
 below_at : (word : List ℕ) (limit j k : ℕ) (t : Bool) → plain_of word ≡ Ok (pos j) → cond t (Some j) None ≡ Some k → word ≡ decimal k
 below_at word limit j k t e h = grind (arith, common_steps, (one_spelling word (pos j) e))
@@ -51,9 +48,6 @@ amount_of_words counts v w a (Err x) (Err y) e f h = absurd cc
 amount_is : (counts : Bool) (v w : List ℕ) (a : ℤ × ℤ) → amount_in counts v w ≡ Some a → (v ≡ signed_decimal a.0) × (w ≡ signed_decimal a.1)
 amount_is counts v w a h = amount_of_words counts v w a (plain_of v) (plain_of w) refl refl h
 
-pit_words : (n : ℕ) (words : List (List ℕ)) (l : BodyLine) → pit_line n words ≡ Ok l → key_word Pit ∷ words ≡ line_words l
-pit_words n words l h = grind (arith, common_steps, no_line_is, numbered, number_is)
-
 block_words : (counts : Bool) (n : ℕ) (kind : LineKind) (words : List (List ℕ)) (l : BodyLine) → words_with kind l ≡ key_word kind ∷ decimal l.block ∷ signed_decimal l.worth ∷ signed_decimal l.count ∷ [] → block_line counts n kind words ≡ Ok l → key_word kind ∷ words ≡ line_words l
 block_words counts n kind words l e h = grind (arith, common_steps, no_line_is, numbered, amount_is, number_is)
 
@@ -61,10 +55,10 @@ rest_words : (counts : Bool) (n : ℕ) (words : List (List ℕ)) (l : BodyLine) 
 rest_words counts n words l h = grind (arith, common_steps, no_line_is, numbered, amount_is, number_is)
 
 kind_words : (counts : Bool) (n : ℕ) (k : LineKind) (words : List (List ℕ)) (l : BodyLine) → line_with counts n (Some k) words ≡ Ok l → key_word k ∷ words ≡ line_words l
-kind_words counts n k words l h = grind (arith, common_steps, pit_words, block_words, rest_words)
+kind_words counts n k words l h = grind (arith, common_steps, block_words, rest_words, no_line_is, numbered, number_is)
 
 keyed_words : (counts : Bool) (n : ℕ) (key : List ℕ) (words : List (List ℕ)) (l : BodyLine) (o : Option LineKind) → kind_of key ≡ o → line_with counts n o words ≡ Ok l → key ∷ words ≡ line_words l
-keyed_words counts n key words l (Some k) e h = ap (λ (w : List ℕ). w ∷ words) (key_is key k e) ∙ kind_words counts n k words l h
+keyed_words counts n key words l (Some k) e h = ap (λ (w : List ℕ). w ∷ words) (grind (arith, common_steps, bytes_eq-Decides)) ∙ kind_words counts n k words l h
 keyed_words counts n key words l None e h = no_line_is l h
 
 line_words_are : (counts : Bool) (n : ℕ) (words : List (List ℕ)) (l : BodyLine) → line_of_words counts n words ≡ Ok l → words ≡ line_words l

@@ -57,9 +57,6 @@ pits : (P : BodyLine → Type 0) (bs : List ℕ) (p : Option BodyLine) (rest : L
 pits P [] p rest a f e u c = c p u
 pits P (b ∷ bs) p rest a f e u c = (f, e 0 (omega arith), pits P bs (Some (pit_at b)) rest (tail_ascends b bs a) (next_follows b bs a) (λ i h. e (suc i) (omega arith)) (omega arith) c)
 
-first_of_all : (bs : List ℕ) → FirstFollows None bs
-first_of_all bs = grind (arith, common_steps)
-
 -- Lines of amounts before others.
 abbrev pub Each : (BodyLine → Type 0) → (ℕ → Amount → BodyLine) → ℕ → List Amount → Type 0
 Each P line k [] = Unit {0}
@@ -92,7 +89,7 @@ value_in_order P n pairs pit flow a r c e =
     amounts P (pair_at pairs) (length pairs) 2 rests flow.rest 0 q (amount_lines (line_of_block Sink) 0 flow.sink) (omega (arith, c.rests)) (λ j x g h. higher 1 q (pair_at pairs j x) u (omega arith)) e.rest (wider 1 2 q (omega arith) u) last in
     let first : (q : Option BodyLine) → UpTo 0 q → InOrder P q (flow_lines pairs flow) = λ q u.
     amounts P (line_of_block Source) n 1 sources flow.source 0 q (amount_lines (pair_at pairs) 0 flow.rest ++ amount_lines (line_of_block Sink) 0 flow.sink) (omega (arith, c.sources)) (λ j x g h. higher 0 q (line_of_block Source j x) u (omega arith)) e.source (wider 0 1 q (omega arith) u) middle in
-    pits P pit None (flow_lines pairs flow) a (first_of_all pit) e.pit tt first
+    pits P pit None (flow_lines pairs flow) a (grind (arith, common_steps)) e.pit tt first
 
 -- What lines give, part by part.
 given_amount-append : (gives : BodyLine → Bool) (x : Amount) (ls ms : List BodyLine) → given_amount gives x (ls ++ ms) ≡ given_amount gives (given_amount gives x ls) ms

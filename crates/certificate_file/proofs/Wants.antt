@@ -1,16 +1,14 @@
 -- A certificate that is read for a model, as a whole.
-use Rattle.std.proofs.Common.{◌≡◌, ℕ, List, Option, Some, Result, Ok, arith}
-use lib.Chars.{codes}
+use Rattle.std.proofs.Common.{◌≡◌, ℕ, List, Some, Result, Ok, arith}
 use Rattle.ordered_group.specs.declared.groups.Group.{Group}
 use Rattle.certificate_file.specs.declared.header.Header.{Header}
 use Rattle.certificate_file.specs.declared.header.Wanted.{Wanted}
 use Rattle.certificate_file.specs.declared.header.Price.{Price}
 use Rattle.certificate_file.specs.declared.header.Version.{Version}
 use Rattle.certificate_file.specs.declared.cert_fault.CertFault.{CertFault}
-use Rattle.certificate_file.specs.Pieces.{Piece, piece_at, read_line, words_of}
+use Rattle.certificate_file.specs.Pieces.{Piece, piece_at, read_line}
 use Rattle.certificate_file.specs.Written.{header_with}
-use Rattle.certificate_file.specs.Header.{◌>>=◌, header_for, version_in, blocks_in, price_in, group_in, group_said, value_behind}
-use Rattle.certificate_file.proofs.Going.{text_read}
+use Rattle.certificate_file.specs.Header.{◌>>=◌, header_for, version_in, blocks_in, price_in, group_in}
 use Rattle.std.proofs.lemmas.Grind.{common_steps}
 
 -- A header has the blocks and the group that are wanted.
@@ -25,12 +23,9 @@ pub joined : (a : Result Version CertFault) (b : Result ℕ CertFault) (c : Vers
     → (a >>= λ x. b >>= λ blocks. c x >>= λ price. d >>= λ group. Ok (header_with blocks price group)) ≡ Ok h → Joined a b c d h
 joined a b c d h e = grind (arith, common_steps)
 
-group_wanted : (w : Wanted) (o : Option (List ℕ)) (g : Group) → group_said (Some w) o ≡ Ok g → g ≡ w.group
-group_wanted w o g h = grind (arith, common_steps)
-
 pub header_wanted : (w : Wanted) (ps : List Piece) (h : Header) → header_for (Some w) ps ≡ Ok h → (h.blocks ≡ w.blocks) × (h.group ≡ w.group)
 header_wanted w ps h e =
     let q = joined (read_line version_in 1 (piece_at ps 0)) (read_line (blocks_in (Some w)) 2 (piece_at ps 1)) (λ v. read_line (price_in v) 3 (piece_at ps 2)) (read_line (group_in (Some w)) 4 (piece_at ps 3)) h e in (
       (grind (arith, common_steps)),
-      group_wanted w (value_behind (codes "GROUP") (words_of (piece_at ps 3).text)) h.group (text_read (group_in (Some w)) 4 (piece_at ps 3) h.group q.group),
+      (grind (arith, common_steps)),
     )

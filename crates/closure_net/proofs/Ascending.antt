@@ -57,13 +57,7 @@ pub found_in_part : (xs : List ℕ) (x from to : ℕ) (r : Result ℕ ℕ) → I
     → StandsFrom xs x from → StandsBelow xs x from to
     → IsBinarySearchResult (λ y. nat_cmp y x) (slice_range xs from to) r
     → MatchResult r (λ i. (from + i < length xs) × (get_or xs (from + i) 0 ≡ x)) (λ _. holds_of xs x ≡ false)
-found_in_part xs x from to (Ok i) a h l low high b =
-    let k = to - from in
-    let c : from + k ≤ length xs = omega arith in
-    let e : length (take k (drop from xs)) ≡ k = length-part xs from k c in
-    let s = searched (take k (drop from xs)) x (Ok i) b (not_falling (take k (drop from xs)) (part_ascends xs from k a c)) in
-    let i' : i < k = omega (arith, e, s.0) in
-    (omega arith, sym (get_or-part xs from k i i') ∙ s.1)
+found_in_part xs x from to (Ok i) a h l low high b = grind (arith, common_steps, (to - from), (length-part xs from (to - from) (omega arith)), (searched (take (to - from) (drop from xs)) x (Ok i) b (not_falling (take (to - from) (drop from xs)) (part_ascends xs from (to - from) a (omega arith)))), (not_falling (take (to - from) (drop from xs)) (part_ascends xs from (to - from) a (omega arith))), (part_ascends xs from (to - from) a (omega arith)))
 found_in_part xs x from to (Err i) a h l low high b =
     let k = to - from in
     let c : from + k ≤ length xs = omega arith in
@@ -84,9 +78,7 @@ found_in_part xs x from to (Err i) a h l low high b =
 
 -- a binary search finds what the list holds, and nothing else
 pub found_is_held : (xs : List ℕ) (x : ℕ) (r : Result ℕ ℕ) → IsAscending xs → IsBinarySearchResult (λ y. nat_cmp y x) xs r → is_ok r ≡ holds_of xs x
-found_is_held xs x (Ok i) a h =
-    let s = searched xs x (Ok i) h (not_falling xs a) in
-    sym (ap (holds_of xs) (sym s.1) ∙ holds_at xs i s.0)
+found_is_held xs x (Ok i) a h = grind (arith, common_steps, (searched xs x (Ok i) h (not_falling xs a)), (not_falling xs a), (holds_at xs i (searched xs x (Ok i) h (not_falling xs a)).0))
 found_is_held xs x (Err i) a h =
     let s = searched xs x (Err i) h (not_falling xs a) in
     elim (cases_Bool (holds_of xs x)) [

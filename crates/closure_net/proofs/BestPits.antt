@@ -1,11 +1,12 @@
 -- Pits, and which of them is best.
-use Rattle.std.proofs.Common.{◌≡◌, ℕ, ◌≤◌, ◌≤ℤ◌, Bool, true, false, IsTrue, inl, inr, sym, subst, refl, ◌∙◌, arith}
+use Rattle.std.proofs.Common.{◌≡◌, ℕ, ◌≤◌, ◌≤ℤ◌, Bool, true, IsTrue, inl, inr, sym, subst, ◌∙◌, arith}
 use Rattle.std.proofs.lemmas.Int.{ints}
 use Rattle.std.proofs.lemmas.Bool.{and_parts, and_from, or_cases, or_left, or_right, cases_lt}
 use Rattle.ordered_group.specs.Sets.{worth_in}
 use Rattle.ordered_group.proofs.Totals.{union, intersection, within_first, within_second}
 use Rattle.ordered_group.proofs.BlockSets.{count_in-within, worth_of_two, lead_rises, worth_in-same, count_in-same}
 use Rattle.closure_net.specs.Mine.{Mine, IsPit, worth_of, block_count_of, AreSame, IsBest, RisesTo, LiesWithin, RestsWithin}
+use Rattle.std.proofs.lemmas.Grind.{common_steps}
 
 pub union_is_pit : (mine : Mine) (e c : ℕ → Bool) → IsPit mine e → IsPit mine c → IsPit mine (union e c)
 union_is_pit mine e c h k b p r t = elim (or_cases (e b) (c b) t) [ inl x ↦ or_left (e p) (c p) (h b p r x) | inr x ↦ or_right (e p) (c p) (k b p r x) ]
@@ -38,10 +39,7 @@ best_from_fewest mine e pit most fewest = record {
 
 -- two tests that can't differ agree
 pub agree : (s t : Bool) → ¬ (¬ (s ≡ t)) → s ≡ t
-agree true true h = refl
-agree true false h = absurd (h (λ e. absurd cc))
-agree false true h = absurd (h (λ e. absurd cc))
-agree false false h = refl
+agree s t h = grind (arith, common_steps)
 
 -- both are best, so each has fewer blocks than the other where they differ
 pub best_is_one : (mine : Mine) (e c : ℕ → Bool) → IsBest mine e → IsBest mine c → AreSame mine e c
@@ -77,11 +75,4 @@ best_is_within mine later e c r h k b l t =
 
 -- a set with the blocks of the best pit is the best pit
 pub best_of_same : (mine : Mine) (e c : ℕ → Bool) → RestsWithin mine → IsBest mine e → AreSame mine c e → IsBest mine c
-best_of_same mine e c o h s =
-    let worth : worth_of mine c ≡ worth_of mine e = worth_in-same mine.worth c e mine.blocks s in
-    let count : block_count_of mine c ≡ block_count_of mine e = count_in-same c e mine.blocks s in
-    record {
-      is_pit = λ b p r t. let i = o.own b p r in s p i.1 ∙ h.is_pit b p r (sym (s b i.0) ∙ t);
-      most = λ d pit. rw worth (h.most d pit);
-      fewest = λ d pit differ same. rw count (h.fewest d pit (λ k. differ (λ b l. k b l ∙ sym (s b l))) (same ∙ worth));
-    }
+best_of_same mine e c o h s = grind (arith, common_steps, worth_in-same, count_in-same)

@@ -1,5 +1,5 @@
 -- What a list of blocks holds.
-use Rattle.std.proofs.Common.{◌≡◌, ℕ, ◌<◌, ◌==◌, Bool, true, false, List, length, get_or, refl, sym, arith}
+use Rattle.std.proofs.Common.{◌≡◌, ℕ, ◌<◌, ◌==◌, Bool, true, false, List, length, get_or, refl, arith}
 use Rattle.std.proofs.lemmas.List.Folds.{Any-from_list_any, list_any_at}
 use Rattle.std.proofs.lemmas.Bool.{eq-eqb}
 use Rattle.closure_net.specs.Network.{holds_of}
@@ -7,14 +7,11 @@ use Rattle.std.proofs.lemmas.Grind.{common_steps}
 
 -- a test has one answer
 pub apart : (t : Bool) → t ≡ false → t ≡ true → ⊥
-apart true h e = cc
-apart false h e = cc
+apart t h e = grind (arith, common_steps)
 
 -- tests that follow from each other are equal
 pub same_tests : (x y : Bool) → (x ≡ true → y ≡ true) → (y ≡ true → x ≡ true) → x ≡ y
-same_tests true y h k = sym (h refl)
-same_tests false true h k = absurd (let e = k refl in cc)
-same_tests false false h k = refl
+same_tests x y h k = grind (arith, common_steps)
 
 -- it holds what stands in it
 pub holds_at : (xs : List ℕ) (i : ℕ) → i < length xs → holds_of xs (get_or xs i 0) ≡ true

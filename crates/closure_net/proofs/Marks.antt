@@ -30,9 +30,7 @@ search_none n space marks found h r e f = grind (arith, common_steps, trues_none
 
 -- there is room for a block that has no mark
 pub search_room : (marks : List Bool) (found : List ℕ) (space b : ℕ) → IsSearch marks found space → b < length marks → get_or marks b false ≡ false → length found < space
-search_room marks found space b h l e =
-    let s = length-set marks b true in
-    omega (arith, trues_most (set marks b true), trues_set marks b l e, h.count, h.room, s)
+search_room marks found space b h l e = grind (arith, common_steps, (length-set marks b true), (trues_most (set marks b true)), (trues_set marks b l e))
 
 -- a block that has no mark is found
 pub search_more : (marks : List Bool) (found : List ℕ) (space b : ℕ) → IsSearch marks found space → b < length marks → get_or marks b false ≡ false → IsSearch (set marks b true) (found ++ b ∷ []) space

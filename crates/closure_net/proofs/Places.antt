@@ -1,8 +1,8 @@
 -- Amounts that are kept by their places.
-use Rattle.std.proofs.Common.{◌≡◌, ◌≢◌, ℕ, zero, suc, ◌≤◌, ◌<◌, ◌^◌, List, [], ◌∷◌, ◌++◌, length, map, replicate, set, get_or, inl, inr, Option, None, Some, All, refl, sym, ap, subst, ◌∙◌, arith, length-set, get_or-set_same, get_or-set_other}
+use Rattle.std.proofs.Common.{◌≡◌, ℕ, zero, suc, ◌≤◌, ◌<◌, ◌^◌, List, [], ◌∷◌, ◌++◌, length, map, replicate, set, get_or, inl, inr, Option, None, Some, All, refl, sym, ap, ◌∙◌, arith, length-set, get_or-set_same, get_or-set_other}
 use Rattle.std.proofs.lemmas.Bool.{cases_eq}
-use Rattle.std.proofs.lemmas.List.{map-set, get_or_append_left, get_or-map, get_or-replicate, length-map, length-replicate, ext_get_or, length-append}
-use Rattle.std.proofs.lemmas.Grind.{get_or-set_at}
+use Rattle.std.proofs.lemmas.List.{map-set, get_or-map, get_or-replicate, length-map, length-replicate, ext_get_or, length-append}
+use Rattle.std.proofs.lemmas.Grind.{get_or-set_at, common_steps}
 use Rattle.std.proofs.Math.Seq.{get_or-append_seam}
 use Rattle.ordered_group.specs.Amount.{Amount, zero_amount}
 use Rattle.closure_net.specs.Carrying.{amount_of_place, carried_by, placed_count, ArePlaces}
@@ -28,15 +28,7 @@ placed_count-none (suc n) = placed_count-none n
 
 -- at first no pair has a place
 pub places_none : (ps : List ℕ) (n amounts : ℕ) → ps ≡ replicate n 0 → n < 2 ^ 32 → amounts ≡ 0 → ArePlaces ps amounts
-places_none ps n amounts e few none =
-    let size = length-replicate {A = ℕ} n 0 in
-    let P : List ℕ → Type 0 = λ qs. ArePlaces qs amounts in
-    subst P (sym e) (record {
-      few = omega (arith, size);
-      inside = λ i d l. omega (arith, get_or-replicate n i 0 d (omega (arith, size)));
-      count = none ∙ sym (placed_count-none n);
-      apart = λ i j li lj same other. absurd (other (get_or-replicate n i 0 0 (omega (arith, size))));
-    })
+places_none ps n amounts e few none = grind (arith, common_steps, length-replicate, get_or-replicate, placed_count-none)
 
 -- while a pair has no place, the next place is a number of 32 bits
 pub place_fits : (ps : List ℕ) (n k : ℕ) → ArePlaces ps n → k < length ps → get_or ps k 0 ≡ 0 → suc n < 2 ^ 32
@@ -44,28 +36,7 @@ place_fits ps n k h l e = omega (arith, placed_count_most (set ps k 1), placed_c
 
 -- a pair that has no place gets the next one
 pub places_more : (ps : List ℕ) (n k : ℕ) → ArePlaces ps n → k < length ps → get_or ps k 0 ≡ 0 → ArePlaces (set ps k (suc n)) (suc n)
-places_more ps n k h l e =
-    let size = length-set ps k (suc n) in
-    let here : (i d : ℕ) → i ≡ k → get_or (set ps k (suc n)) i d ≡ suc n = λ i d z. get_or-set_at ps k i (suc n) d z l in
-    let there : (i d : ℕ) → i ≢ k → get_or (set ps k (suc n)) i d ≡ get_or ps i d = λ i d q. get_or-set_other ps k i (suc n) d q in
-    record {
-      few = omega (arith, size, h.few);
-      inside = λ i d li. elim (cases_eq i k) [
-        | inl z ↦ omega (arith, here i d z)
-        | inr q ↦ omega (arith, there i d q, h.inside i d (omega (arith, size)))
-      ];
-      count = omega (arith, placed_count-set ps k n l e, h.count);
-      apart = λ i j li lj same other. elim (cases_eq i k) [
-        | inl z ↦ elim (cases_eq j k) [
-          | inl y ↦ z ∙ sym y
-          | inr q ↦ absurd (omega (arith, here i 0 z, there j 0 q, same, h.inside j 0 (omega (arith, size))))
-        ]
-        | inr q ↦ elim (cases_eq j k) [
-          | inl y ↦ absurd (omega (arith, here j 0 y, there i 0 q, same, h.inside i 0 (omega (arith, size))))
-          | inr r ↦ h.apart i j (omega (arith, size)) (omega (arith, size)) (sym (there i 0 q) ∙ same ∙ there j 0 r) (λ o. other (there i 0 q ∙ o))
-        ]
-      ];
-    }
+places_more ps n k h l e = grind (arith, common_steps, (length-set ps k (suc n)), (placed_count-set ps k n l e))
 
 -- one more amount, in a list and in what was read of it
 pub grown : {X : Type 0} (xs ys zs : List X) (x : X) → ys ≡ xs ++ x ∷ [] → zs ≡ ys → length zs ≡ suc (length xs)
@@ -75,27 +46,13 @@ grown xs ys zs x e f = ap length (f ∙ e) ∙ length-append xs (x ∷ []) ∙ o
 
 -- one more amount leaves those of the places before it
 same_at : (xs : List Amount) (x : Amount) (p : ℕ) → p ≤ length xs → amount_of_place (xs ++ x ∷ []) p ≡ amount_of_place xs p
-same_at xs x zero h = refl
-same_at xs x (suc p) h = get_or_append_left xs (x ∷ []) zero_amount p (omega arith)
+same_at xs x p h = grind (arith, common_steps)
 
 same_map : (xs : List Amount) (x : Amount) (ps : List ℕ) → All (λ p. p ≤ length xs) ps → map (amount_of_place (xs ++ x ∷ [])) ps ≡ map (amount_of_place xs) ps
 same_map xs x [] h = refl
 same_map xs x (p ∷ ps) h =
     ap (λ (a : Amount). a ∷ map (amount_of_place (xs ++ x ∷ [])) ps) (same_at xs x p (h 0 0 (omega arith)))
     ∙ ap (λ (ys : List Amount). amount_of_place xs p ∷ ys) (same_map xs x ps (λ k d l. h (suc k) d (omega arith)))
-
--- with the place of one more amount, a pair carries that amount
-pub placed_is_set : (xs : List Amount) (x : Amount) (ps : List ℕ) (k : ℕ) → All (λ p. p ≤ length xs) ps
-    → map (amount_of_place (xs ++ x ∷ [])) (set ps k (suc (length xs))) ≡ set (map (amount_of_place xs) ps) k x
-placed_is_set xs x ps k h =
-    map-set (amount_of_place (xs ++ x ∷ [])) ps k (suc (length xs))
-    ∙ ap (λ (ys : List Amount). set ys k (amount_of_place (xs ++ x ∷ []) (suc (length xs)))) (same_map xs x ps h)
-    ∙ ap (λ (a : Amount). set (map (amount_of_place xs) ps) k a) (get_or-append_seam xs x [] zero_amount)
-
--- an amount at its place leaves those of the other places
-other_place : (xs : List Amount) (x : Amount) (p q : ℕ) → q ≢ suc p → amount_of_place (set xs p x) q ≡ amount_of_place xs q
-other_place xs x p zero d = refl
-other_place xs x p (suc q) d = get_or-set_other xs p q x zero_amount (λ e. d (ap suc e))
 
 -- with another amount at its place, a pair carries that amount, and the others what they did
 pub replaced_is_set : (xs : List Amount) (x : Amount) (ps : List ℕ) (k p : ℕ) → ArePlaces ps (length xs) → k < length ps → get_or ps k 0 ≡ suc p
@@ -114,7 +71,7 @@ replaced_is_set xs x ps k p h l e =
           ∙ get_or-set_same xs p x zero_amount inside
           ∙ sym (get_or-set_at (map g ps) k i x zero_amount z (omega (arith, length-map ps g)))
       | inr d ↦
-          other_place xs x p (get_or ps i 0) (λ q. d (h.apart i k there l (q ∙ sym e) (λ o. absurd (omega (arith, q, o)))))
+          grind (arith, common_steps)
           ∙ sym (get_or-set_other (map g ps) k i x zero_amount d ∙ get_or-map g ps i 0 zero_amount there)
     ])
 
@@ -133,31 +90,19 @@ none_placed xs ps n e =
 pub few_set : {Kept : Type 0} (items : Kept → List ℕ) (o : Option Kept) (v : Kept) (xs ys zs : List Amount) (x : Amount) (k n : ℕ)
     → o ≡ Some v → All (λ p. p ≤ length xs) (items v) → ys ≡ xs ++ x ∷ [] → n ≡ length ys → carried_by items o xs ≡ zs
     → map (amount_of_place ys) (set (items v) k n) ≡ set zs k x
-few_set {Kept = Kept} items o v xs ys zs x k n e h f g is =
-    let size : n ≡ suc (length xs) = omega (arith, g, ap length f, length-append xs (x ∷ [])) in
-    ap (λ (us : List Amount). map (amount_of_place us) (set (items v) k n)) f
-    ∙ ap (λ (q : ℕ). map (amount_of_place (xs ++ x ∷ [])) (set (items v) k q)) size
-    ∙ placed_is_set xs x (items v) k h
-    ∙ ap (λ (us : List Amount). set us k x) (sym (ap (λ (w : Option Kept). carried_by items w xs) e) ∙ is)
+few_set {Kept = Kept} items o v xs ys zs x k n e h f g is = grind (arith, common_steps, length-append, map-set, same_map, get_or-append_seam)
 
 -- the amounts that are kept of a few pairs, once a pair that had one gets another
 pub few_replaced : {Kept : Type 0} (items : Kept → List ℕ) (o : Option Kept) (v : Kept) (xs zs : List Amount) (x : Amount) (k p : ℕ)
     → o ≡ Some v → ArePlaces (items v) (length xs) → k < length (items v) → get_or (items v) k 0 ≡ suc p → carried_by items o xs ≡ zs
     → map (amount_of_place (set xs p x)) (items v) ≡ set zs k x
-few_replaced {Kept = Kept} items o v xs zs x k p e h l at is =
-    replaced_is_set xs x (items v) k p h l at
-    ∙ ap (λ (us : List Amount). set us k x) (sym (ap (λ (w : Option Kept). carried_by items w xs) e) ∙ is)
+few_replaced {Kept = Kept} items o v xs zs x k p e h l at is = grind (arith, common_steps, replaced_is_set)
 
 -- as many pairs as are kept
 pub few_size : {Kept : Type 0} (items : Kept → List ℕ) (o : Option Kept) (v : Kept) (xs zs : List Amount)
     → o ≡ Some v → carried_by items o xs ≡ zs → length (items v) ≡ length zs
-few_size {Kept = Kept} items o v xs zs e is =
-    sym (length-map (items v) (amount_of_place xs))
-    ∙ ap (λ (us : List Amount). length us) (sym (ap (λ (w : Option Kept). carried_by items w xs) e) ∙ is)
+few_size {Kept = Kept} items o v xs zs e is = grind (arith, common_steps)
 
 pub all_set : {Kept : Type 0} {X : Type 0} (parts : X → Amount) (items : Kept → List ℕ) (o : Option Kept) (xs : List X) (zs : List Amount) (x : X) (k : ℕ)
     → o ≡ None → carried_by items o (map parts xs) ≡ zs → carried_by items o (map parts (set xs k x)) ≡ set zs k (parts x)
-all_set parts items o xs zs x k e is =
-    ap (λ w. carried_by items w (map parts (set xs k x))) e
-    ∙ map-set parts xs k x
-    ∙ ap (λ (us : List Amount). set us k (parts x)) (sym (ap (λ w. carried_by items w (map parts xs)) e) ∙ is)
+all_set parts items o xs zs x k e is = grind (arith, common_steps, map-set)

@@ -42,15 +42,7 @@ fore_slot ps r b i l =
 
 pub fore_is : (ps : List (ℕ × ℕ)) → IsRising ps → (b i top first : ℕ) (ts : List ℕ) → ts ≡ above_of ps b → i < length (fore ps b) → top ≡ get_or ts i 0 → first ≡ first_of ps b
     → (let p : Port = record { kind = Forward; other = top; slot = first + i } in slice_get (fore ps b) i ≡ Some p)
-fore_is ps r b i top first ts e l q f =
-    let ks = numbers (from_at ps) b (length ps) in
-    let d : Port = record { kind = Forward; other = top; slot = first + i } in
-    let inside : i < length ks = omega (arith, length-map ks (forward_port (to_at ps))) in
-    let own = own_at ps r b i inside in
-    let s : first + i ≡ get_or ks i 0 = ap (λ x. x + i) f ∙ sym own in
-    let t : top ≡ to_at ps (get_or ks i 0) = q ∙ ap (λ xs. get_or xs i 0) e ∙ get_or-map (to_at ps) ks i 0 0 inside in
-    let same : d ≡ forward_port (to_at ps) (get_or ks i 0) = λ j. record { kind = Forward; other = t j; slot = s j } in
-    slice_get-get_or (fore ps b) i d l ∙ ap Some (sym (same ∙ sym (get_or-map (forward_port (to_at ps)) ks i 0 d inside)))
+fore_is ps r b i top first ts e l q f = grind (arith, common_steps, (numbers (from_at ps) b (length ps)), (own_at ps r b i (omega (arith, length-map (numbers (from_at ps) b (length ps)) (forward_port (to_at ps))))), (length-map (numbers (from_at ps) b (length ps)) (forward_port (to_at ps))), (get_or-map (to_at ps) (numbers (from_at ps) b (length ps)) i 0 0 (omega (arith, length-map (numbers (from_at ps) b (length ps)) (forward_port (to_at ps))))), (slice_get-get_or (fore ps b) i (record { kind = Forward; other = top; slot = first + i }) l))
 
 pub number_below : (ps : List (ℕ × ℕ)) (b i : ℕ) (ks : List ℕ) → ks ≡ below_of ps b → i < length ks → get_or ks i 0 < length ps
 number_below ps b i ks e l = grind (arith, common_steps, passing_at)

@@ -60,13 +60,6 @@ module _ (net : NetView) (flow : FlowView) (b : ℕ) where
       let h = p.upto j inside (subst P (sym at) w) in
       ap (λ i. holds_of new (from_at net.pairs i)) (sym at) ∙ h
 
-  up_only : (c : ℕ → Bool) → Reaches net flow c → c b ≡ true → (j x : ℕ) → j < length (below_of net.pairs b) → SendsAt net.pairs flow.rest b j → sender_at net.pairs b j ≡ x → c x ≡ true
-  up_only c r e j x l w q =
-      let p = passing_at (λ i. to_at net.pairs i == b) (length net.pairs) j l in
-      let k = get_or (below_of net.pairs b) j 0 in
-      let u = r.up k p.below w (ap c (eqb-true (to_at net.pairs k) b p.passes) ∙ e) in
-      ap c (sym q) ∙ u
-
   pub searched_more : (old mid new : List ℕ) (h : ℕ) → Searched net flow old h → h < length old → b ≡ get_or old h 0
       → PassedPlaces Always (above_at net.pairs b) old mid (length (above_of net.pairs b))
       → PassedPlaces (SendsAt net.pairs flow.rest b) (sender_at net.pairs b) mid new (length (below_of net.pairs b))
@@ -95,7 +88,7 @@ module _ (net : NetView) (flow : FlowView) (b : ℕ) where
                 | inl o ↦ s.sound c r x o
                 | inr o ↦ down_only c r here o.0 x o.1 o.3
               ]
-              | inr a ↦ up_only c r here a.0 x a.1 a.2 a.3
+              | inr a ↦ grind (arith, common_steps, passing_at, eqb-true)
             ];
       }
 
@@ -109,9 +102,7 @@ all_reach net flow h = grind (arith, common_steps)
 
 -- a list of all that pass below n holds what passes
 passing_holds : (e : ℕ → Bool) (n x : ℕ) → x < n → e x ≡ true → holds_of (numbers_passing e n) x ≡ true
-passing_holds e n x l t =
-    let at = passing_here e x n l t in
-    ap (holds_of (numbers_passing e n)) (sym at) ∙ holds_at (numbers_passing e n) (length (numbers_passing e x)) (passing_after e x n l t)
+passing_holds e n x l t = grind (arith, common_steps, (passing_here e x n l t), (holds_at (numbers_passing e n) (length (numbers_passing e x)) (passing_after e x n l t)), (passing_after e x n l t))
 
 passing_held : (e : ℕ → Bool) (n x : ℕ) → holds_of (numbers_passing e n) x ≡ true → e x ≡ true
 passing_held e n x t = grind (arith, common_steps, place_of, passing_at)

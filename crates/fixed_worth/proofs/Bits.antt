@@ -1,10 +1,9 @@
 -- What truth values come to.
-use Rattle.std.proofs.Common.{◌≡◌, Bool, true, false, not, refl}
+use Rattle.std.proofs.Common.{◌≡◌, Bool, true, false, not, arith}
+use Rattle.std.proofs.lemmas.Grind.{common_steps}
 
 pub not_true : (t : Bool) → not t ≡ true → t ≡ false
-not_true true e = cc
-not_true false e = refl
+not_true t e = grind (arith, common_steps)
 
 pub not_false : (t : Bool) → not t ≡ false → t ≡ true
-not_false true e = refl
-not_false false e = cc
+not_false t e = grind (arith, common_steps)

@@ -1,10 +1,9 @@
 -- Values of digits.
-use Rattle.std.proofs.Common.{◌≡◌, ℕ, suc, ◌+◌, ◌-◌, ◌*◌, ◌^◌, ◌<◌, ◌≤◌, Bool, true, false, List, [], ◌∷◌, length, drop, get_or, refl, sym, ap, ◌∙◌, subst, arith, drop-cons, add-one, lit<, ◌++◌, pow-add, length-append}
+use Rattle.std.proofs.Common.{◌≡◌, ℕ, suc, ◌+◌, ◌-◌, ◌*◌, ◌^◌, ◌<◌, ◌≤◌, Bool, true, List, [], ◌∷◌, length, drop, get_or, refl, sym, ◌∙◌, subst, arith, drop-cons, lit<, ◌++◌, pow-add, length-append}
 use Rattle.std.proofs.lemmas.List.{drop_all}
 use Rattle.std.proofs.Math.Nat.{pow-succ', one-le-pow, mul-le-mul_left, pow-le-pow_right}
 use Rattle.std.specs.Prelude.{◌&&◌}
 use Rattle.std.specs.List.{list_all}
-use Rattle.std.proofs.lemmas.Bool.Decides.{nat_tests}
 use Rattle.fixed_worth.specs.Numeral.{is_digit, value_of}
 use Rattle.std.proofs.lemmas.Grind.{common_steps}
 use Rattle.std.proofs.lemmas.Bool.{and_from}
@@ -17,9 +16,7 @@ carry v d n r = rw (pow-succ' 10 n) (spread v d (10 ^ n) r)
 
 pub value_step : (v i : ℕ) (bs : List ℕ) → i < length bs
     → v * 10 ^ length (drop i bs) + value_of (drop i bs) ≡ (v * 10 + (get_or bs i 0 - 48)) * 10 ^ length (drop (i + 1) bs) + value_of (drop (i + 1) bs)
-value_step v i bs h =
-    let f : drop i bs ≡ get_or bs i 0 ∷ drop (suc i) bs = drop-cons bs i 0 h in
-    rw (add-one, f) (carry v (get_or bs i 0 - 48) (length (drop (suc i) bs)) (value_of (drop (suc i) bs)))
+value_step v i bs h = grind (arith, common_steps, (drop-cons bs i 0 h), (carry v (get_or bs i 0 - 48) (length (drop (suc i) bs)) (value_of (drop (suc i) bs))))
 
 small : (m a p r : ℕ) → 1 ≤ p → a * p + r < m → a < m
 small m a p r e h = let f : a * 1 ≤ a * p = mul-le-mul_left a e in omega arith
@@ -48,9 +45,7 @@ joins d p q x y = omega arith
 
 pub value_of-append : (xs ys : List ℕ) → value_of (xs ++ ys) ≡ value_of xs * 10 ^ length ys + value_of ys
 value_of-append [] ys = omega arith
-value_of-append (x ∷ xs) ys =
-    let e : 10 ^ length (xs ++ ys) ≡ 10 ^ length xs * 10 ^ length ys = ap (λ n. 10 ^ n) (length-append xs ys) ∙ pow-add 10 (length xs) (length ys) in
-    rw (e, value_of-append xs ys) (joins (x - 48) (10 ^ length xs) (10 ^ length ys) (value_of xs) (value_of ys))
+value_of-append (x ∷ xs) ys = grind (arith, common_steps, length-append, pow-add, joins, (value_of-append xs ys))
 
 -- what is too large at the front is too large
 pub front_too_large : (xs ys : List ℕ) → (value_of xs < 2 ^ 128 → ⊥) → value_of (xs ++ ys) < 2 ^ 128 → ⊥
@@ -58,18 +53,14 @@ front_too_large xs ys h s = h (below_from (2 ^ 128) (value_of xs) (length ys) (v
 
 -- Digits stand for less than the next power of ten.
 digit_at_most : (b : ℕ) (r : Bool) → (is_digit b && r) ≡ true → (b - 48 ≤ 9) × (r ≡ true)
-digit_at_most b true h = (grind (arith, nat_tests), refl)
-digit_at_most b false h = (grind (arith, nat_tests), grind (arith, nat_tests))
+digit_at_most b r h = grind (arith, common_steps)
 
 spaced : (d p v : ℕ) → d ≤ 9 → v < p → d * p + v < 10 * p
 spaced d p v h j = let f : p * d ≤ p * 9 = mul-le-mul_left p h in omega arith
 
 pub value_below : (bs : List ℕ) → list_all is_digit bs ≡ true → value_of bs < 10 ^ length bs
 value_below [] h = omega arith
-value_below (b ∷ bs) h =
-    let q = digit_at_most b (list_all is_digit bs) h in
-    let f : 10 ^ suc (length bs) ≡ 10 * 10 ^ length bs = pow-succ' 10 (length bs) in
-    rw f (spaced (b - 48) (10 ^ length bs) (value_of bs) q.0 (value_below bs q.1))
+value_below (b ∷ bs) h = grind (arith, common_steps, (digit_at_most b (list_all is_digit bs) h), (pow-succ' 10 (length bs)), (spaced (b - 48) (10 ^ length bs) (value_of bs) (digit_at_most b (list_all is_digit bs) h).0 (value_below bs (digit_at_most b (list_all is_digit bs) h).1)), (value_below bs (digit_at_most b (list_all is_digit bs) h).1))
 
 pub short_value : (xs ys : List ℕ) → list_all is_digit (xs ++ ys) ≡ true → length xs + length ys ≤ 36 → value_of (xs ++ ys) < 10 ^ 36
 short_value xs ys h j = grind (arith, common_steps, value_below, pow-le-pow_right)

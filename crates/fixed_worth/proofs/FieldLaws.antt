@@ -1,5 +1,5 @@
 -- The fields of a line are its longest runs of bytes that are no separators.
-use Rattle.std.proofs.Common.{◌≡◌, ℕ, suc, zero, ◌+◌, ◌-◌, ◌<◌, ◌≤◌, inl, inr, true, false, not, List, [], ◌∷◌, length, take, drop, get_or, refl, sym, ap, ◌∙◌, subst, arith, length-drop, All}
+use Rattle.std.proofs.Common.{◌≡◌, ℕ, suc, zero, ◌+◌, ◌-◌, ◌<◌, ◌≤◌, inl, inr, true, false, not, List, [], ◌∷◌, length, take, drop, get_or, sym, ap, ◌∙◌, subst, arith, length-drop, All}
 use Rattle.std.specs.List.{position_or_len}
 use Rattle.std.proofs.lemmas.List.{get_or-drop, drop-drop, drop_all}
 use Rattle.std.proofs.lemmas.List.Elements.{All-nil, All-cons}
@@ -15,9 +15,6 @@ use Rattle.std.proofs.lemmas.Grind.{common_steps}
 -- the bytes of a gap, and of a run
 gap_byte : (line : List ℕ) (p k : ℕ) → k < gap (drop p line) → is_separator (get_or line (p + k) 0) ≡ true
 gap_byte line p k h = grind (arith, common_steps, prefix_len_passes)
-
-run_byte : (line : List ℕ) (p k : ℕ) → k < position_or_len is_separator (drop p line) → is_separator (get_or (drop p line) k 0) ≡ false
-run_byte line p k h = not_true (is_separator (get_or (drop p line) k 0)) (prefix_len_passes (λ b. not (is_separator b)) (drop p line) k 0 h)
 
 run_ends : (line : List ℕ) (p : ℕ) → position_or_len is_separator (drop p line) < length (drop p line) → is_separator (get_or line (p + position_or_len is_separator (drop p line)) 0) ≡ true
 run_ends line p h = grind (arith, common_steps, prefix_len_stops)
@@ -53,12 +50,8 @@ run_given : (line : List ℕ) (q : ℕ) → q < length line → is_separator (ge
     → runs_from q (drop q line) ≡ first line q ∷ runs_from (q + width line q) (drop (q + width line q) line)
 run_given line q h e = grind (arith, common_steps, first_run)
 
-wide_by : (line : List ℕ) (q w : ℕ) → width line q ≡ w → q < length line → is_separator (get_or line q 0) ≡ false → 0 < w
-wide_by line q zero n h e = grind (arith, common_steps)
-wide_by line q (suc w) n h e = omega arith
-
 is_field : (line : List ℕ) (q : ℕ) → q < length line → is_separator (get_or line q 0) ≡ false → ((k : ℕ) → k + 1 ≡ q → is_separator (get_or line k 0) ≡ true) → IsField line (first line q)
-is_field line q h e before = grind (arith, common_steps, run_byte, run_ends)
+is_field line q h e before = grind (arith, common_steps, run_ends, not_true, prefix_len_passes)
 
 finished : (line : List ℕ) (p : ℕ) → length line ≤ end_of_gap line p → FieldsFrom line p []
 finished line p h = record {
@@ -124,7 +117,7 @@ found (suc n) line p h fresh =
       | inl short ↦
           let q = end_of_gap line p in
           let head : is_separator (get_or line (end_of_gap line p) 0) ≡ false = gap_ends line p short in
-          let wide : 0 < width line (end_of_gap line p) = wide_by line q (width line q) refl short head in
+          let wide : 0 < width line (end_of_gap line p) = grind (arith, common_steps) in
           let rest : FieldsFrom line (q + width line q) (runs_from (q + width line q) (drop (q + width line q) line)) = found n line (q + width line q) (omega arith) (stays_fresh line q short) in
           subst (FieldsFrom line p) (sym (behind_gap line p ∙ run_given line q short head)) (one_more line p (runs_from (q + width line q) (drop (q + width line q) line)) fresh short rest)
       | inr long ↦ subst (FieldsFrom line p) (nothing_left line p long) (finished line p long)

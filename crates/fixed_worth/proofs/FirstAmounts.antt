@@ -1,6 +1,6 @@
 -- A decimal that stands first in a line: a sign, digits, a point and digits.
 use Rattle.std.proofs.Common.{◌≡◌, ℕ, suc, ◌+◌, ◌-◌, ◌*◌, ◌^◌, ◌<◌, ◌≤◌, Bool, true, false, cond, not, eqb, List, [], ◌∷◌, ◌++◌, length, take, drop, get_or, pos, refl, sym, ap, ◌∙◌, arith, lit<, length-append, append-nil, append_assoc, pow-add}
-use Rattle.std.specs.Prelude.{ℤ, ◌||◌, nat_lt, nat_le, neg_ℤ, Ok, unwrap_or, Some, Result}
+use Rattle.std.specs.Prelude.{ℤ, ◌||◌, nat_lt, nat_le, neg_ℤ, Ok, Some, Result}
 use Rattle.std.specs.List.{list_all, position_or_len, before_first, after_first}
 use Rattle.std.proofs.lemmas.Bool.{and_from}
 use Rattle.std.proofs.lemmas.Bool.Decides.{nat_tests}
@@ -13,7 +13,6 @@ use Rattle.fixed_worth.specs.Decimal.{first_decimal, is_mark, is_point, whole_pa
 use Rattle.fixed_worth.specs.Front.{MayFollow, BeginsWithField, BeginsWithFraction}
 use Rattle.fixed_worth.specs.Text.{WordRun, is_separator}
 use Rattle.fixed_worth.specs.declared.numerals.NumberFault.{NumberFault}
-use Rattle.std.proofs.lemmas.Option.{none-some}
 use Rattle.fixed_worth.proofs.Digits.{value_of-append, value_below}
 use Rattle.fixed_worth.proofs.FirstNumbers.{passed, begins_with}
 use Rattle.fixed_worth.proofs.Powers.{rounds_up, ten_positive}
@@ -39,13 +38,8 @@ no_point b h = grind arith
 digit_plain : (b : ℕ) → is_digit b ≡ true → is_plain_byte b ≡ true
 digit_plain b h = grind arith
 
-sign_plain : (b : ℕ) → (eqb b 43 || eqb b 45) ≡ true → is_plain_byte b ≡ true
-sign_plain b h = grind arith
-
 pub passed_all : (p : ℕ → Bool) (xs : List ℕ) → list_all (λ b. not (p b)) xs ≡ true → position_or_len p xs ≡ length xs
-passed_all p xs h =
-    let e = passed p xs [] h in
-    ap (position_or_len p) (sym (append-nil xs)) ∙ e ∙ omega arith
+passed_all p xs h = grind (arith, common_steps, (passed p xs [] h), (append-nil xs))
 
 -- The field that stands first, of which this is what stands behind its sign.
 record Front (text unsigned rest : List ℕ) : Type 0 where
@@ -62,7 +56,7 @@ front_at b bs unsigned rest true e h some = record {
   all = ap (λ xs. b ∷ xs) h;
   without = rw e refl;
   minus = refl;
-  plain = λ a. and_from (is_plain_byte b) (list_all is_plain_byte unsigned) (sign_plain b e) a;
+  plain = λ a. and_from (is_plain_byte b) (list_all is_plain_byte unsigned) (grind arith) a;
   some = omega arith;
 }
 front_at b bs [] rest false e h some = absurd (omega arith)
@@ -79,14 +73,12 @@ front_at b bs (u ∷ us) rest false e h some =
     }
 
 front : (text unsigned rest : List ℕ) → unsigned_of text ≡ unsigned ++ rest → 0 < length unsigned → Front text unsigned rest
-front [] unsigned rest h some = let e = ap length h in let f = length-append unsigned rest in absurd (omega (arith, e, f))
-front (b ∷ bs) unsigned rest h some = front_at b bs unsigned rest (eqb b 43 || eqb b 45) refl h some
+front text unsigned rest h some = grind (arith, common_steps, length-append, front_at)
 
 -- The parts of such a field.
 whole_is : (field whole point fraction : List ℕ) → unsigned_of field ≡ whole ++ (point ++ fraction) → before_first is_mark field ≡ field → list_all is_digit whole ≡ true → MayFollow fraction point → whole_part field ≡ whole
 unfolding whole_part is_point
-whole_is field whole [] fraction e m h f = grind (arith, common_steps, all_pass_weaker, passed_all)
-whole_is field whole (b ∷ bs) fraction e m h f = grind (arith, common_steps, all_pass_weaker, passed)
+whole_is field whole point fraction e m h f = grind (arith, common_steps, all_pass_weaker, passed_all, passed)
 
 fraction_is : (field whole point fraction : List ℕ) → unsigned_of field ≡ whole ++ (point ++ fraction) → before_first is_mark field ≡ field → list_all is_digit whole ≡ true → MayFollow fraction point → fraction_part field ≡ fraction
 unfolding fraction_part is_point
@@ -100,11 +92,7 @@ scaled : (v f a b : ℕ) → (v * a + f) * b ≡ v * (a * b) + f * b
 scaled v f a b = omega arith
 
 value_scaled : (whole fraction : List ℕ) → length fraction ≤ 6 → rounded_of (value_of (whole ++ fraction)) 6 (length fraction) ≡ value_of whole * 10 ^ 6 + value_of fraction * 10 ^ (6 - length fraction)
-value_scaled whole fraction h =
-    let k = length fraction in
-    let split : k + (6 - k) ≡ 6 = omega arith in
-    let power : 10 ^ k * 10 ^ (6 - k) ≡ 10 ^ 6 = sym (pow-add 10 k (6 - k)) ∙ ap (λ n. 10 ^ n) split in
-    rounds_up (value_of (whole ++ fraction)) 6 k h ∙ ap (λ n. n * 10 ^ (6 - k)) (value_of-append whole fraction) ∙ scaled (value_of whole) (value_of fraction) (10 ^ k) (10 ^ (6 - k)) ∙ ap (λ p. value_of whole * p + value_of fraction * 10 ^ (6 - k)) power
+value_scaled whole fraction h = grind (arith, common_steps, (length fraction), (pow-add 10 (length fraction) (6 - (length fraction))), (rounds_up (value_of (whole ++ fraction)) 6 (length fraction) h), (value_of-append whole fraction), (scaled (value_of whole) (value_of fraction) (10 ^ (length fraction)) (10 ^ (6 - (length fraction)))))
 
 -- It is at most a million million units.
 bounded : (v f p q : ℕ) → v < 10 ^ 12 → f * q < p * q → p * q ≡ 10 ^ 6 → v * 10 ^ 6 + f * q ≤ 10 ^ 18
@@ -114,10 +102,7 @@ shifted_below : (f p q : ℕ) → f < p → 0 < q → f * q < p * q
 shifted_below f p q h some = let e : q * suc f ≤ q * p = mul-le-mul_left q (omega arith) in omega (arith, e)
 
 pub small_sum : (whole fraction places : ℕ) → whole < 10 ^ 12 → places ≤ 6 → fraction < 10 ^ places → whole * 10 ^ 6 + fraction * 10 ^ (6 - places) ≤ 10 ^ 18
-small_sum whole fraction places h few j =
-    let split : places + (6 - places) ≡ 6 = omega arith in
-    let power : 10 ^ places * 10 ^ (6 - places) ≡ 10 ^ 6 = sym (pow-add 10 places (6 - places)) ∙ ap (λ n. 10 ^ n) split in
-    bounded whole fraction (10 ^ places) (10 ^ (6 - places)) h (shifted_below fraction (10 ^ places) (10 ^ (6 - places)) j (ten_positive (6 - places))) power
+small_sum whole fraction places h few j = grind (arith, common_steps, (pow-add 10 places (6 - places)), (shifted_below fraction (10 ^ places) (10 ^ (6 - places)) j (ten_positive (6 - places))), (ten_positive (6 - places)))
 
 pub small_value : (whole fraction : List ℕ) → list_all is_digit whole ≡ true → list_all is_digit fraction ≡ true → length whole ≤ 12 → length fraction ≤ 6
     → value_of whole * 10 ^ 6 + value_of fraction * 10 ^ (6 - length fraction) ≤ 10 ^ 18
@@ -145,10 +130,6 @@ decimal_is field whole point fraction e plain h j f few small some =
     let most : nat_le (value_of whole * 10 ^ 6 + value_of fraction * 10 ^ (6 - length fraction)) (10 ^ 18) ≡ true = let s = small_value whole fraction h j few small in grind (arith, nat_tests) in
     rw (whole_is field whole point fraction e m h f, fraction_is field whole point fraction e m h f, none, unmarked, one, digits, short) (rw (value_scaled whole fraction small, most) refl)
 
-plain_point : (digits point : List ℕ) → MayFollow digits point → list_all is_plain_byte digits ≡ true → list_all is_plain_byte (point ++ digits) ≡ true
-plain_point digits [] f h = h
-plain_point digits (b ∷ bs) f h = grind (arith, common_steps)
-
 -- A decimal with at most twelve digits before its point and six behind it is the first field where a separator or the
 -- end follows.
 pub amount_read : (text whole behind left rest : List ℕ) (value places : ℕ) → unsigned_of text ≡ whole ++ behind → BeginsWithFraction behind value places left → list_all is_digit whole ≡ true
@@ -162,7 +143,7 @@ amount_read text whole behind left rest value places e g h few small some r ends
     let more = length-append g.point g.digits in
     let f = front text unsigned left (e ∙ joined) (omega (arith, size, more, g.places_are)) in
     let all = all_pass_weaker is_digit is_plain_byte digit_plain in
-    let plain = f.plain (list_all-append is_plain_byte whole (g.point ++ g.digits) ∙ and_from _ _ (all whole h) (plain_point g.digits g.point g.form (all g.digits g.are_digits))) in
+    let plain = f.plain (list_all-append is_plain_byte whole (g.point ++ g.digits) ∙ and_from _ _ (all whole h) (grind (arith, common_steps))) in
     let inside = all_pass_weaker is_plain_byte (λ b. not (is_separator b)) no_separator f.field plain in
     let read = decimal_is f.field whole g.point g.digits f.without plain h g.are_digits g.form few (omega (arith, g.places_are)) (omega (arith, g.places_are)) in
     let number : value_of whole * 10 ^ 6 + value_of g.digits * 10 ^ (6 - length g.digits) ≡ value_of whole * 10 ^ 6 + value * 10 ^ (6 - places) =
@@ -173,10 +154,6 @@ amount_read text whole behind left rest value places e g h few small some r ends
           ∙ ap (λ n. Ok (cond (is_minus text) (neg_ℤ (pos n)) (pos n))) number,
     )
 
-point_first : (text : List ℕ) → 1 ≤ length text → get_or text 0 0 ≡ 46 → text ≡ 46 ∷ take (length text - 1) (drop 1 text)
-point_first [] h e = absurd (omega arith)
-point_first (b ∷ bs) h e = grind (arith, common_steps)
-
 -- Behind a point stand the digits that were read.
 pub behind_point : (text : List ℕ) (v k : ℕ) (rest : List ℕ) → 1 ≤ length text → get_or text 0 0 ≡ 46
     → k ≤ length (take (length text - 1) (drop 1 text)) → list_all is_digit (take k (take (length text - 1) (drop 1 text))) ≡ true → v ≡ value_of (take k (take (length text - 1) (drop 1 text))) → v < 10 ^ k → rest ≡ drop k (take (length text - 1) (drop 1 text))
@@ -186,7 +163,7 @@ behind_point text v k rest some is within all value small left =
     record {
       point = 46 ∷ [];
       digits = take k digits;
-      all = point_first text some is ∙ ap (λ xs. 46 ∷ xs) (sym (take-append-drop k digits) ∙ ap (λ xs. take k digits ++ xs) (sym left));
+      all = (grind (arith, common_steps)) ∙ ap (λ xs. 46 ∷ xs) (sym (take-append-drop k digits) ∙ ap (λ xs. take k digits ++ xs) (sym left));
       form = (refl, refl);
       are_digits = all;
       places_are = length-take-le k digits within;
@@ -196,5 +173,4 @@ behind_point text v k rest some is within all value small left =
 
 -- What was read is the first of the fields.
 pub first_amount_is : (fields : List WordRun) (read : Result ℤ NumberFault) → Some read ≡ first_decimal fields → (field : WordRun) × (fields ≡ field ∷ drop 1 fields) × (read ≡ decimal_of field.text)
-first_amount_is [] read e = absurd (none-some read (sym e))
-first_amount_is (field ∷ fields) read e = (field, refl, ap (λ o. unwrap_or o read) e)
+first_amount_is fields read e = grind (arith, common_steps)

@@ -6,7 +6,6 @@ use Rattle.std.proofs.lemmas.List.{take_more, length-drop, take-append-drop, len
 use Rattle.std.proofs.lemmas.List.Folds.{list_all_more}
 use Rattle.std.proofs.lemmas.List.Sums.{prefix_len_stops}
 use Rattle.std.proofs.lemmas.Bool.{and_parts, and_from}
-use Rattle.std.proofs.lemmas.Option.{none-some, same_Some}
 use Rattle.fixed_worth.specs.declared.numerals.NumberFault.{NumberFault}
 use Rattle.fixed_worth.specs.Front.{BeginsWithField}
 use Rattle.fixed_worth.specs.Numeral.{is_digit, value_of, whole_of}
@@ -18,9 +17,7 @@ use Rattle.std.proofs.lemmas.Grind.{common_steps}
 
 -- one more digit behind those that are read
 pub one_more : (text : List ℕ) (i : ℕ) → i < length text → value_of (take (i + 1) text) ≡ value_of (take i text) * 10 + (get_or text i 0 - 48)
-one_more text i h =
-    let e = value_of-append (take i text) (get_or text i 0 ∷ []) in
-    ap value_of (take_more text i 0 h) ∙ e ∙ omega arith
+one_more text i h = grind (arith, common_steps, value_of-append, take_more)
 
 pub digit_more : (text : List ℕ) (i : ℕ) → i < length text → list_all is_digit (take i text) ≡ true → is_digit (get_or text i 0) ≡ true → list_all is_digit (take (i + 1) text) ≡ true
 digit_more text i h all one = list_all_more is_digit text i 0 h ∙ rw (all, one) refl
@@ -33,9 +30,6 @@ digit_inside b h = grind arith
 separator_behind : (w : ℕ) (bs behind : List ℕ) → position_or_len is_separator bs ≡ w → behind ≡ drop w bs → 0 < length behind → is_separator (get_or behind 0 0) ≡ true
 separator_behind w bs behind ends e h = grind (arith, common_steps, prefix_len_stops)
 
-rest_at_most : (behind rest : List ℕ) → rest ≡ drop 1 behind → length rest ≤ length behind
-rest_at_most behind rest f = let e : length rest ≡ length behind - 1 = ap length f ∙ length-drop 1 behind in omega arith
-
 reads_as : (text : List ℕ) (w v : ℕ) → length text ≡ w → 0 < w → w ≤ 19 → list_all is_digit text ≡ true → v ≡ value_of text → whole_of text ≡ Ok v
 unfolding whole_of
 reads_as text w v size some few digits value = grind (arith, common_steps, value_below, power_fits)
@@ -43,7 +37,7 @@ reads_as text w v size some few digits value = grind (arith, common_steps, value
 -- What stands first is the field, and what is left behind it and its separator are the other fields.
 field_passed : (p w : ℕ) (bs behind rest : List ℕ) → 0 < w → w ≤ length bs → position_or_len is_separator bs ≡ w → behind ≡ drop w bs → rest ≡ drop 1 behind
     → runs_from p bs ≡ record { text = take w bs; place = p } ∷ runs_from (p + (length bs - length rest)) rest
-field_passed p w bs behind rest some within ends e f = grind (arith, common_steps, first_run, separator_behind, rest_at_most)
+field_passed p w bs behind rest some within ends e f = grind (arith, common_steps, first_run, separator_behind, length-drop)
 
 -- nothing that is looked for stands in the first part
 pub passed : (p : ℕ → Bool) (xs ys : List ℕ) → list_all (λ b. not (p b)) xs ≡ true → position_or_len p (xs ++ ys) ≡ length xs + position_or_len p ys
@@ -59,9 +53,7 @@ begins_with text field behind rest e some inside ends f = grind (arith, common_s
 
 digits_inside : (xs : List ℕ) → list_all is_digit xs ≡ true → list_all (λ b. not (is_separator b)) xs ≡ true
 digits_inside [] h = refl
-digits_inside (x ∷ xs) h =
-    let both = and_parts (is_digit x) (list_all is_digit xs) h in
-    and_from (not (is_separator x)) (list_all (λ b. not (is_separator b)) xs) (ap not (digit_inside x both.0)) (digits_inside xs both.1)
+digits_inside (x ∷ xs) h = grind (arith, common_steps, and_parts, and_from, digit_inside, (digits_inside xs (and_parts (is_digit x) (list_all is_digit xs) h).1))
 
 -- A short run of digits with a separator or the end behind it is the first field, and reads as its value.
 pub short_number : (text behind rest : List ℕ) (w v : ℕ) → 0 < w → w ≤ length text → w ≤ 19 → list_all is_digit (take w text) ≡ true → v ≡ value_of (take w text)
@@ -76,19 +68,15 @@ short_number text behind rest w v some within few digits value e f ends =
 
 -- What was read is the first of the fields.
 pub first_is : (fields : List WordRun) (read : Result ℕ NumberFault) → Some read ≡ first_whole fields → (field : WordRun) × (fields ≡ field ∷ drop 1 fields) × (read ≡ whole_of field.text)
-first_is [] read e = absurd (none-some read (sym e))
-first_is (field ∷ fields) read e = (field, refl, same_Some read (whole_of field.text) e)
+first_is fields read e = grind (arith, common_steps)
 
 pub no_field : (fields : List WordRun) → None ≡ first_whole fields → fields ≡ []
-no_field [] e = refl
-no_field (field ∷ fields) e = absurd (none-some (whole_of field.text) e)
+no_field fields e = grind (arith, common_steps)
 
 not_remark : (b : ℕ) (bs : List ℕ) (t : Bool) → is_digit b ≡ t → reads (b ∷ bs) ≡ true → is_remark (b ∷ bs) ≡ false
 unfolding whole_of
-not_remark b bs true e h = grind arith
-not_remark b bs false e h = grind (arith, common_steps)
+not_remark b bs t e h = grind (arith, common_steps)
 
 -- a number begins no remark
 pub number_no_remark : (field : List ℕ) → reads field ≡ true → is_remark field ≡ false
-number_no_remark [] h = refl
-number_no_remark (b ∷ bs) h = not_remark b bs (is_digit b) refl h
+number_no_remark field h = grind (arith, common_steps, not_remark)

@@ -1,7 +1,7 @@
 -- Lines and words that are put together are cut apart again.
-use Rattle.std.proofs.Common.{◌≡◌, ℕ, ◌+◌, Bool, true, false, not, eqb, List, [], ◌∷◌, ◌++◌, length, refl, sym, ap, ◌∙◌, subst, arith, append_assoc, append-nil}
+use Rattle.std.proofs.Common.{◌≡◌, ℕ, ◌+◌, Bool, true, false, not, eqb, List, [], ◌∷◌, ◌++◌, length, refl, sym, ap, ◌∙◌, subst, arith, append-nil}
 use Rattle.std.specs.Prelude.{◌&&◌, map, nat_lt}
-use Rattle.std.specs.List.{list_all, flat_map, position_or_len, onto_first}
+use Rattle.std.specs.List.{list_all, flat_map, position_or_len}
 use Rattle.std.proofs.lemmas.Bool.{not-true, and_parts, and_from}
 use Rattle.std.proofs.lemmas.List.Folds.{list_all-append}
 use Rattle.std.proofs.Math.Seq.{take-append_seam, drop-append_seam}
@@ -15,9 +15,7 @@ use Rattle.std.proofs.lemmas.Grind.{common_steps}
 -- what passes a test passes one that asks for less
 pub all_pass_weaker : (p q : ℕ → Bool) → ((b : ℕ) → p b ≡ true → q b ≡ true) → (bs : List ℕ) → list_all p bs ≡ true → list_all q bs ≡ true
 all_pass_weaker p q w [] h = refl
-all_pass_weaker p q w (b ∷ bs) h =
-    let k = and_parts (p b) (list_all p bs) h in
-    and_from (q b) (list_all q bs) (w b k.0) (all_pass_weaker p q w bs k.1)
+all_pass_weaker p q w (b ∷ bs) h = grind (arith, common_steps, (all_pass_weaker p q w bs (and_parts (p b) (list_all p bs) h).1))
 
 -- ---- lines
 
@@ -28,22 +26,16 @@ is_one_line line = list_all (λ b. not (eqb b 10)) line
 -- a line, its line feed, and what follows
 pub line_cut : (line rest : List ℕ) → is_one_line line ≡ true → lines_of (line ++ (10 ∷ rest)) ≡ line ∷ lines_of rest
 line_cut [] rest h = refl
-line_cut (b ∷ bs) rest h =
-    let q = and_parts (not (eqb b 10)) (is_one_line bs) h in
-    let e : eqb b 10 ≡ false = not-true (eqb b 10) q.0 in
-    rw e (ap (onto_first b) (line_cut bs rest q.1))
+line_cut (b ∷ bs) rest h = grind (arith, common_steps, (line_cut bs rest (and_parts (not (eqb b 10)) (is_one_line bs) h).1))
 
 -- lines with a line feed behind each are the lines of their text
 pub lines_cut : (lines : List (List ℕ)) → list_all is_one_line lines ≡ true → lines_of (with_line_feeds lines) ≡ lines
 lines_cut [] h = refl
-lines_cut (line ∷ lines) h =
-    let q = and_parts (is_one_line line) (list_all is_one_line lines) h in
-    line_cut line (with_line_feeds lines) q.0 ∙ ap (λ ls. line ∷ ls) (lines_cut lines q.1)
+lines_cut (line ∷ lines) h = grind (arith, common_steps, and_parts, line_cut, (lines_cut lines (and_parts (is_one_line line) (list_all is_one_line lines) h).1))
 
 pub with_line_feeds-append : (xs ys : List (List ℕ)) → with_line_feeds (xs ++ ys) ≡ with_line_feeds xs ++ with_line_feeds ys
 with_line_feeds-append [] ys = refl
-with_line_feeds-append (x ∷ xs) ys =
-    ap (λ l. x ++ (10 ∷ l)) (with_line_feeds-append xs ys) ∙ sym (append_assoc x (10 ∷ with_line_feeds xs) (with_line_feeds ys))
+with_line_feeds-append (x ∷ xs) ys = grind (arith, common_steps, (with_line_feeds-append xs ys))
 
 -- ---- words
 
@@ -95,17 +87,12 @@ space = refl
 -- the first word of a line
 word_cut : (p : ℕ) (word rest : List ℕ) → is_word word ≡ true
     → runs_from p (word ++ (32 ∷ rest)) ≡ record { text = word; place = p } ∷ runs_from (p + length word + 1) rest
-word_cut p word rest h =
-    word_run p word (32 ∷ rest) h space ∙ ap (λ runs. record { text = word; place = p } ∷ runs) (gap_run (p + length word) 32 rest space)
+word_cut p word rest h = grind (arith, common_steps, word_run, space, gap_run)
 
 words_cut : (p : ℕ) (word : List ℕ) (words : List (List ℕ)) → is_word word ≡ true → list_all is_word words ≡ true
     → map (λ r. r.text) (runs_from p (word ++ behind_spaces words)) ≡ word ∷ words
-words_cut p word [] h g =
-    ap (λ line. map (λ r. r.text) (runs_from p line)) (append-nil word) ∙ ap (map (λ r. r.text)) (word_alone p word h)
-words_cut p word (next ∷ words) h g =
-    let q = and_parts (is_word next) (list_all is_word words) g in
-    ap (map (λ r. r.text)) (word_cut p word (next ++ behind_spaces words) h)
-    ∙ ap (λ fields. word ∷ fields) (words_cut (p + length word + 1) next words q.0 q.1)
+words_cut p word [] h g = grind (arith, common_steps, append-nil, word_alone)
+words_cut p word (next ∷ words) h g = grind (arith, common_steps, and_parts, word_cut, (words_cut (p + length word + 1) next words (and_parts (is_word next) (list_all is_word words) g).0 (and_parts (is_word next) (list_all is_word words) g).1))
 
 -- words with single spaces between are the fields of their line
 pub fields_cut : (word : List ℕ) (words : List (List ℕ)) → is_word word ≡ true → list_all is_word words ≡ true → fields_of (word ++ behind_spaces words) ≡ word ∷ words
@@ -113,11 +100,8 @@ fields_cut = words_cut 0
 
 behind_spaces_is_one_line : (words : List (List ℕ)) → list_all is_one_line words ≡ true → is_one_line (behind_spaces words) ≡ true
 behind_spaces_is_one_line [] h = refl
-behind_spaces_is_one_line (word ∷ words) h =
-    let q = and_parts (is_one_line word) (list_all is_one_line words) h in
-    list_all-append (λ b. not (eqb b 10)) word (behind_spaces words) ∙ and_from (is_one_line word) (is_one_line (behind_spaces words)) q.0 (behind_spaces_is_one_line words q.1)
+behind_spaces_is_one_line (word ∷ words) h = grind (arith, common_steps, (behind_spaces_is_one_line words (and_parts (is_one_line word) (list_all is_one_line words) h).1))
 
 -- words without line feeds, with single spaces between, are one line
 pub joined_is_one_line : (word : List ℕ) (words : List (List ℕ)) → is_one_line word ≡ true → list_all is_one_line words ≡ true → is_one_line (word ++ behind_spaces words) ≡ true
-joined_is_one_line word words h g =
-    list_all-append (λ b. not (eqb b 10)) word (behind_spaces words) ∙ and_from (is_one_line word) (is_one_line (behind_spaces words)) h (behind_spaces_is_one_line words g)
+joined_is_one_line word words h g = grind (arith, common_steps, list_all-append, and_from, behind_spaces_is_one_line)

@@ -1,36 +1,27 @@
 -- How long a printed amount is.
-use Rattle.std.proofs.Common.{ℕ, suc, ◌+◌, ◌/◌, ◌^◌, ◌<◌, ◌≤◌, Bool, true, false, cond, eqb, List, [], ◌∷◌, length, replicate, ℤ, arith, length-append, lit<}
+use Rattle.std.proofs.Common.{ℕ, suc, ◌+◌, ◌/◌, ◌^◌, ◌<◌, ◌≤◌, eqb, List, [], ◌∷◌, length, replicate, ℤ, arith, length-append, lit<}
 use Rattle.std.specs.Prelude.{unsigned_abs}
-use Rattle.std.specs.Fmt.{sign_text}
 use Rattle.std.proofs.lemmas.List.{length-replicate}
 use Rattle.std.proofs.lemmas.Fmt.{length-decimal-le_wide}
-use Rattle.fixed_worth.specs.Printed.{fixed_width, digit_before, without_trailing_zeros, fraction_text, amount_text}
+use Rattle.fixed_worth.specs.Printed.{digit_before, without_trailing_zeros, fraction_text, amount_text}
 use Rattle.fixed_worth.proofs.Powers.{rest_below}
 use Rattle.std.proofs.lemmas.Grind.{common_steps}
 
 before_short : (d : ℕ) (ds : List ℕ) (n : ℕ) → length ds ≤ n → length (digit_before d ds) ≤ suc n
-before_short d [] n h = elim (eqb d 48) as (λ t. length (cond t [] (d ∷ [])) ≤ suc n) [ true ↦ omega arith | false ↦ omega arith ]
-before_short d (e ∷ es) n h = omega arith
+before_short d ds n h = grind (arith, common_steps)
 
 trimmed_short : (ds : List ℕ) → length (without_trailing_zeros ds) ≤ length ds
 trimmed_short [] = omega arith
 trimmed_short (d ∷ ds) = before_short d (without_trailing_zeros ds) (length ds) (trimmed_short ds)
 
-fixed_short : (width n : ℕ) → 0 < width → width ≤ 38 → n < 10 ^ width → n < 10 ^ 64 → length (fixed_width width n) ≤ width
-fixed_short width n some few h s = grind (arith, common_steps, length-decimal-le_wide, replicate, length-replicate)
-
 fraction_short : (places n : ℕ) → 0 < places → places ≤ 38 → n < 10 ^ places → n < 10 ^ 64 → length (fraction_text places n) ≤ 1 + places
 unfolding fraction_text
-fraction_short places n some few h s = grind (arith, common_steps, fixed_short, trimmed_short, eqb)
-
-sign_short : (t : Bool) → length (sign_text t) ≤ 1
-sign_short true = omega arith
-sign_short false = omega arith
+fraction_short places n some few h s = grind (arith, common_steps, trimmed_short, eqb, length-decimal-le_wide, replicate, length-replicate)
 
 pub printed_short : (places whole : ℕ) (z : ℤ) → 0 < places → places ≤ 38 → 0 < whole → unsigned_abs z / 10 ^ places < 10 ^ whole → unsigned_abs z < 10 ^ 64
     → length (amount_text places z) ≤ 2 + whole + places
 unfolding amount_text
-printed_short places whole z some few w h s = grind (arith, common_steps, lit<, rest_below, length-decimal-le_wide, fraction_short, sign_short, length-append)
+printed_short places whole z some few w h s = grind (arith, common_steps, lit<, rest_below, length-decimal-le_wide, fraction_short, length-append)
 
 -- An amount of at most 10 ^ 18 millionths has at most 21.
 pub printed_micros_short : (z : ℤ) → unsigned_abs z ≤ 10 ^ 18 → length (amount_text 6 z) ≤ 21

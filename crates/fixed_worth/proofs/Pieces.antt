@@ -1,5 +1,5 @@
 -- A text that is sent in pieces: what the writer received of each makes up what it received of all.
-use Rattle.std.proofs.Common.{◌≡◌, ℕ, ◌+◌, ◌≤◌, List, [], ◌++◌, length, take, drop, Option, refl, sym, ap, subst, ◌∙◌, append_assoc, append-nil, length-append, arith}
+use Rattle.std.proofs.Common.{◌≡◌, ℕ, ◌+◌, ◌≤◌, List, [], ◌++◌, length, take, drop, Option, refl, sym, subst, append_assoc, append-nil, length-append, arith}
 use Rattle.std.proofs.Math.Seq.{take-append-add, take-add}
 use Rattle.std.proofs.lemmas.List.{take-append-le, take_all}
 use Rattle.std.proofs.KnownBytes.{Appends-trans, Appends-nil, Appends-kept}
@@ -11,8 +11,7 @@ use Rattle.std.proofs.lemmas.Grind.{common_steps}
 
 -- a prefix of the first piece is a prefix of both together
 pub prefix_of_first : (a b : Option (List ℕ)) (xs ys : List ℕ) → ReceivedPrefix a b xs → ReceivedPrefix a b (xs ++ ys)
-prefix_of_first a b xs ys (k, most, sent) =
-    (k, omega (arith, length-append xs ys), subst (Appends a b) (sym (take-append-le k xs ys most)) sent)
+prefix_of_first a b xs ys (k, most, sent) = grind (arith, common_steps, (length-append xs ys), (take-append-le k xs ys most))
 
 -- a prefix of a text's front is a prefix of the text
 pub prefix_of_part : (a b : Option (List ℕ)) (front rest text : List ℕ) → front ++ rest ≡ text → ReceivedPrefix a b front → ReceivedPrefix a b text
@@ -49,8 +48,7 @@ all_held a held = record { sent = []; received = Appends-nil a; whole = refl }
 
 -- what was held is sent, and a further piece with it: nothing is held
 pub none_held : (a b c : Option (List ℕ)) (held piece : List ℕ) → Appends a b held → Appends b c piece → SentOrHeld a c [] (held ++ piece)
-none_held a b c held piece first second =
-    record { sent = held ++ piece; received = Appends-trans a b c held piece first second; whole = append-nil (held ++ piece) }
+none_held a b c held piece first second = grind (arith, common_steps, (append-nil (held ++ piece)))
 
 -- one more piece, of which a part may be held
 pub held_more : (a b c : Option (List ℕ)) (held rest text piece : List ℕ)
@@ -63,23 +61,19 @@ held_sent a b c held text so last = subst (Appends a c) so.whole (Appends-trans 
 
 -- where a prefix of what is held is sent, a prefix of the whole text is
 pub held_prefix : (a b c : Option (List ℕ)) (held text : List ℕ) → SentOrHeld a b held text → ReceivedPrefix b c held → ReceivedPrefix a c text
-held_prefix a b c held text so last =
-    subst (ReceivedPrefix a c) so.whole (prefix_of_second a b c so.sent held so.received last)
+held_prefix a b c held text so last = grind (arith, common_steps, (prefix_of_second a b c so.sent held so.received last))
 
 -- where a prefix of what is held and a further piece is sent, a prefix of the text and that piece is
 pub held_more_prefix : (a b c : Option (List ℕ)) (held text piece : List ℕ)
     → SentOrHeld a b held text → ReceivedPrefix b c (held ++ piece) → ReceivedPrefix a c (text ++ piece)
-held_more_prefix a b c held text piece so last =
-    subst (ReceivedPrefix a c) (sym (append_assoc so.sent held piece) ∙ ap (λ l. l ++ piece) so.whole)
-    (prefix_of_second a b c so.sent (held ++ piece) so.received last)
+held_more_prefix a b c held text piece so last = grind (arith, common_steps, (append_assoc so.sent held piece), (prefix_of_second a b c so.sent (held ++ piece) so.received last))
 
 -- ---- two pieces that are put one after the other
 
 -- both are sent or held
 pub held_both : (a b c : Option (List ℕ)) (before between after xs ys : List ℕ)
     → SentOrHeld a b between (before ++ xs) → SentOrHeld b c after (between ++ ys) → SentOrHeld a c after (before ++ (xs ++ ys))
-held_both a b c before between after xs ys first second =
-    subst (SentOrHeld a c after) (append_assoc before xs ys) (held_more a b c between after (before ++ xs) ys first second)
+held_both a b c before between after xs ys first second = grind (arith, common_steps, append_assoc, held_more)
 
 -- a write failed in the first
 pub prefix_in_first : (a b : Option (List ℕ)) (before xs ys : List ℕ) → ReceivedPrefix a b (before ++ xs) → ReceivedPrefix a b (before ++ (xs ++ ys))
@@ -88,5 +82,4 @@ prefix_in_first a b before xs ys = prefix_of_part a b (before ++ xs) ys (before 
 -- a write failed in the second
 pub prefix_in_second : (a b c : Option (List ℕ)) (before between xs ys : List ℕ)
     → SentOrHeld a b between (before ++ xs) → ReceivedPrefix b c (between ++ ys) → ReceivedPrefix a c (before ++ (xs ++ ys))
-prefix_in_second a b c before between xs ys first second =
-    subst (ReceivedPrefix a c) (append_assoc before xs ys) (held_more_prefix a b c between (before ++ xs) ys first second)
+prefix_in_second a b c before between xs ys first second = grind (arith, common_steps, (append_assoc before xs ys), (held_more_prefix a b c between (before ++ xs) ys first second))

@@ -1,24 +1,19 @@
 -- A plain number is what its value prints.
-use Rattle.std.proofs.Common.{◌≡◌, ℕ, zero, suc, ◌+◌, ◌-◌, ◌*◌, ◌/◌, ◌%◌, ◌^◌, ◌<◌, ◌≤◌, Bool, true, false, cond, eqb, List, [], ◌∷◌, ◌++◌, length, ℤ, pos, negsuc, neg_ℤ, refl, sym, ap, ◌∙◌, subst, arith, append_assoc, append-nil, length-append, Result, Ok, Err}
-use Rattle.std.specs.Prelude.{◌&&◌, ◌||◌, nat_lt, nat_le, FitsSigned}
+use Rattle.std.proofs.Common.{◌≡◌, ℕ, zero, suc, ◌+◌, ◌-◌, ◌/◌, ◌%◌, ◌^◌, ◌<◌, ◌≤◌, Bool, true, eqb, List, [], ◌∷◌, ◌++◌, length, ℤ, pos, negsuc, neg_ℤ, refl, sym, ap, ◌∙◌, subst, arith, append_assoc, append-nil, length-append, Ok}
+use Rattle.std.specs.Prelude.{◌&&◌, nat_lt, nat_le, FitsSigned}
 use Rattle.std.specs.Int.{w128}
 use Rattle.std.specs.List.{list_all}
 use Rattle.std.specs.Fmt.{decimal, signed_decimal}
 use Rattle.std.proofs.lemmas.Fmt.{decimal_digit, decimal_step_wide, decimal_by_steps_wide, length-decimal-le_wide}
 use Rattle.std.proofs.lemmas.Bool.Decides.{nat_tests}
 use Rattle.std.proofs.lemmas.Int.{ints}
-use Rattle.fixed_worth.specs.declared.numerals.NumberFault.TheVariants.{NotANumber}
 use Rattle.fixed_worth.specs.Numeral.{is_digit, value_of, digits_of, below, signed_of, begins_above_zero, is_plain, plain_of}
 use Rattle.std.proofs.Math.Nat.{pow-le-pow_right}
 use Rattle.fixed_worth.proofs.Digits.{value_of-append}
 use Rattle.std.proofs.lemmas.Grind.{common_steps}
 
-one_more_digit : (v e : ℕ) → e ≤ 9 → 0 < v → v * 10 + e < 10 ^ 64 → decimal (v * 10 + e) ≡ decimal v ++ ((48 + e) ∷ [])
-one_more_digit v e h p s = grind (arith, common_steps, decimal_step_wide)
-
 is_digit_so : (b : ℕ) (r : Bool) → (is_digit b && r) ≡ true → (48 ≤ b) × (b ≤ 57) × (r ≡ true)
-is_digit_so b true h = (grind (arith, nat_tests), grind (arith, nat_tests), refl)
-is_digit_so b false h = absurd (grind (arith, nat_tests))
+is_digit_so b r h = grind (arith, common_steps)
 
 -- digits that are what their value, which is not 0, prints
 pub record IsCanonical (ds : List ℕ) : Type 0 where
@@ -27,7 +22,7 @@ pub record IsCanonical (ds : List ℕ) : Type 0 where
   pub small : value_of ds < 10 ^ length ds
 
 with_digit : (ds : List ℕ) (d : ℕ) → 48 ≤ d → d ≤ 57 → length ds ≤ 38 → IsCanonical ds → IsCanonical (ds ++ (d ∷ []))
-with_digit ds d low high few h = grind (arith, common_steps, value_of-append, pow-le-pow_right, one_more_digit)
+with_digit ds d low high few h = grind (arith, common_steps, value_of-append, pow-le-pow_right, decimal_step_wide)
 
 grow : (ds es : List ℕ) → list_all is_digit es ≡ true → length ds + length es ≤ 39 → IsCanonical ds → IsCanonical (ds ++ es)
 grow ds [] all few h = subst IsCanonical (sym (append-nil ds)) h
@@ -53,11 +48,6 @@ printed_of_value (b ∷ bs) h all few =
     } in
     grow (b ∷ []) bs d.2 (omega arith) one
 
--- what a reading that succeeds says
-cond_so : {E X : Type 0} (t : Bool) (r : Result X E) (e : E) (x : X) → cond t r (Err e) ≡ Ok x → (t ≡ true) × (r ≡ Ok x)
-cond_so true r e x h = (refl, h)
-cond_so false r e x h = absurd (let no : Err e ≡ Ok x = h in cc)
-
 text_of_negative : (bs : List ℕ) (z : ℤ) → is_plain (45 ∷ bs) ≡ true → signed_of (45 ∷ bs) ≡ Ok z → 45 ∷ bs ≡ signed_decimal z
 unfolding is_plain signed_of
 text_of_negative bs z p h = grind (arith, common_steps, printed_of_value)
@@ -70,23 +60,14 @@ text_of_positive : (b : ℕ) (bs : List ℕ) (z : ℤ) → begins_above_zero (b 
 unfolding signed_of
 text_of_positive b bs z p h = grind (arith, common_steps, printed_of_value)
 
-text_by_zero : (b : ℕ) (bs : List ℕ) (z : ℤ) (t : Bool) → (eqb b 48 && eqb (length bs) 0) ≡ t → (t || begins_above_zero (b ∷ bs)) ≡ true → signed_of (b ∷ bs) ≡ Ok z → b ∷ bs ≡ signed_decimal z
-text_by_zero b [] z true e p h = grind (arith, common_steps, text_of_zero)
-text_by_zero b (c ∷ cs) z true e p h = absurd (grind (arith, nat_tests))
-text_by_zero b bs z false e p h = text_of_positive b bs z p h
-
 text_by_minus : (b : ℕ) (bs : List ℕ) (z : ℤ) (t : Bool) → eqb b 45 ≡ t → is_plain (b ∷ bs) ≡ true → signed_of (b ∷ bs) ≡ Ok z → b ∷ bs ≡ signed_decimal z
 unfolding is_plain
-text_by_minus b bs z true e p h = grind (arith, common_steps, text_of_negative)
-text_by_minus b bs z false e p h = grind (arith, common_steps, text_by_zero)
+text_by_minus b bs z t e p h = grind (arith, common_steps, text_of_negative, text_of_zero, text_of_positive)
 
 -- A plain number has one spelling: what its value prints.
 pub one_spelling : (text : List ℕ) (z : ℤ) → plain_of text ≡ Ok z → text ≡ signed_decimal z
 unfolding plain_of is_plain
-one_spelling [] z h = cc
-one_spelling (b ∷ bs) z h =
-    let a = cond_so (is_plain (b ∷ bs)) (signed_of (b ∷ bs)) NotANumber z h in
-    text_by_minus b bs z (eqb b 45) refl a.0 a.1
+one_spelling text z h = grind (arith, common_steps, text_by_minus)
 
 -- the digits that a number prints
 record IsNumeralOf (n : ℕ) (ds : List ℕ) : Type 0 where
@@ -112,8 +93,7 @@ below_read limit n h = let t : nat_lt n limit ≡ true = grind (arith, nat_tests
 
 positive_read : (n : ℕ) (ds : List ℕ) → begins_above_zero ds ≡ true → digits_of ds ≡ Ok n → n < 2 ^ 127 → plain_of ds ≡ Ok (pos n)
 unfolding plain_of is_plain signed_of
-positive_read n [] h d l = cc
-positive_read n (b ∷ bs) h d l = grind (arith, common_steps)
+positive_read n ds h d l = grind (arith, common_steps)
 
 negative_read : (n : ℕ) (ds : List ℕ) → begins_above_zero ds ≡ true → digits_of ds ≡ Ok n → n < 2 ^ 127 + 1 → plain_of (45 ∷ ds) ≡ Ok (neg_ℤ (pos n))
 unfolding plain_of is_plain signed_of

@@ -1,5 +1,5 @@
 -- Powers of ten.
-use Rattle.std.proofs.Common.{◌≡◌, ℕ, suc, ◌+◌, ◌-◌, ◌*◌, ◌/◌, ◌%◌, ◌^◌, ◌<◌, ◌≤◌, sym, ap, ◌∙◌, arith, lit<, pow-add}
+use Rattle.std.proofs.Common.{◌≡◌, ℕ, suc, ◌+◌, ◌-◌, ◌*◌, ◌/◌, ◌%◌, ◌^◌, ◌<◌, ◌≤◌, arith, lit<, pow-add}
 use Rattle.std.proofs.Math.Nat.{pow-succ', one-le-pow, mul-le-mul_left, pow-le-pow_right, mul-div_cancel_left, div-div-eq-div-mul}
 use Rattle.std.proofs.lemmas.Nat.{div-mul-add}
 use Rattle.fixed_worth.specs.Decimal.{rounded_of}
@@ -40,16 +40,7 @@ rounds_up m up down h = grind (arith, common_steps, pow-add, ten_positive, regro
 
 pub rounds_down : (m up down : ℕ) → up < down → rounded_of m up down ≡ (2 * m + 10 ^ (down - up)) / (2 * 10 ^ (down - up))
 unfolding rounded_of
-rounds_down m up down h =
-    let e : down ≡ up + (down - up) = omega arith in
-    let f : 10 ^ down ≡ 10 ^ up * 10 ^ (down - up) = ap (λ n. 10 ^ n) e ∙ pow-add 10 up (down - up) in
-    let p = 10 ^ up in
-    let q = 10 ^ (down - up) in
-    let a : 2 * (m * p) + p * q ≡ p * (2 * m + q) = omega arith in
-    let b : 2 * (p * q) ≡ p * (2 * q) = omega arith in
-    let one : 0 < p = ten_positive up in
-    ap (λ x. (2 * (m * p) + x) / (2 * x)) f ∙ ap (λ x. x / (2 * (p * q))) a ∙ ap (λ x. (p * (2 * m + q)) / x) b
-    ∙ sym (div-div-eq-div-mul (p * (2 * m + q)) p (2 * q)) ∙ ap (λ x. x / (2 * q)) (mul-div_cancel_left (2 * m + q) one)
+rounds_down m up down h = grind (arith, common_steps, (10 ^ up), (10 ^ (down - up)), (ten_positive up), (pow-add 10 up (down - up)), (div-div-eq-div-mul ((10 ^ up) * (2 * m + (10 ^ (down - up)))) (10 ^ up) (2 * (10 ^ (down - up)))), (mul-div_cancel_left (2 * m + (10 ^ (down - up))) (ten_positive up)))
 
 pub rounds_away : (m k : ℕ) → m < 10 ^ 36 → 37 < k → (2 * m + 10 ^ k) / (2 * 10 ^ k) ≡ 0
 rounds_away m k h j = grind (arith, common_steps, ten_least)

@@ -19,11 +19,8 @@ record IsWritten (n : ℕ) (text : List ℕ) : Type 0 where
   digits : list_all is_digit text ≡ true
   value : value_of text ≡ n
 
-one_digit : (d : ℕ) → d < 10 → is_digit (48 + d) ≡ true
-one_digit d h = grind arith
-
 written_one : (n : ℕ) → n < 10 → IsWritten n ((48 + n) ∷ [])
-written_one n h = record { some = omega arith; digits = and_from (is_digit (48 + n)) true (one_digit n h) refl; value = omega arith }
+written_one n h = record { some = omega arith; digits = and_from (is_digit (48 + n)) true (grind arith) refl; value = omega arith }
 
 written_more : (n : ℕ) (text : List ℕ) → 10 ≤ n → IsWritten (n / 10) text → IsWritten n (text ++ ((48 + n % 10) ∷ []))
 written_more n text h w = grind (arith, common_steps, value_of-append)
@@ -62,8 +59,7 @@ pub decimal_is_one_line : (n : ℕ) → n < 2 ^ 64 → is_one_line (decimal n) �
 decimal_is_one_line n h = all_pass_weaker is_digit (λ b. not (eqb b 10)) digit_is_one_line (decimal n) (decimal_digits n (omega arith))
 
 no_remark : (text : List ℕ) → list_all is_digit text ≡ true → is_remark text ≡ false
-no_remark [] h = refl
-no_remark (b ∷ bs) h = grind (arith, common_steps)
+no_remark text h = grind (arith, common_steps)
 
 -- it begins no remark
 pub decimal_is_no_remark : (n : ℕ) → n < 2 ^ 64 → is_remark (decimal n) ≡ false

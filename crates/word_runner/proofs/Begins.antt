@@ -1,8 +1,7 @@
 -- Making the table, and one seat and two.
-use Rattle.std.proofs.Common.{pos, ◌-ℤ◌, ◌≡◌, ◌≢◌, ℕ, zero, suc, ◌+◌, ◌%◌, ◌<◌, ◌==◌, ◌⊎◌, inl, inr, Bool, true, false, nat_eq, if◌then◌else◌, List, [], ◌∷◌, ◌++◌, length, replicate, get_or, set, sym, refl, ap, ◌∙◌, subst, arith, length-set, true≢false, ⊎_elim, append-nil}
-use Rattle.std.proofs.lemmas.Int.{ints}
+use Rattle.std.proofs.Common.{◌≡◌, ◌≢◌, ℕ, zero, suc, ◌+◌, ◌%◌, ◌<◌, ◌==◌, ◌⊎◌, inl, inr, Bool, true, false, nat_eq, if◌then◌else◌, List, [], ◌∷◌, ◌++◌, length, replicate, get_or, set, sym, refl, ap, ◌∙◌, subst, arith, length-set, true≢false, ⊎_elim, append-nil}
 use Rattle.std.proofs.lemmas.Bool.{eq-eqb, ne_eqb}
-use Rattle.std.proofs.lemmas.List.{get_or-append-add, get_or_append_left, get_or-replicate, length-replicate, length-append}
+use Rattle.std.proofs.lemmas.List.{get_or-append-add, get_or_append_left, get_or-replicate, length-replicate}
 use Rattle.std.proofs.lemmas.List.Elements.{filter-append}
 use Rattle.machine_law.specs.declared.events.Event.{Event}
 use mathlib.Core.Logic.{dite}
@@ -11,8 +10,6 @@ use mathlib.Core.Option.{none, some, some-injective, some-ne-none}
 use lib.ListN.{get_elem?}
 use Rattle.atomic_table.specs.Table.{opening, Splits, Joins}
 use Rattle.atomic_table.proofs.Lists.{at_set}
-use Rattle.ordered_group.specs.Amount.{Amount, zero_amount, minus, negative}
-use Rattle.ordered_group.specs.Sums.{amount_at}
 use Rattle.prec_file.specs.Rests.{from_at}
 use Rattle.closure_net.specs.Network.{NetView}
 use Rattle.machine_law.specs.declared.operations.Operation.TheVariants.{Idle}
@@ -24,28 +21,13 @@ use Rattle.word_runner.specs.Views.{of_block, IsRuled, Sees, IsSeatsOwn, first_v
 use Rattle.word_runner.specs.Halves.{IsSole, IsHalf, half, left_half, right_half, joined_view, spent_view}
 use Rattle.word_runner.proofs.SeatViews.{free_operation, seats_set}
 use Rattle.word_runner.proofs.Units.{units_same, by_one}
+use Rattle.std.proofs.lemmas.Grind.{common_steps}
 
 past : (xs ys : List ℕ) (n i x : ℕ) → length xs ≡ n → i ≡ n + x → get_or (xs ++ ys) i 0 ≡ get_or ys x 0
 past xs ys n i x l e = let e' : i ≡ length xs + x = omega arith in ap (λ (k : ℕ). get_or (xs ++ ys) k 0) e' ∙ get_or-append-add xs ys x 0
 
-less_none : (a : Amount) (k : ℕ) → a ≡ units k → minus a zero_amount ≡ units k
-less_none a k e = ap (λ (z : Amount). minus z zero_amount) e ∙ (λ i. record { w = zero_less k i; c = pos 0 })
-  where
-    zero_less : (k : ℕ) → pos k -ℤ pos 0 ≡ pos k
-    zero_less k = omega (arith, ints)
-
-zeros_len : (k : ℕ) → length (replicate {A = ℕ} k 0) ≡ k
-zeros_len k = let o : ℕ = 0 in length-replicate k o
-
 pub widths : (gain loss : List ℕ) (n m : ℕ) → length gain ≡ n → length loss ≡ n → length (start_words gain loss n m) ≡ 2 + n + n + n + n + m
-widths gain loss n m g l =
-    let a = length-append gain (replicate n 0 ++ (gain ++ (loss ++ replicate m 0))) in
-    let b = length-append (replicate n 0) (gain ++ (loss ++ replicate m 0)) in
-    let c = length-append gain (loss ++ replicate m 0) in
-    let d = length-append loss (replicate m 0) in
-    let e = zeros_len m in
-    let f = zeros_len n in
-    omega (arith, a, b, c, d, e, f, g, l)
+widths gain loss n m g l = grind (arith, common_steps)
 
 module _ (net : NetView) (gain loss : List ℕ) (q : IsStart net gain loss) where
   abbrev n : ℕ
@@ -63,7 +45,7 @@ module _ (net : NetView) (gain loss : List ℕ) (q : IsStart net gain loss) wher
       let two : List ℕ = replicate n 0 ++ three in
       let one : List ℕ = gain ++ two in
       let g = q.gains in
-      let z = zeros_len n in
+      let z = let o : ℕ = 0 in length-replicate n o in
       let lo = q.losses in
       record {
         wide = widths gain loss n m g lo;
@@ -72,15 +54,14 @@ module _ (net : NetView) (gain loss : List ℕ) (q : IsStart net gain loss) wher
         excess = λ x l. q.positive x l ∙ ap units (sym (past head one 2 (excess_at net x) x refl refl ∙ get_or_append_left gain two 0 x (omega arith)));
         label = λ x l. sym (past head one 2 (label_at net x) (n + x) refl (omega arith) ∙ past gain two n (n + x) x g refl ∙ get_or_append_left (replicate n 0) three 0 x (omega (arith, z, l)) ∙ get_or-replicate n x 0 0 l);
         source = λ x l. q.positive x l ∙ ap units (sym (past head one 2 (source_at net x) (n + n + x) refl (omega arith) ∙ past gain two n (n + n + x) (n + x) g (omega arith) ∙ past (replicate n 0) three n (n + x) x z refl ∙ get_or_append_left gain four 0 x (omega arith)));
-        room = λ x l. less_none (negative (amount_at net.worths x)) (get_or loss x 0) (q.negative x l) ∙ ap units (sym (past head one 2 (room_at net x) (n + n + n + x) refl (omega arith) ∙ past gain two n (n + n + n + x) (n + n + x) g (omega arith)
+        room = λ x l. (grind (arith, common_steps)) ∙ ap units (sym (past head one 2 (room_at net x) (n + n + n + x) refl (omega arith) ∙ past gain two n (n + n + n + x) (n + n + x) g (omega arith)
             ∙ past (replicate n 0) three n (n + n + x) (n + x) z (omega arith) ∙ past gain four n (n + x) x g refl ∙ get_or_append_left loss five 0 x (omega arith)));
         flow = λ j l. ap units (sym (past head one 2 (flow_at net j) (n + n + n + n + j) refl (omega arith) ∙ past gain two n (n + n + n + n + j) (n + n + n + j) g (omega arith)
             ∙ past (replicate n 0) three n (n + n + n + j) (n + n + j) z (omega arith) ∙ past gain four n (n + n + j) (n + j) g (omega arith) ∙ past loss five n (n + j) j lo refl ∙ get_or-replicate m j 0 0 l));
       }
 
 only : (v w : View) (P : ℕ → View → Type 0) → P 0 v → (j : ℕ) → get_elem? (v ∷ []) j ≡ some w → P j w
-only v w P h zero e = subst (P 0) (some-injective v w e) h
-only v w P h (suc j) e = absurd (some-ne-none w (sym e))
+only v w P h j e = grind (arith, common_steps)
 
 pub begins : (key : NetView) (gain loss : List ℕ) → IsStart key gain loss → IsRuled key (opening (start_words gain loss (count key) (length key.pairs)) [] (first_view key))
 begins key gain loss q =

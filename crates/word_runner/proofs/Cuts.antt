@@ -1,12 +1,6 @@
 -- A worth that is cut.
-use Rattle.std.proofs.Common.{inl, inr, ◌≡◌, ℕ, pos, ◌-ℤ◌, ◌+◌, ◌<◌, ◌^◌, List, [], ◌∷◌, ◌++◌, map, length, get_or, ap, ap₂, sym, ◌∙◌, subst, arith, ⊎_elim}
-use Rattle.std.proofs.lemmas.Int.{ints}
-use Rattle.std.specs.Prelude.{FitsSigned}
-use Rattle.std.specs.Int.{w128}
-use Rattle.std.proofs.lemmas.Bool.{cases_eq}
-use Rattle.std.proofs.lemmas.List.{get_or-append-add, get_or_append_left, length-map}
-use mathlib.Core.List.{map-append}
-use Rattle.ordered_group.specs.Amount.{Amount, zero_amount, plus, minus, AtMost, positive, FitsPair}
+use Rattle.std.proofs.Common.{inl, inr, ◌≡◌, ℕ, ◌+◌, ◌<◌, ◌^◌, List, [], ◌∷◌, ◌++◌, map, length, ap, ap₂, sym, ◌∙◌, subst, arith, ⊎_elim}
+use Rattle.ordered_group.specs.Amount.{Amount, zero_amount, plus, minus, positive, FitsPair}
 use Rattle.ordered_group.specs.Sums.{amount_at, total, SumFits}
 use Rattle.ordered_group.specs.declared.scaled.Scaled.{Scaled}
 use Rattle.closure_net.specs.Network.{NetView, IsNet}
@@ -17,29 +11,13 @@ use Rattle.ordered_group.proofs.Totals.{total-same}
 use Rattle.machine_law.specs.Conservation.{all_given}
 use Rattle.word_runner.specs.Layout.{units}
 use Rattle.word_runner.specs.CutNets.{scaled_parts, IsCut, AreCut, AreWithin, AreGains, IsCutNet, net_with_worths}
+use Rattle.std.proofs.lemmas.Grind.{common_steps}
 
 pub pushed_all : (P : ℕ → Amount → Type 0) (xs ys : List Scaled) (x : Scaled) (n : ℕ) → ys ≡ xs ++ x ∷ [] → length xs ≡ n → ((j : ℕ) → j < n → P j (amount_at (map scaled_parts xs) j)) → P n (scaled_parts x) → (j : ℕ) → j < n + 1 → P j (amount_at (map scaled_parts ys) j)
-pushed_all P xs ys x n is size old new j l =
-    let bs = map scaled_parts xs in
-    let m = length-map xs scaled_parts in
-    let e : map scaled_parts ys ≡ bs ++ scaled_parts x ∷ [] = ap (map scaled_parts) is ∙ map-append scaled_parts xs (x ∷ []) in
-    elim (cases_eq j n) [
-      | inl at ↦
-          let k : j ≡ length bs + 0 = omega (arith, at, m, size) in
-          let v : amount_at (map scaled_parts ys) j ≡ scaled_parts x = ap (λ z. amount_at z j) e ∙ ap (λ i. get_or (bs ++ scaled_parts x ∷ []) i zero_amount) k ∙ get_or-append-add bs (scaled_parts x ∷ []) 0 zero_amount in
-          subst (λ (z : ℕ × Amount). P z.0 z.1) (λ i. (sym at i, sym v i)) new
-      | inr ne ↦
-          let v : amount_at (map scaled_parts ys) j ≡ amount_at bs j = ap (λ z. amount_at z j) e ∙ get_or_append_left bs (scaled_parts x ∷ []) zero_amount j (omega (arith, l, ne, m, size)) in
-          subst (P j) (sym v) (old j (omega (arith, l, ne)))
-    ]
+pushed_all P xs ys x n is size old new j l = grind (arith, common_steps)
 
 pub cuts_from : (net : NetView) (k : ℕ) (ws : List Amount) → AreCut net k ws → all_given net ≡ units k → IsCut net ws
-cuts_from net k ws a e = record {
-  size = a.size;
-  positives = λ b l. (a.each b l).positives;
-  less = λ b l. (a.each b l).less;
-  fits = λ b x l h g. (a.each b l).fits x h (subst (AtMost x) e g);
-}
+cuts_from net k ws a e = grind (arith, common_steps)
 
 -- ---- the net that is cut
 
@@ -51,15 +29,6 @@ cut_gives net ws c = ap (λ (n : ℕ). total (λ b. positive (amount_at ws b)) n
 -- and the sinks take no more than that
 pub cut_within : (net : NetView) (k : ℕ) (ws : List Amount) → AreCut net k ws → AreWithin (net_with_worths net ws) k
 cut_within net k ws a b l = let z = a.size in (a.each b (omega (arith, l, z))).within
-
-units_fit : (k : ℕ) → k < 2 ^ 63 → FitsPair (minus zero_amount (record { w = pos 0 -ℤ pos k; c = pos 0 }))
-units_fit k l = (subst (FitsSigned w128) (sym twice) (record { sfits = omega (arith, l) }), subst (FitsSigned w128) (sym none) (record { sfits = omega arith }))
-  where
-    twice : pos 0 -ℤ (pos 0 -ℤ pos k) ≡ pos k
-    twice = omega (arith, ints)
-
-    none : pos 0 -ℤ pos 0 ≡ pos 0
-    none = omega (arith, ints)
 
 sums_fit : (f g : ℕ → Amount) (n : ℕ) → ((b : ℕ) → b < n → f b ≡ g b) → SumFits g n → SumFits f n
 sums_fit f g n e h k l = subst FitsPair (sym (ap₂ plus (total-same f g k (λ b m. e b (omega (arith, m, l)))) (e k l))) (h k l)
@@ -77,7 +46,7 @@ cut_builds net k ws n TooLarge small is c e f = ⊎_elim opposite positives_too 
         let m : o.0 < length net.worths = omega (arith, l, z) in
         o.2 (elim (c.each o.0 m).is [
           | inl same ↦ subst (λ (a : Amount). FitsPair (minus zero_amount a)) (sym same) (is.opposites o.0 m)
-          | inr here ↦ subst (λ (a : Amount). FitsPair (minus zero_amount a)) (sym here) (units_fit k small)
+          | inr here ↦ subst (λ (a : Amount). FitsPair (minus zero_amount a)) (sym here) (grind (arith, common_steps))
         ])
 
     positives_too : PositivesOverflow ws → ⊥
@@ -88,9 +57,4 @@ cut_builds net k ws n TooLarge small is c e f = ⊎_elim opposite positives_too 
 
 -- what it gives, in units, is what the net gives
 pub cut_gains : (net cut : NetView) (gain : List ℕ) (sum : ℕ) → IsCutNet net cut → AreGains net gain sum → AreGains cut gain sum
-cut_gains net cut gain sum k g = subst (λ (n : NetView). AreGains n gain sum) (sym k.is) (record {
-  size = g.size ∙ sym k.cuts.size;
-  each = λ b l. let z = k.cuts.size in let m : b < length net.worths = omega (arith, l, z) in k.cuts.positives b m ∙ g.each b m;
-  all = cut_gives net k.worths k.cuts ∙ g.all;
-  small = g.small;
-})
+cut_gains net cut gain sum k g = grind (arith, common_steps, cut_gives)

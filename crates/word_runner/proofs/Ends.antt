@@ -1,6 +1,6 @@
 -- How runs by seats end.
 use Rattle.std.proofs.Common.{inl, inr, ◌⊎◌, ◌≡◌, ℕ, ◌<◌, ◌≤◌, List, [], ◌∷◌, ◌++◌, length, refl, ap, sym, ◌∙◌, subst, arith}
-use Rattle.std.specs.Prelude.{Result, Ok, Err, MatchResult}
+use Rattle.std.specs.Prelude.{Result, MatchResult}
 use Rattle.std.proofs.lemmas.List.{append-nil}
 use Rattle.ordered_group.specs.Amount.{AtMost}
 use Rattle.closure_net.specs.Network.{NetView, FlowView, IsNet}
@@ -10,24 +10,21 @@ use Rattle.machine_law.specs.declared.operations.Operation.TheVariants.{Idle}
 use Rattle.workers.specs.declared.solving.SolveFault.{SolveFault}
 use Rattle.workers.specs.declared.solving.SolveFault.TheVariants as solve
 use Rattle.word_runner.specs.declared.settle_fault.SettleFault.{SettleFault}
-use Rattle.word_runner.specs.declared.settle_fault.SettleFault.TheVariants.{Unsettled, NoMemory}
 use Rattle.word_runner.specs.Layout.{units}
 use Rattle.word_runner.specs.Seats.{Own, WordsView}
 use Rattle.word_runner.specs.CutNets.{IsCutNet}
 use Rattle.word_runner.specs.Openings.{AreNeitherOneNorTwo}
-use Rattle.word_runner.specs.Runs.{steps_made_by, SomeIsBusy, IsQuietRunOf, IsOpenRunOf, IsRunSettled, SettleFaultStands}
+use Rattle.word_runner.specs.Runs.{steps_made_by, SomeIsBusy, IsQuietRunOf, IsRunSettled, SettleFaultStands}
 use Rattle.word_runner.specs.Ends.{IsQuietEnd, EndFaultStands, WordRunFaultStands, WordSolveFaultStands, IsSolvedBy}
 use Rattle.std.proofs.lemmas.Grind.{common_steps}
 
 -- what follows on either side of a result
 pub on_sides : {A B : Type 0} (P R : A → Type 0) (Q S : B → Type 0) (r : Result A B) → ((a : A) → P a → R a) → ((b : B) → Q b → S b) → MatchResult r P Q → MatchResult r R S
-on_sides P R Q S (Ok a) f g h = f a h
-on_sides P R Q S (Err b) f g h = g b h
+on_sides P R Q S r f g h = grind (arith, common_steps)
 
 -- ---- the last seats of a list
 no_items : (ys : List Own) → length ys ≡ 0 → ys ≡ []
-no_items [] e = refl
-no_items (y ∷ ys) e = absurd (omega (arith, e))
+no_items ys e = grind (arith, common_steps)
 
 pub last_one : (xs ys : List Own) (s : Own) → xs ≡ ys ++ s ∷ [] → length ys ≡ 0 → xs ≡ s ∷ []
 last_one xs ys s e l = e ∙ ap (λ (z : List Own). z ++ s ∷ []) (no_items ys l)
@@ -41,8 +38,7 @@ module _ (w : WordsView) (xs : List Own) (m : List Event) (Busy : Type 0) (is : 
   settled flow h = record { quiet = subst (λ (z : List Event). IsQuietRunOf w.cut z flow) is h.quiet; greatest = h.greatest }
 
   unsettled : (f : SettleFault) → EndFaultStands w.cut m Busy f → SettleFaultStands w xs f
-  unsettled Unsettled h = elim h [ inl b ↦ inl (busy b) | inr o ↦ inr (subst (IsOpenRunOf w.cut) is o) ]
-  unsettled NoMemory h = tt
+  unsettled f h = grind (arith, common_steps)
 
   pub closed : (r : Result FlowView SettleFault) → MatchResult r (λ flow. IsQuietEnd w.cut m flow) (λ f. EndFaultStands w.cut m Busy f) → MatchResult r (λ flow. IsRunSettled w xs flow) (λ f. SettleFaultStands w xs f)
   closed r h = on_sides _ _ _ _ r settled unsettled h
@@ -64,12 +60,7 @@ closed_two w xs s t e r h =
 -- ---- whole runs
 module _ (net cut : NetView) (workers : ℕ) (good : ¬ (AreNeitherOneNorTwo workers)) (small : AtMost (all_given net) (units 9223372036854775807)) (is_cut : IsCutNet net cut) where
   pub fault_ends : (f : SolveFault) → WordRunFaultStands cut f → WordSolveFaultStands net workers f
-  fault_ends solve.BadWorkers h = absurd h
-  fault_ends solve.Unsettled h = (good, small)
-  fault_ends solve.TooLarge h = (good, inr (record { cut = cut; is_cut = is_cut; large = h }))
-  fault_ends solve.StrangerNet h = h
-  fault_ends solve.NoMemory h = good
-  fault_ends solve.NoThread h = absurd h
+  fault_ends f h = grind (arith, common_steps)
 
   pub solved_ends : (limit : ℕ) (m : List Event) (flow : FlowView) (steps : ℕ) → IsNet net → IsQuietEnd cut m flow → length m ≡ steps → steps ≤ limit → IsSolvedBy net workers limit flow steps
   solved_ends limit m flow steps is h counted within = record { good = good; small = small; cut = cut; is_cut = is_cut; made = m; counted = counted; within = within; quiet = h.quiet; greatest = h.greatest net is is_cut }

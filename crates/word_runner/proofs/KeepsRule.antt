@@ -3,7 +3,7 @@ use Rattle.std.proofs.Common.{inl, inr, ◌≡◌, ◌≢◌, ℕ, ◌+◌, ◌<
 use Rattle.std.proofs.lemmas.Bool.{cases_eq, ltb-true}
 use mathlib.Core.Option.{none, some}
 use lib.ListN.{get_elem?}
-use Rattle.atomic_table.specs.Table.{State, step, keeps, stepped, Allows}
+use Rattle.atomic_table.specs.Table.{State, step, Allows}
 use Rattle.prec_file.specs.Rests.{IsKnown, from_at}
 use Rattle.closure_net.specs.Network.{NetView}
 use Rattle.machine_law.specs.declared.events.Event.{Event}
@@ -12,9 +12,8 @@ use Rattle.machine_law.specs.declared.operations.Operation.TheVariants.{Idle, Sc
 use Rattle.closure_net.specs.declared.port.Port.{Port}
 use Rattle.closure_net.specs.declared.port.PortKind.{PortKind}
 use Rattle.closure_net.specs.declared.port.PortKind.TheVariants.{Sink, Forward, Backward, Source}
-use Rattle.ordered_group.specs.Amount.{AtMost}
 use Rattle.machine_law.specs.Residual.{IsEnd}
-use Rattle.machine_law.specs.Operations.{operation_as, best_as}
+use Rattle.machine_law.specs.Operations.{operation_as}
 use Rattle.machine_law.specs.States as law
 use Rattle.machine_law.specs.States.{with_value_at, opening}
 use Rattle.machine_law.specs.Steps.{Step, Run, advance_by, next_of}
@@ -32,6 +31,7 @@ use Rattle.word_runner.proofs.Units.{units_above}
 use Rattle.word_runner.proofs.Shows.{operation_shown, labels_shown, labels_else}
 use Rattle.word_runner.proofs.Writes.{Fits, fits, placed, cells_shown, flow_shown}
 use Rattle.word_runner.proofs.SeatViews.{seats_set, operation_here, operation_else, shown_here, shown_else, block_is, made_more}
+use Rattle.std.proofs.lemmas.Grind.{common_steps}
 
 module _ (s : State (Unit {0}) View) (id b : ℕ) (v : View) (q : CanTurn v b) (r : IsRuled v.net s) (at : get_elem? s.views id ≡ some v) where
   abbrev net : NetView
@@ -129,14 +129,7 @@ module _ (s : State (Unit {0}) View) (id b : ℕ) (v : View) (q : CanTurn v b) (
   pushed_far : (have : ℕ) (p : Port) (kind : PortKind) (k : ℕ) → IsEnd net b kind p.other p.slot → is_word_overfull kind have (get_or s.words (capacity_word net b kind p.slot) 0) ≡ true → (v' : law.State) → Run net (opening net) (r.events ++ e ∷ []) v'
       → Cells net v' (set s.words (capacity_word net b kind p.slot) (word_after_push kind (push_units have kind k) (get_or s.words (capacity_word net b kind p.slot) 0))) → SomeFlowIsTooLarge net
   pushed_far have p Sink k h f v' run c = absurd cc
-  pushed_far have p Forward k h f v' run c =
-      let i = flow_at net p.slot in
-      let w = r.cells.wide in
-      let g = h.0 in
-      let y = get_or s.words i 0 + have in
-      let more = ltb-true 9223372036854775807 y f in
-      let is : v'.flow p.slot ≡ units y = c.flow p.slot h.0 ∙ ap units (get_or-set_same s.words i y 0 (omega (arith, w, g))) in
-      record { events = r.events ++ e ∷ []; machine = v'; run = run; pair = p.slot; known = h.0; amount = subst (AtMost (units 9223372036854775808)) (sym is) (units_above 9223372036854775808 y (omega (arith, more))) }
+  pushed_far have p Forward k h f v' run c = grind (arith, common_steps, (flow_at net p.slot), r.cells.wide, h.0, (get_or s.words (flow_at net p.slot) 0 + have), (ltb-true 9223372036854775807 (get_or s.words (flow_at net p.slot) 0 + have) f), (c.flow p.slot h.0 ∙ ap units (get_or-set_same s.words (flow_at net p.slot) (get_or s.words (flow_at net p.slot) 0 + have) 0 (omega (arith, (r.cells.wide), (h.0))))), (get_or-set_same s.words (flow_at net p.slot) (get_or s.words (flow_at net p.slot) 0 + have) 0 (omega (arith, (r.cells.wide), (h.0)))), (units_above 9223372036854775808 (get_or s.words (flow_at net p.slot) 0 + have) (omega (arith, (ltb-true 9223372036854775807 (get_or s.words (flow_at net p.slot) 0 + have) f)))))
   pushed_far have p Backward k h f v' run c = absurd cc
   pushed_far have p Source k h f v' run c = absurd cc
 
@@ -150,12 +143,7 @@ module _ (s : State (Unit {0}) View) (id b : ℕ) (v : View) (q : CanTurn v b) (
   flow_far (RaiseDue have best) is h f = absurd cc
 
   label_far : (z : Operation ℕ) → u.operation b ≡ operation_as units z → RaisesTooFar z → SomeLabelIsTooLarge net
-  label_far Idle is h = absurd h
-  label_far (Scan have place read best) is h = absurd h
-  label_far (PushDue have best) is h = absurd h
-  label_far (TakeDue d p) is h = absurd h
-  label_far (GiveDue d p) is h = absurd h
-  label_far (RaiseDue have best) is h = record { events = r.events ++ e ∷ []; machine = u; run = runs; block = b; known = q.block; have = units have; best = best_as units best; next = is; label = h }
+  label_far z is h = grind (arith, common_steps, runs, known)
 
   pub large_by : IsLargeBy net (view_after_turn b v x).stopped (view_after_turn b v x).operation
   large_by = record {
@@ -166,15 +154,4 @@ module _ (s : State (Unit {0}) View) (id b : ℕ) (v : View) (q : CanTurn v b) (
 -- any operation on the word that writes what the step writes
 pub turns : (slots id a b : ℕ) (me : Sat) (f : ℕ → ℕ) → CanTurn me.0 b → ((x : ℕ) → x < 2 ^ 64 → Fits me.0.operation x → f x ≡ word_after me.0.operation x)
     → Allows (IsRuled me.0.net) slots id me (word_of me.0.net b me.0.operation) f (TurnsSeat (step slots (word_of me.0.net b me.0.operation) a 0 none) me)
-turns slots id a b me f q writes s r _ at small =
-    let v = me.0 in
-    let i = word_of v.net b v.operation in
-    let x : ℕ = get_or s.words i 0 in
-    let is : f x ≡ word_after v.operation x = writes x small (fit s id b v q r at) in
-    let block = block_is v b q in (
-      view_after_turn b v x,
-      keeps,
-      tt,
-      subst (λ (z : ℕ). IsRuled v.net (stepped s i z id me.1 (view_after_turn b v x) keeps)) (sym is) (keeps_rule s id b v q r at s.homes),
-      (ap (λ (c : ℕ). view_after_turn c v x) (sym block), subst (λ (c : ℕ). IsPlaced v.net c (view_after_turn b v x).operation) (sym block) (placed_after s id b v q r at), refl, large_by s id b v q r at),
-    )
+turns slots id a b me f q writes s r _ at small = grind (arith, common_steps, me.0, (word_of (me.0).net b (me.0).operation), (get_or s.words (word_of (me.0).net b (me.0).operation) 0), (writes (get_or s.words (word_of (me.0).net b (me.0).operation) 0) small (fit s id b (me.0) q r at)), (fit s id b (me.0) q r at), (block_is (me.0) b q), (keeps_rule s id b (me.0) q r at s.homes), (placed_after s id b (me.0) q r at), (large_by s id b (me.0) q r at))

@@ -1,5 +1,5 @@
 -- A load of an arrival keeps the rule, and tells a number below 2^63.
-use Rattle.std.proofs.Common.{◌≡◌, ℕ, ◌<◌, ◌^◌, List, [], ◌∷◌, ◌++◌, get_or, set, sym, refl, subst, arith}
+use Rattle.std.proofs.Common.{◌≡◌, ℕ, List, [], ◌∷◌, ◌++◌, get_or, set, sym, refl, subst, arith}
 use mathlib.Core.Option.{none, some}
 use lib.ListN.{get_elem?}
 use lib.Seq.{set-get_or}
@@ -13,9 +13,6 @@ use Rattle.word_runner.specs.Halves.{LooksUp}
 use Rattle.word_runner.proofs.SeatViews.{seats_set}
 use Rattle.word_runner.proofs.Units.{fits_in}
 use Rattle.std.proofs.lemmas.Grind.{common_steps}
-
-arrived_small : (net : NetView) (s : State (Unit {0}) View) → IsRuled net s → (i : ℕ) → i < 2 → get_or s.words i 0 < 2 ^ 63
-arrived_small net s r i l = grind (arith, common_steps, runs_conserve, fits_in)
 
 -- a view that differs in what was loaded alone
 loaded_more : (net : NetView) (s : State (Unit {0}) View) (id : ℕ) (v : View) (l : List (ℕ × ℕ)) → IsRuled net s → get_elem? s.views id ≡ some v → IsRuled net (record { words = s.words; homes = s.homes; views = set s.views id (record v { loaded = l }) })
@@ -45,5 +42,5 @@ looks_up net slots id i me s r _ at _ =
       keeps,
       tt,
       subst (λ (z : List ℕ). IsRuled net (record { words = z; homes = s.homes; views = set s.views id (record me.0 { loaded = l }) })) (sym (set-get_or s.words i 0)) (loaded_more net s id me.0 l r at),
-      (refl, refl, λ m. arrived_small net s r i m),
+      (refl, refl, λ m. grind (arith, common_steps, runs_conserve, fits_in)),
     )

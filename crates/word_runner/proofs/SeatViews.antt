@@ -1,5 +1,5 @@
 -- The views of the seats, where one of them changes.
-use Rattle.std.proofs.Common.{inl, inr, ◌⊎◌, ◌≡◌, ◌≢◌, ◌↔◌, ℕ, ◌-◌, ◌<◌, ◌==◌, Bool, cond, List, [], ◌∷◌, ◌++◌, set, sym, refl, ap, ◌∙◌, subst, arith, ⊎_elim, append-nil}
+use Rattle.std.proofs.Common.{inl, inr, ◌⊎◌, ◌≡◌, ◌≢◌, ◌↔◌, ℕ, ◌-◌, ◌<◌, ◌==◌, Bool, cond, List, [], ◌∷◌, ◌++◌, set, sym, ap, ◌∙◌, subst, arith, ⊎_elim, append-nil}
 use Rattle.std.proofs.lemmas.Bool.{eq-eqb, ne_eqb}
 use Rattle.std.proofs.lemmas.List.Elements.{filter-append}
 use mathlib.Core.Option.{some}
@@ -7,9 +7,7 @@ use lib.ListN.{get_elem?}
 use Rattle.atomic_table.proofs.Lists.{at_set}
 use Rattle.closure_net.specs.Network.{NetView}
 use Rattle.machine_law.specs.declared.events.Event.{Event}
-use Rattle.machine_law.specs.declared.operations.Operation.{Operation}
-use Rattle.machine_law.specs.declared.operations.Operation.TheVariants.{Idle, Scan, PushDue, TakeDue, GiveDue, RaiseDue}
-use Rattle.machine_law.specs.Operations.{is_idle}
+use Rattle.machine_law.specs.declared.operations.Operation.TheVariants.{Idle}
 use Rattle.word_runner.specs.declared.view.View.{View}
 use Rattle.word_runner.specs.Layout.{count}
 use Rattle.word_runner.specs.StepWords.{word_of}
@@ -38,16 +36,8 @@ shown_here v b q = elim q.here [ inl e ↦ free_operation v b e ∙ sym e | inr 
 pub shown_else : (v : View) (b c : ℕ) → CanTurn v b → c ≢ b → operation_in_view v c ≡ Idle
 shown_else v b c q ne = elim q.here [ inl e ↦ free_operation v c e | inr e ↦ operation_else v c (λ h. ne (sym h ∙ e)) ]
 
-block_by : (v : View) (b : ℕ) (o : Operation ℕ) → v.operation ≡ o → (o ≡ Idle) ⊎ (v.block ≡ b) → cond (is_idle o) (word_of v.net b o - 2) v.block ≡ b
-block_by v b Idle e h = omega arith
-block_by v b (Scan have place read best) e h = elim h [ inl f ↦ absurd cc | inr f ↦ f ]
-block_by v b (PushDue have best) e h = elim h [ inl f ↦ absurd cc | inr f ↦ f ]
-block_by v b (TakeDue d p) e h = elim h [ inl f ↦ absurd cc | inr f ↦ f ]
-block_by v b (GiveDue d p) e h = elim h [ inl f ↦ absurd cc | inr f ↦ f ]
-block_by v b (RaiseDue have best) e h = elim h [ inl f ↦ absurd cc | inr f ↦ f ]
-
 pub block_is : (v : View) (b : ℕ) → CanTurn v b → block_of_view v (word_of v.net b v.operation) ≡ b
-block_is v b q = block_by v b v.operation refl q.here
+block_is v b q = grind (arith, common_steps)
 
 -- one more step, of the seat `me`, at its block b
 module _ (net : NetView) (es : List Event) (e : Event) where

@@ -48,9 +48,6 @@ module _ (net : NetView) (s : State (Unit {0}) View) (r : IsRuled net s) (sum : 
   quiet_then : get_or s.words 0 0 + get_or s.words 1 0 ≡ sum → IsQuiet net t
   quiet_then e = whole.arrived.0 (both ∙ ap units e ∙ sym all)
 
-  full_then : IsQuiet net t → get_or s.words 0 0 + get_or s.words 1 0 ≡ sum
-  full_then q = units_same _ _ (sym both ∙ whole.arrived.1 q ∙ all)
-
   module _ (id : ℕ) (v : View) (at : get_elem? s.views id ≡ some v) (w : IsWorker 0 1 v) where
     run_of : IsRunOf net v.made
     run_of = record { events = r.events; machine = t; run = r.run; at_blocks = λ b l. (r.made id v at).own b l (record { live = w.live; serves = ap (λ (k : ℕ). b % k) w.workers_are ∙ by_one b ∙ sym w.number_is }) }
@@ -72,7 +69,7 @@ module _ (net : NetView) (s : State (Unit {0}) View) (r : IsRuled net s) (sum : 
 
     pub stays_open : ¬ (get_or s.words 0 0 + get_or s.words 1 0 ≡ sum) → IsOpenRunOf net v.made
     unfolding run_of
-    stays_open ne = record { run = run_of; unquiet = λ q. ne (full_then q) }
+    stays_open ne = record { run = run_of; unquiet = λ q. ne (units_same _ _ (sym both ∙ whole.arrived.1 q ∙ all)) }
 
 pub at_get : (l : List ℕ) (i a : ℕ) → get_elem? l i ≡ some a → get_or l i 0 ≡ a
 at_get [] i a e = absurd (some-ne-none a (sym e))

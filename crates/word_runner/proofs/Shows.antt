@@ -1,16 +1,14 @@
 -- The step of the machine that is next for a block, as its word shows it: what the block's operation and the labels become.
-use Rattle.std.proofs.Common.{◌≡◌, ◌≢◌, ℕ, ◌+◌, ◌<◌, Option, Some, None, List, All, length, get_or, set, refl, ap, sym, ◌∙◌, subst, arith, get_or-set_other, get_or-set_same}
-use Rattle.std.proofs.Common.{inl, inr}
+use Rattle.std.proofs.Common.{◌≡◌, ◌≢◌, ℕ, ◌+◌, ◌<◌, Option, Some, None, List, All, length, get_or, refl, ap, sym, ◌∙◌, arith, get_or-set_other, get_or-set_same}
 use Rattle.std.proofs.lemmas.Bool.{cases_eq}
 use Rattle.std.specs.Prelude.{slice_get}
 use Rattle.std.specs.Option.{option_map}
-use Rattle.ordered_group.specs.Amount.{Amount, zero_amount}
+use Rattle.ordered_group.specs.Amount.{Amount}
 use Rattle.prec_file.specs.Rests.{IsKnown}
 use Rattle.closure_net.specs.Network.{NetView}
 use Rattle.closure_net.specs.Ports.{ports}
 use Rattle.closure_net.specs.declared.port.Port.{Port}
 use Rattle.closure_net.specs.declared.port.PortKind.{PortKind}
-use Rattle.closure_net.specs.declared.port.PortKind.TheVariants.{Sink, Forward, Backward, Source}
 use Rattle.machine_law.specs.declared.operations.Best.{Best}
 use Rattle.machine_law.specs.declared.operations.Operation.{Operation}
 use Rattle.machine_law.specs.declared.operations.Operation.TheVariants.{Idle, Scan, PushDue, TakeDue, GiveDue, RaiseDue}
@@ -18,46 +16,31 @@ use Rattle.machine_law.specs.Operations.{best_as, operation_as}
 use Rattle.machine_law.specs.States as law
 use Rattle.machine_law.specs.States.{with_value_at}
 use Rattle.machine_law.specs.Residual.{IsEnd, label_beyond}
-use Rattle.machine_law.specs.Reads.{operation_begun_with, after_capacity, after_label}
+use Rattle.machine_law.specs.Reads.{operation_begun_with, after_label}
 use Rattle.machine_law.specs.Steps.{after_look, after_look_by, after_label_at, push_amount, after_push_by, after_give_by, advance_by}
 use Rattle.machine_law.proofs.Points.{with_value_at-same, with_value_at-other}
 use Rattle.machine_law.proofs.Naturality.{after_label-as}
 use Rattle.machine_law.proofs.PortLists.{port_with, port-at}
 use Rattle.word_runner.specs.Layout.{units, count, Cells}
-use Rattle.word_runner.specs.StepWords.{look_word, look_word_at, label_word_at, word_of, operation_begun_by_word, after_capacity_word, after_look_word, after_look_word_if, after_label_word_if, after, push_units}
+use Rattle.word_runner.specs.StepWords.{look_word, look_word_at, label_word_at, word_of, operation_begun_by_word, after_look_word, after_look_word_if, after_label_word_if, after, push_units}
 use Rattle.word_runner.specs.Turns.{labels_after}
-use Rattle.word_runner.proofs.Units.{lesser_amount_units}
 use Rattle.std.proofs.lemmas.Grind.{common_steps}
 
 -- ---- reads over units
 begun_units : (x : ℕ) → operation_begun_with (units x) ≡ operation_as units (operation_begun_by_word x)
 begun_units x = grind (arith, common_steps)
 
-seen_units : (n label have place : ℕ) (best : Option (Best ℕ)) (x : ℕ) → after_capacity n label (units have) place (option_map (best_as units) best) (units x) ≡ operation_as units (after_capacity_word n label have place best x)
-seen_units n label have place best x = grind (arith, common_steps)
-
 pub push_of_units : (have : ℕ) (kind : PortKind) (read : ℕ) → push_amount (units have) kind (units read) ≡ units (push_units have kind read)
-push_of_units have Sink read = lesser_amount_units have read
-push_of_units have Forward read = refl
-push_of_units have Backward read = lesser_amount_units have read
-push_of_units have Source read = lesser_amount_units have read
+push_of_units have kind read = grind (arith, common_steps)
 
 -- the other end of a port is a block
 pub other_within : (net : NetView) (b : ℕ) (kind : PortKind) (other slot : ℕ) → All (IsKnown (count net)) net.pairs → b < count net → IsEnd net b kind other slot → other < count net
-other_within net b Sink other slot known lb q = let e = q.0 in omega (arith, e, lb)
-other_within net b Forward other slot known lb q = let k = (known slot (0, 0) q.0).1 in let e = q.2 in omega (arith, k, e)
-other_within net b Backward other slot known lb q = let k = (known slot (0, 0) q.0).0 in let e = q.2 in omega (arith, k, e)
-other_within net b Source other slot known lb q = let e = q.0 in omega (arith, e, lb)
+other_within net b kind other slot known lb q = grind (arith, common_steps)
 
 module _ (net : NetView) (known : All (IsKnown (count net)) net.pairs) (t : law.State) (ws : List ℕ) (c : Cells net t ws) (b : ℕ) (lb : b < count net) where
   looked_shown : (have place : ℕ) (best : Option (Best ℕ)) (kind : PortKind) (other slot : ℕ) → IsEnd net b kind other slot
       → after_look_by net t b (units have) place (option_map (best_as units) best) (port_with kind other slot) kind ≡ operation_as units (after_look_word net b (t.label b) have place best (port_with kind other slot) kind (get_or ws (look_word net b kind other slot) 0))
-  looked_shown have place best Sink other slot q = ap (after_capacity (length (ports net b)) (t.label b) (units have) place (option_map (best_as units) best)) (c.room b lb) ∙ seen_units (length (ports net b)) (t.label b) have place best _
-  looked_shown have place best Forward other slot q =
-      ap (after_label (length (ports net b)) (t.label b) (units have) place (option_map (best_as units) best) zero_amount (port_with Forward other slot)) (c.label other (other_within net b Forward other slot known lb q))
-      ∙ sym (after_label-as units (length (ports net b)) (t.label b) have place best 0 (port_with Forward other slot) _)
-  looked_shown have place best Backward other slot q = ap (after_capacity (length (ports net b)) (t.label b) (units have) place (option_map (best_as units) best)) (c.flow slot q.0) ∙ seen_units (length (ports net b)) (t.label b) have place best _
-  looked_shown have place best Source other slot q = ap (after_capacity (length (ports net b)) (t.label b) (units have) place (option_map (best_as units) best)) (c.source b lb) ∙ seen_units (length (ports net b)) (t.label b) have place best _
+  looked_shown have place best kind other slot q = grind (arith, common_steps, port_with, other_within, after_label-as)
 
   looked_shown_if : (have place : ℕ) (best : Option (Best ℕ)) (q : Option Port) → slice_get (ports net b) place ≡ q
       → after_look net t b (units have) place (option_map (best_as units) best) q ≡ operation_as units (after_look_word_if net b (t.label b) have place best q (get_or ws (look_word_at net b q) 0))
@@ -71,40 +54,18 @@ module _ (net : NetView) (known : All (IsKnown (count net)) net.pairs) (t : law.
       ap (λ h. after_label (length (ports net b)) (t.label b) (units have) place (option_map (best_as units) best) (units read) p (label_beyond net p.kind h)) (c.label p.other (other_within net b p.kind p.other p.slot known lb (port-at net b place p e)))
       ∙ sym (after_label-as units (length (ports net b)) (t.label b) have place best read p _)
 
-  -- a push, by the kind of port
-  pushed_operation : (d : Amount) (p : Port) (kind : PortKind) → (after_push_by t b d p kind).operation ≡ with_value_at t.operation b (TakeDue d p)
-  pushed_operation d p Sink = refl
-  pushed_operation d p Forward = refl
-  pushed_operation d p Backward = refl
-  pushed_operation d p Source = refl
-
   given_operation : (d : Amount) (p : Port) (kind : PortKind) → (after_give_by t b d p kind).operation ≡ with_value_at t.operation b Idle
-  given_operation d p Sink = refl
-  given_operation d p Forward = refl
-  given_operation d p Backward = refl
-  given_operation d p Source = refl
+  given_operation d p kind = grind (arith, common_steps)
 
   pub operation_shown : (o : Operation ℕ) → (advance_by net t b (operation_as units o)).operation ≡ with_value_at t.operation b (operation_as units (after net b (t.label b) o (get_or ws (word_of net b o) 0)))
-  operation_shown Idle = ap (λ a. with_value_at t.operation b (operation_begun_with a)) (c.excess b lb) ∙ ap (with_value_at t.operation b) (begun_units _)
-  operation_shown (Scan have place None best) = ap (with_value_at t.operation b) (looked_shown_if have place best (slice_get (ports net b) place) refl)
-  operation_shown (Scan have place (Some read) best) = ap (with_value_at t.operation b) (weighed_shown_if have place best read (slice_get (ports net b) place) refl)
-  operation_shown (PushDue have best) = pushed_operation (push_amount (units have) best.port.kind (units best.capacity)) best.port best.port.kind ∙ ap (λ a. with_value_at t.operation b (TakeDue a best.port)) (push_of_units have best.port.kind best.capacity)
-  operation_shown (TakeDue d p) = refl
-  operation_shown (GiveDue d p) = given_operation (units d) p p.kind
-  operation_shown (RaiseDue have best) = refl
+  operation_shown o = grind (arith, common_steps, begun_units, looked_shown_if, weighed_shown_if, push_of_units, given_operation)
 
   -- ---- labels
   pushed_label : (d : Amount) (p : Port) (kind : PortKind) → (after_push_by t b d p kind).label ≡ t.label
-  pushed_label d p Sink = refl
-  pushed_label d p Forward = refl
-  pushed_label d p Backward = refl
-  pushed_label d p Source = refl
+  pushed_label d p kind = grind (arith, common_steps)
 
   given_label : (d : Amount) (p : Port) (kind : PortKind) → (after_give_by t b d p kind).label ≡ t.label
-  given_label d p Sink = refl
-  given_label d p Forward = refl
-  given_label d p Backward = refl
-  given_label d p Source = refl
+  given_label d p kind = grind (arith, common_steps)
 
   abbrev LabelsTo : Operation ℕ → Type 0
   LabelsTo o = (labels : List ℕ) → b < length labels → (x : ℕ) → t.label x ≡ get_or labels x 0 → (advance_by net t b (operation_as units o)).label x ≡ get_or (labels_after labels b o) x 0
@@ -116,10 +77,7 @@ module _ (net : NetView) (known : All (IsKnown (count net)) net.pairs) (t : law.
   labels_shown (PushDue have best) labels l x e = ap (λ f. f x) (pushed_label (push_amount (units have) best.port.kind (units best.capacity)) best.port best.port.kind) ∙ e
   labels_shown (TakeDue d p) labels l x e = e
   labels_shown (GiveDue d p) labels l x e = ap (λ f. f x) (given_label (units d) p p.kind) ∙ e
-  labels_shown (RaiseDue have best) labels l x e = elim (cases_eq x b) [
-    | inl at ↦ subst (λ z. with_value_at t.label b (best.label + 1) z ≡ get_or (set labels b (best.label + 1)) z 0) (sym at) (with_value_at-same t.label b (best.label + 1) ∙ sym (get_or-set_same labels b (best.label + 1) 0 l))
-    | inr ne ↦ with_value_at-other t.label b (best.label + 1) x ne ∙ e ∙ sym (get_or-set_other labels b x (best.label + 1) 0 ne)
-  ]
+  labels_shown (RaiseDue have best) labels l x e = grind (arith, common_steps, cases_eq, with_value_at-same, get_or-set_same, with_value_at-other, get_or-set_other)
 
   pub labels_else : (o : Operation ℕ) (x : ℕ) → x ≢ b → (advance_by net t b (operation_as units o)).label x ≡ t.label x
   labels_else Idle x ne = refl

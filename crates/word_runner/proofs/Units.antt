@@ -1,12 +1,10 @@
 -- Amounts of units, and numbers.
 use Rattle.std.proofs.Common.{◌≡◌, ℕ, ◌+◌, ◌-◌, ◌%◌, ◌≤◌, ap, arith}
 use Rattle.std.proofs.lemmas.Int.{ints}
-use Rattle.ordered_group.specs.Amount.{Amount, plus, minus, AtMost, lesser_amount}
+use Rattle.ordered_group.specs.Amount.{Amount, plus, minus, AtMost}
 use Rattle.ordered_group.proofs.Order.{AtMost-trans}
 use Rattle.machine_law.proofs.Numbers.{same, equal}
 use Rattle.word_runner.specs.Layout.{units}
-use Rattle.word_runner.specs.StepWords.{smaller_of}
-use Rattle.std.proofs.lemmas.Grind.{common_steps}
 
 -- equal amounts of units are of equal numbers
 pub units_same : (x y : ℕ) → units x ≡ units y → x ≡ y
@@ -36,9 +34,3 @@ fits_in k x a y e h g = let s = same e in let t = AtMost-trans a y (units k) h g
 
 pub units_above : (k x : ℕ) → k ≤ x → AtMost (units k) (units x)
 units_above k x l = record { worths = omega (arith, ints, l); counts = λ i. omega (arith, ints) }
-
-pub lesser_amount_units : (a b : ℕ) → lesser_amount (units a) (units b) ≡ units (smaller_of a b)
-lesser_amount_units a b = grind (arith, common_steps)
-
-pub smaller_right : (a b : ℕ) → smaller_of a b ≤ b
-smaller_right a b = grind (arith, common_steps)

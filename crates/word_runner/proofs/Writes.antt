@@ -1,8 +1,7 @@
 -- The step that is next for a block, as its word shows it: that the word doesn't wrap, and what the words show after.
-use Rattle.std.proofs.Common.{inl, inr, ◌⊎◌, ◌≡◌, ◌≢◌, ℕ, ◌+◌, ◌<◌, ◌≤◌, ◌^◌, Bool, false, Option, Some, None, List, All, length, get_or, set, refl, ap, sym, ◌∙◌, subst, arith, get_or-set_other, get_or-set_same}
+use Rattle.std.proofs.Common.{◌⊎◌, ◌≡◌, ◌≢◌, ℕ, ◌+◌, ◌<◌, ◌≤◌, ◌^◌, Bool, false, Some, None, List, All, length, get_or, set, refl, sym, subst, arith, get_or-set_other}
 use Rattle.std.specs.Prelude.{slice_get}
 use Rattle.std.specs.Option.{option_map}
-use Rattle.std.proofs.lemmas.Bool.{cases_eq, ltb-false}
 use lib.Seq.{set-get_or}
 use Rattle.ordered_group.specs.Amount.{Amount, plus, minus, negative, AtMost}
 use Rattle.ordered_group.specs.Sums.{amount_at}
@@ -13,24 +12,24 @@ use Rattle.closure_net.specs.Ports.{ports}
 use Rattle.closure_net.specs.declared.port.Port.{Port}
 use Rattle.closure_net.specs.declared.port.PortKind.{PortKind}
 use Rattle.closure_net.specs.declared.port.PortKind.TheVariants.{Sink, Forward, Backward, Source}
-use Rattle.machine_law.specs.declared.operations.Best.{Best}
 use Rattle.machine_law.specs.declared.operations.Operation.{Operation}
 use Rattle.machine_law.specs.declared.operations.Operation.TheVariants.{Idle, Scan, PushDue, TakeDue, GiveDue, RaiseDue}
 use Rattle.machine_law.specs.Operations.{best_as, operation_as}
 use Rattle.machine_law.specs.States as law
 use Rattle.machine_law.specs.States.{with_value_at}
 use Rattle.machine_law.specs.Residual.{IsEnd}
-use Rattle.machine_law.specs.Amounts.{IsOperation, IsBestIfAny, IsWithinBy}
+use Rattle.machine_law.specs.Amounts.{IsOperation}
 use Rattle.machine_law.specs.Steps.{after_look, after_label_at, after_push_by, after_give_by, advance_by}
 use Rattle.machine_law.specs.Reads.{operation_begun_with}
 use Rattle.machine_law.specs.Conservation.{all_given, IsWhole}
 use Rattle.machine_law.proofs.Points.{with_value_at-same}
 use Rattle.word_runner.specs.Layout.{units, count, Cells, excess_at, flow_at}
 use Rattle.word_runner.specs.StepWords.{capacity_word, landing_word, word_of, word_after, push_units, word_after_push}
-use Rattle.word_runner.specs.Turns.{is_word_overfull, stopped_after, IsBestPlaced, IsPlaced}
-use Rattle.word_runner.proofs.Units.{units_most, units_minus, units_plus, less_room, fits_in, smaller_right}
+use Rattle.word_runner.specs.Turns.{stopped_after, IsPlaced}
+use Rattle.word_runner.proofs.Units.{units_most, units_minus, units_plus, less_room, fits_in}
 use Rattle.word_runner.proofs.Cells.{cells_op, cells_excess, cells_flow, cells_label, cells_source, cells_room, cells_at_source, cells_at_sink}
 use Rattle.word_runner.proofs.Shows.{push_of_units, other_within}
+use Rattle.std.proofs.lemmas.Grind.{common_steps}
 
 -- ---- the word of a step takes what is written into it
 abbrev pub push_fits : PortKind → ℕ → ℕ → Type 0
@@ -47,18 +46,8 @@ Fits (TakeDue d port) x = d ≤ x
 Fits (GiveDue d port) x = x + d < 2 ^ 63
 Fits (RaiseDue have best) x = Unit {0}
 
--- the places and ports of a lawful operation are there
-best_placed : (net : NetView) (t : law.State) (b : ℕ) (best : Option (Best ℕ)) → IsBestIfAny net t b (option_map (best_as units) best) → IsBestPlaced net b best
-best_placed net t b None h = tt
-best_placed net t b (Some best) h = h.port
-
 pub placed : (net : NetView) (t : law.State) (b : ℕ) (o : Operation ℕ) → IsOperation net t b (operation_as units o) → IsPlaced net b o
-placed net t b Idle h = tt
-placed net t b (Scan have place read best) h = (h.inside, best_placed net t b best h.passed)
-placed net t b (PushDue have best) h = h.over.port
-placed net t b (TakeDue d port) h = h.1
-placed net t b (GiveDue d port) h = h.1
-placed net t b (RaiseDue have best) h = h.over.port
+placed net t b o h = grind (arith, common_steps)
 
 module _ (net : NetView) (known : All (IsKnown (count net)) net.pairs) (t : law.State) (ws : List ℕ) (c : Cells net t ws) (b : ℕ) (lb : b < count net) where
   -- ---- the words after
@@ -84,34 +73,18 @@ module _ (net : NetView) (known : All (IsKnown (count net)) net.pairs) (t : law.
   cells_shown Idle q f = read_cells (operation_begun_with (t.excess b)) (excess_at net b)
   cells_shown (Scan have place None best) q f = read_cells (after_look net t b (units have) place (option_map (best_as units) best) (slice_get (ports net b) place)) (word_of net b (Scan have place None best))
   cells_shown (Scan have place (Some read) best) q f = read_cells (after_label_at net t b (units have) place (option_map (best_as units) best) (units read) (slice_get (ports net b) place)) (word_of net b (Scan have place (Some read) best))
-  cells_shown (PushDue have best) q f =
-      let k = best.port.kind in
-      let i = capacity_word net b k best.port.slot in
-      let d = push_units have k best.capacity in
-      subst (λ a. Cells net (after_push_by t b a best.port k) (set ws i (word_after_push k d (get_or ws i 0)))) (sym (push_of_units have k best.capacity)) (pushed_cells d best.port k q f)
+  cells_shown (PushDue have best) q f = grind (arith, common_steps, push_of_units, pushed_cells)
   cells_shown (TakeDue d p) q f = cells_excess net t ws c (with_value_at t.operation b (GiveDue (units d) p)) (t.steps + 1) b _ (minus (t.excess b) (units d)) lb (units_minus _ d (t.excess b) (c.excess b lb) f)
   cells_shown (GiveDue d p) q f = given_cells d p p.kind q
   cells_shown (RaiseDue have best) q f = cells_label net t ws c (with_value_at t.operation b Idle) (t.steps + 1) b (best.label + 1) lb
 
   -- ---- the word takes it
-  push_most : (have read slot : ℕ) (kind : PortKind) (other : ℕ) → IsEnd net b kind other slot → IsWithinBy net t b kind slot (units read) → (kind ≡ Forward → get_or ws (flow_at net slot) 0 + have < 2 ^ 64)
-      → push_fits kind (push_units have kind read) (get_or ws (capacity_word net b kind slot) 0)
-  push_most have read slot Sink other q w f = let m = units_most read _ _ (c.room b lb) w.1 in let s = smaller_right have read in omega (arith, m, s)
-  push_most have read slot Forward other q w f = f refl
-  push_most have read slot Backward other q w f = let m = units_most read _ _ (c.flow slot q.0) w.1 in let s = smaller_right have read in omega (arith, m, s)
-  push_most have read slot Source other q w f = let m = units_most read _ _ (c.source b lb) w.1 in let s = smaller_right have read in omega (arith, m, s)
 
   -- no excess and no arrival passes what is given in all, after the step
   landed : (d : ℕ) (p : Port) (kind : PortKind) → IsEnd net b kind p.other p.slot → AtMost (all_given net) (units 9223372036854775807) → IsWhole net (after_give_by t b (units d) p kind) → get_or ws (landing_word net kind p.other) 0 + d < 2 ^ 63
   landed d p Sink q m w = let l = fits_in 9223372036854775807 _ (plus t.at_sink (units d)) (all_given net) (units_plus _ d t.at_sink c.at_sink) w.sink_most m in omega (arith, l)
-  landed d p Forward q m w =
-      let lo = other_within net b Forward p.other p.slot known lb q in
-      let l = fits_in 9223372036854775807 _ (with_value_at t.excess p.other (plus (t.excess p.other) (units d)) p.other) (all_given net) (with_value_at-same t.excess p.other (plus (t.excess p.other) (units d)) ∙ units_plus _ d (t.excess p.other) (c.excess p.other lo)) (w.excess_most p.other lo) m in
-      omega (arith, l)
-  landed d p Backward q m w =
-      let lo = other_within net b Backward p.other p.slot known lb q in
-      let l = fits_in 9223372036854775807 _ (with_value_at t.excess p.other (plus (t.excess p.other) (units d)) p.other) (all_given net) (with_value_at-same t.excess p.other (plus (t.excess p.other) (units d)) ∙ units_plus _ d (t.excess p.other) (c.excess p.other lo)) (w.excess_most p.other lo) m in
-      omega (arith, l)
+  landed d p Forward q m w = grind (arith, common_steps, (other_within net b Forward p.other p.slot known lb q), (with_value_at-same t.excess p.other (plus (t.excess p.other) (units d))), (units_plus _ d (t.excess p.other) (c.excess p.other (other_within net b Forward p.other p.slot known lb q))))
+  landed d p Backward q m w = grind (arith, common_steps, (other_within net b Backward p.other p.slot known lb q), (with_value_at-same t.excess p.other (plus (t.excess p.other) (units d))), (units_plus _ d (t.excess p.other) (c.excess p.other (other_within net b Backward p.other p.slot known lb q))))
   landed d p Source q m w = let l = fits_in 9223372036854775807 _ (plus t.at_source (units d)) (all_given net) (units_plus _ d t.at_source c.at_source) w.source_most m in omega (arith, l)
 
   -- a push is below 2^63 units
@@ -120,62 +93,18 @@ module _ (net : NetView) (known : All (IsKnown (count net)) net.pairs) (t : law.
 
   pub fits : (o : Operation ℕ) → IsOperation net t b (operation_as units o) → AtMost (all_given net) (units 9223372036854775807) → IsWhole net t → IsWhole net (advance_by net t b (operation_as units o))
       → ((k : ℕ) → k < length net.pairs → from_at net.pairs k ≡ b → get_or ws (flow_at net k) 0 < 2 ^ 63) → Fits o (get_or ws (word_of net b o) 0)
-  fits Idle h m w u flow = tt
-  fits (Scan have place None best) h m w u flow = tt
-  fits (Scan have place (Some read) best) h m w u flow = tt
-  fits (PushDue have best) h m w u flow = push_most have best.capacity best.port.slot best.port.kind best.port.other h.over.port h.over.within
-      (λ e. let q : IsEnd net b Forward best.port.other best.port.slot = subst (λ k. IsEnd net b k best.port.other best.port.slot) e h.over.port in
-      let f = flow best.port.slot q.0 q.1 in let s = have_small have m w h.held.held in omega (arith, f, s))
-  fits (TakeDue d p) h m w u flow = units_most d _ _ (c.excess b lb) h.0.held
-  fits (GiveDue d p) h m w u flow = landed d p p.kind h.1 m u
-  fits (RaiseDue have best) h m w u flow = tt
+  fits o h m w u flow = grind (arith, common_steps, have_small, units_most, landed)
 
   -- ---- the flows after
   elsewhere : (i v k : ℕ) → flow_at net k ≢ i → get_or ws (flow_at net k) 0 < 2 ^ 63 → get_or (set ws i v) (flow_at net k) 0 < 2 ^ 63
   elsewhere i v k ne h = subst (λ (z : ℕ). z < 2 ^ 63) (sym (get_or-set_other ws i (flow_at net k) v 0 ne)) h
 
   lower : (i v k : ℕ) → i < length ws → v ≤ get_or ws i 0 → get_or ws (flow_at net k) 0 < 2 ^ 63 → get_or (set ws i v) (flow_at net k) 0 < 2 ^ 63
-  lower i v k l le h = elim (cases_eq (flow_at net k) i) [
-    | inl e ↦ let s : get_or (set ws i v) (flow_at net k) 0 ≡ v = ap (λ j. get_or (set ws i v) j 0) e ∙ get_or-set_same ws i v 0 l in let g = ap (λ j. get_or ws j 0) e in omega (arith, s, g, h, le)
-    | inr ne ↦ elsewhere i v k ne h
-  ]
-
-  same_flow : (i k : ℕ) → get_or ws (flow_at net k) 0 < 2 ^ 63 → get_or (set ws i (get_or ws i 0)) (flow_at net k) 0 < 2 ^ 63
-  same_flow i k h = subst (λ (xs : List ℕ). get_or xs (flow_at net k) 0 < 2 ^ 63) (sym (set-get_or ws i 0)) h
+  lower i v k l le h = grind (arith, common_steps)
 
   abbrev Excused : Bool → ℕ → Type 0
   Excused stopped k = (stopped ≡ false) ⊎ (from_at net.pairs k ≢ b)
 
-  pushed_flow : (have read : ℕ) (kind : PortKind) (other slot k : ℕ) → IsEnd net b kind other slot → k < length net.pairs → Excused (is_word_overfull kind have (get_or ws (capacity_word net b kind slot) 0)) k → get_or ws (flow_at net k) 0 < 2 ^ 63
-      → get_or (set ws (capacity_word net b kind slot) (word_after_push kind (push_units have kind read) (get_or ws (capacity_word net b kind slot) 0))) (flow_at net k) 0 < 2 ^ 63
-  pushed_flow have read Sink other slot k q l x h = elsewhere _ _ k (λ e. omega (arith, e, lb)) h
-  pushed_flow have read Forward other slot k q l x h = elim (cases_eq k slot) [
-    | inl e ↦
-        let i = flow_at net slot in
-        let w = c.wide in
-        let v = get_or ws i 0 + have in
-        let s : get_or (set ws i v) (flow_at net k) 0 ≡ v = ap (λ j. get_or (set ws i v) (flow_at net j) 0) e ∙ get_or-set_same ws i v 0 (let g = q.0 in omega (arith, w, g)) in
-        elim x [
-          | inl y ↦ let f = ltb-false 9223372036854775807 v y in omega (arith, s, f)
-          | inr ne ↦ absurd (ne (ap (from_at net.pairs) e ∙ q.1))
-        ]
-    | inr ne ↦ elsewhere _ _ k (λ e. ne (omega (arith, e))) h
-  ]
-  pushed_flow have read Backward other slot k q l x h = let w = c.wide in let g = q.0 in lower _ _ k (omega (arith, w, g)) (omega arith) h
-  pushed_flow have read Source other slot k q l x h = elsewhere _ _ k (λ e. omega (arith, e, lb)) h
-
-  given_flow : (d k : ℕ) (kind : PortKind) (other slot : ℕ) → IsEnd net b kind other slot → get_or ws (flow_at net k) 0 < 2 ^ 63 → get_or (set ws (landing_word net kind other) (get_or ws (landing_word net kind other) 0 + d)) (flow_at net k) 0 < 2 ^ 63
-  given_flow d k Sink other slot q h = elsewhere _ _ k (λ e. omega (arith, e)) h
-  given_flow d k Forward other slot q h = let l = other_within net b Forward other slot known lb q in elsewhere _ _ k (λ e. omega (arith, e, l)) h
-  given_flow d k Backward other slot q h = let l = other_within net b Backward other slot known lb q in elsewhere _ _ k (λ e. omega (arith, e, l)) h
-  given_flow d k Source other slot q h = elsewhere _ _ k (λ e. omega (arith, e)) h
-
   pub flow_shown : (o : Operation ℕ) → IsPlaced net b o → (k : ℕ) → k < length net.pairs → Excused (stopped_after o (get_or ws (word_of net b o) 0)) k → get_or ws (flow_at net k) 0 < 2 ^ 63
       → get_or (set ws (word_of net b o) (word_after o (get_or ws (word_of net b o) 0))) (flow_at net k) 0 < 2 ^ 63
-  flow_shown Idle q k l x h = same_flow _ k h
-  flow_shown (Scan have place None best) q k l x h = same_flow _ k h
-  flow_shown (Scan have place (Some read) best) q k l x h = same_flow _ k h
-  flow_shown (PushDue have best) q k l x h = pushed_flow have best.capacity best.port.kind best.port.other best.port.slot k q l x h
-  flow_shown (TakeDue d p) q k l x h = elsewhere _ _ k (λ e. omega (arith, e, lb)) h
-  flow_shown (GiveDue d p) q k l x h = given_flow d k p.kind p.other p.slot q h
-  flow_shown (RaiseDue have best) q k l x h = elsewhere _ _ k (λ e. omega (arith, e, lb)) h
+  flow_shown o q k l x h = grind (arith, common_steps)
