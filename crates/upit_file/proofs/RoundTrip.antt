@@ -15,7 +15,7 @@ use Rattle.upit_file.specs.Writing.{header_lines, record_lines, upit_lines, upit
 use Rattle.upit_file.specs.RoundTrip.{IsReadBack}
 use Rattle.fixed_worth.proofs.Joined.{is_one_line, lines_cut}
 use Rattle.fixed_worth.proofs.WrittenNumbers.{decimal_is_one_line}
-use Rattle.upit_file.proofs.HeaderBack.{name_whole, written, header_back}
+use Rattle.upit_file.proofs.HeaderBack.{name_whole, header_back}
 use Rattle.upit_file.proofs.BodyBack.{Sizes, sizes_each, no_first_fault, values_back, body_back, record_lines_whole}
 
 none_passes : (p : ℕ → Bool) (bs : List ℕ) → list_any p bs ≡ false → list_all (λ b. not (p b)) bs ≡ true
@@ -30,10 +30,6 @@ all_lines name vs h few s =
     let c : list_all is_one_line (record_lines 0 vs ++ (codes "EOF" ∷ [])) ≡ true = list_all-append is_one_line (record_lines 0 vs) (codes "EOF" ∷ []) ∙ rw (record_lines_whole 0 vs (omega arith) s) refl in
     rw (a, b, c) refl
 
--- The lines that are read are those that were written.
-read_lines : (u : UpitView) → is_name u.name ≡ true → length u.values ≤ MOST_BLOCKS → Sizes u.values → lines_in (upit_text u) ≡ written u.name (length u.values) (numbered_lines 4 (record_lines 0 u.values ++ (codes "EOF" ∷ [])))
-read_lines u h few s = ap (numbered_lines 0) (lines_cut (upit_lines u) (all_lines u.name u.values h few s))
-
 -- The name and the values are such as the type holds: each value has at most 10^18 millionths either way.
 pub record CanBeWritten (u : UpitView) : Type 0 where
   pub named : is_name u.name ≡ true
@@ -46,7 +42,7 @@ read_back u c =
     let few : length u.values ≤ MOST_BLOCKS = c.few in
     let s = sizes_each u.values c.sizes in
     let rest = numbered_lines 4 (record_lines 0 u.values ++ (codes "EOF" ∷ [])) in
-    let lines = read_lines u c.named few s in
+    let lines = ap (numbered_lines 0) (lines_cut (upit_lines u) (all_lines u.name u.values c.named few s)) in
     let h = header_back n u.name rest c.named few in
     let records : body (lines_in (upit_text u)) ≡ numbered_lines 4 (record_lines 0 u.values) = ap body lines ∙ ap before_end h.2 ∙ body_back 4 0 u.values (omega arith) s in
     record {
