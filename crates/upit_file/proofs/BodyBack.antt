@@ -1,5 +1,5 @@
 -- The lines of blocks are read back.
-use Rattle.std.proofs.Common.{◌≡◌, ℕ, ℤ, pos, zero, suc, ◌+◌, ◌^◌, ◌<◌, ◌≤◌, Bool, true, false, cond, not, eqb, List, [], ◌∷◌, ◌++◌, length, get_or, None, refl, sym, ap, ◌∙◌, arith, All, length-append, append-nil}
+use Rattle.std.proofs.Common.{◌≡◌, ℕ, ℤ, pos, zero, suc, ◌+◌, ◌^◌, ◌<◌, ◌≤◌, Bool, true, false, eqb, List, [], ◌∷◌, ◌++◌, length, get_or, None, refl, ap, ◌∙◌, arith, All, length-append, append-nil}
 use Rattle.std.specs.Prelude.{◌||◌, unsigned_abs, codes}
 use Rattle.std.specs.Option.{option_or}
 use Rattle.std.specs.List.{list_all}
@@ -36,15 +36,10 @@ unfolding is_separator
 printed_word v h = grind (arith, common_steps, printed_some, and_from, printed_all, digit_separates_not)
 
 pub record_fields : (b : ℕ) (v : ℤ) → b < MOST_BLOCKS → unsigned_abs v ≤ 10 ^ 18 → fields_of (record_line b v) ≡ decimal b ∷ amount_text 6 v ∷ []
-record_fields b v h s =
-    ap (λ (word : List ℕ). fields_of (decimal b ++ (32 ∷ word))) (sym (append-nil (amount_text 6 v)))
-    ∙ fields_cut (decimal b) (amount_text 6 v ∷ []) (decimal_is_word b (omega arith)) (and_from (is_word (amount_text 6 v)) true (printed_word v s) refl)
+record_fields b v h s = grind (arith, common_steps, (append-nil (amount_text 6 v)), (fields_cut (decimal b) (amount_text 6 v ∷ []) (decimal_is_word b (omega arith)) (and_from (is_word (amount_text 6 v)) true (printed_word v s) refl)), (decimal_is_word b (omega arith)), (and_from (is_word (amount_text 6 v)) true (printed_word v s) refl), (is_word (amount_text 6 v)), (printed_word v s))
 
 record_short : (b : ℕ) (v : ℤ) → b < MOST_BLOCKS → unsigned_abs v ≤ 10 ^ 18 → length (record_line b v) ≤ LINE_BYTES
-record_short b v h s =
-    let a = length-decimal-le_wide 8 b (omega arith) (omega arith) (omega arith) in
-    let p = printed_micros_short v s in
-    omega (arith, length-append (decimal b) (32 ∷ amount_text 6 v))
+record_short b v h s = grind (arith, common_steps, (length-decimal-le_wide 8 b (omega arith) (omega arith) (omega arith)), (printed_micros_short v s), (length-append (decimal b) (32 ∷ amount_text 6 v)))
 
 -- The line is the record of block b with the value v.
 record IsRecordOf (b : ℕ) (v : ℤ) (l : Line) : Type 0 where
@@ -61,21 +56,8 @@ two_shape line b v h s = rw (whole_of-decimal b (omega arith), printed_read v s)
 two_block : (b : ℕ) (v : ℤ) → b < MOST_BLOCKS → block_of (decimal b ∷ amount_text 6 v ∷ []) ≡ b
 two_block b v h = rw (whole_of-decimal b (omega arith)) refl
 
-two_worth : (b : ℕ) (v : ℤ) → unsigned_abs v ≤ 10 ^ 18 → value_of_record (decimal b ∷ amount_text 6 v ∷ []) ≡ v
-two_worth b v s = rw (printed_read v s) refl
-
 is_record : (k b : ℕ) (v : ℤ) → b < MOST_BLOCKS → unsigned_abs v ≤ 10 ^ 18 → IsRecordOf b v (line k (record_line b v))
-is_record k b v h s =
-    let t = short (record_line b v) (record_short b v h s) in
-    let f : fields_in (line k (record_line b v)) ≡ decimal b ∷ amount_text 6 v ∷ [] = rw t (record_fields b v h s) in
-    record {
-      small = t;
-      open_so = ap is_eof f;
-      kept = ap is_skipped f ∙ decimal_is_no_remark b (omega arith);
-      shape = ap (shape_fault k) f ∙ two_shape k b v h s;
-      block = ap block_of f ∙ two_block b v h;
-      worth = ap value_of_record f ∙ two_worth b v s;
-    }
+is_record k b v h s = grind (arith, common_steps, (short (record_line b v) (record_short b v h s)), (record_short b v h s), (line k (record_line b v)), (record_fields b v h s), (decimal_is_no_remark b (omega arith)), (two_shape k b v h s), (two_block b v h), printed_read)
 
 record_of : (b j : ℕ) (v : ℤ) (l : Line) → IsRecordOf b v l → is_record_of j (fields_in l) ≡ eqb b j
 record_of b j v l r = rw (r.kept) (ap (λ x. eqb x j) r.block)
@@ -98,37 +80,16 @@ no_first_fault n k b (v ∷ vs) before h m s new =
 -- Each block has its value.
 pub values_back : (k b i : ℕ) (vs : List ℤ) → i < length vs → b + length vs ≤ MOST_BLOCKS → Sizes vs → value_among (numbered_lines k (record_lines b vs)) (b + i) ≡ get_or vs i (pos 0)
 values_back k b i [] h m s = absurd (omega arith)
-values_back k b zero (v ∷ vs) h m s =
-    let l = line (k + 1) (record_line b v) in
-    let r = is_record (k + 1) b v (omega arith) s.0 in
-    let here : eqb b (b + 0) ≡ true = grind (arith, nat_tests) in
-    let t : is_record_of (b + 0) (fields_in l) ≡ true = record_of b (b + 0) v l r ∙ here in
-    ap (λ x. cond x (value_of_record (fields_in l)) (value_among (numbered_lines (k + 1) (record_lines (b + 1) vs)) (b + 0))) t ∙ r.worth
-values_back k b (suc i) (v ∷ vs) h m s =
-    let l = line (k + 1) (record_line b v) in
-    let r = is_record (k + 1) b v (omega arith) s.0 in
-    let other : eqb b (b + suc i) ≡ false = grind (arith, nat_tests) in
-    let t : is_record_of (b + suc i) (fields_in l) ≡ false = record_of b (b + suc i) v l r ∙ other in
-    let j : b + suc i ≡ b + 1 + i = omega arith in
-    ap (λ x. cond x (value_of_record (fields_in l)) (value_among (numbered_lines (k + 1) (record_lines (b + 1) vs)) (b + suc i))) t
-    ∙ ap (value_among (numbered_lines (k + 1) (record_lines (b + 1) vs))) j ∙ values_back (k + 1) (b + 1) i vs (omega arith) (omega arith) s.1
+values_back k b zero (v ∷ vs) h m s = grind (arith, common_steps, (line (k + 1) (record_line b v)), (is_record (k + 1) b v (omega arith) s.0), (record_of b (b + 0) v (line (k + 1) (record_line b v)) (is_record (k + 1) b v (omega arith) s.0)))
+values_back k b (suc i) (v ∷ vs) h m s = grind (arith, common_steps, (line (k + 1) (record_line b v)), (is_record (k + 1) b v (omega arith) s.0), (record_of b (b + suc i) v (line (k + 1) (record_line b v)) (is_record (k + 1) b v (omega arith) s.0)), (values_back (k + 1) (b + 1) i vs (omega arith) (omega arith) s.1))
 
 -- The records end at EOF.
 pub body_back : (k b : ℕ) (vs : List ℤ) → b + length vs ≤ MOST_BLOCKS → Sizes vs → before_end (numbered_lines k (record_lines b vs ++ (codes "EOF" ∷ []))) ≡ numbered_lines k (record_lines b vs)
 unfolding is_separator
 body_back k b [] m s = refl
-body_back k b (v ∷ vs) m s =
-    let l = line (k + 1) (record_line b v) in
-    let r = is_record (k + 1) b v (omega arith) s.0 in
-    ap (λ t. cond t [] (l ∷ before_end (numbered_lines (k + 1) (record_lines (b + 1) vs ++ (codes "EOF" ∷ []))))) r.open_so
-    ∙ ap (λ ls. l ∷ ls) (body_back (k + 1) (b + 1) vs (omega arith) s.1)
+body_back k b (v ∷ vs) m s = grind (arith, common_steps, (line (k + 1) (record_line b v)), (is_record (k + 1) b v (omega arith) s.0), (body_back (k + 1) (b + 1) vs (omega arith) s.1))
 
 -- No record has a line feed.
 pub record_lines_whole : (b : ℕ) (vs : List ℤ) → b + length vs ≤ MOST_BLOCKS → Sizes vs → list_all is_one_line (record_lines b vs) ≡ true
 record_lines_whole b [] m s = refl
-record_lines_whole b (v ∷ vs) m s =
-    let q : ℕ → Bool = λ c. not (eqb c 10) in
-    let a : is_one_line (decimal b) ≡ true = decimal_is_one_line b (omega arith) in
-    let p : is_one_line (amount_text 6 v) ≡ true = printed_all q v digit_is_one_line refl refl s.0 in
-    let here : is_one_line (record_line b v) ≡ true = list_all-append q (decimal b) (32 ∷ amount_text 6 v) ∙ rw (a, p) refl in
-    and_from (is_one_line (record_line b v)) (list_all is_one_line (record_lines (b + 1) vs)) here (record_lines_whole (b + 1) vs (omega arith) s.1)
+record_lines_whole b (v ∷ vs) m s = grind (arith, common_steps, is_one_line, decimal_is_one_line, printed_all, digit_is_one_line, list_all-append, and_from, (record_lines_whole (b + 1) vs (omega arith) s.1))

@@ -1,12 +1,11 @@
 -- Reading the records line after line.
 use Rattle.std.proofs.Common.{◌≡◌, ℕ, ◌<◌, Bool, true, false, cond, eqb, List, [], ◌∷◌, ◌++◌, length, get_or, set, Some, None, ℤ, pos, refl, sym, ap, ◌∙◌, arith, get_or-set_same, get_or-set_other}
-use Rattle.std.specs.Prelude.{◌||◌, nat_lt, nat_le}
+use Rattle.std.specs.Prelude.{◌||◌, nat_le}
 use Rattle.std.proofs.lemmas.Bool.{or_parts}
 use Rattle.std.proofs.lemmas.Bool.Decides.{nat_tests}
 use Rattle.std.proofs.lemmas.List.Folds.{list_any-append}
 use Rattle.std.proofs.Math.Bool.{or-false}
 use Rattle.std.proofs.Math.ListN.{length-set}
-use Rattle.fixed_worth.specs.declared.limits.TheConstants.{LINE_BYTES}
 use Rattle.fixed_worth.specs.Text.{Left, fields_of}
 use Rattle.fixed_worth.specs.Record.{Line, numbered_lines, is_skipped}
 use Rattle.upit_file.specs.declared.upit_fault.UpitFault.TheVariants.{UnknownBlock, Repeated}
@@ -57,14 +56,8 @@ joins : (n : ℕ) (all : List Line) (seen : List Bool) (values : List ℤ) (left
     → (first_fault n (g.before ++ line k text ∷ []) (before_end (numbered_lines next.number next.lines)) ≡ first_fault n [] (before_end all)) × ((g.before ++ line k text ∷ []) ++ before_end (numbered_lines next.number next.lines) ≡ before_end all)
 joins n all seen values left next k text g h e none = grind (arith, common_steps)
 
-no_record : (k : ℕ) (text : List ℕ) (b : ℕ) → nat_lt LINE_BYTES (length text) ≡ false → is_skipped (fields_of text) ≡ true → is_record_of b (fields_in (line k text)) ≡ false
-no_record k text b s e = rw (s, e) refl
-
 pub passes : (n : ℕ) (all : List Line) (seen : List Bool) (values : List ℤ) (left next : Left) (k : ℕ) (text : List ℕ) → Kept n all seen values left → Next left next k text → is_eof (fields_of text) ≡ false → is_skipped (fields_of text) ≡ true → Kept n all seen values next
-passes n all seen values left next k text g h e s = grind (arith, common_steps, line, joins, no_record, short, has-push, or-false, value_other)
-
-record_is : (k : ℕ) (text : List ℕ) (b : ℕ) → nat_lt LINE_BYTES (length text) ≡ false → is_skipped (fields_of text) ≡ false → is_record_of b (fields_in (line k text)) ≡ eqb (block_of (fields_of text)) b
-record_is k text b s e = rw (s, e) refl
+passes n all seen values left next k text g h e s = grind (arith, common_steps, line, joins, short, has-push, or-false, value_other)
 
 -- A block without a fault is one of the n, and had no record.
 fault_none : (n : ℕ) (had : ℕ → Bool) (k block : ℕ) → block_fault n had k block ≡ None → (t : Bool) → nat_le n block ≡ t → (u : Bool) → had block ≡ u → (block < n) × (had block ≡ false)
@@ -84,4 +77,4 @@ worth_at values before block b v l i h r new is false e = grind (arith, common_s
 pub keeps : (n block : ℕ) (v : ℤ) (all : List Line) (seen marked : List Bool) (values others : List ℤ) (left next : Left) (k : ℕ) (text : List ℕ) → Kept n all seen values left → Next left next k text → is_eof (fields_of text) ≡ false
     → is_skipped (fields_of text) ≡ false → shape_fault k (fields_of text) ≡ None → block ≡ block_of (fields_of text) → v ≡ value_of_record (fields_of text) → block_fault (length seen) (λ b. get_or seen b false) k block ≡ None
     → marked ≡ set seen block true → others ≡ set values block v → Kept n all marked others next
-keeps n block v all seen marked values others left next k text g h e s f is worth w m o = grind (arith, common_steps, line, short, known, joins, fault_none, eqb, record_is, mark_at, ℤ, pos, worth_at, length-set)
+keeps n block v all seen marked values others left next k text g h e s f is worth w m o = grind (arith, common_steps, line, short, known, joins, fault_none, eqb, mark_at, ℤ, pos, worth_at, length-set)

@@ -112,9 +112,6 @@ count_runs : (n : ℕ) → n < 2 ^ 64 → runs_from 0 (codes "NBLOCKS: " ++ deci
 unfolding is_separator
 count_runs n h = grind (arith, common_steps, word_run, gap_run, word_alone, decimal_is_word)
 
-count_sound_fields : (n line : ℕ) → n ≤ MOST_BLOCKS → count_fault n line (codes "NBLOCKS" ∷ decimal n ∷ []) ≡ None
-count_sound_fields n line h = grind (arith, common_steps, eqb, whole_of-decimal)
-
 count_sound : (n : ℕ) → n ≤ MOST_BLOCKS → IsSound n Blocks (line 3 (codes "NBLOCKS: " ++ decimal n))
 count_sound n h =
     let few = length-decimal-le_wide 20 n (omega arith) (omega arith) (omega arith) in
@@ -122,15 +119,12 @@ count_sound n h =
     let s = short (codes "NBLOCKS: " ++ decimal n) (omega (arith, length-append (codes "NBLOCKS: ") (decimal n))) in
     let f : fields_in (line 3 (codes "NBLOCKS: " ++ decimal n)) ≡ codes "NBLOCKS" ∷ decimal n ∷ [] = rw s (ap texts (count_runs n (omega arith))) in
     let k : key_in (fields_in l) ≡ Blocks = ap key_in f in
-    record { key = k; sound = fault_by_key n l Blocks s k ∙ ap (count_fault n 3) f ∙ count_sound_fields n 3 h }
+    record { key = k; sound = fault_by_key n l Blocks s k ∙ ap (count_fault n 3) f ∙ (grind (arith, common_steps, eqb, whole_of-decimal))}
 
 -- ---- the four lines together
 
 split_at_end : (n : ℕ) (a b c d : Line) (rest : List Line) → IsSound n Name a → IsSound n FileType b → IsSound n Blocks c → key_in (fields_in d) ≡ Objective → (header (a ∷ b ∷ c ∷ d ∷ rest) ≡ a ∷ b ∷ c ∷ []) × (after_header (a ∷ b ∷ c ∷ d ∷ rest) ≡ d ∷ rest)
 split_at_end n a b c d rest x y z e = (rw (x.key, y.key, z.key, e) refl, rw (x.key, y.key, z.key, e) refl)
-
-name_of_lines : (n : ℕ) (a b c : Line) → IsSound n Name a → IsSound n FileType b → IsSound n Blocks c → last_name [] (a ∷ b ∷ c ∷ []) ≡ name_in a.text
-name_of_lines n a b c x y z = rw (x.key, y.key, z.key) refl
 
 four_sound : (n : ℕ) (a b c d : Line) (rest : List Line) → IsSound n Name a → IsSound n FileType b → IsSound n Blocks c → key_in (fields_in d) ≡ Objective → header_fault n (a ∷ b ∷ c ∷ d ∷ rest) ≡ None
 four_sound n a b c d rest x y z e = grind (arith, common_steps)
@@ -150,6 +144,6 @@ header_back n name rest h few =
     let z = count_sound n few in
     let split = split_at_end n a b c d rest x y z objective_key in (
       four_sound n a b c d rest x y z objective_key,
-      ap (last_name []) split.0 ∙ name_of_lines n a b c x y z ∙ name_back name h,
+      ap (last_name []) split.0 ∙ (rw (x.key, y.key, z.key) refl) ∙ name_back name h,
       ap (drop 1) split.1,
     )

@@ -32,8 +32,7 @@ held_lines a b c h h1 h2 xs ys p q =
     subst (λ (t : List ℕ). SentOrHeld a c h2 (h ++ t)) (sym (with_line_feeds-append xs ys)) (held_both a b c h h1 h2 (with_line_feeds xs) (with_line_feeds ys) p q)
 
 pub prefix_lines : (a b c : Option (List ℕ)) (h h1 : List ℕ) (xs ys : List (List ℕ)) → SentOrHeld a b h1 (h ++ with_line_feeds xs) → ReceivedPrefix b c (h1 ++ with_line_feeds ys) → ReceivedPrefix a c (h ++ with_line_feeds (xs ++ ys))
-prefix_lines a b c h h1 xs ys p q =
-    subst (λ (t : List ℕ). ReceivedPrefix a c (h ++ t)) (sym (with_line_feeds-append xs ys)) (prefix_in_second a b c h h1 (with_line_feeds xs) (with_line_feeds ys) p q)
+prefix_lines a b c h h1 xs ys p q = grind (arith, common_steps, (with_line_feeds-append xs ys), (prefix_in_second a b c h h1 (with_line_feeds xs) (with_line_feeds ys) p q))
 
 pub prefix_before : (a b : Option (List ℕ)) (h : List ℕ) (xs ys : List (List ℕ)) → ReceivedPrefix a b (h ++ with_line_feeds xs) → ReceivedPrefix a b (h ++ with_line_feeds (xs ++ ys))
 prefix_before a b h xs ys p = subst (λ (t : List ℕ). ReceivedPrefix a b (h ++ t)) (sym (with_line_feeds-append xs ys)) (prefix_in_first a b h (with_line_feeds xs) (with_line_feeds ys) p)
@@ -41,9 +40,7 @@ prefix_before a b h xs ys p = subst (λ (t : List ℕ). ReceivedPrefix a b (h ++
 -- One more line of a block is put, or a prefix of it.
 pub held_record : (a b c : Option (List ℕ)) (h h1 h2 : List ℕ) (vs : List ℤ) (i : ℕ) (line : List ℕ) → i < length vs → line ≡ record_line i (get_or vs i (pos 0)) → SentOrHeld a b h1 (h ++ with_line_feeds (record_lines 0 (take i vs)))
     → SentOrHeld b c h2 (h1 ++ with_line_feeds (line ∷ [])) → SentOrHeld a c h2 (h ++ with_line_feeds (record_lines 0 (take (i + 1) vs)))
-held_record a b c h h1 h2 vs i line j e p q =
-    subst (λ (ls : List (List ℕ)). SentOrHeld a c h2 (h ++ with_line_feeds ls)) (ap (λ (l : List ℕ). record_lines 0 (take i vs) ++ (l ∷ [])) e ∙ one_more vs i j)
-    (held_lines a b c h h1 h2 (record_lines 0 (take i vs)) (line ∷ []) p q)
+held_record a b c h h1 h2 vs i line j e p q = grind (arith, common_steps, (one_more vs i j), (held_lines a b c h h1 h2 (record_lines 0 (take i vs)) (line ∷ []) p q))
 
 pub prefix_record : (a b c : Option (List ℕ)) (h h1 : List ℕ) (vs : List ℤ) (i : ℕ) (line : List ℕ) → i < length vs → line ≡ record_line i (get_or vs i (pos 0)) → SentOrHeld a b h1 (h ++ with_line_feeds (record_lines 0 (take i vs)))
     → ReceivedPrefix b c (h1 ++ with_line_feeds (line ∷ [])) → ReceivedPrefix a c (h ++ with_line_feeds (record_lines 0 vs))

@@ -1,6 +1,6 @@
 -- Where a name lies in its line, and what its bytes are.
-use Rattle.std.proofs.Common.{◌≡◌, ℕ, ℤ, suc, ◌+◌, ◌-◌, ◌<◌, ◌≤◌, Bool, true, false, cond, eqb, List, [], ◌∷◌, length, take, drop, get_or, Option, Some, None, refl, sym, ap, ◌∙◌, subst, arith, All, length-drop}
-use Rattle.std.specs.Prelude.{nat_lt, nat_le}
+use Rattle.std.proofs.Common.{◌≡◌, ℕ, ℤ, suc, ◌+◌, ◌-◌, ◌<◌, ◌≤◌, true, false, cond, eqb, List, [], ◌∷◌, length, take, drop, get_or, Option, None, refl, sym, ap, ◌∙◌, subst, arith, All, EachIndex, length-drop}
+use Rattle.std.specs.Prelude.{nat_le}
 use Rattle.std.specs.Option.{option_or}
 use Rattle.std.specs.List.{list_any}
 use Rattle.std.proofs.lemmas.Bool.Decides.{nat_tests}
@@ -14,7 +14,7 @@ use Rattle.fixed_worth.proofs.FieldLaws.{fields_are}
 use Rattle.fixed_worth.proofs.LineLaws.{lines_are, NoLineFeed}
 use Rattle.upit_file.specs.declared.key.Key.{Key}
 use Rattle.upit_file.specs.declared.key.Key.TheVariants.{Name, FileType, Blocks, Objective, End, Other}
-use Rattle.upit_file.specs.Header.{fields_in, key_in, ends_header, header, last_end, from_second, name_in, name_behind, last_name, header_line_fault, header_lines_fault, header_fault}
+use Rattle.upit_file.specs.Header.{fields_in, key_in, ends_header, header, last_end, from_second, name_behind, last_name, header_line_fault, header_lines_fault, header_fault}
 use Rattle.upit_file.specs.Records.{is_name, is_upit}
 use Rattle.std.proofs.lemmas.Grind.{common_steps}
 
@@ -23,10 +23,7 @@ rest line r rs a = λ k d h. a (suc k) d (omega arith)
 
 last_within : (line : List ℕ) (e : ℕ) (rs : List WordRun) → e ≤ length line → All (IsField line) rs → AreInOrder e rs → (e ≤ last_end e rs) × (last_end e rs ≤ length line)
 last_within line e [] h a o = (omega arith, h)
-last_within line e (r ∷ rs) h a o =
-    let f : IsField line r = a 0 r (omega arith) in
-    let ih = last_within line (r.place + length r.text) rs f.inside (rest line r rs a) o.1 in
-    (omega (arith, ih.0, o.0), ih.1)
+last_within line e (r ∷ rs) h a o = grind (arith, common_steps, (last_within line (r.place + length r.text) rs (a 0 r (omega arith)).inside (rest line r rs a) o.1))
 
 -- The name begins in its line before it ends there.
 pub name_within : (line : List ℕ) (key r : WordRun) (rs : List WordRun) → runs_from 0 line ≡ key ∷ r ∷ rs → (r.place < last_end 0 (r ∷ rs)) × (last_end 0 (r ∷ rs) ≤ length line)
@@ -40,23 +37,18 @@ name_within line key r rs e =
 
 -- A byte of a field, in its line.
 byte_of : (line : List ℕ) (r : WordRun) (k : ℕ) → IsField line r → k < length r.text → is_separator (get_or line (r.place + k) 0) ≡ false
-byte_of line r k f h =
-    let e : get_or r.text k 0 ≡ get_or line (r.place + k) 0 = ap (λ (xs : List ℕ). get_or xs k 0) f.slice ∙ get_or-take (length r.text) (drop r.place line) k 0 h ∙ get_or-drop r.place line k 0 in
-    ap is_separator (sym e) ∙ f.bytes k h
+byte_of line r k f h = grind (arith, common_steps, (get_or-take (length r.text) (drop r.place line) k 0 h), (get_or-drop r.place line k 0))
 
 last_byte : (line : List ℕ) (r : WordRun) (rs : List WordRun) → All (IsField line) (r ∷ rs) → is_separator (get_or line (last_end 0 (r ∷ rs) - 1) 0) ≡ false
-last_byte line r [] a =
-    let f : IsField line r = a 0 r (omega arith) in
-    let i : r.place + (length r.text - 1) ≡ r.place + length r.text - 1 = omega (arith, f.some) in
-    ap (λ (k : ℕ). is_separator (get_or line k 0)) (sym i) ∙ byte_of line r (length r.text - 1) f (omega (arith, f.some))
+last_byte line r [] a = grind (arith, common_steps, (a 0 r (omega arith)), (byte_of line r (length r.text - 1) (a 0 r (omega arith)) (omega (arith, (a 0 r (omega arith)).some))))
 last_byte line r (s ∷ rs) a = last_byte line s rs (rest line r (s ∷ rs) a)
 
 -- A byte of a slice of a line.
 slice_byte : (line : List ℕ) (p e k : ℕ) → p + k < e → get_or (drop p (take e line)) k 0 ≡ get_or line (p + k) 0
 slice_byte line p e k h = get_or-drop p (take e line) k 0 ∙ get_or-take e line (p + k) 0 h
 
-slice_length : (line : List ℕ) (p e : ℕ) → e ≤ length line → length (drop p (take e line)) ≡ e - p
-slice_length line p e h = omega (arith, length-drop p (take e line), length-take e line)
+abbrev pub NoLineFeed : List ℕ → Type 0
+NoLineFeed line = EachIndex line (λ k. eqb (get_or line k 0) 10 ≡ false)
 
 none_any : (xs : List ℕ) → ((k : ℕ) → k < length xs → eqb (get_or xs k 0) 10 ≡ false) → list_any (λ b. eqb b 10) xs ≡ false
 none_any [] h = refl
@@ -66,7 +58,7 @@ slice_is_name : (line : List ℕ) (p e : ℕ) → p < e → e ≤ length line �
     → is_name (drop p (take e line)) ≡ true
 slice_is_name line p e h i whole first last few =
     let name = drop p (take e line) in
-    let len : length (drop p (take e line)) ≡ e - p = slice_length line p e i in
+    let len : length (drop p (take e line)) ≡ e - p = omega (arith, length-drop p (take e line), length-take e line) in
     let no_feed : list_any (λ b. eqb b 10) (drop p (take e line)) ≡ false = none_any name (λ k j. ap (λ (b : ℕ). eqb b 10) (slice_byte line p e k (omega arith)) ∙ whole (p + k) (omega arith)) in
     let z : p + 0 ≡ p = omega arith in
     let a : is_separator (get_or (drop p (take e line)) 0 0) ≡ false = ap is_separator (slice_byte line p e 0 (omega arith) ∙ ap (λ (k : ℕ). get_or line k 0) z) ∙ first in
@@ -102,15 +94,10 @@ whole_header [] w = tt
 whole_header (l ∷ ls) w = elim (ends_header (key_in (fields_in l))) as (λ t. Whole (cond t [] (l ∷ header ls))) [ true ↦ tt | false ↦ (w.0, whole_header ls w.1) ]
 
 pub none_parts : {X : Type 0} → (a b : Option X) → option_or a b ≡ None → (a ≡ None) × (b ≡ None)
-none_parts None b h = (refl, h)
-none_parts (Some x) b h = absurd cc
-
-few_bytes : (n : ℕ) (l : Line) → key_in (fields_in l) ≡ Name → header_line_fault n l ≡ None → (t : Bool) → nat_lt NAME_BYTES (length (name_in l.text)) ≡ t → length (name_in l.text) ≤ NAME_BYTES
-few_bytes n l k f true e = grind (arith, common_steps)
-few_bytes n l k f false e = grind (arith, nat_tests)
+none_parts a b h = grind (arith, common_steps)
 
 named_behind : (n : ℕ) (name : List ℕ) (l : Line) → is_name name ≡ true → NoLineFeed l.text → header_line_fault n l ≡ None → (k : Key) → key_in (fields_in l) ≡ k → is_name (name_behind name k l.text) ≡ true
-named_behind n name l h w f Name e = from_second_is_name l.text (runs_from 0 l.text) refl w (few_bytes n l e f (nat_lt NAME_BYTES (length (name_in l.text))) refl)
+named_behind n name l h w f Name e = from_second_is_name l.text (runs_from 0 l.text) refl w (grind (arith, common_steps))
 named_behind n name l h w f FileType e = h
 named_behind n name l h w f Blocks e = h
 named_behind n name l h w f Objective e = h

@@ -1,5 +1,5 @@
 -- A printed value is read back.
-use Rattle.std.proofs.Common.{◌≡◌, ℕ, ℤ, pos, negsuc, neg_ℤ, zero, suc, ◌+◌, ◌-◌, ◌*◌, ◌/◌, ◌%◌, ◌^◌, ◌<◌, ◌≤◌, Bool, true, false, cond, not, eqb, List, [], ◌∷◌, ◌++◌, length, take, drop, replicate, Result, Ok, Err, refl, sym, ap, ◌∙◌, subst, arith, append-nil, length-append, pow-add}
+use Rattle.std.proofs.Common.{◌≡◌, ℕ, ℤ, pos, neg_ℤ, zero, suc, ◌+◌, ◌-◌, ◌*◌, ◌/◌, ◌%◌, ◌^◌, ◌<◌, ◌≤◌, Bool, true, false, cond, not, eqb, List, [], ◌∷◌, ◌++◌, length, take, drop, replicate, Result, Ok, Err, refl, sym, ap, ◌∙◌, subst, arith, append-nil, length-append, pow-add}
 use Rattle.std.specs.Prelude.{◌&&◌, ◌||◌, nat_lt, unsigned_abs}
 use Rattle.std.specs.Int.{is_negative}
 use Rattle.std.specs.Fmt.{decimal, sign_text}
@@ -32,12 +32,8 @@ Same short all = (length short ≤ length all) × (value_of short * 10 ^ (length
 spread : (d p q v w : ℕ) → v * q ≡ w → (d * p + v) * q ≡ d * (p * q) + w
 spread d p q v w e = omega (arith, e)
 
-same_more : (d : ℕ) (short all : List ℕ) → Same short all → Same (d ∷ short) (d ∷ all)
-same_more d short all s = grind (arith, common_steps, pow-add, spread)
-
 same_before : (d : ℕ) (short all : List ℕ) → Same short all → Same (digit_before d short) (d ∷ all)
-same_before d [] all s = grind (arith, common_steps)
-same_before d (e ∷ es) all s = same_more d (e ∷ es) all s
+same_before d short all s = grind (arith, common_steps, pow-add, spread)
 
 pub trimmed_same : (ds : List ℕ) → Same (without_trailing_zeros ds) ds
 trimmed_same [] = (omega arith, refl)
@@ -74,22 +70,14 @@ places_are f h =
 -- Each byte of a printed value is a digit, a minus (45) or a point (46).
 fraction_all : (q : ℕ → Bool) (f : ℕ) → ((b : ℕ) → is_digit b ≡ true → q b ≡ true) → q 46 ≡ true → f < 10 ^ 6 → list_all q (fraction_text 6 f) ≡ true
 unfolding fraction_text
-fraction_all q f d p h =
-    let g = places_are f h in
-    elim (eqb f 0) as (λ t. list_all q (cond t [] (46 ∷ places f)) ≡ true) [ true ↦ refl | false ↦ rw (p) (all_pass_weaker is_digit q d (places f) g.digits) ]
+fraction_all q f d p h = grind (arith, common_steps, (places_are f h), (all_pass_weaker is_digit q d (places f) (places_are f h).digits))
 
 sign_all : (q : ℕ → Bool) (t : Bool) → q 45 ≡ true → list_all q (sign_text t) ≡ true
-sign_all q true h = rw h refl
-sign_all q false h = refl
+sign_all q t h = grind (arith, common_steps)
 
 pub printed_all : (q : ℕ → Bool) (z : ℤ) → ((b : ℕ) → is_digit b ≡ true → q b ≡ true) → q 46 ≡ true → q 45 ≡ true → unsigned_abs z ≤ 10 ^ 18 → list_all q (amount_text 6 z) ≡ true
 unfolding amount_text
-printed_all q z d p m h =
-    let w = unsigned_abs z / 10 ^ 6 in
-    let f = unsigned_abs z % 10 ^ 6 in
-    let a : list_all q (decimal w) ≡ true = all_pass_weaker is_digit q d (decimal w) (decimal_digits w (omega arith)) in
-    let b : list_all q (fraction_text 6 f) ≡ true = fraction_all q f d p (omega arith) in
-    list_all-append q (sign_text (is_negative z)) (decimal w ++ fraction_text 6 f) ∙ rw (sign_all q (is_negative z) m) (list_all-append q (decimal w) (fraction_text 6 f) ∙ rw (a, b) refl)
+printed_all q z d p m h = grind (arith, common_steps, (unsigned_abs z / 10 ^ 6), (unsigned_abs z % 10 ^ 6), (all_pass_weaker is_digit q d (decimal (unsigned_abs z / 10 ^ 6)) (decimal_digits (unsigned_abs z / 10 ^ 6) (omega arith))), (fraction_all q (unsigned_abs z % 10 ^ 6) d p (omega arith)), (decimal_digits (unsigned_abs z / 10 ^ 6) (omega arith)), (list_all-append q (sign_text (is_negative z)) (decimal (unsigned_abs z / 10 ^ 6) ++ fraction_text 6 (unsigned_abs z % 10 ^ 6))), (sign_all q (is_negative z) m), (list_all-append q (decimal (unsigned_abs z / 10 ^ 6)) (fraction_text 6 (unsigned_abs z % 10 ^ 6))))
 
 -- The parts of a text that is read as a decimal: what stands before the point and behind it, and a minus or none.
 record Parts (text whole fraction : List ℕ) (minus : Bool) : Type 0 where
@@ -126,30 +114,16 @@ pointed none g = cond none [] (46 ∷ g)
 abbrev behind_point : Bool → List ℕ → List ℕ
 behind_point none g = cond none [] g
 
-pointed_all : (q : ℕ → Bool) (t : Bool) (g : List ℕ) → q 46 ≡ true → list_all q g ≡ true → list_all q (pointed t g) ≡ true
-pointed_all q true g p h = refl
-pointed_all q false g p h = rw (p, h) refl
-
 breaks_at_point : (t : Bool) (g : List ℕ) → Breaks is_point (pointed t g)
 unfolding is_point
-breaks_at_point true g = tt
-breaks_at_point false g = refl
-
-unsigned_so : (s : Bool) (d : ℕ) (bs : List ℕ) → is_digit d ≡ true → unsigned_of (sign_text s ++ (d ∷ bs)) ≡ d ∷ bs
-unsigned_so true d bs h = refl
-unsigned_so false d bs h = grind (arith, common_steps)
-
-minus_so : (s : Bool) (d : ℕ) (bs : List ℕ) → is_digit d ≡ true → is_minus (sign_text s ++ (d ∷ bs)) ≡ s
-minus_so true d bs h = refl
-minus_so false d bs h = grind (arith, nat_tests)
+breaks_at_point t g = grind (arith, common_steps)
 
 behind_so : (t : Bool) (w g : List ℕ) → drop (length w + 1) (w ++ pointed t g) ≡ behind_point t g
-behind_so true w g = drop_all (length w + 1) (w ++ []) (omega (arith, length-append w []))
-behind_so false w g = drop-append-add w (46 ∷ g) 1
+behind_so t w g = grind (arith, common_steps, drop_all, length-append, drop-append-add)
 
 no_marks : (s t : Bool) (w g : List ℕ) → list_all is_digit w ≡ true → list_all is_digit g ≡ true → list_all (λ b. not (is_mark b)) (sign_text s ++ (w ++ pointed t g)) ≡ true
 unfolding is_mark
-no_marks s t w g h k = grind (arith, common_steps, list_all-append, pointed, sign_all, all_pass_weaker, digit_no_mark, pointed_all)
+no_marks s t w g h k = grind (arith, common_steps, list_all-append, pointed, sign_all, all_pass_weaker, digit_no_mark)
 
 parts_are : (s t : Bool) (d : ℕ) (ds g : List ℕ) → list_all is_digit (d ∷ ds) ≡ true → list_all is_digit g ≡ true → Parts (sign_text s ++ ((d ∷ ds) ++ pointed t g)) (d ∷ ds) (behind_point t g) s
 unfolding has_mark exponent_of whole_part fraction_part
@@ -159,41 +133,27 @@ parts_are s t d ds g h k =
     let first : is_digit d ≡ true = (and_parts (is_digit d) (list_all is_digit ds) h).0 in
     let at : position_or_len is_mark (sign_text s ++ ((d ∷ ds) ++ pointed t g)) ≡ length (sign_text s ++ ((d ∷ ds) ++ pointed t g)) = passed_all is_mark text (no_marks s t (d ∷ ds) g h k) in
     let all : before_first is_mark text ≡ text = ap (λ n. take n text) at ∙ take-length text in
-    let mantissa : mantissa_of text ≡ (d ∷ ds) ++ pointed t g = ap unsigned_of all ∙ unsigned_so s d (ds ++ pointed t g) first in
+    let mantissa : mantissa_of text ≡ (d ∷ ds) ++ pointed t g = ap unsigned_of all ∙ (grind (arith, common_steps)) in
     let point : position_or_len is_point ((d ∷ ds) ++ pointed t g) ≡ length (d ∷ ds) = place_of_break is_point (d ∷ ds) (pointed t g) (all_pass_weaker is_digit (λ b. not (is_point b)) no_point (d ∷ ds) h) (breaks_at_point t g) in
     record {
       mark = (let n = length text in let l : nat_lt (length text) (length text) ≡ false = grind (arith, nat_tests) in ap (λ i. nat_lt i (length text)) at ∙ l);
       exponent = ap (λ i. drop (i + 1) text) at ∙ drop_all (length text + 1) text (omega arith);
       front = ap (before_first is_point) mantissa ∙ ap (λ i. take i ((d ∷ ds) ++ pointed t g)) point ∙ take-append_seam (d ∷ ds) (pointed t g);
       behind = ap (after_first is_point) mantissa ∙ ap (λ i. drop (i + 1) ((d ∷ ds) ++ pointed t g)) point ∙ behind_so t (d ∷ ds) g;
-      sign = minus_so s d (ds ++ pointed t g) first;
+      sign = grind (arith, common_steps);
     }
 
 behind_digits : (t : Bool) (g : List ℕ) → list_all is_digit g ≡ true → list_all is_digit (behind_point t g) ≡ true
-behind_digits true g h = refl
-behind_digits false g h = h
-
-behind_few : (t : Bool) (g : List ℕ) → length g ≤ 6 → length (behind_point t g) ≤ 6
-behind_few true g h = omega arith
-behind_few false g h = h
-
--- What the two parts are worth together.
-worth_none : (w : ℕ) (whole : List ℕ) → value_of whole ≡ w → value_of (whole ++ []) * 10 ^ 6 ≡ w * 10 ^ 6
-worth_none w whole e = ap (λ ds. value_of ds * 10 ^ 6) (append-nil whole) ∙ ap (λ n. n * 10 ^ 6) e
+behind_digits t g h = grind (arith, common_steps)
 
 worth_some : (w f : ℕ) (whole g : List ℕ) → value_of whole ≡ w → Fraction f g → value_of (whole ++ g) * 10 ^ (6 - length g) ≡ w * 10 ^ 6 + f
-worth_some w f whole g e p =
-    let six : 10 ^ length g * 10 ^ (6 - length g) ≡ 10 ^ 6 = sym (pow-add 10 (length g) (6 - length g)) ∙ ap (λ n. 10 ^ n) (let k : length g + (6 - length g) ≡ 6 = omega (arith, p.few) in k) in
-    ap (λ n. n * 10 ^ (6 - length g)) (value_of-append whole g ∙ ap (λ n. n * 10 ^ length g + value_of g) e)
-    ∙ spread w (10 ^ length g) (10 ^ (6 - length g)) (value_of g) f p.value ∙ ap (λ n. w * n + f) six
+worth_some w f whole g e p = grind (arith, common_steps, (pow-add 10 (length g) (6 - length g)), (value_of-append whole g), (spread w (10 ^ length g) (10 ^ (6 - length g)) (value_of g) f p.value))
 
 worth : (w f : ℕ) (t : Bool) (whole : List ℕ) → eqb f 0 ≡ t → value_of whole ≡ w → Fraction f (places f) → value_of (whole ++ behind_point t (places f)) * 10 ^ (6 - length (behind_point t (places f))) ≡ w * 10 ^ 6 + f
-worth w f true whole e v p = let z : f ≡ 0 = grind (arith, nat_tests) in worth_none w whole v ∙ omega (arith, z)
-worth w f false whole e v p = worth_some w f whole (places f) v p
+worth w f t whole e v p = grind (arith, common_steps, worth_some, append-nil)
 
 signed_back : (z : ℤ) → cond (is_negative z) (neg_ℤ (pos (unsigned_abs z))) (pos (unsigned_abs z)) ≡ z
-signed_back (pos n) = let e : is_negative (pos n) ≡ false = grind (arith, nat_tests) in rw e refl
-signed_back (negsuc n) = refl
+signed_back z = grind (arith, common_steps)
 
 read_whole : (s t : Bool) (w f n : ℕ) (ds : List ℕ) → decimal w ≡ ds → w < 10 ^ 13 → f < 10 ^ 6 → eqb f 0 ≡ t → w * 10 ^ 6 + f ≡ n → n ≤ 10 ^ 18 → decimal_of (sign_text s ++ (ds ++ pointed t (places f))) ≡ Ok (cond s (neg_ℤ (pos n)) (pos n))
 read_whole s t w f n [] e h k z all small = absurd (omega (arith, ap length e, decimal_nonempty w (omega arith)))
@@ -204,7 +164,7 @@ read_whole s t w f n (d ∷ ds) e h k z all small =
     let value : value_of (d ∷ ds) ≡ w = ap value_of (sym e) ∙ value_of-decimal w (omega arith) in
     let few : length (d ∷ ds) ≤ 13 = omega (arith, ap length e, length-decimal-le_wide 13 w (omega arith) h (omega arith)) in
     from_parts (sign_text s ++ ((d ∷ ds) ++ pointed t (places f))) (d ∷ ds) (behind_point t (places f)) s (parts_are s t d ds (places f) whole p.digits)
-    ∙ digits_read (d ∷ ds) (behind_point t (places f)) s n digits (omega arith) few (behind_few t (places f) p.few) (worth w f t (d ∷ ds) z value p ∙ all) small
+    ∙ digits_read (d ∷ ds) (behind_point t (places f)) s n digits (omega arith) few (grind (arith, common_steps)) (worth w f t (d ∷ ds) z value p ∙ all) small
 
 -- A printed value is read as that value.
 pub printed_read : (z : ℤ) → unsigned_abs z ≤ 10 ^ 18 → decimal_of (amount_text 6 z) ≡ Ok z
