@@ -1,5 +1,7 @@
-use Rattle.std.proofs.Common.{not, take, drop, length, ap, ◌∙◌, nat_lt, drop-drop}
+use Rattle.std.proofs.Common.{not, take, drop, length, ap, ◌∙◌}
+use Rattle.std.specs.Prelude.{nat_lt}
 use Rattle.std.specs.List.{position_or_len, before_first, after_first}
+use Rattle.std.proofs.lemmas.List.{drop-drop}
 use Rattle.std.proofs.lemmas.List.Sums.{prefix_len-le-length}
 use Rattle.fixed_worth.specs.Numeral.{is_minus, unsigned_of}
 use Rattle.fixed_worth.specs.Decimal.{is_mark, is_point, whole_part, fraction_part, exponent_of, has_mark}

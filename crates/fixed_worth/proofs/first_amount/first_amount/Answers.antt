@@ -1,4 +1,6 @@
-use Rattle.std.proofs.Common.{◌+◌, ◌-◌, ◌*◌, ◌^◌, ◌++◌, cond, pos, take, Ok, sym, ap, ◌∙◌, arith, lit<, neg_ℤ, take-append-drop, length-take-le}
+use Rattle.std.proofs.Common.{◌+◌, ◌-◌, ◌*◌, ◌^◌, ◌++◌, cond, pos, take, Ok, sym, ap, ◌∙◌, arith, lit<}
+use Rattle.std.specs.Prelude.{neg_ℤ}
+use Rattle.std.proofs.lemmas.List.{take-append-drop, length-take-le}
 use Rattle.std.proofs.Math.Nat.{pow-le-pow_right}
 use Rattle.fixed_worth.specs.Numeral.{is_minus}
 use Rattle.fixed_worth.proofs.FirstAmounts.{amount_read}

@@ -17,11 +17,13 @@ overflow_add-all c =
     omega (arith, n, p, c.from.ensures)
 
 pub loop-b-preserved : goal.loop-b-preserved
-loop-b-preserved c = record {
-  whole = carried c.loop-b.all (c.loop-b.all * 10 + c.from.result) c.loop-b.b-index (value_of c.args.text.now) c.args.text.now c.loop-b-test.true c.loop-b.invariant.whole (omega (arith, c.from.ensures));
-  small = omega (arith, next_below c.loop-b.all c.loop-b.b-index (get_or c.args.text.now c.loop-b.b-index 0) c.loop-b.invariant.small (sym c.if-not-is_digit_byte.ensures), c.from.ensures);
-  digits = below_more _ _ c.loop-b.invariant.digits (sym c.if-not-is_digit_byte.ensures);
-}
+loop-b-preserved c =
+    let n = next_below c.loop-b.all c.loop-b.b-index (get_or c.args.text.now c.loop-b.b-index 0) c.loop-b.invariant.small (sym c.if-not-is_digit_byte.ensures) in
+    record {
+      whole = carried c.loop-b.all (c.loop-b.all * 10 + c.from.result) c.loop-b.b-index (value_of c.args.text.now) c.args.text.now c.loop-b-test.true c.loop-b.invariant.whole (omega (arith, c.from.ensures));
+      small = omega (arith, n, c.from.ensures);
+      digits = below_more _ _ c.loop-b.invariant.digits (sym c.if-not-is_digit_byte.ensures);
+    }
 
 pub returns : goal.returns
 returns c = grind (arith, common_steps, all_digits, finished)

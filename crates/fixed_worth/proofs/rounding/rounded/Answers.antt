@@ -1,4 +1,5 @@
-use Rattle.std.proofs.Common.{ℕ, sym, arith, subst, ◌≤◌, ◌^◌, SomeIff}
+use Rattle.std.proofs.Common.{ℕ, sym, arith, subst, ◌≤◌, ◌^◌}
+use Rattle.std.specs.Prelude.{SomeIff}
 use Rattle.fixed_worth.proofs.Powers.{rounds_up, rounds_down}
 use Rattle.fixed_worth.proofs.rounding.rounded.Goals as goal
 use Rattle.std.proofs.lemmas.Grind.{common_steps}

@@ -1,4 +1,5 @@
-use Rattle.std.proofs.Common.{◌++◌, take, arith, length-append, length-take}
+use Rattle.std.proofs.Common.{◌++◌, take, arith, length-append}
+use Rattle.std.proofs.lemmas.List.{length-take}
 use Rattle.std.proofs.KnownBytes.{Consumes-trans}
 use Rattle.fixed_worth.proofs.whole_input.read_whole.Goals as goal
 

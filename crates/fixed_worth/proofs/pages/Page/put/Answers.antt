@@ -9,5 +9,6 @@ returns-then-piece-gt-ROOM-clause-held g c = grind (arith, common_steps, on_ok_w
 
 pub returns-then-piece-gt-ROOM-clause-prefix : goal.returns-then-piece-gt-ROOM-clause-prefix
 returns-then-piece-gt-ROOM-clause-prefix g c =
-    on_err_weaker c.write_text.result (prefix_of_second _ _ _ _ _ c.in_ok-finish.ensures.sent)
-        c.write_text.ensures.prefix
+    on_err_weaker c.write_text.result
+    (prefix_of_second _ (g.W.Write.contents c.finish.new.out) _ _ _ c.in_ok-finish.ensures.sent)
+    c.write_text.ensures.prefix

@@ -1,17 +1,19 @@
-use Rattle.std.proofs.Common.{◌++◌, sym, ap, ◌∙◌, arith, decimal}
+use Rattle.std.proofs.Common.{◌++◌, sym, ap, ◌∙◌, arith}
 use Rattle.std.proofs.lemmas.List.{append-nil, drop_all}
+use Rattle.std.specs.Fmt.{decimal}
 use Rattle.std.proofs.lemmas.Fmt.{length-decimal-le_wide}
 use Rattle.fixed_worth.proofs.DigitsFromEnd.{starts_above, written_before, all_written}
 use Rattle.fixed_worth.proofs.written_number.WrittenNumber.set.Goals as goal
 
 pub loop-wide-init : goal.loop-wide-init
-loop-wide-init c = record {
-  whole = sym (append-nil (decimal c.args.n)) ∙ ap (λ r. decimal c.args.n ++ r) (sym (drop_all 39 c.self.inside.bytes (omega (arith, c.self.told))));
-  room = length-decimal-le_wide 39 c.args.n (omega arith) (omega arith) (omega arith);
-  small = omega arith;
-  within = omega arith;
-  size = c.self.told;
-}
+loop-wide-init c =
+    record {
+      whole = sym (append-nil (decimal c.args.n)) ∙ ap (λ r. decimal c.args.n ++ r) (sym (drop_all 39 c.self.inside.bytes (omega (arith, c.self.told))));
+      room = length-decimal-le_wide 39 c.args.n (omega arith) (omega arith) (omega arith);
+      small = omega arith;
+      within = omega arith;
+      size = c.self.told;
+    }
 
 pub overflow_sub-start : goal.overflow_sub-start
 overflow_sub-start c = starts_above _ _ _ _ c.loop-wide.invariant
