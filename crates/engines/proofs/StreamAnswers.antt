@@ -1,7 +1,9 @@
 -- From the header of a certificate and what stands behind it to what is judged, where the device tells its bytes.
-use Rattle.std.proofs.Common.{◌≡◌, ◌≢◌, ℕ, ◌≤◌, List, Option, Some, None, Ok, Err, sym, ap, ◌∙◌, arith, IfSome}
+use Rattle.std.proofs.Common.{◌≡◌, ◌≢◌, ℕ, ℤ, ◌≤◌, List, Option, Some, None, Result, Ok, Err, sym, ap, ◌∙◌, subst, arith, IfSome}
 use Rattle.fixed_worth.specs.declared.limits.TheConstants.{MOST_FACTOR}
 use Rattle.prec_file.specs.Rests.{RestsView}
+use Rattle.ordered_group.specs.declared.groups.Group.{Group}
+use Rattle.certificate_file.specs.declared.cert_fault.CertFault.{CertFault}
 use Rattle.certificate_file.specs.declared.header.Header.{Header}
 use Rattle.certificate_file.specs.declared.header.Price.{Price}
 use Rattle.certificate_file.specs.declared.header.Price.TheVariants.{Objective, Factor, Mill}
@@ -13,7 +15,11 @@ use Rattle.mine_inputs.specs.declared.engine_fault.EngineFault.TheVariants as en
 use Rattle.mine_inputs.specs.declared.engine_fault.CertificateProblem.TheVariants as problem
 use Rattle.mine_inputs.specs.declared.worths.Worths.{Worths}
 use Rattle.engines.specs.Judging.{StandsBehind, factor_in, factor_named}
-use Rattle.mine_inputs.specs.Worths.{factor_at, price_at}
+use Rattle.mine_inputs.specs.Mines.{MineTexts}
+use Rattle.mine_inputs.specs.ReadMines.{AreRead, IsMineRead}
+use Rattle.mine_inputs.specs.Worths.{factor_at, nanos_at, price_at}
+use Rattle.mine_inputs.proofs.MinesRead.{read_as}
+use Rattle.engines.specs.Readings.{IsHeader}
 use Rattle.engines.proofs.Answered.{JudgedBy}
 use Rattle.engines.proofs.HeaderPrices.{header_price}
 
@@ -34,3 +40,15 @@ price_unjudged remaining s (Some c) worths rests h size none k = λ texts read.
     let named : factor_in c ≡ factor_at h.price = ap factor_named k.0 in
     let low : factor_in c ≤ MOST_FACTOR = rw named (factor_low h.price (header_price (pieces_of c) h k.0)) in
     (rests.blocks, read.0.mine, (h, k.0, size, λ e. none (factor_in c) low (e ∙ sym read.1)))
+
+-- what a header says
+abbrev ok_header : ℕ → Price → Group → Result Header CertFault
+ok_header blocks price group = Ok (record { blocks = blocks; price = price; group = group })
+
+-- the mine is read at the price of the header
+pub priced : {R : Type 0} (remaining : R → Option (List ℕ)) (s : LineView R) (t : Option (List ℕ)) (worths : Worths) (rests : RestsView) (h : Header) (factor : ℕ) (nanos : List ℤ) → h.blocks ≡ rests.blocks → h.price ≡ price_at worths factor → factor ≡ factor_at h.price → nanos ≡ nanos_at worths factor → IfSome t (HasHeader remaining s h)
+    → IfSome t (λ c. (texts : MineTexts) → IsMineRead texts (factor_in c) worths rests → AreRead texts nanos rests × IsHeader texts c rests.blocks h.group × StandsBehind remaining c s)
+priced remaining s None worths rests h factor nanos size price at is k = tt
+priced remaining s (Some c) worths rests h factor nanos size price at is k = λ texts read.
+    let known = subst (λ (n : ℕ). IsMineRead texts n worths rests) (ap factor_named k.0 ∙ sym at) read in
+    (read_as texts (nanos_at worths factor) nanos rests is known.0, k.0 ∙ ap (λ (n : ℕ). ok_header n h.price h.group) size ∙ ap (λ (p : Price). ok_header rests.blocks p h.group) (price ∙ known.1), k.1)

@@ -6,7 +6,6 @@ ghost use Rattle.std.specs.Thread.{IsSync};
 ghost use Rattle.certificate_file.specs.Pieces.{pieces_of};
 ghost use Rattle.certificate_file.specs.Header.{header_of};
 ghost use Rattle.closure_net.specs.Network.{holds_of, IsAscending};
-ghost use Rattle.ordered_group.specs.Amount.{FitsPair};
 ghost use Rattle.closure_net.specs.Closure.{group_worth, IsGreatest};
 ghost use Rattle.check_pit.specs.CertStreams.{IsReadFor};
 ghost use Rattle.check_pit.specs.declared.pit_fault.PitFault.{PitFault};
@@ -19,11 +18,9 @@ ghost use Rattle.mine_inputs.specs.ReadMines.{AreRead, IsMineRead};
 
 use crate::judgement::Judgement;
 use check_pit::{
-    Accepted, AcceptedPit, CertFault, CertStream, Header, Room, StreamBytes, StreamFault,
-    check_graph,
+    AcceptedPit, CertFault, CertStream, Header, Room, StreamBytes, StreamFault, check_graph,
 };
 use closure_net::{Graph, laws};
-use core::mem::replace_with;
 use fixed_worth::CountedRead;
 use mine_inputs::{CertificateProblem, EngineFault, MineToCheck};
 use ordered_group::{Group, OrderedGroup, Scaled, Worth, WorthSize};
@@ -31,53 +28,26 @@ use prec_file::Predecessors;
 use std::alloc::Global;
 use std::thread::Threads;
 
-/// What a certificate proves for a mine that was read, or why it can't be judged. Where the blocks have prices they are
-/// worth what these give at the factor that the certificate names. It is read line by line, up to its end or to its first
-/// fault. The values or prices are given back before the check takes memory.
+/// A mine that a certificate is judged for.
+#[derive(Drop)]
+pub(crate) struct Case<'a, R> {
+    pub(crate) rt: &'a R,
+    pub(crate) alloc: Global,
+    pub(crate) mine: MineToCheck,
+}
+
+/// What the certificate that a device gives proves for a mine that was read, or why it can't be judged. Where the blocks have
+/// prices they are worth what these give at the factor that the certificate names. It is read line by line, up to its end or
+/// to its first fault, from a stream that holds the device meanwhile. The device is handed back.
 ///
 /// # Errors
 /// `Certificate` with the first fault of the certificate, `WrongPrice` among them; `Model` where an amount of the net doesn't fit;
 /// `Device` where a read fails, and `Memory` where memory is refused.
-pub fn judge<R: Threads + Sync, C: CountedRead>(
-    rt: &R,
-    alloc: Global,
-    mine: MineToCheck,
-    certificate: &mut C,
-) -> Result<Judgement, EngineFault>
-    requires { C.failed certificate.old < 2 ^ 64 - 1 }
-    ensures judged { IfSome (C.remaining certificate.old) (λ c. (texts : MineTexts)
-        → IsMineRead texts (factor_in c) mine.worths mine.predecessors → Judges texts c result) }
-    ensures device { IsErrOf result EngineFault.Device
-        → C.failed certificate.new ≡ C.failed certificate.old + 1 }
-    ensures kept { ¬ IsErrOf result EngineFault.Device
-        → C.failed certificate.new ≡ C.failed certificate.old }
-{
-    let held = StreamBytes::new(alloc)?;
-    let case = Case {
-        rt,
-        alloc,
-        mine,
-        held,
-    };
-    replace_with(certificate, case, judge_device)
-}
-
-// A mine that a certificate is judged for, with memory for a line of the certificate.
-#[derive(Drop)]
-struct Case<'a, R> {
-    rt: &'a R,
-    alloc: Global,
-    mine: MineToCheck,
-    held: StreamBytes,
-}
-
-// Judges the case over this device, which a stream holds meanwhile, and hands the device back.
-fn judge_device<R: Threads + Sync, C: CountedRead>(
+pub(crate) fn judge<R: Threads + Sync, C: CountedRead>(
     device: C,
     case: Case<'_, R>,
 ) -> (C, Result<Judgement, EngineFault>)
     requires count { C.failed device < 2 ^ 64 - 1 }
-    requires held { case.held ≡ [] }
     requires sync { IsSync R.row }
     ensures judged { IfSome (C.remaining device) (λ c. (texts : MineTexts)
         → IsMineRead texts (factor_in c) case.entry.mine.worths case.entry.mine.predecessors
@@ -85,38 +55,20 @@ fn judge_device<R: Threads + Sync, C: CountedRead>(
     ensures device { IsErrOf result.1 EngineFault.Device → C.failed result.0 ≡ C.failed device + 1 }
     ensures kept { ¬ IsErrOf result.1 EngineFault.Device → C.failed result.0 ≡ C.failed device }
 {
-    let Case {
-        rt,
-        alloc,
-        mine,
-        held,
-    } = case;
-    let MineToCheck {
-        worths,
-        predecessors,
-    } = mine;
+    let Case { rt, alloc, mine } = case;
+    let Ok(held) = StreamBytes::new(alloc) else {
+        return (device, Err(EngineFault::Memory));
+    };
     let mut stream = CertStream::over(held, device);
-    let header = match header_for(&mut stream, predecessors.len()) {
-        Ok(header) => header,
-        Err(fault) => return (stream.into_device(), Err(fault)),
+    let judgement = match price_mine(rt, alloc, mine, &mut stream) {
+        Ok(priced) => judge_priced(alloc, priced, &mut stream),
+        Err(fault) => Err(fault),
     };
-    let Some(factor) = worths.factor_of(header.price) else {
-        let fault = EngineFault::Certificate(CertificateProblem::WrongPrice);
-        return (stream.into_device(), Err(fault));
-    };
-    let Ok(nanos) = worths.nanos_at(rt, alloc, factor) else {
-        return (stream.into_device(), Err(EngineFault::Memory));
-    };
-    drop(worths);
-    let judgement = judge_in(alloc, header.group, nanos, predecessors, &mut stream);
     (stream.into_device(), judgement)
 }
 
-/// The header of a certificate for a mine of n blocks.
-///
-/// # Errors
-/// `Certificate` with the first fault of the header, or where it has another number of blocks; `Device` where a read fails.
-pub fn header_for<C: CountedRead>(stream: &mut CertStream<C>, n: u32) -> Result<Header, EngineFault>
+// The header of a certificate for a mine of n blocks.
+fn header_for<C: CountedRead>(stream: &mut CertStream<C>, n: u32) -> Result<Header, EngineFault>
     requires count { C.failed stream.old.lines.from < 2 ^ 64 - 1 }
     requires fresh { IsFresh stream.old }
     ensures read { IfSome (C.remaining stream.old.lines.from) (λ c. MatchResult result
@@ -139,6 +91,63 @@ pub fn header_for<C: CountedRead>(stream: &mut CertStream<C>, n: u32) -> Result<
         return Err(EngineFault::from(CertFault::Number(2)));
     }
     Ok(header)
+}
+
+/// A mine whose blocks are worth so many billionths by the header of a certificate, which counts in amounts of this group.
+#[derive(Drop)]
+pub struct PricedMine {
+    /// The group of the certificate's amounts.
+    pub group: Group,
+    /// What each block is worth.
+    pub nanos: Vec<i128>,
+    /// The predecessors of each block.
+    pub predecessors: Predecessors,
+}
+
+/// Reads the header of a certificate for a mine, and gives what its blocks are worth by it. The values or prices are given
+/// back.
+///
+/// # Errors
+/// `Certificate` with the first fault of the header, where it has another number of blocks, or with `WrongPrice`; `Device`
+/// where a read fails, and `Memory` where memory is refused.
+pub fn price_mine<R: Threads + Sync, C: CountedRead>(
+    rt: &R,
+    alloc: Global,
+    mine: MineToCheck,
+    stream: &mut CertStream<C>,
+) -> Result<PricedMine, EngineFault>
+    requires count { C.failed stream.old.lines.from < 2 ^ 64 - 1 }
+    requires fresh { IsFresh stream.old }
+    ensures priced { IfSome (C.remaining stream.old.lines.from) (λ c. (texts : MineTexts)
+        → IsMineRead texts (factor_in c) mine.worths mine.predecessors
+        → MatchResult result
+        (λ m. AreRead texts m.nanos.items m.predecessors
+        × IsHeader texts c m.predecessors.blocks m.group
+        × StandsBehind C.remaining c stream.new.lines)
+        (Fails texts c)) }
+    ensures blocks { IfOk result (λ m. m.predecessors ≡ mine.predecessors) }
+    ensures header { IfOk result
+        (λ m. IsReadFor m.predecessors.blocks m.group stream.new.header stream.new.fault) }
+    ensures open { IfOk result (λ _. IsUndecided stream.new) }
+    ensures device { IsErrOf result EngineFault.Device
+        → C.failed stream.new.lines.from ≡ C.failed stream.old.lines.from + 1 }
+    ensures kept { ¬ IsErrOf result EngineFault.Device
+        → C.failed stream.new.lines.from ≡ C.failed stream.old.lines.from }
+{
+    let MineToCheck {
+        worths,
+        predecessors,
+    } = mine;
+    let header = header_for(stream, predecessors.len())?;
+    let Some(factor) = worths.factor_of(header.price) else {
+        return Err(EngineFault::Certificate(CertificateProblem::WrongPrice));
+    };
+    let nanos = worths.nanos_at(rt, alloc, factor)?;
+    Ok(PricedMine {
+        group: header.group,
+        nanos,
+        predecessors,
+    })
 }
 
 // What is answered to a fault of the header, which is none of the pit.
@@ -168,23 +177,23 @@ fn judgement_of(fault: StreamFault) -> Result<Judgement, EngineFault>
     }
 }
 
-/// What the certificate proves, where its header is read and the blocks are worth so many billionths.
+/// What the certificate proves, where its header is read and the blocks are worth so many billionths by it.
 ///
 /// # Errors
 /// `Certificate` with the first fault behind the header; `Model` where an amount of the net doesn't fit; `Device` where a read
 /// fails, and `Memory` where memory is refused.
-pub fn judge_in<C: CountedRead>(
+pub fn judge_priced<C: CountedRead>(
     alloc: Global,
-    group: Group,
-    nanos: Vec<i128>,
-    predecessors: Predecessors,
+    mine: PricedMine,
     stream: &mut CertStream<C>,
 ) -> Result<Judgement, EngineFault>
     requires count { C.failed stream.old.lines.from < 2 ^ 64 - 1 }
     requires open { IsUndecided stream.old }
-    requires header { IsReadFor predecessors.blocks group stream.old.header stream.old.fault }
-    ensures judged { (texts : MineTexts) (c : List ℕ) → AreRead texts nanos.items predecessors
-        → IsHeader texts c predecessors.blocks group
+    requires header { IsReadFor
+        mine.predecessors.blocks mine.group stream.old.header stream.old.fault }
+    ensures judged { (texts : MineTexts) (c : List ℕ)
+        → AreRead texts mine.nanos.items mine.predecessors
+        → IsHeader texts c mine.predecessors.blocks mine.group
         → StandsBehind C.remaining c stream.old.lines → Judges texts c result }
     ensures device { IsErrOf result EngineFault.Device
         → C.failed stream.new.lines.from ≡ C.failed stream.old.lines.from + 1 }
@@ -195,32 +204,37 @@ pub fn judge_in<C: CountedRead>(
     laws::greatest_set_is_richest_pit();
     laws::greatest_set_is_best_pit::<WorthSize>();
     laws::greatest_set_is_best_pit::<Scaled>();
-    match group {
-        Group::Worth => judge_by::<Worth, C>(alloc, nanos, predecessors, stream),
-        Group::Pair => judge_by::<WorthSize, C>(alloc, nanos, predecessors, stream),
-        Group::Scaled => judge_by::<Scaled, C>(alloc, nanos, predecessors, stream),
+    match mine.group {
+        Group::Worth => judge_by::<Worth, C>(alloc, mine, stream),
+        Group::Pair => judge_by::<WorthSize, C>(alloc, mine, stream),
+        Group::Scaled => judge_by::<Scaled, C>(alloc, mine, stream),
     }
 }
 
-// Judges the stream behind its header for the mine of these worths and predecessors, in amounts of the group G.
+// Judges the stream behind its header for this mine, in amounts of the group G.
 fn judge_by<G: OrderedGroup, C: CountedRead>(
     alloc: Global,
-    nanos: Vec<i128>,
-    predecessors: Predecessors,
+    mine: PricedMine,
     stream: &mut CertStream<C>,
 ) -> Result<Judgement, EngineFault>
     requires count { C.failed stream.old.lines.from < 2 ^ 64 - 1 }
     requires open { IsUndecided stream.old }
-    requires header { IsReadFor predecessors.blocks G.name stream.old.header stream.old.fault }
-    ensures judged { (texts : MineTexts) (c : List ℕ) → AreRead texts nanos.items predecessors
+    requires header { IsReadFor mine.predecessors.blocks G.name stream.old.header stream.old.fault }
+    ensures judged { (texts : MineTexts) (c : List ℕ)
+        → AreRead texts mine.nanos.items mine.predecessors
         → IsGroupNamed G.name G.block_parts G.counts
-        → IsHeader texts c predecessors.blocks G.name → StandsBehind C.remaining c stream.old.lines
-        → Judges texts c result }
+        → IsHeader texts c mine.predecessors.blocks G.name
+        → StandsBehind C.remaining c stream.old.lines → Judges texts c result }
     ensures device { IsErrOf result EngineFault.Device
         → C.failed stream.new.lines.from ≡ C.failed stream.old.lines.from + 1 }
     ensures kept { ¬ IsErrOf result EngineFault.Device
         → C.failed stream.new.lines.from ≡ C.failed stream.old.lines.from }
 {
+    let PricedMine {
+        nanos,
+        predecessors,
+        ..
+    } = mine;
     let graph = Graph::<G>::of_worths(alloc, predecessors, &nanos)?;
     drop(nanos);
     let net = graph.as_ref();
@@ -229,8 +243,7 @@ fn judge_by<G: OrderedGroup, C: CountedRead>(
     let mut room = Room::of_blocks(alloc, net.len())?;
     match check_graph(stream, net, &mut room) {
         Ok(accepted) => {
-            let count = size_of_pit(&accepted);
-            let worth = worth_of_pit(&accepted, count);
+            let (count, worth) = size_and_worth(&accepted);
             Ok(Judgement::Accepted {
                 group: G::group(),
                 count,
@@ -241,58 +254,23 @@ fn judge_by<G: OrderedGroup, C: CountedRead>(
     }
 }
 
-// The number of blocks of an accepted pit.
-fn size_of_pit<G: OrderedGroup>(accepted: &AcceptedPit<'_, G>) -> u32
-    ensures size { result ≡ length accepted.now.pit }
-    ensures most { result ≤ length accepted.now.net.worths }
+/// The number of blocks of an accepted pit, and what they are worth in billionths.
+pub fn size_and_worth<G: OrderedGroup>(accepted: &AcceptedPit<'_, G>) -> (u32, i128)
+    ensures size { result.0 ≡ length accepted.now.pit }
     ensures ascending { IsAscending accepted.now.pit }
+    ensures worth { result.1 ≡ G.set_worth (group_worth accepted.now.net.worths
+        (holds_of accepted.now.pit)) (length accepted.now.net.worths) result.0 }
+    ensures greatest { IsGreatest accepted.now.net (holds_of accepted.now.pit) }
 {
     // proof: a net has at most `MOST_BLOCKS` blocks
-    let _size = accepted.graph().len();
-    let blocks = accepted.pit().blocks();
-    blocks.len() as u32
-}
-
-// The worth of an accepted pit of this many blocks, in billionths.
-fn worth_of_pit<G: OrderedGroup>(accepted: &AcceptedPit<'_, G>, count: u32) -> i128
-    requires { count ≤ length accepted.now.net.worths }
-    ensures worth { result ≡ G.set_worth (group_worth accepted.now.net.worths
-        (holds_of accepted.now.pit)) (length accepted.now.net.worths) count }
-    ensures greatest { IsGreatest accepted.now.net (holds_of accepted.now.pit) }
-{
     let size = accepted.graph().len();
+    let blocks = accepted.pit().blocks();
+    let count = blocks.len() as u32;
     let sum = accepted.worth();
     // proof: the numbers of the sum fit their types
-    known_to_fit(sum);
+    let (_worth, _count) = sum.parts();
     match sum.nanos_of_set(size, count) {
-        Some(worth) => worth,
+        Some(worth) => (count, worth),
         None => unreachable!(),
     }
-}
-
-/// The number of blocks of an accepted pit.
-pub fn size_of<G: OrderedGroup>(accepted: &Accepted<'_, G>) -> u32
-    ensures size { result ≡ length accepted.now.pit }
-    ensures most { result ≤ length accepted.now.net.worths }
-    ensures ascending { IsAscending accepted.now.pit }
-{
-    size_of_pit(accepted.on_graph())
-}
-
-/// The worth of an accepted pit of this many blocks, in billionths.
-pub fn worth_of<G: OrderedGroup>(accepted: &Accepted<'_, G>, count: u32) -> i128
-    requires { count ≤ length accepted.now.net.worths }
-    ensures worth { result ≡ G.set_worth (group_worth accepted.now.net.worths
-        (holds_of accepted.now.pit)) (length accepted.now.net.worths) count }
-    ensures greatest { IsGreatest accepted.now.net (holds_of accepted.now.pit) }
-{
-    worth_of_pit(accepted.on_graph(), count)
-}
-
-// The two numbers of an amount fit the machine's.
-fn known_to_fit<G: OrderedGroup>(amount: G)
-    ensures { FitsPair (G.parts_of amount) }
-{
-    // proof: what `parts` returns fits its type
-    let (_worth, _count) = amount.parts();
 }

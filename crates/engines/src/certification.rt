@@ -4,7 +4,7 @@ ghost use Rattle.std.specs.Prelude.{◌≡◌, IfOk, MatchResult, IsErrOf};
 ghost use Rattle.closure_net.specs.Network.{FlowFits};
 ghost use Rattle.engines.specs.Certification.{IsSolution, UncertifiedStands};
 
-use crate::certificate_judge::{size_of, worth_of};
+use crate::certificate_judge::size_and_worth;
 use check_pit::{PitFault, check};
 use closure_net::{Flow, Net, Pit, pit_of};
 use ordered_group::OrderedGroup;
@@ -58,10 +58,7 @@ pub fn certified<G: OrderedGroup>(
         return Err(Uncertified::NoMemory);
     };
     let (count, worth) = match check(net, &pit, &flow) {
-        Ok(accepted) => {
-            let count = size_of(&accepted);
-            (count, worth_of(&accepted, count))
-        }
+        Ok(accepted) => size_and_worth(accepted.on_graph()),
         Err(fault) => return Err(Uncertified::Refused(fault)),
     };
     Ok(Solution {

@@ -6,9 +6,10 @@ ghost use Rattle.engines.specs.Checking.{Checks, SoundIsAccepted};
 ghost use Rattle.engines.specs.Judging.{factor_in};
 ghost use Rattle.mine_inputs.specs.MineInputs.{ForTexts, CanCount, NoneFailed, OneFailed};
 
-use crate::certificate_judge::judge;
+use crate::certificate_judge::{Case, judge};
 use crate::judgement::Verdict;
 use crate::judgement_line::write_judgement;
+use core::mem::replace_with;
 use fixed_worth::{CountedRead, CountedWrite};
 use mine_inputs::{EngineFault, MineInputs, mine_to_check};
 use std::alloc::Global;
@@ -27,7 +28,8 @@ use std::thread::Threads;
 /// first fault.
 ///
 /// # Errors
-/// Those of [`mine_to_check`], then those of [`judge`].
+/// Those of [`mine_to_check`]; then `Certificate` with the first fault of the certificate, `WrongPrice` among them; `Model`
+/// where an amount of the net doesn't fit; `Device` where a read fails, and `Memory` where memory is refused.
 ///
 /// Each device must have counted fewer than 2^64 - 1 failures, so that one more can be counted.
 pub fn check_engine<R: Threads + Sync, D: CountedRead, C: CountedRead, W: CountedWrite>(
@@ -58,7 +60,7 @@ pub fn check_engine<R: Threads + Sync, D: CountedRead, C: CountedRead, W: Counte
         × (W.failed out.new ≡ W.failed out.old) }
 {
     let mine = mine_to_check(alloc, inputs)?;
-    let judgement = judge(rt, alloc, mine, certificate)?;
+    let judgement = replace_with(certificate, Case { rt, alloc, mine }, judge)?;
     write_judgement(alloc, judgement, out)?;
     Ok(judgement.verdict())
 }

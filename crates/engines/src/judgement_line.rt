@@ -48,23 +48,13 @@ pub fn line_of(alloc: Global, judgement: Judgement) -> Result<String, AllocError
             group,
             count,
             worth,
-        } => accepted_line(alloc, group, count, Nanos(worth)),
+        } => {
+            let worth = Nanos(worth);
+            let mark = mark_of(group);
+            format!(in alloc; "ACCEPTED {count} {worth}{mark}\n")
+        }
         Judgement::Refused(fault) => format!(in alloc; "REFUSED {fault}\n"),
     }
-}
-
-// The line of an accepted certificate.
-fn accepted_line(
-    alloc: Global,
-    group: Group,
-    count: u32,
-    worth: Nanos,
-) -> Result<String, AllocError>
-    ensures { IfOk result
-        (λ line. string_bytes line ≡ judgement_line (Judgement.Accepted group count worth.0)) }
-{
-    let mark = mark_of(group);
-    format!(in alloc; "ACCEPTED {count} {worth}{mark}\n")
 }
 
 // What follows the worth on the line: something where worth alone was counted, and otherwise nothing.
