@@ -47,9 +47,6 @@ last_byte line r (s ∷ rs) a = last_byte line s rs (rest line r (s ∷ rs) a)
 slice_byte : (line : List ℕ) (p e k : ℕ) → p + k < e → get_or (drop p (take e line)) k 0 ≡ get_or line (p + k) 0
 slice_byte line p e k h = get_or-drop p (take e line) k 0 ∙ get_or-take e line (p + k) 0 h
 
-abbrev pub NoLineFeed : List ℕ → Type 0
-NoLineFeed line = EachIndex line (λ k. eqb (get_or line k 0) 10 ≡ false)
-
 none_any : (xs : List ℕ) → ((k : ℕ) → k < length xs → eqb (get_or xs k 0) 10 ≡ false) → list_any (λ b. eqb b 10) xs ≡ false
 none_any [] h = refl
 none_any (x ∷ xs) h = let e : eqb x 10 ≡ false = h 0 (omega arith) in rw e (none_any xs (λ k i. h (suc k) (omega arith)))
