@@ -1,7 +1,7 @@
 -- Entries in the order of their places.
 use Rattle.std.proofs.Common.{◌≡◌, ℕ, zero, suc, ◌+◌, ◌-◌, ◌<◌, ◌&&◌, ◌==◌, Bool, true, inl, inr, pos, List, [], ◌∷◌, length, get_or, sym, refl, ap, subst, ◌∙◌, arith, Ordering, Contains}
-use Rattle.std.specs.declared.cmp.Ordering.TheVariants.{Less, Equal, Greater}
-use Rattle.std.specs.Ordering.{MatchOrdering, is_eq, ordering_then, nat_cmp, eq_by_cmp}
+use Rattle.std.specs.declared.cmp.Ordering.TheVariants.{Less}
+use Rattle.std.specs.Ordering.{MatchOrdering, ordering_then, nat_cmp, eq_by_cmp}
 use Rattle.std.specs.Cmp.{IsTotalOrder, IsEquivalence}
 use Rattle.std.specs.List.Sorted.{IsStrictlySortedBy}
 use Rattle.std.proofs.lemmas.Cmp.{ranked, then_total, on_total, nat_cmp_total, eq_by_cmp_equiv}

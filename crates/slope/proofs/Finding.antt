@@ -10,7 +10,6 @@ use Rattle.slope.specs.Offsets.{Offset, OffsetBefore, AreOffsetsRising}
 use Rattle.slope.specs.Slopes.{upward, offset_between}
 use Rattle.slope.specs.Gathering.{place_key, IsIndex, IsFinding}
 use Rattle.slope.specs.declared.up.Up.{Up}
-use Rattle.slope.specs.declared.up.Up.TheVariants.{PlusZ, MinusZ}
 use Rattle.slope.proofs.OffsetSorting.{before_itself}
 use Rattle.std.proofs.lemmas.Grind.{common_steps}
 

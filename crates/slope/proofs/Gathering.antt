@@ -35,7 +35,3 @@ module _ {X : Type 0} (P Q : X → Type 0) (xs : List X) (c : Collects P xs) whe
     all = All-weaker (Contains (xs ++ x ∷ [])) Q (λ y k. elim (Contains-push_cases xs x y k) [ inl k ↦ f y (c.only y k) | inr e ↦ subst Q e q ]) (xs ++ x ∷ []) (All-contains_itself (xs ++ x ∷ []));
     more = omega (arith, length-append xs (x ∷ []));
   }
-
--- more than so many, by a wider property
-pub more_weaker : {X : Type 0} (most : ℕ) (P Q : X → Type 0) → ((x : X) → P x → Q x) → AreMoreThan most P → AreMoreThan most Q
-more_weaker most P Q f m = record { some = m.some; apart = m.apart; all = All-weaker P Q f m.some m.all; more = m.more }

@@ -1,23 +1,17 @@
 -- Finding an offset among those of a pattern.
-use Rattle.std.proofs.Common.{◌≡◌, ◌↔◌, Bool, IsTrue, ℕ, ◌≤◌, ◌<ℤ◌, inl, inr, List, length, get_or, Result, Ok, Err, MatchResult, Contains, sym, refl, ap, ◌∙◌, arith, Ordering}
-use Rattle.std.specs.declared.cmp.Ordering.TheVariants.{Less, Equal, Greater}
-use Rattle.std.specs.Ordering.{MatchOrdering, ordering_then, ordering_reverse, ordering_index, int_cmp, is_eq}
+use Rattle.std.proofs.Common.{◌≡◌, ◌↔◌, Bool, IsTrue, ℕ, ◌≤◌, inl, inr, List, length, get_or, Result, Ok, Err, MatchResult, Contains, refl, ap, ◌∙◌, arith, Ordering}
+use Rattle.std.specs.declared.cmp.Ordering.TheVariants.{Less, Greater}
+use Rattle.std.specs.Ordering.{ordering_index, is_eq}
 use Rattle.std.specs.Result.{is_ok}
 use Rattle.std.specs.List.Sorted.{IsBinarySearchResult, IsNonDecreasingBy, IsSearchInRange}
-use Rattle.std.proofs.lemmas.Cmp.{int_ranked}
-use Rattle.std.proofs.lemmas.Int.{ints}
 use Rattle.std.proofs.lemmas.Bool.{cases_lt}
 use Rattle.std.proofs.lemmas.List.Sorted.{IsNonDecreasingBy-from_default}
 use Rattle.slope.specs.Offsets.{Offset, OffsetBefore, AreOffsetsRising}
 use Rattle.slope.proofs.OffsetSorting.{offset_cmp, offset_ties, offset_same, offsets_total, not_both}
 use Rattle.std.proofs.lemmas.Grind.{common_steps}
 
--- the order of two offsets by that of their numbers
-less_from : (x y : Offset) (o p q : Ordering) → MatchOrdering o (x.0 <ℤ y.0) (x.0 ≡ y.0) (y.0 <ℤ x.0) → MatchOrdering p (x.1 <ℤ y.1) (x.1 ≡ y.1) (y.1 <ℤ x.1) → MatchOrdering q (x.2 <ℤ y.2) (x.2 ≡ y.2) (y.2 <ℤ x.2) → OffsetBefore x y → ordering_then (ordering_then o p) q ≡ Less
-less_from x y o p q h k l f = grind (arith, common_steps)
-
 before_less : (x y : Offset) → OffsetBefore x y → offset_cmp x y ≡ Less
-before_less x y b = less_from x y (int_cmp x.0 y.0) (int_cmp x.1 y.1) (int_cmp x.2 y.2) (int_ranked x.0 y.0 _ refl) (int_ranked x.1 y.1 _ refl) (int_ranked x.2 y.2 _ refl) b
+before_less x y b = grind (arith, common_steps)
 
 no_higher : (x y t : Offset) (o p : Ordering) → offset_cmp x t ≡ o → offset_cmp y t ≡ p → offset_cmp x y ≡ Less → ordering_index o ≤ ordering_index p
 no_higher x y t o p e f h = grind (arith, common_steps, offset_same, offset_ties, offset_cmp, offsets_total)
@@ -33,12 +27,6 @@ rises_to os t r = IsNonDecreasingBy-from_default (λ y. ordering_index (offset_c
 -- no offset is below or above itself
 apart : Less ≡ Greater → ⊥
 apart e = absurd cc
-
-not_less : (t : Offset) → offset_cmp t t ≡ Less → ⊥
-not_less t e = apart (sym e ∙ offsets_total.antisymm t t ∙ ap ordering_reverse e)
-
-not_greater : (t : Offset) → offset_cmp t t ≡ Greater → ⊥
-not_greater t e = apart (sym (sym e ∙ offsets_total.antisymm t t ∙ ap ordering_reverse e))
 
 -- what a binary search says of the offsets
 pub offset_found : (os : List Offset) (t : Offset) (r : Result ℕ ℕ) → IsSearchInRange r (length os) → IsBinarySearchResult (λ y. offset_cmp y t) os r → AreOffsetsRising os → MatchResult r (λ i. Contains os t) (λ i. Contains os t → ⊥)

@@ -1,11 +1,10 @@
 -- Sorting offsets, and dropping repeats.
-use Rattle.std.proofs.Common.{◌≡◌, ℕ, zero, suc, ◌<◌, ℤ, ◌<ℤ◌, ◌&&◌, Bool, true, false, inl, inr, List, [], ◌∷◌, length, get_or, sym, refl, subst, ◌∙◌, arith, Ordering}
-use Rattle.std.specs.declared.cmp.Ordering.TheVariants.{Less, Equal, Greater}
-use Rattle.std.specs.Ordering.{MatchOrdering, ordering_then, int_cmp, int_eq, eq_by_cmp}
+use Rattle.std.proofs.Common.{◌≡◌, ℕ, zero, suc, ◌<◌, ◌&&◌, Bool, true, false, List, [], ◌∷◌, length, get_or, sym, subst, arith, Ordering}
+use Rattle.std.specs.declared.cmp.Ordering.TheVariants.{Less}
+use Rattle.std.specs.Ordering.{ordering_then, int_cmp, int_eq, eq_by_cmp}
 use Rattle.std.specs.Cmp.{IsTotalOrder, IsEquivalence}
 use Rattle.std.specs.List.Sorted.{IsStrictlySortedBy}
-use Rattle.std.proofs.lemmas.Cmp.{int_ranked, then_total, on_total, int_cmp_total, eq_by_cmp_equiv}
-use Rattle.std.proofs.lemmas.Int.{ints}
+use Rattle.std.proofs.lemmas.Cmp.{then_total, on_total, int_cmp_total, eq_by_cmp_equiv}
 use Rattle.std.proofs.lemmas.List.Elements.{All-from_recursion}
 use Rattle.slope.specs.Offsets.{Offset, AreOffsetsRising, OffsetBefore}
 use Rattle.std.proofs.lemmas.Grind.{common_steps}
@@ -37,11 +36,8 @@ offsets_alike =
     let P : (Offset → Offset → Bool) → Type 0 = λ f. IsEquivalence f in
     subst P e (eq_by_cmp_equiv offsets_total)
 
-less_before : (x y : Offset) (o p q : Ordering) → MatchOrdering o (x.0 <ℤ y.0) (x.0 ≡ y.0) (y.0 <ℤ x.0) → MatchOrdering p (x.1 <ℤ y.1) (x.1 ≡ y.1) (y.1 <ℤ x.1) → MatchOrdering q (x.2 <ℤ y.2) (x.2 ≡ y.2) (y.2 <ℤ x.2) → ordering_then (ordering_then o p) q ≡ Less → OffsetBefore x y
-less_before x y o p q h k l e = grind (arith, common_steps)
-
 pub before : (x y : Offset) → offset_cmp x y ≡ Less → OffsetBefore x y
-before x y e = less_before x y (int_cmp x.0 y.0) (int_cmp x.1 y.1) (int_cmp x.2 y.2) (int_ranked x.0 y.0 _ refl) (int_ranked x.1 y.1 _ refl) (int_ranked x.2 y.2 _ refl) e
+before x y e = grind (arith, common_steps)
 
 rises : (os : List Offset) → IsStrictlySortedBy offset_cmp os → (i j : ℕ) (d : Offset) → i < j → j < length os → OffsetBefore (get_or os i d) (get_or os j d)
 unfolding IsStrictlySortedBy

@@ -1,12 +1,10 @@
 -- The steps in which slope pairs are gathered.
 use Rattle.std.proofs.Common.{◌≡◌, ◌≢◌, ℕ, ◌+◌, ◌<◌, ◌⊎◌, inl, inr, ℤ, pos, ◌-ℤ◌, List, [], ◌∷◌, ◌++◌, length, get_or, take, sym, refl, ap, subst, ◌∙◌, arith, Contains}
-use Rattle.std.proofs.lemmas.Int.{ints}
-use Rattle.std.proofs.lemmas.Bool.{cases_lt, cases_order}
+use Rattle.std.proofs.lemmas.Bool.{cases_lt}
 use Rattle.std.proofs.lemmas.List.{take_more, get_or_default, get_or-take, length-take-le}
 use Rattle.std.proofs.Math.Seq.{take-length}
 use Rattle.std.proofs.lemmas.List.Elements.{Contains-append_left, Contains-push, Contains-push_cases, All-contains}
 use Rattle.prec_file.specs.declared.limits.TheConstants.{MOST_PAIRS}
-use Rattle.blocks_file.specs.declared.place.Place.{Place}
 use Rattle.blocks_file.specs.Denotes.{BlocksView}
 use Rattle.prec_file.specs.Rests.{RestsView}
 use Rattle.prec_file.specs.Rests.{IsRising as IsPairRising}
@@ -14,10 +12,9 @@ use Rattle.slope.specs.Offsets.{Offset, IsPattern, AreOffsetsRising, OffsetBefor
 use Rattle.slope.specs.Places.{place_of, AreApartBelow}
 use Rattle.slope.specs.Slopes.{upward, offset_between, IsSlopePair, IsSelected, AreSlopes, SlopeFaultStands}
 use Rattle.slope.specs.declared.selection.Selection.{Selection}
-use Rattle.slope.specs.declared.selection.Selection.TheVariants.{Every, Reduced}
+use Rattle.slope.specs.declared.selection.Selection.TheVariants.{Every}
 use Rattle.slope.specs.Gathering.{SurroundingsView, ArePlacesOf, StandsAtOffset, StandsNone, offset_at, Collects, IsPairBelow, IsPairUpTo, PairFaultStands, PairRefusalStands}
 use Rattle.slope.specs.declared.up.Up.{Up}
-use Rattle.slope.specs.declared.up.Up.TheVariants.{PlusZ, MinusZ}
 use Rattle.slope.specs.declared.slope_fault.SlopeFault.{SlopeFault}
 use Rattle.slope.specs.declared.slope_fault.SlopeFault.TheVariants.{SamePlace, TooMany, NoMemory}
 use Rattle.slope.proofs.Gathering.{collected_same, collected_more, too_many}
@@ -44,11 +41,8 @@ slope_at m os up b p i d l known top at = record { bottom = known; top = top; of
 
 -- what stands around a block tells its pairs
 module _ (v : SurroundingsView) (m : BlocksView) (os : List Offset) (up : Up) (same : ArePlacesOf v m os up) (b : ℕ) (known : b < m.blocks) (from : v.from ≡ place_of m b) (i : ℕ) (l : i < length os) where
-  is_as : v ≡ record { model = m; offsets = os; up = up; from = v.from }
-  is_as = λ j. record { model = same.of_model j; offsets = same.of_offsets j; up = same.of_up j; from = v.from }
-
   pub every_at : (p : ℕ) → StandsAtOffset v i p → IsSelected Every m os up (b, p) × (offset_between up (place_of m b) (place_of m p) ≡ offset_at os i)
-  every_at p h = grind (arith, common_steps, is_as, slope_at)
+  every_at p h = grind (arith, common_steps, slope_at)
 
   pub every_passed : StandsNone v i → (p : ℕ) → IsSelected Every m os up (b, p) → offset_between up (place_of m b) (place_of m p) ≢ offset_at os i
   every_passed h p selected at = grind (arith, common_steps)
@@ -139,9 +133,6 @@ module _ (m : BlocksView) (os : List Offset) (up : Up) (s : Selection) (b i : �
     refused (SamePlace x y) count as_many h = h
     refused TooMany count as_many h = too_many _ _ ps c MOST_PAIRS (b, p) not_yet selected (λ q f. f.selected) (omega (arith, as_many, h))
     refused NoMemory count as_many h = tt
-
-pub pairs_ended : (m : BlocksView) (os : List Offset) (up : Up) (s : Selection) (ps : List (ℕ × ℕ)) → Collects (IsPairBelow m os up s m.blocks) ps → Collects (IsSelected s m os up) ps
-pairs_ended m os up s ps c = collected_same _ _ ps c (λ q h. h.selected) (λ q h. record { selected = h; below = (slope_of s m os up q h).bottom })
 
 level_height : (up : Up) (x : ℤ) → upward up (x -ℤ x) ≡ pos 0
 level_height up x = grind (arith, common_steps)

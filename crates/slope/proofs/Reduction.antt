@@ -1,5 +1,5 @@
 -- The pairs that lead over no third block make the same closed sets as every pair.
-use Rattle.std.proofs.Common.{◌≡◌, ◌↔◌, ℕ, zero, suc, ℤ, pos, negsuc, ◌+ℤ◌, ◌-ℤ◌, ◌≤ℤ◌, ◌<ℤ◌, Bool, true, false, IsTrue, List, Contains, refl, arith}
+use Rattle.std.proofs.Common.{◌↔◌, ℕ, zero, suc, ℤ, pos, negsuc, ◌+ℤ◌, ◌-ℤ◌, ◌≤ℤ◌, ◌<ℤ◌, Bool, IsTrue, List, Contains, arith}
 use Rattle.std.proofs.lemmas.Int.{ints}
 use Rattle.std.proofs.lemmas.List.Elements.{All-contains}
 use Rattle.std.proofs.lemmas.Bool.{true_from_ne_false}
@@ -11,7 +11,6 @@ use Rattle.slope.specs.Slopes.{upward, offset_between, IsSlopePair, LeadsOver, A
 use Rattle.slope.specs.Closing.{IsClosedBy}
 use Rattle.slope.specs.declared.selection.Selection.TheVariants.{Reduced}
 use Rattle.slope.specs.declared.up.Up.{Up}
-use Rattle.slope.specs.declared.up.Up.TheVariants.{PlusZ, MinusZ}
 use Rattle.slope.proofs.OffsetSorting.{not_both}
 use Rattle.std.proofs.lemmas.Grind.{common_steps}
 

@@ -1,5 +1,5 @@
 -- What was seen around a place, and one sight more.
-use Rattle.std.proofs.Common.{◌≡◌, ◌≢◌, ℕ, ◌<◌, List, Option, Some, None, MatchOption, length, set, sym, subst, ◌∙◌, arith}
+use Rattle.std.proofs.Common.{◌≡◌, ◌≢◌, ℕ, ◌<◌, List, Option, MatchOption, length, set, arith}
 use Rattle.slope.specs.Offsets.{Offset}
 use Rattle.slope.specs.Places.{place_of}
 use Rattle.slope.specs.Slopes.{offset_between}
