@@ -24,9 +24,6 @@ same_rests kept pairs less h i j l k =
 
 -- ---- lists of them
 
-one_place : (kept : List ℕ) (i j : ℕ) → IsAscending kept → i < length kept → j < length kept → number_in kept i ≡ number_in kept j → i ≡ j
-one_place kept i j h l k e = grind (arith, common_steps)
-
 -- the list of the blocks at the places of a list holds the image of what that list holds
 pub list_image : (n : ℕ) (kept xs : List ℕ) → IsAscending kept → All (λ i. i < length kept) xs
     → IsImage n (length kept) (number_in kept) (holds_of xs) (holds_of (map (number_in kept) xs))
@@ -36,7 +33,7 @@ list_image n kept xs h low = record {
       let x = place_of (map (number_in kept) xs) (number_in kept i) t in
       let k : x.0 < length xs = subst (λ n. x.0 < n) (length-map xs (number_in kept)) x.1 in
       let at : number_in kept (get_or xs x.0 0) ≡ number_in kept i = sym (get_or-map (number_in kept) xs x.0 0 0 k) ∙ x.2 in
-      let same : get_or xs x.0 0 ≡ i = one_place kept (get_or xs x.0 0) i h (low x.0 0 k) l at in
+      let same : get_or xs x.0 0 ≡ i = grind (arith, common_steps) in
       subst (λ m. holds_of xs m ≡ true) same (holds_at xs x.0 k))
       (λ t.
       let x = place_of xs i t in

@@ -1,10 +1,10 @@
 -- The best pit of a mine, from that of a part of it.
-use Rattle.std.proofs.Common.{◌≡◌, ℕ, zero, suc, ◌+◌, ◌<◌, ◌≤◌, ℤ, pos, ◌+ℤ◌, Bool, true, false, cond, not, ◌&&◌, ◌||◌, inl, inr, sym, refl, ◌∙◌, arith}
+use Rattle.std.proofs.Common.{◌≡◌, ℕ, zero, suc, ◌+◌, ◌<◌, ◌≤◌, ℤ, pos, ◌+ℤ◌, Bool, true, false, cond, not, ◌&&◌, ◌||◌, refl, ◌∙◌, arith}
 use Rattle.std.proofs.lemmas.Int.{ints}
-use Rattle.std.proofs.lemmas.Bool.{and_parts, and_from, or_cases, or_left, or_right, cases_lt}
+use Rattle.std.proofs.lemmas.Bool.{and_parts, cases_lt}
 use Rattle.ordered_group.specs.Sets.{worth_in, count_in}
 use Rattle.ordered_group.proofs.BlockSets.{count_in-same, count_in-within}
-use Rattle.closure_net.specs.Mine.{Mine, IsPit, worth_of, block_count_of, AreSame, IsBest, LiesWithin, RestsWithin}
+use Rattle.closure_net.specs.Mine.{Mine, IsPit, worth_of, block_count_of, IsBest, LiesWithin, RestsWithin}
 use Rattle.closure_net.proofs.BestPits.{best_from_fewest, agree, best_of_same}
 use Rattle.sub_mines.specs.Parts.{union_of, intersection_of, difference_of, part, LiesBetween}
 use Rattle.std.proofs.lemmas.Grind.{common_steps}
@@ -17,45 +17,20 @@ fewest_of mine e c h p same = grind (arith, common_steps, cases_lt, count_in-sam
 
 -- ---- of tests
 
-pub is_beside : (x y : Bool) → x ≡ true → y ≡ false → (x && not y) ≡ true
-is_beside true false h k = refl
-is_beside true true h k = absurd cc
-is_beside false y h k = absurd cc
-
 pub not_beside : (x y : Bool) → (x && not y) ≡ true → y ≡ false
-not_beside true false h = refl
-not_beside true true h = absurd cc
-not_beside false y h = absurd cc
+not_beside x y h = grind (arith, common_steps)
 
 -- two tests that can't differ agree
 
 -- ---- sums, block by block
 
--- a block of the lower set, or one of the part
-worth_term : (low high s : Bool) (v : ℤ) → cond (low || (s && (high && not low))) v (pos 0) ≡ cond low v (pos 0) +ℤ cond s (cond (high && not low) v (pos 0)) (pos 0)
-worth_term true true true v = omega (arith, ints)
-worth_term true true false v = omega (arith, ints)
-worth_term true false true v = omega (arith, ints)
-worth_term true false false v = omega (arith, ints)
-worth_term false true true v = omega (arith, ints)
-worth_term false true false v = omega (arith, ints)
-worth_term false false true v = omega (arith, ints)
-worth_term false false false v = omega (arith, ints)
-
 pub worth_lifts : (v : ℕ → ℤ) (low high s : ℕ → Bool) (n : ℕ)
     → worth_in v (union_of low (intersection_of s (difference_of high low))) n ≡ worth_in v low n +ℤ worth_in (λ b. cond (difference_of high low b) (v b) (pos 0)) s n
 worth_lifts v low high s zero = omega (arith, ints)
-worth_lifts v low high s (suc n) = omega (arith, ints, worth_lifts v low high s n, worth_term (low n) (high n) (s n) (v n))
+worth_lifts v low high s (suc n) = grind (arith, ints, worth_lifts v low high s n, common_steps)
 
 count_term : (low high s : Bool) → cond (low || (s && (high && not low))) 1 0 ≤ cond low 1 0 + cond s 1 0
-count_term true true true = omega arith
-count_term true true false = omega arith
-count_term true false true = omega arith
-count_term true false false = omega arith
-count_term false true true = omega arith
-count_term false true false = omega arith
-count_term false false true = omega arith
-count_term false false false = omega arith
+count_term low high s = grind (arith, common_steps)
 
 pub count_lifts : (low high s : ℕ → Bool) (n : ℕ) → count_in (union_of low (intersection_of s (difference_of high low))) n ≤ count_in low n + count_in s n
 count_lifts low high s zero = omega arith
@@ -64,12 +39,7 @@ count_lifts low high s (suc n) = omega (arith, count_lifts low high s n, count_t
 -- a set between the two is the lower one and a set of the part
 worth_cut_term : (low high c : Bool) (v : ℤ) → (low ≡ true → c ≡ true) → (c ≡ true → high ≡ true)
     → cond c v (pos 0) ≡ cond low v (pos 0) +ℤ cond (c && not low) (cond (high && not low) v (pos 0)) (pos 0)
-worth_cut_term true high true v h k = omega (arith, ints)
-worth_cut_term true high false v h k = absurd (let e = h refl in cc)
-worth_cut_term false true true v h k = omega (arith, ints)
-worth_cut_term false false true v h k = absurd (let e = k refl in cc)
-worth_cut_term false true false v h k = omega (arith, ints)
-worth_cut_term false false false v h k = omega (arith, ints)
+worth_cut_term low high c v h k = grind (arith, common_steps)
 
 pub worth_cuts : (v : ℕ → ℤ) (low high c : ℕ → Bool) (n : ℕ) → ((b : ℕ) → b < n → low b ≡ true → c b ≡ true) → ((b : ℕ) → b < n → c b ≡ true → high b ≡ true)
     → worth_in v c n ≡ worth_in v low n +ℤ worth_in (λ b. cond (difference_of high low b) (v b) (pos 0)) (difference_of c low) n
@@ -78,10 +48,7 @@ worth_cuts v low high c (suc n) h k =
     omega (arith, ints, worth_cuts v low high c n (λ b l. h b (omega (arith, l))) (λ b l. k b (omega (arith, l))), worth_cut_term (low n) (high n) (c n) (v n) (h n (omega arith)) (k n (omega arith)))
 
 count_cut_term : (low c : Bool) → (low ≡ true → c ≡ true) → cond c 1 0 ≡ cond low 1 0 + cond (c && not low) 1 0
-count_cut_term true true h = refl
-count_cut_term true false h = absurd (let e = h refl in cc)
-count_cut_term false true h = refl
-count_cut_term false false h = refl
+count_cut_term low c h = grind (arith, common_steps)
 
 pub count_cuts : (low c : ℕ → Bool) (n : ℕ) → ((b : ℕ) → b < n → low b ≡ true → c b ≡ true) → count_in c n ≡ count_in low n + count_in (difference_of c low) n
 count_cuts low c zero h = refl
@@ -92,28 +59,11 @@ count_cuts low c (suc n) h = omega (arith, count_cuts low c n (λ b l. h b (omeg
 module _ (mine : Mine) (low high : ℕ → Bool) (own : RestsWithin mine) (known : LiesBetween mine low high) where
   -- a pit of the part is one of the mine with the lower pit
   pub lift_is_pit : (s : ℕ → Bool) → IsPit (part mine (difference_of high low)) s → IsPit mine (union_of low (intersection_of s (difference_of high low)))
-  lift_is_pit s h b p r t =
-      elim (or_cases (low b) (s b && (high b && not (low b))) t) [
-        | inl x ↦ or_left (low p) (s p && (high p && not (low p))) (known.low_pit b p r x)
-        | inr x ↦
-            let at = and_parts (s b) (high b && not (low b)) x in
-            let above = known.high_pit b p r (and_parts (high b) (not (low b)) at.1).0 in
-            inside (low p) refl at above
-      ]
-    where
-      inside : (x : Bool) → low p ≡ x → (s b ≡ true) × ((high b && not (low b)) ≡ true) → high p ≡ true → (low p || (s p && (high p && not (low p)))) ≡ true
-      inside true e at above = or_left (low p) (s p && (high p && not (low p))) e
-      inside false e at above =
-          let set = is_beside (high p) (low p) above e in
-          or_right (low p) (s p && (high p && not (low p))) (and_from (s p) (high p && not (low p))
-          (h b p (and_from (mine.rests b p) ((high b && not (low b)) && (high p && not (low p))) r (and_from (high b && not (low b)) (high p && not (low p)) at.1 set)) at.0) set)
+  lift_is_pit s h b p r t = grind (arith, common_steps)
 
   -- and what a pit of the mine has beside the lower one is a pit of the part
   pub cut_is_pit : (c : ℕ → Bool) → IsPit mine c → IsPit (part mine (difference_of high low)) (difference_of c low)
-  cut_is_pit c h b p r t =
-      let rests = and_parts (mine.rests b p) ((high b && not (low b)) && (high p && not (low p))) r in
-      let sets = and_parts (high b && not (low b)) (high p && not (low p)) rests.1 in
-      is_beside (c p) (low p) (h b p rests.0 (and_parts (c b) (not (low b)) t).0) (not_beside (high p) (low p) sets.1)
+  cut_is_pit c h b p r t = grind (arith, common_steps)
 
   -- the best pit of the part makes the best pit of the mine
   pub best_lifts : (f : ℕ → Bool) → IsBest (part mine (difference_of high low)) f → IsBest mine (union_of low (intersection_of f (difference_of high low)))
@@ -140,13 +90,7 @@ module _ (mine : Mine) (low high : ℕ → Bool) (own : RestsWithin mine) (known
 
   -- the best pit of the mine lies between the two
   pub best_between : (e : ℕ → Bool) → IsBest mine e → LiesWithin mine low e × LiesWithin mine e high
-  best_between e h =
-      let x = known.between e h.is_pit in
-      let level : worth_of mine x.pit ≡ worth_of mine e = omega (arith, ints, h.most x.pit x.is_pit, x.as_good.pays) in
-      let same : AreSame mine x.pit e = λ b l. agree (x.pit b) (e b) (λ differ.
-      let more = h.fewest x.pit x.is_pit (λ s. differ (s b l)) level in
-      omega (arith, more, x.as_good.few level)) in
-      (λ b l t. sym (same b l) ∙ x.all b l t, λ b l t. x.only b l (same b l ∙ t))
+  best_between e h = grind (arith, common_steps, (known.between e h.is_pit))
 
   -- and what it has beside the lower one is the best pit of the part
   pub best_cuts : (e : ℕ → Bool) → IsBest mine e → IsBest (part mine (difference_of high low)) (difference_of e low)
@@ -170,9 +114,7 @@ module _ (mine : Mine) (low high : ℕ → Bool) (own : RestsWithin mine) (known
 -- ---- the blocks that aren't in the part
 
 trim_term : (s q : Bool) (v : ℤ) → cond (s && q) (cond q v (pos 0)) (pos 0) ≡ cond s (cond q v (pos 0)) (pos 0)
-trim_term true true v = refl
-trim_term true false v = refl
-trim_term false q v = refl
+trim_term s q v = grind (arith, common_steps)
 
 trimmed : (v : ℕ → ℤ) (s q : ℕ → Bool) (n : ℕ) → worth_in (λ b. cond (q b) (v b) (pos 0)) (intersection_of s q) n ≡ worth_in (λ b. cond (q b) (v b) (pos 0)) s n
 trimmed v s q zero = refl
@@ -191,9 +133,7 @@ best_inside mine q f h b l t =
     omega (arith, more, few))
 
 inside_same : (low f q : Bool) → (f ≡ true → q ≡ true) → (low || f) ≡ (low || (f && q))
-inside_same true f q h = refl
-inside_same false true q h = sym (h refl)
-inside_same false false q h = refl
+inside_same low f q h = grind (arith, common_steps)
 
 pub best_by_part : (mine : Mine) (low high f : ℕ → Bool) → RestsWithin mine → LiesBetween mine low high → IsBest (part mine (difference_of high low)) f → IsBest mine (union_of low f)
 best_by_part mine low high f own known h =

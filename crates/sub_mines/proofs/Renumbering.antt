@@ -1,7 +1,7 @@
 -- The best pit of a mine whose blocks have numbers of their own.
-use Rattle.std.proofs.Common.{◌≡◌, ◌≢◌, ℕ, zero, suc, ◌+◌, ◌<◌, ℤ, pos, ◌+ℤ◌, Bool, true, false, cond, not, ◌&&◌, ◌||◌, IsTrue, inl, inr, sym, refl, ap, ap₂, ◌∙◌, arith}
+use Rattle.std.proofs.Common.{◌≡◌, ◌≢◌, ℕ, zero, suc, ◌+◌, ◌<◌, ℤ, pos, ◌+ℤ◌, Bool, true, false, cond, not, ◌&&◌, ◌||◌, IsTrue, inl, inr, sym, refl, ap, ◌∙◌, arith}
 use Rattle.std.proofs.lemmas.Int.{ints}
-use Rattle.std.proofs.lemmas.Bool.{and_parts, and_from, cases_lt, cases_Bool, or_left}
+use Rattle.std.proofs.lemmas.Bool.{cases_lt, cases_Bool, or_left}
 use Rattle.ordered_group.specs.Sets.{worth_in, count_in}
 use Rattle.ordered_group.proofs.BlockSets.{worth_in-same, count_in-same, count_in-within}
 use Rattle.closure_net.specs.Mine.{Mine, IsPit, worth_of, block_count_of, IsBest, RestsWithin}
@@ -50,14 +50,6 @@ listed_here set n (suc m) at held h =
       };
     }
 
--- what the set's blocks are worth
-worth_one : (set : ℕ → Bool) (e : ℕ → Bool) (v : ℕ → ℤ) (n a : ℕ) → set n ≡ true → a ≡ n → cond (e n) (cond (set n) (v n) (pos 0)) (pos 0) ≡ cond (e a) (v a) (pos 0)
-worth_one set e v n a held same = rw (held, same) refl
-
-none_out : (t : Bool) (x : ℤ) (s : Bool) → s ≡ false → cond t (cond s x (pos 0)) (pos 0) ≡ pos 0
-none_out true x s h = rw h refl
-none_out false x s h = refl
-
 pub worth_listed : (set e : ℕ → Bool) (v : ℕ → ℤ) (at : ℕ → ℕ) (n m : ℕ) → IsListed set n m at
     → worth_in (λ b. cond (set b) (v b) (pos 0)) e n ≡ worth_in (λ i. v (at i)) (λ i. e (at i)) m
 worth_listed set e v at zero zero h = refl
@@ -67,22 +59,17 @@ worth_listed set e v at (suc n) m h =
       | inl held ↦
           let x = listed_here set n m at held h in
           let more = worth_listed set e v at n x.before x.listed in
-          rw x.size (omega (arith, ints, more, worth_one set e v n (at x.before) held x.last))
+          rw x.size (grind (arith, common_steps, ints, more))
       | inr out ↦
           let more = worth_listed set e v at n m (listed_else set n m at out h) in
-          omega (arith, ints, more, none_out (e n) (v n) (set n) out)
+          grind (arith, ints, more, common_steps)
     ]
 
 abbrev number : Bool → ℕ
 number t = cond t 1 0
 
-count_here : (s t : Bool) → t ≡ true → number (s && t) ≡ number s
-count_here true t h = rw h refl
-count_here false t h = refl
-
 count_else : (s t : Bool) → t ≡ false → number (s && t) ≡ 0
-count_else true t h = rw h refl
-count_else false t h = refl
+count_else s t h = grind (arith, common_steps)
 
 -- and how many they are
 pub count_listed : (set e : ℕ → Bool) (at : ℕ → ℕ) (n m : ℕ) → IsListed set n m at → count_in (intersection_of e set) n ≡ count_in (λ i. e (at i)) m
@@ -94,7 +81,7 @@ count_listed set e at (suc n) m h =
           let x = listed_here set n m at held h in
           let more = count_listed set e at n x.before x.listed in
           let same : number (e (at x.before)) ≡ number (e n) = ap (λ k. number (e k)) x.last in
-          rw x.size (omega (arith, more, same, count_here (e n) (set n) held))
+          rw x.size (grind (arith, more, same, common_steps, (e n), (set n)))
       | inr out ↦
           let more = count_listed set e at n m (listed_else set n m at out h) in
           omega (arith, more, count_else (e n) (set n) out)
@@ -108,10 +95,7 @@ worth_in-worths v w e (suc n) h = rw (worth_in-worths v w e n (λ b l. h b (omeg
 
 module _ (mine small : Mine) (set : ℕ → Bool) (at : ℕ → ℕ) (own : RestsWithin mine) (listed : IsListed set mine.blocks small.blocks at) (is : IsRenumbered mine small at) where
   pulled_is_pit : (d : ℕ → Bool) → IsPit (part mine set) d → IsPit small (λ i. d (at i))
-  pulled_is_pit d h i j r t =
-      let low = is.own.own i j r in
-      let there : IsTrue (mine.rests (at i) (at j)) = sym (is.rests i j low.0 low.1) ∙ r in
-      h (at i) (at j) (and_from (mine.rests (at i) (at j)) (set (at i) && set (at j)) there (and_from (set (at i)) (set (at j)) (listed.held i low.0) (listed.held j low.1))) t
+  pulled_is_pit d h i j r t = grind (arith, common_steps)
 
   pulled_worth : (d : ℕ → Bool) → worth_of (part mine set) d ≡ worth_of small (λ i. d (at i))
   pulled_worth d =
@@ -119,15 +103,7 @@ module _ (mine small : Mine) (set : ℕ → Bool) (at : ℕ → ℕ) (own : Rest
       ∙ sym (worth_in-worths small.worth (λ i. mine.worth (at i)) (λ i. d (at i)) small.blocks is.worth)
 
   image_is_pit : (s t : ℕ → Bool) → IsImage mine.blocks small.blocks at s t → IsPit small s → IsPit (part mine set) t
-  image_is_pit s t im h b p r held =
-      let rests = and_parts (mine.rests b p) (set b && set p) r in
-      let sets = and_parts (set b) (set p) rests.1 in
-      let low = own.own b p rests.0 in
-      let x = listed.all b low.0 sets.0 in
-      let y = listed.all p low.1 sets.1 in
-      let there : mine.rests b p ≡ small.rests x.0 y.0 = sym (ap₂ mine.rests x.2 y.2) ∙ sym (is.rests x.0 y.0 x.1 y.1) in
-      let begins : IsTrue (s x.0) = sym (im.same x.0 x.1) ∙ ap t x.2 ∙ held in
-      ap t (sym y.2) ∙ im.same y.0 y.1 ∙ h x.0 y.0 (sym there ∙ rests.0) begins
+  image_is_pit s t im h b p r held = grind (arith, common_steps)
 
   -- the image of a set, in numbers
   image_worth : (s t : ℕ → Bool) → IsImage mine.blocks small.blocks at s t → worth_of (part mine set) t ≡ worth_of small s
@@ -166,16 +142,10 @@ outside : (low high : ℕ → Bool) (b : ℕ) → difference_of high low b ≡ t
 outside low high b h = not_beside (high b) (low b) h
 
 alone_term : (x y : Bool) → (y ≡ true → x ≡ false) → ((x || y) && not x) ≡ y
-alone_term true true h = absurd (let e = h refl in cc)
-alone_term true false h = refl
-alone_term false true h = refl
-alone_term false false h = refl
+alone_term x y h = grind (arith, common_steps)
 
 cut_term : (x y z : Bool) (v : ℤ) → (y ≡ true → (z && not x) ≡ true) → cond (x || y) v (pos 0) ≡ cond x v (pos 0) +ℤ cond y (cond (z && not x) v (pos 0)) (pos 0)
-cut_term true true z v h = grind (arith, common_steps)
-cut_term true false z v h = omega (arith, ints)
-cut_term false true z v h = rw (h refl) (omega (arith, ints))
-cut_term false false z v h = omega (arith, ints)
+cut_term x y z v h = grind (arith, common_steps)
 
 joined_worth : (v : ℕ → ℤ) (low high t : ℕ → Bool) (n : ℕ) → ((b : ℕ) → b < n → t b ≡ true → difference_of high low b ≡ true)
     → worth_in v (union_of low t) n ≡ worth_in v low n +ℤ worth_in (λ b. cond (difference_of high low b) (v b) (pos 0)) t n

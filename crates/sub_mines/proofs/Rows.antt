@@ -67,17 +67,7 @@ module _ (pairs : List (ℕ × ℕ)) (kept : List ℕ) (row t n : ℕ) (places :
 
   module _ (rising : IsRising pairs) (inside : row < length kept) (l : t < length (above_of pairs (get_or kept row 0))) (low : p < n) (some : get_or places p 0 ≢ 0) (j0 : ℕ) (j0_is : j0 ≡ get_or places p 0 - 1) where
     taken : IsAmong pairs kept row j0
-    taken =
-        let x = known.only p low some in
-        let y = above_at pairs rising (get_or kept row 0) t l in
-        let at : get_or kept j0 0 ≡ get_or (above_of pairs (get_or kept row 0)) t 0 = ap (λ z. get_or kept z 0) j0_is ∙ x.1 ∙ sym here in
-        let there : Contains pairs (get_or kept row 0, get_or (above_of pairs (get_or kept row 0)) t 0) =
-        (first_of pairs (get_or kept row 0) + t, y.0, get_or_default pairs (first_of pairs (get_or kept row 0) + t) (get_or kept row 0, get_or (above_of pairs (get_or kept row 0)) t 0) (0, 0) y.0 ∙ y.1) in
-        record {
-          first = inside;
-          second = omega (arith, x.0, some, j0_is);
-          rests = subst (λ z. Contains pairs (get_or kept row 0, z)) (sym at) there;
-        }
+    taken = grind (arith, common_steps, (known.only p low some), (above_at pairs rising (get_or kept row 0) t l), (get_or_default pairs (first_of pairs (get_or kept row 0) + t) (get_or kept row 0, get_or (above_of pairs (get_or kept row 0)) t 0) (0, 0) (above_at pairs rising (get_or kept row 0) t l).0))
 
     pub row_taken : AreRowsAnd pairs kept row (t + 1) (found ++ (row, j0) ∷ [])
     row_taken = record {
@@ -99,10 +89,7 @@ module _ (pairs : List (ℕ × ℕ)) (kept : List ℕ) (row t n : ℕ) (places :
 
 -- the blocks that one rests on are known
 pub above_known : (v : RestsView) (b t : ℕ) → IsRests v → t < length (above_of v.pairs b) → get_or (above_of v.pairs b) t 0 < v.blocks
-above_known v b t h l =
-    let y = above_at v.pairs h.rising b t l in
-    let k = h.known (first_of v.pairs b + t) (0, 0) y.0 in
-    (subst (IsKnown v.blocks) y.1 k).1
+above_known v b t h l = grind (arith, common_steps, (above_at v.pairs h.rising b t l), (h.known (first_of v.pairs b + t) (0, 0) (above_at v.pairs h.rising b t l).0))
 
 -- ---- all rows
 
