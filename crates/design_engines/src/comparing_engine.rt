@@ -7,10 +7,11 @@ ghost use Rattle.mine_inputs.specs.declared.engine_fault.EngineFault.TheVariants
 ghost use Rattle.design_engines.specs.declared.value_fault.ValueFault.TheVariants as value;
 ghost use Rattle.design_engines.specs.Compares.{Compares};
 
-use crate::beside_judge::judge_beside;
+use crate::beside_judge::{BesideCase, judge_beside};
 use crate::compared_lines::tell_beside;
 use crate::design_input::marks_from;
 use crate::value_fault::ValueFault;
+use core::mem::replace_with;
 use engines::{MineInputs, Verdict};
 use fixed_worth::{CountedRead, CountedWrite};
 use mine_inputs::mine_to_check;
@@ -70,6 +71,12 @@ pub fn compare_engine<
 {
     let mine = mine_to_check(alloc, inputs)?;
     let marks = marks_from(alloc, design, mine.predecessors.len())?;
-    let beside = judge_beside(rt, alloc, mine, marks, certificate)?;
+    let case = BesideCase {
+        rt,
+        alloc,
+        mine,
+        marks,
+    };
+    let beside = replace_with(certificate, case, judge_beside)?;
     tell_beside(alloc, beside, out)
 }

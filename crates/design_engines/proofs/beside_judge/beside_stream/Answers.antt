@@ -1,13 +1,49 @@
-use Rattle.std.proofs.Common.{◌∙◌}
-use Rattle.mine_inputs.specs.declared.engine_fault.EngineFault.TheVariants as engine
-use Rattle.mine_inputs.specs.declared.engine_fault.CertificateProblem.TheVariants as problem
-use Rattle.engines.proofs.StreamAnswers.{price_unjudged}
-use Rattle.design_engines.proofs.BesideStreams.{unjudged}
+use Rattle.std.proofs.Common.{Bool, List, sym, subst}
+use Rattle.std.proofs.lemmas.Result.{err_from_is_err_and}
+use Rattle.prec_file.specs.Rests.{RestsView}
+use Rattle.engines.specs.FaultStands.{Fails}
+use Rattle.engines.specs.Judging.{StandsBehind}
+use Rattle.engines.specs.Readings.{IsHeader}
+use Rattle.mine_inputs.specs.ReadMines.{AreRead}
+use Rattle.mine_inputs.proofs.MinesRead.{read_as}
+use Rattle.design_engines.specs.Compares.{IsBeside, BesideFails}
+use Rattle.design_engines.specs.DesignTexts.{ReadsDesign}
+use Rattle.design_engines.specs.Told.{design_view}
+use Rattle.design_engines.specs.declared.value_fault.ValueFault.TheVariants as value
+use Rattle.design_engines.proofs.BesideStreams.{unvalued, read_beside}
 use Rattle.design_engines.proofs.beside_judge.beside_stream.Goals as goal
 
-pub returns-in_default-clause-judged : goal.returns-in_default-clause-judged
-returns-in_default-clause-judged g c =
-    let t = g.C.Read.remaining c.args.stream.now.lines.from in
-    let mine = c.args.mine in
-    unjudged t mine.worths mine.predecessors c.args.marks.items (engine.Certificate problem.WrongPrice)
-    (price_unjudged g.C.Read.remaining c.header_for.new.stream.lines t mine.worths mine.predecessors c.in_ok-header.header (c.in_ok-header.ensures.blocks.0 ∙ c.len.ensures.is) c.in_default.ensures c.in_ok-header.ensures.read)
+pub returns-in_err-mine-clause-judged : goal.returns-in_err-mine-clause-judged
+returns-in_err-mine-clause-judged g c =
+    let case = c.args.case in
+    let p = err_from_is_err_and c.from_residual.result c.from_residual.ensures.1 in
+    rw (p.1, p.2)
+    (read_beside (g.C.Read.remaining c.args.stream.now.lines.from) case.mine.worths case.mine.predecessors case.marks.items (λ texts cert. Fails texts cert c.in_err-mine.field-0.0) (λ texts d cert. BesideFails texts d cert (value.Engine c.in_err-mine.field-0.0)) c.in_err-mine.ensures.priced (λ texts d cert drawn h. h))
+
+pub returns-in_err-valued-clause-judged : goal.returns-in_err-valued-clause-judged
+returns-in_err-valued-clause-judged g c =
+    let remaining = g.C.Read.remaining in
+    let case = c.args.case in
+    let mine = c.in_ok-mine.mine in
+    let p = err_from_is_err_and c.from_residual-in_err-valued.result c.from_residual-in_err-valued.ensures.1 in
+    let e = c.in_err-valued.field-0.0 in
+    rw (p.1, p.2)
+    (read_beside (remaining c.args.stream.now.lines.from) case.mine.worths case.mine.predecessors case.marks.items
+    (λ texts cert. AreRead texts mine.nanos.items mine.predecessors × IsHeader texts cert mine.predecessors.blocks mine.group × StandsBehind remaining cert c.price_mine.new.stream.lines)
+    (λ texts d cert. BesideFails texts d cert e) c.in_ok-mine.ensures.priced
+    (λ texts d cert drawn h.
+      let seen = subst (λ (r : RestsView). ReadsDesign r.blocks d case.marks.items) (sym c.in_ok-mine.ensures.blocks) drawn in
+      unvalued texts d cert e (c.in_err-valued.ensures.is texts d (read_as texts _ _ mine.predecessors c.as_slice.ensures.value h.0) (subst (λ (ms : List Bool). ReadsDesign mine.predecessors.blocks d ms) (sym c.as_slice-2.ensures.value) seen))))
+
+pub returns-clause-judged : goal.returns-clause-judged
+returns-clause-judged g c =
+    let remaining = g.C.Read.remaining in
+    let case = c.args.case in
+    let mine = c.in_ok-mine.mine in
+    let valued = c.in_ok-valued.valued in
+    read_beside (remaining c.args.stream.now.lines.from) case.mine.worths case.mine.predecessors case.marks.items
+    (λ texts cert. AreRead texts mine.nanos.items mine.predecessors × IsHeader texts cert mine.predecessors.blocks mine.group × StandsBehind remaining cert c.price_mine.new.stream.lines)
+    (λ texts d cert. IsBeside texts d cert (design_view valued) c.in_ok-judgement.judgement) c.in_ok-mine.ensures.priced
+    (λ texts d cert drawn h.
+      let seen = subst (λ (r : RestsView). ReadsDesign r.blocks d case.marks.items) (sym c.in_ok-mine.ensures.blocks) drawn in
+      (c.in_ok-valued.ensures.is texts d (read_as texts _ _ mine.predecessors c.as_slice.ensures.value h.0) (subst (λ (ms : List Bool). ReadsDesign mine.predecessors.blocks d ms) (sym c.as_slice-2.ensures.value) seen), c.in_ok-judgement.ensures.judged texts cert h.0 h.1 h.2))

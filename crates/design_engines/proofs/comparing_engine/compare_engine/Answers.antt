@@ -23,11 +23,11 @@ returns-in_err-beside-clause-answer g c =
     let mine = c.in_ok-mine.mine in
     rw (p.1, p.2)
     (not_paired c.args.inputs.now g.D.Read.remaining (g.E.Read.remaining c.args.design.now) (g.C.Read.remaining c.args.certificate.now) mine.worths mine.predecessors c.len.result c.len.ensures.is c.in_ok-mine.ensures.read
-    c.in_ok-marks.marks.items c.in_ok-marks.ensures.read (g.W.Write.contents c.args.out.now) c.in_err-beside.field-0.0 c.in_err-beside.ensures.judged)
+    c.in_ok-marks.marks.items c.in_ok-marks.ensures.read (g.W.Write.contents c.args.out.now) c.in_err-beside.field-0.0 c.in_err-beside.ensures.0)
 
 pub returns-clause-answer : goal.returns-clause-answer
 returns-clause-answer g c =
     let mine = c.in_ok-mine.mine in
     let b = c.in_ok-beside.beside in
     paired c.args.inputs.now g.D.Read.remaining (g.E.Read.remaining c.args.design.now) (g.C.Read.remaining c.args.certificate.now) mine.worths mine.predecessors c.len.result c.len.ensures.is c.in_ok-mine.ensures.read
-    c.in_ok-marks.marks.items c.in_ok-marks.ensures.read (design_view b.valued) b.judgement (g.W.Write.contents c.args.out.now) (g.W.Write.contents c.tell_beside.new.out) c.tell_beside.result c.in_ok-beside.ensures.judged c.tell_beside.ensures.answer
+    c.in_ok-marks.marks.items c.in_ok-marks.ensures.read (design_view b.valued) b.judgement (g.W.Write.contents c.args.out.now) (g.W.Write.contents c.tell_beside.new.out) c.tell_beside.result c.in_ok-beside.ensures.0 c.tell_beside.ensures.answer
