@@ -69,6 +69,7 @@ told_by_place b p ps j k r h e l true false v w =
     let here : is_pair b p (get_or ps k (0, 0)) ≡ true = tells_pair b p (get_or ps k (0, 0)) (ap (λ (i : ℕ). get_or ps i (0, 0)) (sym same) ∙ e) in
     absurd (let z : true ≡ false = sym here ∙ w in cc)
 told_by_place b p ps j k r h e l false true v w = grind (arith, common_steps, (one_place ps j k (b, p) r h l e (pair_told b p (get_or ps k (0, 0)) w) (ltb j k) (ltb k j) refl refl), (pair_told b p (get_or ps k (0, 0)) w), (eq-eqb j k (one_place ps j k (b, p) r h l e (pair_told b p (get_or ps k (0, 0)) w) (ltb j k) (ltb k j) refl refl)))
+told_by_place b p ps j k r h e l t u v w = w ∙ sym v
 
 -- an amount of a line at one end of its pair, where that is a REST line
 abbrev pub end_by : LineKind → ℕ → ℕ → Amount → Amount
