@@ -6,7 +6,7 @@ ghost use Rattle.shell_engines.specs.Devices.{InputsCanCount, OutputsCanCount, f
 use command_line::{SeriesArgs, SeriesCommand};
 use engines::{Effort, EngineFault, Verdict};
 use fixed_worth::Counted;
-use pit_files::{Replaced, Told, advice_for_series, make_file, open_file, open_settings, output};
+use pit_files::{Heard, Replaced, Told, advice_for_series, make_file, open_file, output};
 use pseudoflow::Progress;
 use report_engines::report_engine;
 use shell_engines::{SeriesInputs, SeriesOutputs, SeriesProgress, shells_engine};
@@ -22,32 +22,13 @@ pub fn series_files<
     R: Files + Print + Eprint + Threads + Wait + Sync + AllocGlobal,
     T: Gate + Progress + SeriesProgress,
 >(rt: &'a R, args: SeriesArgs<'a>, effort: Effort, watch: &T) -> Result<Verdict, EngineFault> {
+    let alloc = rt.alloc();
+    let mut inputs = open_series(rt, args)?;
+    let mut outputs = make_outputs(rt, args)?;
     match args.command {
-        SeriesCommand::Shells => shells_files(rt, args, effort, watch),
-        SeriesCommand::Report => report_files(rt, args, effort, watch),
+        SeriesCommand::Shells => shells_engine(rt, alloc, &mut inputs, effort, watch, &mut outputs),
+        SeriesCommand::Report => report_engine(rt, alloc, &mut inputs, effort, watch, &mut outputs),
     }
-}
-
-// Draws the shells.
-fn shells_files<
-    'a,
-    R: Files + Print + Eprint + Threads + Wait + Sync + AllocGlobal,
-    T: Gate + Progress + SeriesProgress,
->(rt: &'a R, args: SeriesArgs<'a>, effort: Effort, watch: &T) -> Result<Verdict, EngineFault> {
-    let mut inputs = open_series(rt, args)?;
-    let mut outputs = make_outputs(rt, args)?;
-    shells_engine(rt, rt.alloc(), &mut inputs, effort, watch, &mut outputs)
-}
-
-// Makes the bench table.
-fn report_files<
-    'a,
-    R: Files + Print + Eprint + Threads + Wait + Sync + AllocGlobal,
-    T: Gate + Progress + SeriesProgress,
->(rt: &'a R, args: SeriesArgs<'a>, effort: Effort, watch: &T) -> Result<Verdict, EngineFault> {
-    let mut inputs = open_series(rt, args)?;
-    let mut outputs = make_outputs(rt, args)?;
-    report_engine(rt, rt.alloc(), &mut inputs, effort, watch, &mut outputs)
 }
 
 // Opens the inputs, that of the predecessors first.
@@ -57,9 +38,11 @@ fn open_series<'a, R: Files + Eprint + AllocGlobal>(
 ) -> Result<SeriesInputs<Counted<Told<'a, R, R::File>>>, EngineFault>
     ensures { IfOk result (λ inputs. InputsCanCount inputs (λ device. device.failures)) }
 {
-    let prec = open_file(rt, args.verbose, args.prec)?;
-    let settings = open_settings(rt, args.verbose, args.settings, None)?;
-    let blocks = open_file(rt, args.verbose, args.blocks)?;
+    let alloc = rt.alloc();
+    let prec = open_file(rt, args.verbose, args.prec, Heard::nothing(alloc))?;
+    let heard = Heard::of_settings(alloc, args.verbose, None);
+    let settings = open_file(rt, args.verbose, args.settings, heard)?;
+    let blocks = open_file(rt, args.verbose, args.blocks, Heard::nothing(alloc))?;
     Ok(SeriesInputs {
         settings,
         blocks,

@@ -10,7 +10,7 @@ use engines::{
     EngineFault, PatternChoice, Verdict, check_engine, slopes_engine, slopes_from_settings_engine,
 };
 use fixed_worth::Counted;
-use pit_files::{offsets_of, open_blocks, open_file, open_mine, open_settings, output};
+use pit_files::{Heard, offsets_of, open_file, open_mine, output};
 use replay_engines::{ReplayAsked, replay_engine};
 use shells::Factor;
 use slope::Up;
@@ -27,7 +27,8 @@ pub fn check_files<'a, R: Files + Print + Eprint + Threads + Sync + AllocGlobal>
     args: CheckArgs<'a>,
 ) -> Result<Verdict, EngineFault> {
     let mut mine = open_mine(rt, args.verbose, args.prec, args.model)?;
-    let mut certificate = open_file(rt, args.verbose, args.certificate)?;
+    let heard = Heard::nothing(rt.alloc());
+    let mut certificate = open_file(rt, args.verbose, args.certificate, heard)?;
     let mut out = Counted::new(output(rt, args.verbose, None));
     check_engine(rt, rt.alloc(), &mut mine, &mut certificate, &mut out)
 }
@@ -42,7 +43,7 @@ pub fn replay_files<'a, R: Files + Print + Eprint + Threads + Sync + AllocGlobal
     asked: ReplayAsked,
 ) -> Result<Verdict, EngineFault> {
     let mut mine = open_mine(rt, args.verbose, args.prec, args.model)?;
-    let mut trace = open_file(rt, args.verbose, args.trace)?;
+    let mut trace = open_file(rt, args.verbose, args.trace, Heard::nothing(rt.alloc()))?;
     let mut out = Counted::new(output(rt, args.verbose, None));
     replay_engine(rt, rt.alloc(), &mut mine, &mut trace, asked, &mut out)
 }
@@ -56,37 +57,17 @@ pub fn value_files<'a, R: Files + Print + Eprint + Threads + Sync + AllocGlobal>
     args: ValueArgs<'a>,
     factor: Factor,
 ) -> Result<Verdict, ValueFault> {
-    match args.best {
-        Some(best) => design_beside_best(rt, args, best),
-        None => design_alone(rt, args, factor),
-    }
-}
-
-// Judges the design by itself.
-fn design_alone<'a, R: Files + Print + Eprint + Threads + Sync + AllocGlobal>(
-    rt: &'a R,
-    args: ValueArgs<'a>,
-    factor: Factor,
-) -> Result<Verdict, ValueFault> {
+    let alloc = rt.alloc();
     let mut mine = open_mine(rt, args.verbose, args.prec, args.model)?;
-    let mut design = open_file(rt, args.verbose, args.design)?;
+    let mut design = open_file(rt, args.verbose, args.design, Heard::nothing(alloc))?;
     let mut out = Counted::new(output(rt, args.verbose, None));
-    value_engine(rt, rt.alloc(), &mut mine, &mut design, factor, &mut out)
-}
-
-// Judges the design beside the pit of the certificate in this file.
-fn design_beside_best<'a, R: Files + Print + Eprint + Threads + Sync + AllocGlobal>(
-    rt: &'a R,
-    args: ValueArgs<'a>,
-    best: &'a str,
-) -> Result<Verdict, ValueFault> {
-    let mut mine = open_mine(rt, args.verbose, args.prec, args.model)?;
-    let mut design = open_file(rt, args.verbose, args.design)?;
-    let mut certificate = open_file(rt, args.verbose, best)?;
-    let mut out = Counted::new(output(rt, args.verbose, None));
+    let Some(best) = args.best else {
+        return value_engine(rt, alloc, &mut mine, &mut design, factor, &mut out);
+    };
+    let mut certificate = open_file(rt, args.verbose, best, Heard::nothing(alloc))?;
     compare_engine(
         rt,
-        rt.alloc(),
+        alloc,
         &mut mine,
         &mut design,
         &mut certificate,
@@ -107,7 +88,8 @@ pub fn slopes_file<R: Files + Print + Eprint + AllocGlobal>(
     requires { IsChoice pattern }
 {
     let offsets = AtomicU64::new(offsets_of(rt.alloc(), pattern));
-    let mut blocks = open_blocks(rt, args.verbose, args.blocks, &offsets)?;
+    let heard = Heard::of_blocks(rt.alloc(), args.verbose, &offsets);
+    let mut blocks = open_file(rt, args.verbose, args.blocks, heard)?;
     let mut out = Counted::new(output(rt, args.verbose, None));
     let selection = selection_asked(args);
     slopes_engine(rt.alloc(), &mut blocks, pattern, up, selection, &mut out)
@@ -124,8 +106,10 @@ pub fn listed_slopes_files<R: Files + Print + Eprint + AllocGlobal>(
     up: Up,
 ) -> Result<Verdict, EngineFault> {
     let offsets = AtomicU64::new(0);
-    let mut settings = open_settings(rt, args.verbose, settings, Some(&offsets))?;
-    let mut blocks = open_blocks(rt, args.verbose, args.blocks, &offsets)?;
+    let heard = Heard::of_settings(rt.alloc(), args.verbose, Some(&offsets));
+    let mut settings = open_file(rt, args.verbose, settings, heard)?;
+    let heard = Heard::of_blocks(rt.alloc(), args.verbose, &offsets);
+    let mut blocks = open_file(rt, args.verbose, args.blocks, heard)?;
     let mut out = Counted::new(output(rt, args.verbose, None));
     let selection = selection_asked(args);
     slopes_from_settings_engine(

@@ -3,6 +3,7 @@
 ghost use Rattle.std.specs.Prelude.{IfOk};
 ghost use Rattle.engines.specs.Slopes.{IsChoice};
 
+use crate::solve_options::wrong;
 use command_line::{Commanded, NamedOption, SlopesArgs, WrongValue};
 use engines::{PatternChoice, pattern_named, up_named};
 use slope::{Selection, Up};
@@ -14,11 +15,8 @@ use slope::{Selection, Up};
 pub fn pattern_asked<'a>(value: &'a str) -> Result<PatternChoice, WrongValue<'a>>
     ensures { IfOk result IsChoice }
 {
-    pattern_named(value.as_bytes()).ok_or(WrongValue {
-        command: Commanded::Slopes,
-        option: NamedOption::Pattern,
-        value,
-    })
+    let pattern = pattern_named(value.as_bytes());
+    pattern.ok_or(wrong(Commanded::Slopes, NamedOption::Pattern, value))
 }
 
 /// Which way is up: a greater z, where no option says.
@@ -27,11 +25,11 @@ pub fn pattern_asked<'a>(value: &'a str) -> Result<PatternChoice, WrongValue<'a>
 /// The value that names nothing, with its option.
 pub fn up_asked<'a>(args: SlopesArgs<'a>) -> Result<Up, WrongValue<'a>> {
     match args.up {
-        Some(value) => up_named(value.as_bytes()).ok_or(WrongValue {
-            command: Commanded::Slopes,
-            option: NamedOption::Up,
+        Some(value) => up_named(value.as_bytes()).ok_or(wrong(
+            Commanded::Slopes,
+            NamedOption::Up,
             value,
-        }),
+        )),
         None => Ok(Up::PlusZ),
     }
 }

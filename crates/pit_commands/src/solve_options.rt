@@ -10,6 +10,15 @@ use ordered_group::Group;
 use replay_engines::ReplayAsked;
 use shells::Factor;
 
+/// The value of an option of a command, which names nothing.
+pub fn wrong<'a>(command: Commanded, option: NamedOption<'a>, value: &'a str) -> WrongValue<'a> {
+    WrongValue {
+        command,
+        option,
+        value,
+    }
+}
+
 /// What amounts count: worth and size, where no option says.
 ///
 /// # Errors
@@ -19,11 +28,11 @@ pub fn group_asked<'a>(
     value: Option<&'a str>,
 ) -> Result<Group, WrongValue<'a>> {
     match value {
-        Some(value) => group_named(value.as_bytes()).ok_or(WrongValue {
+        Some(value) => group_named(value.as_bytes()).ok_or(wrong(
             command,
-            option: NamedOption::Group,
+            NamedOption::Group,
             value,
-        }),
+        )),
         None => Ok(Group::Pair),
     }
 }
@@ -46,11 +55,7 @@ pub fn factor_asked<'a>(
         ModelArgs::Values { .. } => "0",
         ModelArgs::Prices { .. } => value.unwrap_or(""),
     };
-    factor_named(value.as_bytes()).ok_or(WrongValue {
-        command,
-        option: NamedOption::Factor,
-        value,
-    })
+    factor_named(value.as_bytes()).ok_or(wrong(command, NamedOption::Factor, value))
 }
 
 /// What a replay is asked for.
@@ -99,16 +104,11 @@ pub fn trace_asked<'a>(
     let room = room_asked(args)?;
     match args.trace {
         None => Ok(None),
-        Some(_) if method == Method::Pseudoflow => Err(WrongValue {
-            command: Commanded::Solve,
-            option: NamedOption::TracedMethod,
-            value: args.method.unwrap_or(""),
-        }),
-        Some(file) if args.reads(file) => Err(WrongValue {
-            command: Commanded::Solve,
-            option: NamedOption::Trace,
-            value: file,
-        }),
+        Some(_) if method == Method::Pseudoflow => {
+            let value = args.method.unwrap_or("");
+            Err(wrong(Commanded::Solve, NamedOption::TracedMethod, value))
+        }
+        Some(file) if args.reads(file) => Err(wrong(Commanded::Solve, NamedOption::Trace, file)),
         Some(file) => Ok(Some(TraceAsked { file, room })),
     }
 }
@@ -119,11 +119,11 @@ pub fn trace_asked<'a>(
 /// The value that names nothing, with its option.
 pub fn room_asked<'a>(args: SolveArgs<'a>) -> Result<u32, WrongValue<'a>> {
     match args.room {
-        Some(value) => room_named(value.as_bytes()).ok_or(WrongValue {
-            command: Commanded::Solve,
-            option: NamedOption::Room,
+        Some(value) => room_named(value.as_bytes()).ok_or(wrong(
+            Commanded::Solve,
+            NamedOption::Room,
             value,
-        }),
+        )),
         None => Ok(USUAL_ROOM),
     }
 }

@@ -29,9 +29,13 @@ pub fn solve_files<
     factor: Factor,
     watch: &T,
 ) -> Result<Verdict, EngineFault> {
+    let alloc = rt.alloc();
+    let mut mine = open_mine(rt, args.verbose, args.prec, args.model)?;
+    let mut out = Counted::new(output(rt, args.verbose, Some(advice_to_solve(args))));
     match solving {
         SolvingAsked::LockFree(effort) => {
-            lock_free_files(rt, args, LockFreeAsked { factor, effort }, watch)
+            let asked = LockFreeAsked { factor, effort };
+            solve_lock_free_engine(rt, alloc, &mut mine, asked, watch, &mut out)
         }
         SolvingAsked::ByMethod { group, effort } => {
             let asked = SolveAsked {
@@ -39,7 +43,7 @@ pub fn solve_files<
                 group,
                 effort,
             };
-            method_files(rt, args, asked, watch)
+            solve_engine(rt, alloc, &mut mine, asked, watch, &mut out)
         }
         SolvingAsked::Traced {
             group,
@@ -52,49 +56,9 @@ pub fn solve_files<
                 effort,
                 room: trace.room,
             };
-            trace_files(rt, args, asked, trace.file, watch)
+            let trace = make_file(rt, args.verbose, trace.file)?;
+            let mut outputs = TracedOutputs { trace, out };
+            solve_traced_engine(rt, alloc, &mut mine, asked, watch, &mut outputs)
         }
     }
-}
-
-// Solves it by a run without a lock.
-fn lock_free_files<
-    'a,
-    R: Files + Print + Eprint + Threads + Wait + Sync + AllocGlobal,
-    T: Gate + Outcome,
->(rt: &'a R, args: SolveArgs<'a>, asked: LockFreeAsked, watch: &T) -> Result<Verdict, EngineFault> {
-    let mut mine = open_mine(rt, args.verbose, args.prec, args.model)?;
-    let mut out = Counted::new(output(rt, args.verbose, Some(advice_to_solve(args))));
-    solve_lock_free_engine(rt, rt.alloc(), &mut mine, asked, watch, &mut out)
-}
-
-// Solves it by the method of an effort.
-fn method_files<
-    'a,
-    R: Files + Print + Eprint + Threads + Wait + Sync + AllocGlobal,
-    T: Gate + Progress + Outcome,
->(rt: &'a R, args: SolveArgs<'a>, asked: SolveAsked, watch: &T) -> Result<Verdict, EngineFault> {
-    let mut mine = open_mine(rt, args.verbose, args.prec, args.model)?;
-    let mut out = Counted::new(output(rt, args.verbose, Some(advice_to_solve(args))));
-    solve_engine(rt, rt.alloc(), &mut mine, asked, watch, &mut out)
-}
-
-// Solves it by the push-relabel machine, and writes the trace of the run to a file.
-fn trace_files<
-    'a,
-    R: Files + Print + Eprint + Threads + Wait + Sync + AllocGlobal,
-    T: Gate + Outcome,
->(
-    rt: &'a R,
-    args: SolveArgs<'a>,
-    asked: TracedAsked,
-    file: &'a str,
-    watch: &T,
-) -> Result<Verdict, EngineFault> {
-    let mut mine = open_mine(rt, args.verbose, args.prec, args.model)?;
-    let mut outputs = TracedOutputs {
-        trace: make_file(rt, args.verbose, file)?,
-        out: Counted::new(output(rt, args.verbose, Some(advice_to_solve(args)))),
-    };
-    solve_traced_engine(rt, rt.alloc(), &mut mine, asked, watch, &mut outputs)
 }

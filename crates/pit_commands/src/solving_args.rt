@@ -1,7 +1,9 @@
 //! How `solve` is to solve a mine, by its arguments, or the value that names nothing that there is.
 
 use crate::effort_args::{effort_to_solve, effort_without_lock, method_asked};
-use crate::solve_options::{TraceAsked, asks_for_lock_free, group_asked, room_asked, trace_asked};
+use crate::solve_options::{
+    TraceAsked, asks_for_lock_free, group_asked, room_asked, trace_asked, wrong,
+};
 use command_line::{Commanded, NamedOption, SolveArgs, WrongValue};
 use engines::{Effort, Method};
 use lock_free_engine::LockFreeEffort;
@@ -83,17 +85,12 @@ fn solving_without_lock<'a>(
     let _room = room_asked(args)?;
     match args.group {
         Some(value) if group != Group::Scaled => {
-            Err(wrong(NamedOption::GroupWithoutLock { method }, value))
+            let option = NamedOption::GroupWithoutLock { method };
+            Err(wrong(Commanded::Solve, option, value))
         }
-        _ if args.trace.is_some() => Err(wrong(NamedOption::TracedMethod, method)),
+        _ if args.trace.is_some() => {
+            Err(wrong(Commanded::Solve, NamedOption::TracedMethod, method))
+        }
         _ => Ok(SolvingAsked::LockFree(effort_without_lock(args)?)),
-    }
-}
-
-fn wrong<'a>(option: NamedOption<'a>, value: &'a str) -> WrongValue<'a> {
-    WrongValue {
-        command: Commanded::Solve,
-        option,
-        value,
     }
 }

@@ -14,7 +14,8 @@ mod settings_reasons;
 mod told;
 
 pub use advice::{Advice, advice_for_series, advice_to_solve};
-pub use opened::{make_file, open_blocks, open_file, open_mine, open_settings};
+pub use heard::Heard;
+pub use opened::open_mine;
 pub use pairs_bound::offsets_of;
 pub use replaced::Replaced;
-pub use told::{Told, output};
+pub use told::{Told, make_file, open_file, output};

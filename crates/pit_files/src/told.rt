@@ -1,10 +1,17 @@
-//! Files and the output, which tell why they failed where that is asked for.
+//! Files and the output, opened with their failures counted, which tell why they failed where that is asked for.
+
+ghost use Rattle.std.specs.Prelude.{◌≡◌, IfOk};
 
 use crate::advice::Advice;
 use crate::heard::Heard;
+use crate::replaced::{Replaced, open_replaced};
 use command_line::Escaped;
+use engines::EngineFault;
+use fixed_worth::Counted;
+use std::fs::File;
 use std::io;
 use std::io::{Printer, Read, Write};
+use std::rt::Files;
 
 /// A file, or standard output, under its name. It reports on standard error, where that was asked for: the system's reason for
 /// each call that fails, whose failure is handed on; a file that begins with the mark of UTF-8; and, for the output of a
@@ -31,28 +38,72 @@ pub fn output<'a, R: Print + Eprint + AllocGlobal>(
     verbose: bool,
     advice: Option<Advice>,
 ) -> Told<'a, R, Printer<'a, R>> {
-    let heard = Heard::nothing(rt.alloc());
-    let mut told = told_by(rt, verbose, "standard output", io::writer(rt), heard);
-    told.advice = advice;
-    told
-}
-
-/// A device under its name, and what is told at the end of what is read of it.
-pub fn told_by<'a, R, D>(
-    rt: &'a R,
-    verbose: bool,
-    name: &'a str,
-    device: D,
-    heard: Heard<'a>,
-) -> Told<'a, R, D> {
     Told {
         rt,
         verbose,
-        name,
-        advice: None,
-        device,
+        name: "standard output",
+        advice,
+        device: io::writer(rt),
         is_begun: false,
-        heard,
+        heard: Heard::nothing(rt.alloc()),
+    }
+}
+
+/// Opens a file to be read, of which there may be something to tell at its end.
+///
+/// # Errors
+/// `Device` where it can't be opened.
+pub fn open_file<'a, R: Files + Eprint>(
+    rt: &'a R,
+    verbose: bool,
+    name: &'a str,
+    heard: Heard<'a>,
+) -> Result<Counted<Told<'a, R, R::File>>, EngineFault>
+    ensures { IfOk result (λ counted. counted.failures ≡ 0) }
+{
+    match File::open(rt, name) {
+        Ok(device) => Ok(Counted::new(Told {
+            rt,
+            verbose,
+            name,
+            advice: None,
+            device,
+            is_begun: false,
+            heard,
+        })),
+        Err(error) => {
+            tell(rt, verbose, "open", name, error);
+            Err(EngineFault::Device)
+        }
+    }
+}
+
+/// Opens a file to be replaced at the first write, or makes one. It may be one of the inputs by a link: those are read
+/// before anything is written.
+///
+/// # Errors
+/// `Device` where it can't be made.
+pub fn make_file<'a, R: Files + Eprint + AllocGlobal>(
+    rt: &'a R,
+    verbose: bool,
+    name: &'a str,
+) -> Result<Counted<Told<'a, R, Replaced<R::File>>>, EngineFault>
+    ensures { IfOk result (λ counted. counted.failures ≡ 0) }
+{
+    match open_replaced(rt, name) {
+        Ok(device) => Ok(Counted::new(Told {
+            rt,
+            verbose,
+            name,
+            advice: None,
+            device,
+            is_begun: false,
+            heard: Heard::nothing(rt.alloc()),
+        })),
+        Err(error) => {
+            tell(rt, verbose, "make", name, error);
+            Err(EngineFault::Device)
+        }
     }
 }
 
@@ -106,9 +157,9 @@ impl<R: Eprint, D: Write> Write for Told<'_, R, D> {
     }
 }
 
-/// Tells what couldn't be done with what, and why. The engine answers by the failure itself, so nothing depends on whether
-/// anybody can be told.
-pub fn tell<R: Eprint>(rt: &R, verbose: bool, what: &str, name: &str, why: io::Error) {
+// Tells what couldn't be done with what, and why. The engine answers by the failure itself, so nothing depends on whether
+// anybody can be told.
+fn tell<R: Eprint>(rt: &R, verbose: bool, what: &str, name: &str, why: io::Error) {
     if verbose {
         let name = Escaped { text: name };
         let _ = rt.eprintln(format_args!("reason: cannot {what} {name}: {why}"));
