@@ -3,12 +3,12 @@
 ghost use Rattle.std.specs.Prelude.{◌≡◌, ◌+◌, ◌-◌, ◌^◌, ◌<◌, ◌≤◌, ◌++◌, length, OnOk, OnErr};
 ghost use Rattle.std.specs.Io.KnownBytes.{Appends};
 ghost use Rattle.fixed_worth.specs.Device.{ReceivedPrefix};
-ghost use Rattle.fixed_worth.specs.FaultText.{at_line};
 ghost use Rattle.design_file.specs.Records.{design_fault_text};
 ghost use Rattle.design_engines.specs.FaultText.{design_problem_text, design_problem_words, design_problem_line};
 
 use crate::value_fault::DesignProblem;
 use design_file::DesignFault;
+use engines::push_at;
 use fixed_worth::{CountedWrite, ShortLine, WriteFault, write_text};
 
 /// Writes the line of what is wrong with a design: `fault: design `, and the problem. It takes no memory.
@@ -66,17 +66,4 @@ fn push_fault(line: &mut ShortLine, fault: DesignFault)
         DesignFault::Repeated(n) => push_at(line, b"Repeated", n),
         DesignFault::NoMemory => line.push(b"NoMemory"),
     }
-}
-
-// A name, and a line's number in parentheses.
-fn push_at(line: &mut ShortLine, name: &[u8], number: u64)
-    requires room { length line.old ≤ 64 }
-    requires short { length name.now ≤ 16 }
-    ensures text { line.new ≡ line.old ++ at_line name.now number }
-    ensures length { length line.new ≤ length line.old + 60 }
-{
-    line.push(name);
-    line.push(b"(");
-    line.push_number(u128::from(number));
-    line.push(b")");
 }

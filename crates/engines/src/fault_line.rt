@@ -123,8 +123,8 @@ fn push_problem(line: &mut ShortLine, fault: &EngineFault)
     }
 }
 
-// A name, and a line's number in parentheses.
-fn push_at(line: &mut ShortLine, name: &[u8], number: u64)
+/// Appends a name, and a line's number in parentheses.
+pub fn push_at(line: &mut ShortLine, name: &[u8], number: u64)
     requires room { length line.old ≤ 64 }
     requires short { length name.now ≤ 16 }
     ensures text { line.new ≡ line.old ++ at_line name.now number }

@@ -33,7 +33,7 @@ mod whole_numbers;
 
 pub use checking_engine::check_engine;
 pub use effort::Effort;
-pub use fault_line::{status, write_fault};
+pub use fault_line::{push_at, status, write_fault};
 pub use judgement::{Judgement, Verdict};
 pub use listed_slopes::slopes_from_settings_engine;
 pub use method::{Method, method_named};
