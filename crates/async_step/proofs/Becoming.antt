@@ -1,24 +1,17 @@
 -- What a step leaves, as lists.
-use Rattle.std.proofs.Common.{◌≡◌, Result, Err, MatchResult, ◌↔◌, IsTrue, Bool, false, ℕ, ◌+◌, ◌<◌, ◌≤◌, ◌^◌, List, length, get_or, set, sym, refl, ap, subst, ◌∙◌, arith, length-set, get_or-set_same, get_or-set_other}
-use Rattle.std.proofs.Math.Path.{fun_ext}
-use Rattle.std.proofs.lemmas.Bool.{cases_eq}
-use Rattle.ordered_group.specs.Amount.{Amount, zero_amount, minus, negative, FitsPair}
-use Rattle.ordered_group.specs.Sums.{amount_at}
+use Rattle.fixed_worth.proofs.Common.{◌≡◌, Result, Err, MatchResult, ◌↔◌, IsTrue, Bool, false, ℕ, ◌+◌, ◌<◌, ◌≤◌, ◌^◌, List, length, get_or, set, sym, refl, ap, subst, ◌∙◌, arith, length-set, get_or-set_same, get_or-set_other, fun_ext, cases_eq, common_steps}
+use Rattle.ordered_group.specs.Prelude.{Amount, zero_amount, minus, negative, FitsPair, amount_at}
 use Rattle.closure_net.specs.Network.{NetView}
 use Rattle.machine_law.specs.declared.operations.Operation.{Operation}
 use Rattle.machine_law.specs.declared.operations.Operation.TheVariants.{Idle}
-use Rattle.machine_law.specs.States.{State, with_value_at}
-use Rattle.machine_law.specs.Steps.{with_operation}
+use Rattle.machine_law.specs.Prelude.{State, with_value_at, with_operation}
 use Rattle.machine_law.proofs.Points.{with_value_at-same, with_value_at-other, with_value_at-each}
 use Rattle.async_step.specs.declared.limits.TheConstants.{MOST_STEPS}
-use Rattle.async_step.specs.Views.{StateView, state_of, operation_at, IsSized}
-use Rattle.async_step.specs.Answers.{Fits, IsStateOf, GoesTo, StateStays}
-use Rattle.async_step.specs.Changes.{CanChange, after_change, lists_after_change}
+use Rattle.async_step.specs.Prelude.{StateView, state_of, operation_at, IsSized, Fits, IsStateOf, GoesTo, StateStays, CanChange, after_change, lists_after_change}
 use Rattle.async_step.specs.declared.changing.Change.{Change}
 use Rattle.async_step.specs.declared.changing.Change.TheVariants.{Nothing, Excess, Label, Source, Sink, Flow, AtSource, AtSink}
 use Rattle.async_step.specs.declared.refusals.StepRefusal.{StepRefusal}
 use Rattle.async_step.specs.declared.refusals.StepRefusal.TheVariants.{TooLarge}
-use Rattle.std.proofs.lemmas.Grind.{common_steps}
 
 -- a list with another element, as a function from its places
 places-set : {X : Type 0} (xs : List X) (k : ℕ) (v d : X) → k < length xs → (λ i. get_or (set xs k v) i d) ≡ with_value_at (λ i. get_or xs i d) k v

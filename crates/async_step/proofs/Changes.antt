@@ -1,15 +1,10 @@
 -- A state's lists with one element changed.
-use Rattle.std.proofs.Common.{◌≡◌, ℕ, ◌<◌, ◌+◌, Bool, false, not, ◌&&◌, ◌||◌, inl, inr, List, length, set, sym, ap, subst, ◌∙◌, arith, length-set, get_or-set_same, get_or-set_other}
-use Rattle.std.proofs.lemmas.Bool.{cases_eq}
-use Rattle.ordered_group.specs.Amount.{Amount, zero_amount, is_zero}
-use Rattle.ordered_group.specs.Sums.{amount_at}
+use Rattle.fixed_worth.proofs.Common.{◌≡◌, ℕ, ◌<◌, ◌+◌, Bool, false, not, ◌&&◌, ◌||◌, inl, inr, List, length, set, sym, ap, subst, ◌∙◌, arith, length-set, get_or-set_same, get_or-set_other, cases_eq, common_steps}
+use Rattle.ordered_group.specs.Prelude.{Amount, zero_amount, is_zero, amount_at}
 use Rattle.machine_law.specs.declared.operations.Operation.{Operation}
 use Rattle.machine_law.specs.declared.operations.Operation.TheVariants.{Idle}
-use Rattle.machine_law.specs.Reads.{is_positive}
-use Rattle.async_step.specs.Marks.{mark_at}
-use Rattle.async_step.specs.Views.{StateView, operation_at, IsMarked, IsState, is_waiting, is_busy}
-use Rattle.machine_law.specs.Operations.{is_idle}
-use Rattle.std.proofs.lemmas.Grind.{common_steps}
+use Rattle.machine_law.specs.Prelude.{is_positive, is_idle}
+use Rattle.async_step.specs.Prelude.{mark_at, StateView, operation_at, IsMarked, IsState, is_waiting, is_busy}
 
 -- the marks with one mark changed
 pub marked_set : (old new : ℕ → Bool) (n : ℕ) (marks : List Bool) (b : ℕ) → IsMarked old n marks → b < n → ((c : ℕ) → (c ≡ b → ⊥) → new c ≡ old c) → IsMarked new n (set marks b (new b))

@@ -1,15 +1,11 @@
 -- How a count follows its marks.
-use Rattle.std.proofs.Common.{◌≡◌, ℕ, zero, suc, ◌+◌, ◌-◌, ◌*◌, ◌/◌, ◌<◌, ◌≤◌, Bool, true, false, cond, inl, inr, List, length, get_or, set, sym, refl, ap, subst, ◌∙◌, arith, length-set, get_or-set_same, get_or-set_other}
+use Rattle.fixed_worth.proofs.Common.{◌≡◌, ℕ, zero, suc, ◌+◌, ◌-◌, ◌*◌, ◌/◌, ◌<◌, ◌≤◌, Bool, true, false, cond, inl, inr, List, length, get_or, set, sym, refl, ap, subst, ◌∙◌, arith, length-set, get_or-set_same, get_or-set_other, div-mul-le_self, lt-div-mul-add, div-eq_of_lt-le, cases_eq, get_or_default, common_steps}
 use mathlib.Core.Bool.{beq}
-use Rattle.std.proofs.Math.Nat.{div-mul-le_self, lt-div-mul-add, div-eq_of_lt-le}
-use Rattle.std.proofs.lemmas.Bool.{cases_eq}
-use Rattle.std.proofs.lemmas.List.{get_or_default}
 use Rattle.ordered_group.specs.Sets.{count_in}
 use Rattle.ordered_group.proofs.BlockSets.{count_in-same, count_in-most}
 use Rattle.prec_file.proofs.Starts.{read_at}
 use Rattle.async_step.specs.declared.marks.TheConstants.{SMALL, MIDDLE, LARGE}
 use Rattle.async_step.specs.Marks.{mark_at, run_count, IsCounted, IsMarks, count_after_shift, CanShift}
-use Rattle.std.proofs.lemmas.Grind.{common_steps}
 
 -- one more number passes
 one_more : (e f : ℕ → Bool) (k n : ℕ) → k < n → e k ≡ false → f k ≡ true → ((j : ℕ) → (j ≡ k → ⊥) → f j ≡ e j) → count_in f n ≡ count_in e n + 1

@@ -1,14 +1,10 @@
 -- What counts tell of stretches without a mark.
-use Rattle.std.proofs.Common.{◌≡◌, ◌↔◌, ℕ, zero, suc, ◌+◌, ◌/◌, ◌%◌, ◌<◌, ◌≤◌, Bool, false, List, length, get_or, replicate, sym, refl, ◌∙◌, arith}
-use Rattle.std.proofs.Math.Nat.{lt-div-mul-add, div-lt_iff_lt-mul}
-use Rattle.std.proofs.lemmas.Nat.{div-add-mod'}
-use Rattle.std.proofs.lemmas.List.{get_or_default, length-replicate}
+use Rattle.fixed_worth.proofs.Common.{◌≡◌, ◌↔◌, ℕ, zero, suc, ◌+◌, ◌/◌, ◌%◌, ◌<◌, ◌≤◌, Bool, false, List, length, get_or, replicate, sym, refl, ◌∙◌, arith, lt-div-mul-add, div-lt_iff_lt-mul, div-add-mod', get_or_default, length-replicate, common_steps}
 use Rattle.fixed_worth.specs.declared.limits.TheConstants.{MOST_BLOCKS}
 use Rattle.ordered_group.specs.Sets.{count_in}
 use Rattle.async_step.specs.declared.marks.TheConstants.{SMALL, MIDDLE, LARGE}
 use Rattle.async_step.specs.Marks.{mark_at, run_count, IsCounted, IsMarks, NoneWithin}
 use Rattle.async_step.proofs.Counts.{run_none}
-use Rattle.std.proofs.lemmas.Grind.{common_steps}
 
 -- a run that counts none, from its first block on
 pub gap_none : (marks : List Bool) (width : ℕ) (counts : List ℕ) (at x : ℕ) → IsCounted marks width counts → at ≤ length marks → at % width ≡ 0 → x ≡ get_or counts (at / width) x → x ≡ 0 → NoneWithin marks at (at + width)

@@ -1,19 +1,12 @@
 -- The opening state.
-use Rattle.std.proofs.Common.{◌≡◌, ℕ, zero, suc, ◌≤◌, Bool, not, List, ◌∷◌, length, map, replicate, refl, ap, subst, arith}
-use Rattle.std.specs.Prelude.{All}
+use Rattle.fixed_worth.proofs.Common.{◌≡◌, ℕ, zero, suc, ◌≤◌, Bool, not, List, ◌∷◌, length, map, replicate, refl, ap, subst, arith, All, length-replicate, ints, common_steps}
 use Rattle.std.proofs.Math.ListN.{get_or-map}
-use Rattle.std.proofs.lemmas.List.{length-replicate}
-use Rattle.std.proofs.lemmas.Int.{ints}
 use Rattle.fixed_worth.specs.declared.limits.TheConstants.{MOST_BLOCKS}
-use Rattle.ordered_group.specs.Amount.{Amount, zero_amount, minus, positive, negative, FitsPair, is_zero}
-use Rattle.ordered_group.specs.Sums.{amount_at}
+use Rattle.ordered_group.specs.Prelude.{Amount, zero_amount, minus, positive, negative, FitsPair, is_zero, amount_at}
 use Rattle.closure_net.specs.Network.{NetView, IsNet}
 use Rattle.machine_law.specs.declared.operations.Operation.TheVariants.{Idle}
-use Rattle.machine_law.specs.States.{opening}
-use Rattle.machine_law.specs.Reads.{is_positive}
-use Rattle.async_step.specs.Views.{StateView, state_of, IsMarked, IsState}
-use Rattle.async_step.specs.Answers.{Fits, IsStateOf}
-use Rattle.std.proofs.lemmas.Grind.{common_steps}
+use Rattle.machine_law.specs.Prelude.{opening, is_positive}
+use Rattle.async_step.specs.Prelude.{StateView, state_of, IsMarked, IsState, Fits, IsStateOf}
 
 pub mapped_replicate : {X Y : Type 0} (f : X → Y) (n : ℕ) (z : X) → map f (replicate n z) ≡ replicate n (f z)
 mapped_replicate f zero z = refl

@@ -1,16 +1,12 @@
 -- A block's look at its ports, in the place of its operation.
-use Rattle.std.proofs.Common.{◌≡◌, ℕ, ◌+◌, ◌<◌, Bool, true, false, if◌then◌else◌, Some, None, List, length, get_or, set, map, sym, refl, ap, ap₂, subst, arith, get_or-set_same, ◌∙◌}
-use Rattle.std.specs.Prelude.{nat_lt, slice_index}
-use Rattle.std.proofs.lemmas.List.{map-set, get_or-map, get_or_read, length-map}
+use Rattle.fixed_worth.proofs.Common.{◌≡◌, ℕ, ◌+◌, ◌<◌, Bool, true, false, if◌then◌else◌, Some, None, List, length, get_or, set, map, sym, refl, ap, ap₂, subst, arith, get_or-set_same, ◌∙◌, nat_lt, slice_index, map-set, get_or-map, get_or_read, length-map}
 use Rattle.ordered_group.specs.Amount.{Amount}
 use Rattle.closure_net.specs.declared.port.Port.{Port}
 use Rattle.machine_law.specs.declared.operations.Best.{Best}
 use Rattle.machine_law.specs.declared.operations.Operation.{Operation}
-use Rattle.machine_law.specs.declared.operations.Operation.TheVariants.{Idle, Scan, PushDue, TakeDue, GiveDue, RaiseDue}
-use Rattle.machine_law.specs.Operations.{operation_as, is_idle}
-use Rattle.machine_law.specs.Reads.{after_last_port, after_port, LooksAtPort}
-use Rattle.async_step.specs.Views.{StateView, operation_at}
-use Rattle.async_step.specs.Scans.{after_label_by}
+use Rattle.machine_law.specs.declared.operations.Operation.TheVariants.{Idle, Scan, PushDue, RaiseDue}
+use Rattle.machine_law.specs.Prelude.{operation_as, is_idle, after_last_port, after_port, LooksAtPort}
+use Rattle.async_step.specs.Prelude.{StateView, operation_at, after_label_by}
 
 -- an operation looks at one of so many ports where it does so with its amounts turned by f
 pub scan_under : {N M : Type 0} (f : N → M) (n : ℕ) (o : Operation N) → LooksAtPort n (operation_as f o) → LooksAtPort n o

@@ -1,29 +1,22 @@
 -- What a step leads to, by the operation of its block.
-use Rattle.std.proofs.Common.{◌≡◌, ℕ, ◌<◌, Bool, true, false, refl, Option, Some, None, [], ◌∷◌, ◌++◌, length, Result, Ok, Err, sym, ap, subst, ◌∙◌}
-use Rattle.std.specs.Prelude.{slice_get, MatchResult}
+use Rattle.fixed_worth.proofs.Common.{◌≡◌, ℕ, ◌<◌, Bool, true, false, refl, Option, Some, None, [], ◌∷◌, ◌++◌, length, Result, Ok, Err, sym, ap, subst, ◌∙◌, slice_get, MatchResult}
 use Rattle.ordered_group.specs.Amount.{Amount}
-use Rattle.closure_net.specs.Network.{NetView}
-use Rattle.closure_net.specs.Ports.{ports}
+use Rattle.closure_net.specs.Prelude.{NetView, ports}
 use Rattle.closure_net.specs.declared.port.Port.{Port}
 use Rattle.closure_net.specs.declared.port.PortKind.{PortKind}
-use Rattle.closure_net.specs.declared.port.PortKind.TheVariants.{Sink, Forward, Backward, Source}
+use Rattle.closure_net.specs.declared.port.PortKind.TheVariants.{Sink}
 use Rattle.machine_law.specs.declared.events.Event.{Event}
 use Rattle.machine_law.specs.declared.operations.Best.{Best}
 use Rattle.machine_law.specs.declared.operations.Operation.{Operation}
-use Rattle.machine_law.specs.declared.operations.Operation.TheVariants.{Idle, Scan, PushDue, TakeDue, GiveDue, RaiseDue}
-use Rattle.machine_law.specs.Residual.{end_label, IsPortOf}
-use Rattle.machine_law.specs.Steps.{Step, with_operation, after_label_at, after_look, after_look_by, next_kind, advance_by, advance}
-use Rattle.machine_law.specs.Amounts.{HasAmounts, IsOperation}
+use Rattle.machine_law.specs.declared.operations.Operation.TheVariants.{Scan, PushDue, GiveDue}
+use Rattle.machine_law.specs.Prelude.{end_label, IsPortOf, Step, with_operation, after_label_at, after_look, after_look_by, next_kind, advance_by, advance, HasAmounts, IsOperation, LooksAtPort}
 use Rattle.machine_law.proofs.Law.{runs_keep_law}
 use Rattle.machine_law.proofs.Runs.{run_more}
-use Rattle.async_step.specs.Views.{StateView, state_of}
-use Rattle.async_step.specs.Scans.{IsScanAt, after_label_by, operation_after_look}
-use Rattle.machine_law.specs.Reads.{LooksAtPort}
-use Rattle.async_step.specs.Answers.{IsStateOf, LeadsTelling, answer_of, answer_at, answer_by, answer_beyond, answer, saw_as, IsStepTaken, IsStepRefused}
+use Rattle.async_step.specs.Prelude.{StateView, state_of, IsScanAt, after_label_by, operation_after_look, IsStateOf, LeadsTelling, answer_of, answer_at, answer_by, answer_beyond, answer, saw_as, IsStepTaken, IsStepRefused}
 use Rattle.async_step.specs.declared.saw.Saw.{Saw}
 use Rattle.async_step.specs.declared.saw.Saw.TheVariants.{Label}
 use Rattle.async_step.specs.declared.refusals.StepRefusal.{StepRefusal}
-use Rattle.async_step.specs.declared.refusals.StepRefusal.TheVariants.{NoSuchBlock, OutOfTurn, TooLarge, TooManySteps}
+use Rattle.async_step.specs.declared.refusals.StepRefusal.TheVariants.{TooLarge, TooManySteps}
 
 -- ---- what a state of a run has
 amounts_of : (net : NetView) (v : StateView) → IsStateOf net v → HasAmounts net (state_of v)

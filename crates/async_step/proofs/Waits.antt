@@ -1,14 +1,9 @@
 -- What the marks tell of the blocks.
-use Rattle.std.proofs.Common.{◌≡◌, ◌↔◌, ℕ, ◌<◌, Bool, true, List, length, Option, Some, None, arith}
-use Rattle.std.specs.Prelude.{MatchOption}
+use Rattle.fixed_worth.proofs.Common.{◌≡◌, ◌↔◌, ℕ, ◌<◌, Bool, true, List, length, Option, Some, None, arith, MatchOption, common_steps}
 use Rattle.ordered_group.specs.Sums.{amount_at}
 use Rattle.closure_net.specs.Network.{NetView, FlowView}
-use Rattle.machine_law.specs.States.{IsQuiet}
-use Rattle.machine_law.specs.Quiet.{IsFlowOf}
-use Rattle.async_step.specs.Marks.{mark_at, NoneWithin, IsFirstRound}
-use Rattle.async_step.specs.Views.{StateView, state_of, operation_at, IsSized, IsState, is_waiting}
-use Rattle.async_step.specs.Answers.{IsStateOf, IsWaiting}
-use Rattle.std.proofs.lemmas.Grind.{common_steps}
+use Rattle.machine_law.specs.Prelude.{IsQuiet, IsFlowOf}
+use Rattle.async_step.specs.Prelude.{mark_at, NoneWithin, IsFirstRound, StateView, state_of, operation_at, IsSized, IsState, is_waiting, IsStateOf, IsWaiting}
 
 -- ---- blocks that are done
 

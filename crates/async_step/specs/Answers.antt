@@ -1,17 +1,14 @@
 -- What the calls on a state answer.
 use Rattle.std.specs.Prelude.{◌≡◌, ℕ, ◌+◌, ◌<◌, ◌≤◌, ◌^◌, Option, Some, None, List, length, take, slice_get, Result, MatchResult}
 use Rattle.ordered_group.specs.Amount.{Amount, zero_amount, Below, FitsPair}
-use Rattle.closure_net.specs.Network.{NetView}
-use Rattle.closure_net.specs.Ports.{ports}
+use Rattle.closure_net.specs.Prelude.{NetView, ports}
 use Rattle.closure_net.specs.declared.port.Port.{Port}
 use Rattle.closure_net.specs.declared.port.PortKind.{PortKind}
-use Rattle.closure_net.specs.declared.port.PortKind.TheVariants.{Sink, Forward, Backward, Source}
+use Rattle.closure_net.specs.declared.port.PortKind.TheVariants.{Forward}
 use Rattle.machine_law.specs.declared.events.Event.{Event}
 use Rattle.machine_law.specs.declared.operations.Operation.{Operation}
 use Rattle.machine_law.specs.declared.operations.Operation.TheVariants.{Idle, Scan, PushDue, TakeDue, GiveDue, RaiseDue}
-use Rattle.machine_law.specs.States.{State, opening}
-use Rattle.machine_law.specs.Residual.{room, capacity, end_label}
-use Rattle.machine_law.specs.Steps.{Step, Run, IsStateOfRun, next_kind, advance, push_amount}
+use Rattle.machine_law.specs.Prelude.{State, opening, room, capacity, end_label, Step, Run, IsStateOfRun, next_kind, advance, push_amount}
 use Rattle.async_step.specs.declared.limits.TheConstants.{MOST_STEPS}
 use Rattle.async_step.specs.Views.{StateView, state_of}
 use Rattle.async_step.specs.declared.saw.Saw.{Saw}

@@ -1,7 +1,6 @@
 -- What a step changes beside its block's operation and the count of steps.
 use Rattle.std.specs.Prelude.{ℕ, ◌<◌, ◌^◌, length, slice_set}
-use Rattle.ordered_group.specs.Amount.{Amount, minus, negative, FitsPair}
-use Rattle.ordered_group.specs.Sums.{amount_at}
+use Rattle.ordered_group.specs.Prelude.{Amount, minus, negative, FitsPair, amount_at}
 use Rattle.closure_net.specs.Network.{NetView}
 use Rattle.machine_law.specs.States.{State, with_value_at}
 use Rattle.async_step.specs.Views.{StateView}

@@ -7,3 +7,5 @@ pub mod Answers
 pub mod Scans
 -- how faults print
 pub mod FaultText
+-- the names of all of them
+pub mod Prelude

@@ -3,14 +3,11 @@ use Rattle.std.specs.Prelude.{◌≡◌, ℕ, Bool, true, false, Option, Some, N
 use Rattle.ordered_group.specs.Amount.{Amount, zero_amount}
 use Rattle.closure_net.specs.declared.port.Port.{Port}
 use Rattle.closure_net.specs.declared.port.PortKind.{PortKind}
-use Rattle.closure_net.specs.declared.port.PortKind.TheVariants.{Sink, Forward, Backward, Source}
-use Rattle.closure_net.specs.Network.{NetView}
-use Rattle.closure_net.specs.Ports.{ports}
-use Rattle.machine_law.specs.States.{State}
-use Rattle.machine_law.specs.Residual.{capacity, end_label}
+use Rattle.closure_net.specs.declared.port.PortKind.TheVariants.{Forward}
+use Rattle.closure_net.specs.Prelude.{NetView, ports}
+use Rattle.machine_law.specs.Prelude.{State, capacity, end_label, better_of, after_capacity, after_port_by}
 use Rattle.machine_law.specs.declared.operations.Operation.{Operation}
 use Rattle.machine_law.specs.declared.operations.Operation.TheVariants.{Idle, Scan, PushDue, TakeDue, GiveDue, RaiseDue}
-use Rattle.machine_law.specs.Reads.{better_of, after_capacity, after_port_by}
 
 -- whether a capacity was read
 abbrev pub has_read : {N : Type 0} → Option N → Bool

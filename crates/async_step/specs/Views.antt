@@ -1,13 +1,10 @@
 -- States as lists, and what is kept beside them.
 use Rattle.std.specs.Prelude.{◌≡◌, ℕ, ◌<◌, ◌≤◌, Bool, not, ◌&&◌, ◌||◌, List, map, length, slice_index, slice_index_or}
 use Rattle.fixed_worth.specs.declared.limits.TheConstants.{MOST_BLOCKS}
-use Rattle.ordered_group.specs.Amount.{Amount, is_zero}
-use Rattle.ordered_group.specs.Sums.{amount_at}
+use Rattle.ordered_group.specs.Prelude.{Amount, is_zero, amount_at}
 use Rattle.machine_law.specs.declared.operations.Operation.{Operation}
 use Rattle.machine_law.specs.declared.operations.Operation.TheVariants.{Idle}
-use Rattle.machine_law.specs.Operations.{operation_as, is_idle}
-use Rattle.machine_law.specs.States.{State}
-use Rattle.machine_law.specs.Reads.{is_positive}
+use Rattle.machine_law.specs.Prelude.{operation_as, is_idle, State, is_positive}
 use Rattle.async_step.specs.Marks.{mark_at}
 
 -- a state as its lists: an element for each block, and a flow for each pair

@@ -3,19 +3,15 @@ use Rattle.std.proofs.Common.{ℕ, ℤ, Bool, List, length, sym, subst, Option, 
 use Rattle.ordered_group.specs.Amount.{Amount}
 use Rattle.ordered_group.specs.declared.groups.Group.{Group}
 use Rattle.prec_file.specs.Rests.{RestsView}
-use Rattle.closure_net.specs.Network.{NetView}
-use Rattle.closure_net.specs.Faults.{WorthsFaultStands}
+use Rattle.closure_net.specs.Prelude.{NetView, WorthsFaultStands}
 use Rattle.closure_net.specs.declared.net.NetFault.{NetFault}
 use Rattle.engines.specs.declared.judgement.Verdict.{Verdict}
 use Rattle.engines.specs.declared.judgement.Verdict.TheVariants.{Done, No}
 use Rattle.mine_inputs.specs.declared.engine_fault.EngineFault.{EngineFault}
 use Rattle.mine_inputs.specs.declared.engine_fault.EngineFault.TheVariants as engine
 use Rattle.engines.specs.declared.method.Method.TheVariants.{PushRelabel}
-use Rattle.mine_inputs.specs.ReadMines.{AreRead}
-use Rattle.engines.specs.Readings.{IsGroupNamed}
-use Rattle.mine_inputs.specs.EngineFaults.{of_model}
-use Rattle.mine_inputs.specs.Mines.{MineTexts, price_wanted}
-use Rattle.engines.specs.Solving.{IsNetBy, Solves}
+use Rattle.mine_inputs.specs.Prelude.{AreRead, of_model, MineTexts, price_wanted}
+use Rattle.engines.specs.Prelude.{IsGroupNamed, IsNetBy, Solves}
 use Rattle.engines.proofs.Answered.{keeps_self}
 use Rattle.engines.proofs.Solutions.{certificate_is, unmade}
 use Rattle.audit_engines.specs.TracedRuns.{IsCertificateOfRun, TracesNet, TraceAtFault, Traces}
@@ -25,17 +21,7 @@ use Rattle.audit_engines.specs.TracedRuns.{IsCertificateOfRun, TracesNet, TraceA
 at_fault : (texts : MineTexts) (name : Group) (limit room : ℕ) (t w : Option (List ℕ)) (fault : EngineFault) → TraceAtFault texts name limit room t t w w fault
 at_fault texts name limit room t w engine.Memory = inl (keeps_self t, keeps_self w)
 at_fault texts name limit room t w engine.Device = inl (keeps_self t, keeps_self w)
-at_fault texts name limit room t w engine.Thread = (keeps_self t, keeps_self w)
-at_fault texts name limit room t w engine.Stranger = (keeps_self t, keeps_self w)
-at_fault texts name limit room t w (engine.Upit q) = (keeps_self t, keeps_self w)
-at_fault texts name limit room t w (engine.Prec q) = (keeps_self t, keeps_self w)
-at_fault texts name limit room t w (engine.Model q) = (keeps_self t, keeps_self w)
-at_fault texts name limit room t w (engine.Certificate q) = (keeps_self t, keeps_self w)
-at_fault texts name limit room t w (engine.Trace q) = (keeps_self t, keeps_self w)
-at_fault texts name limit room t w (engine.Blocks q) = (keeps_self t, keeps_self w)
-at_fault texts name limit room t w (engine.Slope q) = (keeps_self t, keeps_self w)
-at_fault texts name limit room t w (engine.Settings q) = (keeps_self t, keeps_self w)
-at_fault texts name limit room t w (engine.Prices q) = (keeps_self t, keeps_self w)
+at_fault texts name limit room t w fault = (keeps_self t, keeps_self w)
 
 -- a fault that stands without a trace stands with one
 pub untraced : (texts : MineTexts) (name : Group) (limit room : ℕ) (t w : Option (List ℕ)) (fault : EngineFault) → Solves texts name PushRelabel limit w w (Err fault) → Traces texts name limit room t t w w (Err fault)
@@ -56,12 +42,4 @@ module _ (block : ℤ → ℕ → Amount) (counts : Bool) (texts : MineTexts) (n
   traced (Err engine.Device) h = (tt, inr (net, by, subst (λ (k : Bool). TracesNet k name (price_wanted texts) net limit room before after old new (Err engine.Device)) (sym named.counts_is) h))
   traced (Err engine.Thread) h = ((length net.worths, by.mine), h)
   traced (Err engine.Stranger) h = ((length net.worths, by.mine), h)
-  traced (Err (engine.Upit q)) h = absurd h
-  traced (Err (engine.Prec q)) h = absurd h
-  traced (Err (engine.Model q)) h = absurd h
-  traced (Err (engine.Certificate q)) h = absurd h
-  traced (Err (engine.Trace q)) h = absurd h
-  traced (Err (engine.Blocks q)) h = absurd h
-  traced (Err (engine.Slope q)) h = absurd h
-  traced (Err (engine.Settings q)) h = absurd h
-  traced (Err (engine.Prices q)) h = absurd h
+  traced (Err _) h = absurd h

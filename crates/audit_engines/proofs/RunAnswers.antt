@@ -1,13 +1,11 @@
 -- From an audited run to what is written of it.
-use Rattle.std.proofs.Common.{◌≡◌, ℕ, Bool, List, refl, sym, subst, Option, Result, Ok, Err, inl, inr}
-use Rattle.std.specs.Io.KnownBytes.{Appends}
-use Rattle.std.specs.Prelude.{MatchResult}
+use Rattle.fixed_worth.proofs.Common.{◌≡◌, ℕ, Bool, List, refl, sym, subst, Option, Result, Ok, Err, inl, inr, Appends, MatchResult}
 use Rattle.fixed_worth.specs.Device.{ReceivedPrefix}
 use Rattle.ordered_group.specs.declared.groups.Group.{Group}
 use Rattle.closure_net.specs.Network.{NetView, FlowView}
 use Rattle.machine_law.specs.declared.events.Event.{Event}
 use Rattle.workers.specs.Auditing.{IsSomeHistory, IsAudit, AuditFaultStands}
-use Rattle.workers.specs.declared.solving.SolveFault.TheVariants.{BadWorkers, Unsettled, TooLarge, StrangerNet, NoMemory, NoThread}
+use Rattle.workers.specs.declared.solving.SolveFault.TheVariants.{Unsettled, TooLarge, NoMemory}
 use Rattle.workers.specs.declared.auditing.AuditEnd.{AuditEnd}
 use Rattle.workers.specs.declared.auditing.AuditEnd.TheVariants.{NoFlow, HistoryFull}
 use Rattle.trace_file.specs.Written.{trace_text}
@@ -17,8 +15,7 @@ use Rattle.certificate_file.specs.declared.header.Price.{Price}
 use Rattle.engines.specs.declared.judgement.Verdict.{Verdict}
 use Rattle.mine_inputs.specs.declared.engine_fault.EngineFault.{EngineFault}
 use Rattle.mine_inputs.specs.declared.engine_fault.EngineFault.TheVariants as engine
-use Rattle.engines.specs.Certification.{IsRefusedFlow}
-use Rattle.engines.specs.NetAnswers.{SendsCertificate, SendsLine, certificate_text}
+use Rattle.engines.specs.Prelude.{IsRefusedFlow, SendsCertificate, SendsLine, certificate_text}
 use Rattle.engines.proofs.Answered.{keeps_self}
 use Rattle.engines.proofs.RefusedRuns.{refused_for_size}
 use Rattle.audit_engines.specs.TracedRuns.{CheckOverflowsAfter, IsNoOfRun, TellsRun, TracesNet, no_flow_line}
@@ -66,17 +63,7 @@ module _ (counts : Bool) (name : Group) (price : Price) (net : NetView) (limit r
   whole (Ok v) sent h = (history, sent, h)
   whole (Err engine.Memory) sent h = inr (history, sent, h)
   whole (Err engine.Device) sent h = inr (history, sent, h)
-  whole (Err engine.Thread) sent h = absurd h
-  whole (Err engine.Stranger) sent h = absurd h
-  whole (Err (engine.Upit q)) sent h = absurd h
-  whole (Err (engine.Prec q)) sent h = absurd h
-  whole (Err (engine.Model q)) sent h = absurd h
-  whole (Err (engine.Certificate q)) sent h = absurd h
-  whole (Err (engine.Trace q)) sent h = absurd h
-  whole (Err (engine.Blocks q)) sent h = absurd h
-  whole (Err (engine.Slope q)) sent h = absurd h
-  whole (Err (engine.Settings q)) sent h = absurd h
-  whole (Err (engine.Prices q)) sent h = absurd h
+  whole (Err _) sent h = absurd h
 
   pub traced : (r : Result Verdict EngineFault) → Appends before after (trace_text slice) → TellsRun counts name price net limit room history old new r → TracesNet counts name price net limit room before after old new r
   traced r sent h = whole r (subst (λ (xs : List Event). Appends before after (trace_text xs)) same sent) h
@@ -95,9 +82,7 @@ module _ (counts : Bool) (name : Group) (price : Price) (net : NetView) (workers
   ended (NoFlow Unsettled) h = inl (h, refl)
   ended (NoFlow TooLarge) h = inr (inr (inl (h, refl)))
   ended (NoFlow NoMemory) h = inl (keeps_self before, keeps_self old)
-  ended (NoFlow NoThread) h = (keeps_self before, keeps_self old)
-  ended (NoFlow StrangerNet) h = (keeps_self before, keeps_self old)
-  ended (NoFlow BadWorkers) h = (keeps_self before, keeps_self old)
+  ended (NoFlow _) h = (keeps_self before, keeps_self old)
 
   pub unwritten : (fault : EngineFault) → no_flow_line why ≡ Err fault → TracesNet counts name price net limit room before before old old (Err fault)
   unwritten fault e = subst Ends e (ended why stands)

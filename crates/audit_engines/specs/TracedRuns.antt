@@ -3,8 +3,7 @@ use Rattle.std.specs.Prelude.{◌≡◌, ℕ, ◌⊎◌, Bool, List, [], ◌∷�
 use Rattle.std.specs.Io.KnownBytes.{Appends, Keeps}
 use Rattle.fixed_worth.specs.Device.{ReceivedPrefix}
 use Rattle.ordered_group.specs.declared.groups.Group.{Group}
-use Rattle.closure_net.specs.Network.{NetView, FlowView, holds_of}
-use Rattle.closure_net.specs.Reached.{IsReached}
+use Rattle.closure_net.specs.Prelude.{NetView, FlowView, holds_of, IsReached}
 use Rattle.machine_law.specs.declared.events.Event.{Event}
 use Rattle.workers.specs.Auditing.{IsSomeHistory, IsAudit, IsCutOffAfter, OverflowsAfter, FillsItsRoom}
 use Rattle.workers.specs.declared.auditing.AuditEnd.{AuditEnd}
@@ -18,9 +17,7 @@ use Rattle.engines.specs.declared.judgement.Verdict.TheVariants.{Done, No}
 use Rattle.mine_inputs.specs.declared.engine_fault.EngineFault.{EngineFault}
 use Rattle.mine_inputs.specs.declared.engine_fault.EngineFault.TheVariants as engine
 use Rattle.mine_inputs.specs.Mines.{MineTexts, price_wanted}
-use Rattle.engines.specs.Readings.{counts_by}
-use Rattle.engines.specs.NetAnswers.{unsettled_line, too_large_line, no_line}
-use Rattle.engines.specs.Solving.{IsCertificateOf, IsTextOf, IsCertificate, IsNetBy, SolveFails, unsolved_by}
+use Rattle.engines.specs.Prelude.{counts_by, unsettled_line, too_large_line, no_line, IsCertificateOf, IsTextOf, IsCertificate, IsNetBy, SolveFails, unsolved_by}
 
 -- ---- what a run with this history answers for a net
 

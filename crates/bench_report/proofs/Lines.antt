@@ -1,11 +1,8 @@
 -- Records of fields that need no quotes, and the rows of a table.
-use Rattle.std.proofs.Common.{◌≡◌, ℕ, ◌+◌, ◌<◌, List, [], ◌∷◌, ◌++◌, length, take, get_or, codes, refl, sym, ap, ◌∙◌, append_assoc, add-one, Option}
-use Rattle.std.proofs.lemmas.List.{append-nil}
-use Rattle.std.proofs.Math.Seq.{take-suc}
+use Rattle.fixed_worth.proofs.Common.{◌≡◌, ℕ, ◌+◌, ◌<◌, List, [], ◌∷◌, ◌++◌, length, take, get_or, codes, refl, sym, ap, ◌∙◌, append_assoc, add-one, Option, append-nil, take-suc}
 use Rattle.csv.specs.Writing.{default_writer, fields_text, row_text, is_blank}
 use Rattle.bench_report.specs.declared.bench_row.BenchRow.{BenchRow}
-use Rattle.bench_report.specs.BlockShells.{names_line, block_shell_line, block_lines}
-use Rattle.bench_report.specs.Written.{header_line, row_line, rows_text}
+use Rattle.bench_report.specs.Prelude.{names_line, block_shell_line, block_lines, header_line, row_line, rows_text}
 use Rattle.bench_report.proofs.Plain.{IsPlain, plain_needs_none}
 
 -- five plain fields, with commas between them and a line feed at the end

@@ -1,7 +1,5 @@
 -- Sets of blocks, block by block.
-use Rattle.std.proofs.Common.{◌≡◌, ℕ, zero, suc, ◌+◌, ◌<◌, ℤ, pos, ◌+ℤ◌, Bool, true, false, cond, refl, ap, ◌∙◌, arith, inl, inr}
-use Rattle.std.proofs.lemmas.Int.{ints}
-use Rattle.std.proofs.lemmas.Bool.{cases_lt}
+use Rattle.fixed_worth.proofs.Common.{◌≡◌, ℕ, zero, suc, ◌+◌, ◌<◌, ℤ, pos, ◌+ℤ◌, Bool, true, false, cond, refl, ap, ◌∙◌, arith, inl, inr, ints, cases_lt}
 use Rattle.ordered_group.specs.Sets.{worth_in, count_in}
 
 pub plus-none : (x : ℤ) → x +ℤ pos 0 ≡ x

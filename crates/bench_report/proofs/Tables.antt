@@ -1,25 +1,8 @@
 -- From rows by bench and shell to the table.
-use Rattle.std.proofs.Common.{◌≡◌, ℕ, ◌<◌, ℤ, Bool, true, false, cond, ◌==◌, Some, None, List, [], ◌∷◌, map, refl, sym, subst, ◌∙◌, arith}
-use Rattle.std.specs.Prelude.{IsSome}
-use Rattle.std.specs.BTreeMap.{BTreeMap, IsOrdered, get, values, keys}
-use Rattle.std.specs.Map.{keys_of, values_of}
-use Rattle.std.specs.List.{All, AllByRecursion, Contains}
-use Rattle.std.specs.List.Sorted.{IsStrictlySortedBy}
-use Rattle.std.specs.Cmp.{IsTotalOrder}
-use Rattle.std.specs.declared.cmp.Ordering.{Ordering}
-use Rattle.std.specs.declared.cmp.Ordering.TheVariants.{Less, Equal, Greater}
-use Rattle.std.specs.Ordering.{int_cmp, nat_cmp, eq_by_cmp, is_eq}
-use Rattle.std.proofs.lemmas.Bool.{ne_eqb}
-use Rattle.std.proofs.lemmas.Bool.Decides.{nat_tests}
-use Rattle.std.proofs.lemmas.Cmp.{int_cmp_total, nat_cmp_total, on_total, then_total}
-use Rattle.std.proofs.lemmas.List.Elements.{All-map, All-weaker, recursion_from_All}
-use Rattle.std.proofs.lemmas.Map.Lookups.{exact_signed, exact_unsigned, exact_pairs}
-use Rattle.std.proofs.lemmas.Map.Views.{All-found, Contains-keys_from_lookup}
-use Rattle.std.proofs.lemmas.Option.{same_Some}
+use Rattle.fixed_worth.proofs.Common.{◌≡◌, ℕ, ◌<◌, ℤ, Bool, true, false, cond, ◌==◌, Some, None, List, [], ◌∷◌, map, refl, sym, subst, ◌∙◌, arith, IsSome, BTreeMap, IsOrdered, get, values, keys, keys_of, values_of, All, AllByRecursion, Contains, IsStrictlySortedBy, IsTotalOrder, Ordering, Equal, int_cmp, nat_cmp, eq_by_cmp, is_eq, ne_eqb, nat_tests, int_cmp_total, nat_cmp_total, on_total, then_total, All-map, All-weaker, recursion_from_All, exact_signed, exact_unsigned, exact_pairs, All-found, Contains-keys_from_lookup, same_Some}
 use Rattle.ordered_group.specs.Sets.{count_in}
 use Rattle.bench_report.specs.declared.bench_row.BenchRow.{BenchRow}
-use Rattle.bench_report.specs.Benches.{ReportedBlocks, blocks_at, by_bench, bench_and_shell, IsBenchRow, IsBenchTable}
-use Rattle.bench_report.specs.GrowingRows.{row_below, if_some, IsTallied}
+use Rattle.bench_report.specs.Prelude.{ReportedBlocks, blocks_at, by_bench, bench_and_shell, IsBenchRow, IsBenchTable, row_below, if_some, IsTallied}
 use Rattle.bench_report.proofs.Sums.{some_blocks}
 use Rattle.bench_report.proofs.Tallies.{inside_of}
 
@@ -27,9 +10,8 @@ pub by_bench_total : IsTotalOrder by_bench
 by_bench_total = then_total (on_total (λ (p : ℤ × ℕ). p.0) int_cmp_total) (on_total (λ (p : ℤ × ℕ). p.1) nat_cmp_total)
 
 is_equal : (o : Ordering) → is_eq o ≡ true → o ≡ Equal
-is_equal Less h = absurd cc
 is_equal Equal h = refl
-is_equal Greater h = absurd cc
+is_equal o h = absurd cc
 
 -- places that compare equal are the same
 pub same_places : (x y : ℤ × ℕ) → eq_by_cmp by_bench x y ≡ true → x ≡ y

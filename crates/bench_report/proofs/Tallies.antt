@@ -1,22 +1,12 @@
 -- Rows by bench and shell, as blocks are added to them.
-use Rattle.std.proofs.Common.{◌≡◌, ℕ, suc, ◌+◌, ◌<◌, ◌≤◌, ℤ, Bool, true, false, cond, ◌==◌, ◌&&◌, inl, inr, Option, Some, None, refl, sym, ap, subst, ◌∙◌, add-one, arith}
-use Rattle.std.specs.Prelude.{unwrap_or, FitsSigned}
-use Rattle.std.specs.Int.{w128}
-use Rattle.std.specs.BTreeMap.{is_at}
-use Rattle.std.specs.Ordering.{int_cmp, int_eq, nat_cmp, is_eq}
-use Rattle.std.specs.Cmp.{tied_then}
-use Rattle.std.proofs.lemmas.Bool.{cases_lt, eqb-true, eq-eqb}
-use Rattle.std.proofs.lemmas.Bool.Decides.{nat_tests, Decides-int_eq}
+use Rattle.fixed_worth.proofs.Common.{◌≡◌, ℕ, suc, ◌+◌, ◌<◌, ◌≤◌, ℤ, Bool, true, false, cond, ◌==◌, ◌&&◌, inl, inr, Option, Some, None, refl, sym, ap, subst, ◌∙◌, add-one, arith, unwrap_or, FitsSigned, w128, is_at, int_cmp, int_eq, nat_cmp, is_eq, tied_then, cases_lt, eqb-true, eq-eqb, nat_tests, Decides-int_eq, common_steps}
 use Rattle.ordered_group.specs.Sets.{worth_in, count_in}
 use Rattle.ordered_group.proofs.BlockSets.{count_in-most}
 use Rattle.bench_report.specs.declared.bench_row.BenchRow.{BenchRow}
 use Rattle.bench_report.specs.declared.report_fault.ReportFault.{ReportFault}
-use Rattle.bench_report.specs.declared.report_fault.ReportFault.TheVariants.{WrongModel, TooLarge, NoMemory}
-use Rattle.bench_report.specs.Benches.{ReportedBlocks, blocks_at, by_bench}
-use Rattle.bench_report.specs.Faults.{BenchSumsFit, SomeBenchSumOverflows}
-use Rattle.bench_report.specs.GrowingRows.{row_below, no_blocks, with_block, row_at, if_some, RowTakesBlock, AddFaultStands, IsTallied, TallyFaultStands}
+use Rattle.bench_report.specs.declared.report_fault.ReportFault.TheVariants.{TooLarge}
+use Rattle.bench_report.specs.Prelude.{ReportedBlocks, blocks_at, by_bench, BenchSumsFit, SomeBenchSumOverflows, row_below, no_blocks, with_block, row_at, if_some, RowTakesBlock, AddFaultStands, IsTallied, TallyFaultStands}
 use Rattle.bench_report.proofs.Sums.{plus-none, worth_of_none}
-use Rattle.std.proofs.lemmas.Grind.{common_steps}
 
 -- ---- the row that is found
 
@@ -138,9 +128,8 @@ block_added m n k p t w f g ep es et ew h u v = one_more m n (m.height n) k f g 
 
 pub block_leaves : (m : ReportedBlocks) (n k : ℕ) (p : ℤ × ℕ) (t w : ℤ) (f : ℤ × ℕ → Option BenchRow) (e : ReportFault) → n < m.blocks → p ≡ (m.height n, k) → m.shell n ≡ Some k → t ≡ m.tonnes n → w ≡ m.worth n → IsTallied m n f
     → AddFaultStands (row_at f p) t w e → TallyFaultStands m e
-block_leaves m n k p t w f WrongModel l ep es et ew h v = v
 block_leaves m n k p t w f TooLarge l ep es et ew h v = leaves_here m n (m.height n) k f l refl es h (rw (ep, et, ew) at v)
-block_leaves m n k p t w f NoMemory l ep es et ew h v = v
+block_leaves m n k p t w f e l ep es et ew h v = v
 
 pub few_there : (m : ReportedBlocks) (n k : ℕ) (p : ℤ × ℕ) (f : ℤ × ℕ → Option BenchRow) → p ≡ (m.height n, k) → IsTallied m n f → (row_at f p).blocks ≤ n
 few_there m n k p f ep h = subst (λ q. (row_at f q).blocks ≤ n) (sym ep) (few_blocks m n f h (m.height n) k)

@@ -3,8 +3,7 @@ use Rattle.std.specs.Prelude.{◌≡◌, ℕ, ◌≤◌, ℤ, List, length, Fits
 use Rattle.std.specs.Int.{w128}
 use Rattle.blocks_file.specs.Denotes.{BlocksView}
 use Rattle.ordered_group.specs.Sets.{worth_in}
-use Rattle.shells.specs.Prices.{priced_count}
-use Rattle.shells.specs.Series.{SeriesView}
+use Rattle.shells.specs.Prelude.{priced_count, SeriesView}
 use Rattle.bench_report.specs.declared.report_fault.ReportFault.{ReportFault}
 use Rattle.bench_report.specs.declared.report_fault.ReportFault.TheVariants.{WrongModel, TooLarge, NoMemory}
 use Rattle.bench_report.specs.Benches.{ReportedBlocks, blocks_at}

@@ -6,3 +6,5 @@ pub mod BlockShells
 pub mod Faults
 -- for this crate alone: rows as they grow
 pub mod GrowingRows
+-- the names of all of them
+pub mod Prelude

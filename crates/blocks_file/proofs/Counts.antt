@@ -1,11 +1,7 @@
 -- Counting the records of a text.
-use Rattle.std.proofs.Common.{◌≡◌, ℕ, ◌+◌, ◌<◌, ◌≤◌, true, false, cond, List, [], ◌∷◌, ◌++◌, length, get_or, refl, sym, ap, ◌∙◌, arith, append-nil, append_assoc}
-use Rattle.std.specs.Prelude.{nat_lt}
-use Rattle.std.proofs.lemmas.List.{get_or_push, get_or_append_left, length-append}
-use Rattle.std.proofs.lemmas.List.Concat.{flat_map-append}
+use Rattle.fixed_worth.proofs.Common.{◌≡◌, ℕ, ◌+◌, ◌<◌, ◌≤◌, true, false, cond, List, [], ◌∷◌, ◌++◌, length, get_or, refl, sym, ap, ◌∙◌, arith, append-nil, append_assoc, nat_lt, get_or_push, get_or_append_left, length-append, flat_map-append}
 use Rattle.fixed_worth.specs.declared.limits.TheConstants.{LINE_BYTES}
-use Rattle.fixed_worth.specs.Text.{Left, fields_of}
-use Rattle.fixed_worth.specs.Record.{Line, numbered_lines, is_skipped}
+use Rattle.fixed_worth.specs.Prelude.{Left, fields_of, Line, numbered_lines, is_skipped}
 use Rattle.blocks_file.specs.Records.{record_line_numbers, long_fault}
 use Rattle.fixed_worth.proofs.NextLine.{line, Next, next_is, short}
 

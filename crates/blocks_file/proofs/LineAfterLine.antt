@@ -1,27 +1,16 @@
 -- Reading the records line after line.
-use Rattle.std.proofs.Common.{◌≡◌, ℕ, ℤ, pos, ◌+◌, ◌*◌, ◌<◌, ◌≤◌, ◌≢◌, Bool, true, false, cond, eqb, List, [], ◌∷◌, ◌++◌, length, get_or, set, replicate, Option, Some, None, refl, sym, ap, ◌∙◌, arith, append-nil, true≢false, zero, suc}
-use Rattle.std.specs.Prelude.{◌||◌, nat_le}
-use Rattle.std.specs.Option.{option_or}
-use Rattle.std.proofs.lemmas.Bool.{or_parts}
-use Rattle.std.proofs.lemmas.Bool.Decides.{nat_tests}
-use Rattle.std.proofs.lemmas.List.{length-replicate, get_or-replicate}
-use Rattle.std.proofs.lemmas.List.Folds.{list_any-append}
-use Rattle.std.proofs.Math.Bool.{or-false}
+use Rattle.fixed_worth.proofs.Common.{◌≡◌, ℕ, ℤ, pos, ◌+◌, ◌*◌, ◌<◌, ◌≤◌, ◌≢◌, Bool, true, false, cond, eqb, List, [], ◌∷◌, ◌++◌, length, get_or, set, replicate, Option, Some, None, refl, sym, ap, ◌∙◌, arith, append-nil, true≢false, zero, suc, ◌||◌, nat_le, option_or, or_parts, nat_tests, length-replicate, get_or-replicate, list_any-append, or-false, common_steps}
 use Rattle.std.proofs.Math.ListN.{length-set}
 use Rattle.fixed_worth.specs.declared.limits.TheConstants.{MOST_BLOCKS}
-use Rattle.fixed_worth.specs.Text.{Left, fields_of}
-use Rattle.fixed_worth.specs.Record.{Line, numbered_lines, is_skipped}
+use Rattle.fixed_worth.specs.Prelude.{Left, fields_of, Line, numbered_lines, is_skipped, block_of, is_record_of}
 use Rattle.blocks_file.specs.declared.place.Place.{Place}
 use Rattle.blocks_file.specs.declared.blocks_fault.BlocksFault.{BlocksFault}
 use Rattle.blocks_file.specs.declared.blocks_fault.BlocksFault.TheVariants.{UnknownBlock, Repeated}
-use Rattle.blocks_file.specs.Records.{block_of, place_of_record, columns_of, value_in, shape_fault, block_fault, record_fault, is_record_of, has_record, record_among, first_fault, long_fault, record_line_numbers}
-use Rattle.blocks_file.specs.Denotes.{origin}
-use Rattle.blocks_file.specs.RowReading.{HoldsValues, ArePut, AreKept}
+use Rattle.blocks_file.specs.Prelude.{place_of_record, columns_of, value_in, shape_fault, block_fault, record_fault, has_record, record_among, first_fault, long_fault, record_line_numbers, origin, HoldsValues, ArePut, AreKept}
 use Rattle.fixed_worth.proofs.NextLine.{line, Next, next_is}
 use Rattle.blocks_file.proofs.Counts.{moved, still_long, push_skipped, push_record, longer}
 use Rattle.blocks_file.proofs.Slots.{blocks_apart}
 use Rattle.blocks_file.proofs.Rows.{value_small}
-use Rattle.std.proofs.lemmas.Grind.{common_steps}
 
 abbrev pub marked : List Bool → ℕ
 marked [] = 0

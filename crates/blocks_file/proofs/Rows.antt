@@ -1,18 +1,8 @@
 -- The values of a record's chosen columns.
-use Rattle.std.proofs.Common.{◌≡◌, ℕ, ℤ, pos, suc, ◌+◌, ◌^◌, ◌<◌, ◌≤◌, unsigned_abs, Bool, true, false, not, cond, eqb, inl, inr, List, [], ◌∷◌, length, get_or, drop, Some, None, Ok, Err, refl, sym, ap, ◌∙◌, arith, true≢false}
-use Rattle.std.specs.Prelude.{◌||◌, nat_lt, nat_le, is_some, unwrap_or}
-use Rattle.std.specs.Result.{result_ok}
-use Rattle.std.specs.List.{list_any}
-use Rattle.std.proofs.lemmas.Bool.{cases_eq, or_right}
-use Rattle.std.proofs.lemmas.Bool.Decides.{nat_tests}
-use Rattle.std.proofs.lemmas.List.{drop_more}
-use Rattle.std.proofs.lemmas.Int.{ints}
+use Rattle.fixed_worth.proofs.Common.{◌≡◌, ℕ, ℤ, pos, suc, ◌+◌, ◌^◌, ◌<◌, ◌≤◌, unsigned_abs, Bool, true, false, not, cond, eqb, inl, inr, List, [], ◌∷◌, length, get_or, drop, Some, None, Ok, Err, refl, sym, ap, ◌∙◌, arith, true≢false, ◌||◌, nat_lt, nat_le, is_some, unwrap_or, result_ok, list_any, cases_eq, or_right, nat_tests, drop_more, ints, common_steps}
 use Rattle.fixed_worth.specs.declared.numerals.NumberFault.TheVariants.{NotANumber, TooLong, TooLarge}
-use Rattle.fixed_worth.specs.Numeral.{is_minus, with_sign}
-use Rattle.fixed_worth.specs.Decimal.{is_decimal, is_too_long, millionths_of, most}
-use Rattle.blocks_file.specs.Records.{value_read, value_in, is_bad}
-use Rattle.blocks_file.specs.RowReading.{IsRow, AreTaken}
-use Rattle.std.proofs.lemmas.Grind.{common_steps}
+use Rattle.fixed_worth.specs.Prelude.{is_minus, with_sign, is_decimal, is_too_long, millionths_of, most, value_read}
+use Rattle.blocks_file.specs.Prelude.{value_in, is_bad, IsRow, AreTaken}
 
 -- The next field is column k.
 pub field_at : (all : List (List ℕ)) (k : ℕ) (field : List ℕ) (rest : List (List ℕ)) → field ∷ rest ≡ drop k all → k + length (field ∷ rest) ≡ length all → (get_or all k [] ≡ field) × (rest ≡ drop (k + 1) all)
@@ -64,9 +54,8 @@ sign_small false n limit true e = grind (arith, nat_tests)
 sign_small minus n limit false e = omega arith
 
 read_small : (a b minus : Bool) (n limit : ℕ) → unsigned_abs (unwrap_or (result_ok (cond a (Err NotANumber) (cond b (Err TooLong) (with_sign minus (most limit n))))) (pos 0)) ≤ limit
-read_small true b minus n limit = omega arith
-read_small false true minus n limit = omega arith
 read_small false false minus n limit = sign_small minus n limit (nat_le n limit) refl
+read_small a b minus n limit = omega arith
 
 pub value_small : (columns : List (List ℕ)) (c : ℕ) → unsigned_abs (value_in columns c) ≤ 10 ^ 18
 value_small columns c = let field = get_or columns c [] in read_small (not (is_decimal field)) (is_too_long field) (is_minus field) (millionths_of field) (10 ^ 18)

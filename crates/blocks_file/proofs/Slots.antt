@@ -1,10 +1,7 @@
 -- The values of blocks that stand one block after another.
-use Rattle.std.proofs.Common.{◌≡◌, ℕ, ℤ, pos, ◌+◌, ◌*◌, ◌<◌, ◌≤◌, List, [], length, map, get_or, ap, ◌∙◌, subst, arith}
-use Rattle.std.specs.List.{range_with_len}
-use Rattle.std.proofs.lemmas.List.FromFn.{get_or-map-range_with_len, length-map-range_with_len}
+use Rattle.fixed_worth.proofs.Common.{◌≡◌, ℕ, ℤ, pos, ◌+◌, ◌*◌, ◌<◌, ◌≤◌, List, [], length, map, get_or, ap, ◌∙◌, subst, arith, range_with_len, get_or-map-range_with_len, length-map-range_with_len, common_steps}
 use Rattle.blocks_file.specs.declared.place.Place.{Place}
 use Rattle.blocks_file.specs.Denotes.{BlocksView, IsModel, IsSmall, columns_from}
-use Rattle.std.proofs.lemmas.Grind.{common_steps}
 
 pub blocks_apart : (b c w : ℕ) → b < c → b * w + w ≤ c * w
 blocks_apart b c w h = grind (arith, common_steps)

@@ -4,7 +4,8 @@ use Rattle.std.specs.List.{range_with_len}
 use Rattle.fixed_worth.specs.declared.limits.TheConstants.{MOST_BLOCKS}
 use Rattle.blocks_file.specs.declared.limits.TheConstants.{MOST_COLUMNS}
 use Rattle.blocks_file.specs.declared.place.Place.{Place}
-use Rattle.blocks_file.specs.Records.{place_of_record, columns_of, value_in, has_record, record_among, lines_in, record_count_of}
+use Rattle.fixed_worth.specs.Record.{lines_in}
+use Rattle.blocks_file.specs.Records.{place_of_record, columns_of, value_in, has_record, record_among, record_count_of}
 
 -- What the type shows: the number of blocks, the place of each, and each chosen column's values in millionths.
 pub record BlocksView : Type 0 where

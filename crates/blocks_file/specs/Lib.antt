@@ -1,3 +1,5 @@
 pub mod Records
 pub mod Denotes
 pub mod RowReading
+-- the names of all of them
+pub mod Prelude

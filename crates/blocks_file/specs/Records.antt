@@ -4,9 +4,8 @@ use Rattle.std.specs.Option.{option_or}
 use Rattle.std.specs.List.{list_all, list_any, flat_map}
 use Rattle.fixed_worth.specs.declared.limits.TheConstants.{MOST_BLOCKS, LINE_BYTES}
 use Rattle.fixed_worth.specs.declared.numerals.NumberFault.{NumberFault}
-use Rattle.fixed_worth.specs.Numeral.{signed_of}
+use Rattle.fixed_worth.specs.Prelude.{signed_of, fields_of}
 pub use Rattle.fixed_worth.specs.Decimal.{value_read}
-use Rattle.fixed_worth.specs.Text.{fields_of}
 pub use Rattle.fixed_worth.specs.Record.{Line, reads, is_skipped, lines_in, number_of, block_of, is_record_of}
 use Rattle.blocks_file.specs.declared.place.Place.{Place}
 use Rattle.blocks_file.specs.declared.blocks_fault.BlocksFault.{BlocksFault}

@@ -1,8 +1,8 @@
 -- What only the functions of this crate say to one another: what one step of reading does.
 use Rattle.std.specs.Prelude.{◌≡◌, ◌≢◌, ℕ, ℤ, pos, ◌+◌, ◌*◌, ◌<◌, ◌≤◌, true, List, [], length, Some, slice_index_or}
-use Rattle.fixed_worth.specs.Record.{Line}
+use Rattle.fixed_worth.specs.Prelude.{Line, value_read}
 use Rattle.blocks_file.specs.declared.place.Place.{Place}
-use Rattle.blocks_file.specs.Records.{place_of_record, columns_of, value_in, value_read, has_record, record_among}
+use Rattle.blocks_file.specs.Records.{place_of_record, columns_of, value_in, has_record, record_among}
 use Rattle.blocks_file.specs.Denotes.{origin, IsModel}
 
 -- The row has this value wherever this column was chosen, and is otherwise as it was.

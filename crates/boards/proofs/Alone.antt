@@ -1,22 +1,17 @@
 -- Which blocks have an operation.
-use Rattle.std.proofs.Common.{◌≡◌, ◌≢◌, ℕ, ◌+◌, ◌<◌, ◌↔◌, ◌⊎◌, IsTrue, refl, sym, ap, subst, ◌∙◌, arith, inl, inr, Bool, true, false, if◌then◌else◌, Option, Some, None}
-use Rattle.std.proofs.lemmas.Option.{none-some}
+use Rattle.fixed_worth.proofs.Common.{◌≡◌, ◌≢◌, ℕ, ◌+◌, ◌<◌, ◌↔◌, ◌⊎◌, IsTrue, refl, sym, ap, subst, ◌∙◌, arith, inl, inr, Bool, true, false, if◌then◌else◌, Option, Some, None, none-some, common_steps}
 use Rattle.ordered_group.specs.Amount.{Amount, zero_amount}
 use Rattle.ordered_group.proofs.Order.{AtMost-both, most_or_below}
 use Rattle.closure_net.specs.Network.{NetView}
 use Rattle.closure_net.specs.declared.port.Port.{Port}
 use Rattle.closure_net.specs.declared.port.PortKind.{PortKind}
-use Rattle.closure_net.specs.declared.port.PortKind.TheVariants.{Sink, Forward, Backward, Source}
+use Rattle.closure_net.specs.declared.port.PortKind.TheVariants.{Sink}
 use Rattle.machine_law.specs.declared.operations.Operation.{Operation}
 use Rattle.machine_law.specs.declared.operations.Operation.TheVariants.{Idle, Scan, PushDue, TakeDue, GiveDue, RaiseDue}
-use Rattle.machine_law.specs.States.{State, with_value_at, IsQuiet}
-use Rattle.machine_law.specs.Steps.{push_amount, after_push_by, after_give_by, advance_by}
+use Rattle.machine_law.specs.Prelude.{State, with_value_at, IsQuiet, push_amount, after_push_by, after_give_by, advance_by}
 use Rattle.machine_law.proofs.Law.{runs_keep_law}
 use Rattle.machine_law.proofs.Points.{with_value_at-other}
-use Rattle.boards.specs.Boards.{BoardView, shown_state, blocks_of_board, IsBoard}
-use Rattle.boards.specs.Turns.{HasNoOwn, IsPicked, IsUnserved, IsBlockDue, HasServed}
-use Rattle.boards.specs.Ends.{IsAlone, AreIdleBelow}
-use Rattle.std.proofs.lemmas.Grind.{common_steps}
+use Rattle.boards.specs.Prelude.{BoardView, shown_state, blocks_of_board, IsBoard, HasNoOwn, IsPicked, IsUnserved, IsBlockDue, HasServed, IsAlone, AreIdleBelow}
 
 -- ---- a step changes the operation of its block alone, and is counted
 record Changes (s t : State) (b : ℕ) : Type 0 where
@@ -31,15 +26,11 @@ changes s t b o e k = record {
 
 pushed_changes : (s : State) (b : ℕ) (d : Amount) (port : Port) (kind : PortKind) → Changes s (after_push_by s b d port kind) b
 pushed_changes s b d port Sink = changes s _ b _ refl refl
-pushed_changes s b d port Forward = changes s _ b _ refl refl
-pushed_changes s b d port Backward = changes s _ b _ refl refl
-pushed_changes s b d port Source = changes s _ b _ refl refl
+pushed_changes s b d port kind = changes s _ b _ refl refl
 
 given_changes : (s : State) (b : ℕ) (d : Amount) (port : Port) (kind : PortKind) → Changes s (after_give_by s b d port kind) b
 given_changes s b d port Sink = changes s _ b _ refl refl
-given_changes s b d port Forward = changes s _ b _ refl refl
-given_changes s b d port Backward = changes s _ b _ refl refl
-given_changes s b d port Source = changes s _ b _ refl refl
+given_changes s b d port kind = changes s _ b _ refl refl
 
 step_changes : (net : NetView) (s : State) (b : ℕ) (o : Operation Amount) → Changes s (advance_by net s b o) b
 step_changes net s b Idle = changes s _ b _ refl refl

@@ -1,17 +1,11 @@
 -- What turns leave of a board whose steps are all written down, with as many steps as its limit and its room both allow.
-use Rattle.std.proofs.Common.{◌≡◌, ℕ, ◌<◌, ◌≤◌, min, Bool, true, Option, List, length, ◌++◌, ◌∷◌, [], refl, sym, ap, subst, ◌∙◌, arith, inl, inr, if◌then◌else◌}
-use Rattle.std.proofs.Math.Nat.{min-le_left, min-le_right}
+use Rattle.fixed_worth.proofs.Common.{◌≡◌, ℕ, ◌<◌, ◌≤◌, min, Bool, true, Option, List, length, ◌++◌, ◌∷◌, [], refl, sym, ap, subst, ◌∙◌, arith, inl, inr, if◌then◌else◌, min-le_left, min-le_right, common_steps}
 use Rattle.closure_net.specs.Network.{NetView, FlowView}
 use Rattle.machine_law.specs.declared.events.Event.{Event}
 use Rattle.machine_law.specs.Steps.{next_event}
 use Rattle.machine_law.proofs.Runs.{run_unique}
 use Rattle.machine_law.proofs.ActiveRuns.{active_is_run}
-use Rattle.boards.specs.Runs.{AreTurnsTo}
-use Rattle.boards.specs.Boards.{BoardView, shown_state, IsTurnBoard, HasSettled}
-use Rattle.boards.specs.Turns.{IsGoing, IsBlockDue, IsAtLimit, IsTurn, IsTurnEnd}
-use Rattle.boards.specs.Ends.{HasEnded}
-use Rattle.boards.specs.Records.{RecordView, events_after, written_after, Writes, RecordGoesOn}
-use Rattle.boards.specs.Audits.{AuditView, audit_of, IsAudited, IsAuditEnd, IsAuditTurn, IsToldAs, HasAuditEnded, AuditGoesOn, HasAuditSettled}
+use Rattle.boards.specs.Prelude.{AreTurnsTo, BoardView, shown_state, IsTurnBoard, HasSettled, IsGoing, IsBlockDue, IsAtLimit, IsTurn, IsTurnEnd, HasEnded, RecordView, events_after, written_after, Writes, RecordGoesOn, AuditView, audit_of, IsAudited, IsAuditEnd, IsAuditTurn, IsToldAs, HasAuditEnded, AuditGoesOn, HasAuditSettled}
 use Rattle.machine_law.specs.declared.events.TheConstants.{MOST_EVENTS}
 use Rattle.boards.specs.declared.turn.Turn.{Turn}
 use Rattle.boards.specs.declared.turn.Turn.TheVariants.{Stepped, Idle as Unserved, Ended}
@@ -19,7 +13,6 @@ use Rattle.boards.specs.declared.turn.End.{End}
 use Rattle.boards.specs.declared.turn.End.TheVariants.{Quiet, Stuck, Limit, Full}
 use Rattle.boards.proofs.Alone.{served_counts}
 use Rattle.boards.proofs.Ends.{turns_counted, end_same}
-use Rattle.std.proofs.lemmas.Grind.{common_steps}
 
 -- ---- the type
 pub audited : (r : RecordView) → IsTurnBoard r.board → AreTurnsTo r.board.net r.events (shown_state r.board) → (shown_state r.board).steps ≤ r.room → r.room ≤ MOST_EVENTS → IsAudited (audit_of r)
@@ -94,11 +87,9 @@ audit_goes_on old new most limit below e h = record {
 }
 
 pub run_ended : (r : RecordView) (limit : ℕ) (end told : End) → IsAudited (audit_of r) → HasEnded r.board (min limit r.room) end → IsToldAs (shown_state r.board).steps limit end told → HasAuditEnded (audit_of r) limit told
-run_ended r limit Quiet told is h t = subst (λ x. HasAuditEnded (audit_of r) limit x) (sym t) h
-run_ended r limit Stuck told is h t = subst (λ x. HasAuditEnded (audit_of r) limit x) (sym t) h
-run_ended r limit Limit told is h (inl t) = grind (arith, common_steps)
-run_ended r limit Limit told is h (inr t) = grind (arith, common_steps)
 run_ended r limit Full told is h t = absurd h
+run_ended r limit Limit told is h t = grind (arith, common_steps)
+run_ended r limit end told is h t = subst (λ x. HasAuditEnded (audit_of r) limit x) (sym t) h
 
 -- ---- a quiet board's flow, and the replay of its history
 pub audit_settled : (audit : AuditView) (net : NetView) (flow : FlowView) (events : List Event) → IsAudited audit → events ≡ audit.history → HasSettled audit.board net flow → HasAuditSettled audit net flow events

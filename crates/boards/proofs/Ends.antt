@@ -1,29 +1,22 @@
 -- What turns leave of a board, and how they end its run.
-use Rattle.std.proofs.Common.{◌≡◌, ◌↔◌, ℕ, ◌≤◌, IsTrue, Bool, refl, sym, ap, subst, ◌∙◌, arith, inl, inr, true, false, Option, List, length, ◌∷◌, [], ◌++◌}
+use Rattle.fixed_worth.proofs.Common.{◌≡◌, ◌↔◌, ℕ, ◌≤◌, IsTrue, Bool, refl, sym, ap, subst, ◌∙◌, arith, inl, inr, true, false, Option, List, length, ◌∷◌, [], ◌++◌, common_steps}
 use Rattle.ordered_group.specs.Amount.{zero_amount}
 use Rattle.ordered_group.proofs.Order.{AtMost-same, Below-not}
 use Rattle.closure_net.specs.Network.{NetView, FlowView, IsNet}
 use Rattle.machine_law.specs.declared.events.Event.{Event}
-use Rattle.machine_law.specs.States.{State, opening, IsQuiet}
-use Rattle.machine_law.specs.Steps.{next_event, ReadsNoZero}
-use Rattle.machine_law.specs.Quiet.{IsFlowOf}
+use Rattle.machine_law.specs.Prelude.{State, opening, IsQuiet, next_event, ReadsNoZero, IsFlowOf}
 use Rattle.machine_law.proofs.Quiet.{quiet_solves}
 use Rattle.machine_law.proofs.Runs.{run_counts}
 use Rattle.machine_law.proofs.ActiveRuns.{active_is_run, active_more, excess_read_idle}
 use Rattle.async_step.specs.declared.limits.TheConstants.{MOST_STEPS}
-use Rattle.async_step.specs.Answers.{Fits}
-use Rattle.async_step.specs.Views.{StateView, state_of}
-use Rattle.boards.specs.Runs.{SomeNextOverflows, IsMadeByTurns, AreTurnsBetween, AreTurnsTo}
-use Rattle.boards.specs.Boards.{BoardView, shown_state, IsBoard, IsTurnBoard, HasSettled}
-use Rattle.boards.specs.Turns.{IsPicked, IsBlockDue, HasNoneDue, HasServed, Sticks, IsStepOf, IsTurnEnd, IsTurn}
-use Rattle.boards.specs.Ends.{HasEnded, GoesOn}
+use Rattle.async_step.specs.Prelude.{Fits, StateView, state_of}
+use Rattle.boards.specs.Prelude.{SomeNextOverflows, IsMadeByTurns, AreTurnsBetween, AreTurnsTo, BoardView, shown_state, IsBoard, IsTurnBoard, HasSettled, IsPicked, IsBlockDue, HasNoneDue, HasServed, Sticks, IsStepOf, IsTurnEnd, IsTurn, HasEnded, GoesOn}
 use Rattle.boards.specs.declared.turn.Turn.{Turn}
 use Rattle.boards.specs.declared.turn.Turn.TheVariants.{Stepped, Idle as Unserved, Ended}
 use Rattle.boards.specs.declared.turn.End.{End}
 use Rattle.boards.specs.declared.turn.End.TheVariants.{Quiet, Stuck, Limit, Full}
 use Rattle.boards.proofs.FurtherTurns.{active_append}
 use Rattle.boards.proofs.Alone.{picked_inside}
-use Rattle.std.proofs.lemmas.Grind.{common_steps}
 
 -- a quiet board's flow solves its net
 pub settled : (board : BoardView) (flow : FlowView) → IsBoard board → IsNet board.net → IsQuiet board.net (shown_state board) → IsFlowOf board.net (shown_state board) flow → HasSettled board board.net flow
@@ -35,21 +28,18 @@ unquiet quiet claim tells isnt q = let z : true ≡ false = sym (tells.1 q) ∙ 
 
 -- ---- a turn is what is due, and its step
 pub turn_of_none : (old : BoardView) (own : Option ℕ) (from steps : ℕ) (turn : Turn) → HasNoneDue old own steps turn → IsTurn old own from steps old turn
-turn_of_none old own from steps (Stepped block more) h = absurd h
 turn_of_none old own from steps Unserved h = (h.0, h.1, refl)
 turn_of_none old own from steps (Ended Quiet) h = (h, refl)
 turn_of_none old own from steps (Ended Stuck) h = inl (h, refl)
 turn_of_none old own from steps (Ended Limit) h = (inl h, refl)
-turn_of_none old own from steps (Ended Full) h = absurd h
+turn_of_none old own from steps turn h = absurd h
 
 pub turn_of_step : (old new : BoardView) (own : Option ℕ) (from steps b : ℕ) (turn : Turn) → IsBlockDue old own from steps b → IsStepOf old b new turn → IsTurn old own from steps new turn
 turn_of_step old new own from steps b (Stepped block more) due h =
     (subst (λ x. IsBlockDue old own from steps x) (sym h.0) due, subst (λ x. HasServed old x new more) (sym h.0) h.1)
-turn_of_step old new own from steps b Unserved due h = absurd h
-turn_of_step old new own from steps b (Ended Quiet) due h = absurd h
 turn_of_step old new own from steps b (Ended Stuck) due h = inr (b, due, h)
 turn_of_step old new own from steps b (Ended Limit) due h = (inr (b, due, h.0), h.1)
-turn_of_step old new own from steps b (Ended Full) due h = absurd h
+turn_of_step old new own from steps b turn due h = absurd h
 
 -- ---- what turns alone keep
 

@@ -2,8 +2,7 @@
 use Rattle.std.proofs.Common.{◌≡◌, Bool, true, false, List, [], ◌∷◌, ◌++◌, refl, sym, subst, append_assoc, append-nil}
 use Rattle.closure_net.specs.Network.{NetView}
 use Rattle.machine_law.specs.declared.events.Event.{Event}
-use Rattle.machine_law.specs.States.{State}
-use Rattle.machine_law.specs.Steps.{ActiveRun}
+use Rattle.machine_law.specs.Prelude.{State, ActiveRun}
 use Rattle.boards.specs.Records.{written_after}
 
 -- such a run goes on by another

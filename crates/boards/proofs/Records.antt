@@ -1,17 +1,13 @@
 -- What turns leave of a board whose steps may be written down.
-use Rattle.std.proofs.Common.{◌≡◌, ℕ, ◌<◌, ◌≤◌, arith, length, Bool, true, Option, refl, sym, ap, subst, ◌∙◌, if◌then◌else◌, ◌∷◌, [], ◌++◌}
+use Rattle.fixed_worth.proofs.Common.{◌≡◌, ℕ, ◌<◌, ◌≤◌, arith, length, Bool, true, Option, refl, sym, ap, subst, ◌∙◌, if◌then◌else◌, ◌∷◌, [], ◌++◌, common_steps}
 use Rattle.machine_law.specs.Steps.{next_event}
-use Rattle.boards.specs.Runs.{AreTurnsTo}
-use Rattle.boards.specs.Boards.{BoardView, shown_state, IsBoard}
-use Rattle.boards.specs.Turns.{IsBlockDue, HasServed, IsStepOf, IsTurnEnd, IsTurn}
-use Rattle.boards.specs.Records.{RecordView, RecordsTurns, written_by, events_after, written_after, Writes, RecordGoesOn}
+use Rattle.boards.specs.Prelude.{AreTurnsTo, BoardView, shown_state, IsBoard, IsBlockDue, HasServed, IsStepOf, IsTurnEnd, IsTurn, RecordView, RecordsTurns, written_by, events_after, written_after, Writes, RecordGoesOn}
 use Rattle.boards.specs.declared.turn.Turn.{Turn}
 use Rattle.boards.specs.declared.turn.Turn.TheVariants.{Stepped, Idle as Unserved, Ended}
 use Rattle.boards.specs.declared.turn.End.{End}
 use Rattle.boards.proofs.FurtherTurns.{written_after_none, written_after_both}
 use Rattle.boards.proofs.Alone.{served_counts}
 use Rattle.boards.proofs.Ends.{turned, same_turns, more_turns, turns_counted, end_same, served_run, ended_run, further_run}
-use Rattle.std.proofs.lemmas.Grind.{common_steps}
 
 -- ---- a run that goes on
 
@@ -79,8 +75,7 @@ record_further first old new limit goes further = record {
 -- what is written down of a turn that is the step of a block
 pub written_is : (old : RecordView) (b : ℕ) (new : BoardView) (turn : Turn) → IsStepOf old.board b new turn → written_by old.records old.events (next_event old.board.net (shown_state old.board) b) turn ≡ events_after old turn
 written_is old b new (Stepped block more) h = ap (λ x. written_by old.records old.events (next_event old.board.net (shown_state old.board) x) (Stepped block more)) (sym h.0)
-written_is old b new Unserved h = refl
-written_is old b new (Ended end) h = refl
+written_is old b new turn h = refl
 
 -- where a block is due there is room for its event
 pub room_due : (r : RecordView) (own : Option ℕ) (from steps b capacity : ℕ) → RecordsTurns r capacity → IsBlockDue r.board own from steps b → (r.records ≡ true → steps ≤ r.room) → r.records ≡ true → length r.events < capacity

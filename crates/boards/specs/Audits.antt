@@ -2,8 +2,7 @@
 use Rattle.std.specs.Prelude.{◌≡◌, ℕ, ◌<◌, ◌≤◌, ◌⊎◌, Bool, Option, List, [], ◌∷◌, ◌++◌, length}
 use Rattle.closure_net.specs.Network.{NetView, FlowView}
 use Rattle.machine_law.specs.declared.events.Event.{Event}
-use Rattle.machine_law.specs.States.{IsQuiet}
-use Rattle.machine_law.specs.Steps.{next_event}
+use Rattle.machine_law.specs.Prelude.{IsQuiet, next_event}
 use Rattle.boards.specs.Runs.{SomeNextOverflows, AreTurnsTo, IsReplayedTo}
 use Rattle.boards.specs.Boards.{BoardView, shown_state, IsTurnBoard, IsOpened, HasSettled}
 use Rattle.boards.specs.Turns.{IsUnserved, IsGoing, IsBlockDue, IsStuck, IsAtLimit, HasServed, Sticks, OfDue}

@@ -5,10 +5,8 @@ use Rattle.closure_net.specs.Network.{NetView, FlowView}
 use Rattle.machine_law.specs.declared.events.Event.{Event}
 use Rattle.async_step.specs.declared.saw.Saw.{Saw}
 use Rattle.async_step.specs.declared.refusals.StepRefusal.{StepRefusal}
-use Rattle.machine_law.specs.States.{State, opening, IsQuiet}
-use Rattle.machine_law.specs.Quiet.{IsFlowOf, IsSolved}
-use Rattle.async_step.specs.Views.{StateView, state_of}
-use Rattle.async_step.specs.Answers.{IsStateOf, IsStepTaken, RefusalStands}
+use Rattle.machine_law.specs.Prelude.{State, opening, IsQuiet, IsFlowOf, IsSolved}
+use Rattle.async_step.specs.Prelude.{StateView, state_of, IsStateOf, IsStepTaken, RefusalStands}
 use Rattle.boards.specs.Runs.{SomeNextOverflows, SomeRunOverflows, IsMadeByTurns}
 
 -- a net, the lists of a state, and whether the run can't go on since a number wouldn't fit

@@ -7,3 +7,5 @@ pub mod Ends
 -- boards with a history of their steps
 pub mod Records
 pub mod Audits
+-- the names of all of them
+pub mod Prelude

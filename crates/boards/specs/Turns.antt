@@ -1,11 +1,9 @@
 -- What a turn at a board does.
 use Rattle.std.specs.Prelude.{◌≡◌, ℕ, ◌<◌, ◌≤◌, ◌⊎◌, ◌↔◌, IsTrue, Bool, true, false, Option, Some}
 use Rattle.machine_law.specs.declared.operations.Operation.TheVariants.{Idle}
-use Rattle.machine_law.specs.States.{IsQuiet}
-use Rattle.machine_law.specs.Steps.{Step, advance, next_event}
+use Rattle.machine_law.specs.Prelude.{IsQuiet, Step, advance, next_event}
 use Rattle.async_step.specs.declared.limits.TheConstants.{MOST_STEPS}
-use Rattle.async_step.specs.Marks.{IsFirstRound}
-use Rattle.async_step.specs.Answers.{Fits, IsWaiting}
+use Rattle.async_step.specs.Prelude.{IsFirstRound, Fits, IsWaiting}
 use Rattle.boards.specs.Boards.{BoardView, shown_state, blocks_of_board}
 use Rattle.boards.specs.declared.turn.Turn.{Turn}
 use Rattle.boards.specs.declared.turn.Turn.TheVariants.{Stepped, Idle as Unserved, Ended}
@@ -93,11 +91,9 @@ pub record IsUncounted (board : BoardView) (b : ℕ) : Type 0 where
 -- what is answered of the step that is next for block b, and what it leaves
 abbrev pub IsStepOf : BoardView → ℕ → BoardView → Turn → Type 0
 IsStepOf old b new (Stepped block more) = (block ≡ b) × HasServed old b new more
-IsStepOf old b new Unserved = ⊥
-IsStepOf old b new (Ended Quiet) = ⊥
 IsStepOf old b new (Ended Stuck) = Sticks old b new
 IsStepOf old b new (Ended Limit) = IsUncounted old b × (new ≡ old)
-IsStepOf old b new (Ended Full) = ⊥
+IsStepOf old b new _ = ⊥
 
 -- ---- the turn
 

@@ -1,18 +1,12 @@
 -- What a line adds to what is gathered.
-use Rattle.std.proofs.Common.{◌≡◌, ℕ, get_or, set, ◌<◌, Bool, true, false, cond, eqb, ltb, List, [], ◌∷◌, length, refl, arith, append-nil}
-use Rattle.std.specs.Prelude.{Contains}
-use Rattle.std.proofs.lemmas.List.{length-set}
-use Rattle.ordered_group.specs.Amount.{Amount}
-use Rattle.ordered_group.specs.Sums.{amount_at}
-use Rattle.prec_file.specs.Rests.{IsRising}
+use Rattle.fixed_worth.proofs.Common.{◌≡◌, ℕ, get_or, set, ◌<◌, Bool, true, false, cond, eqb, ltb, List, [], ◌∷◌, length, refl, arith, append-nil, Contains, length-set, common_steps}
+use Rattle.ordered_group.specs.Prelude.{Amount, amount_at}
+use Rattle.prec_file.specs.Prelude.{IsRising, has_pair}
 use Rattle.prec_file.proofs.Pairs.{is_pair, pair_told}
 use Rattle.prec_file.proofs.OneListing.{tail_holds}
 use Rattle.certificate_file.specs.declared.body_lines.LineKind.TheVariants.{Rest}
 use Rattle.certificate_file.specs.declared.body_lines.BodyLine.{BodyLine}
-use Rattle.certificate_file.specs.BodyLines.{is_of_model}
-use Rattle.certificate_file.specs.Certificate.{Covers, has_pair, amount_of}
-use Rattle.certificate_file.specs.Gathered.{Gathered, with_rest, Adds}
-use Rattle.std.proofs.lemmas.Grind.{common_steps}
+use Rattle.certificate_file.specs.Prelude.{is_of_model, Covers, amount_of, Gathered, with_rest, Adds}
 
 -- Whether a pair is among the model's.
 absent_at : (b p : ℕ) (q : ℕ × ℕ) (qs : List (ℕ × ℕ)) (t : Bool) → is_pair b p q ≡ t → (Contains (q ∷ qs) (b, p) → ⊥) → has_pair qs b p ≡ false → has_pair (q ∷ qs) b p ≡ false
@@ -41,10 +35,8 @@ one_place ps i j q r h l e f t u x y = grind (arith, common_steps)
 -- At place j, where a line gives an amount to the pair at k.
 rest_at : (ps : List (ℕ × ℕ)) (xs : List Amount) (line : BodyLine) (k j : ℕ) → IsRising ps → line.kind ≡ Rest → length xs ≡ length ps → k < length ps → get_or ps k (0, 0) ≡ (line.block, line.other) → j < length ps → (t : Bool) → eqb j k ≡ t
     → (u : Bool) → is_pair line.block line.other (get_or ps j (0, 0)) ≡ u → amount_at (set xs k (amount_of line)) j ≡ cond u (amount_of line) (amount_at xs j)
-rest_at ps xs line k j r is n h e l true s true v = grind (arith, common_steps)
-rest_at ps xs line k j r is n h e l true s false v = grind (arith, common_steps)
 rest_at ps xs line k j r is n h e l false s true v = grind (arith, common_steps, (pair_told line.block line.other (get_or ps j (0, 0)) v), (one_place ps j k (line.block, line.other) r l h (pair_told line.block line.other (get_or ps j (0, 0)) v) e (ltb j k) (ltb k j) refl refl))
-rest_at ps xs line k j r is n h e l false s false v = grind (arith, common_steps)
+rest_at ps xs line k j r is n h e l t s u v = grind (arith, common_steps)
 
 pub adds_rest : (n : ℕ) (pairs : List (ℕ × ℕ)) (line : BodyLine) (before later : Gathered) (x : Amount) (k : ℕ) → IsRising pairs → line.kind ≡ Rest → Covers n (length pairs) before.flow → k < length pairs → get_or pairs k (0, 0) ≡ (line.block, line.other)
     → x ≡ amount_of line → later ≡ with_rest k x before → Covers n (length pairs) later.flow × Adds n pairs (line ∷ []) before later

@@ -1,11 +1,7 @@
 -- Amounts that were read of a block, and the numbers of zero.
-use Rattle.std.proofs.Common.{◌≡◌, ℕ, pos, List, sym, ap, ◌∙◌, arith}
-use Rattle.std.specs.Prelude.{◌&&◌}
-use Rattle.std.specs.Ordering.{int_eq}
-use Rattle.ordered_group.specs.Amount.{Amount, is_zero, minus, positive}
-use Rattle.ordered_group.specs.Sums.{amount_at}
+use Rattle.fixed_worth.proofs.Common.{◌≡◌, ℕ, pos, List, sym, ap, ◌∙◌, arith, ◌&&◌, int_eq, common_steps}
+use Rattle.ordered_group.specs.Prelude.{Amount, is_zero, minus, positive, amount_at}
 use Rattle.closure_net.specs.Flows.{Within, WithinAt, residual_at}
-use Rattle.std.proofs.lemmas.Grind.{common_steps}
 
 -- block i keeps to its worth, where the amounts that were read do
 pub within_there : (ws ss ts : List Amount) (i : ℕ) (w s t : Amount) → w ≡ amount_at ws i → s ≡ amount_at ss i → t ≡ amount_at ts i → Within w s t → WithinAt ws ss ts i

@@ -1,19 +1,14 @@
 -- Reading line after line: what a line that is read says, and what is left.
-use Rattle.std.proofs.Common.{◌≡◌, ℕ, get_or, ◌+◌, ◌<◌, Bool, true, false, ℤ, pos, ◌⊎◌, List, [], ◌∷◌, ◌++◌, length, Option, Some, None, Result, Ok, Err, refl, ap, arith, append_assoc}
-use Rattle.ordered_group.specs.Amount.{zero_amount}
-use Rattle.ordered_group.specs.Sums.{amount_at}
+use Rattle.fixed_worth.proofs.Common.{◌≡◌, ℕ, get_or, ◌+◌, ◌<◌, Bool, true, false, ℤ, pos, ◌⊎◌, List, [], ◌∷◌, ◌++◌, length, Option, Some, None, Result, Ok, Err, refl, ap, arith, append_assoc, common_steps}
+use Rattle.ordered_group.specs.Prelude.{zero_amount, amount_at}
 use Rattle.certificate_file.specs.declared.cert_fault.CertFault.{CertFault}
-use Rattle.certificate_file.specs.declared.cert_fault.CertFault.TheVariants as fault
 use Rattle.certificate_file.specs.declared.cert_fault.LineFault.{LineFault}
 use Rattle.certificate_file.specs.declared.cert_fault.LineFault.TheVariants.{Text}
 use Rattle.certificate_file.specs.declared.body_lines.LineKind.{LineKind}
 use Rattle.certificate_file.specs.declared.body_lines.LineKind.TheVariants.{Pit, Source, Rest, Sink, End}
 use Rattle.certificate_file.specs.declared.body_lines.BodyLine.{BodyLine}
-use Rattle.certificate_file.specs.Pieces.{Piece, Unread, IsPieceRead, read_line, number_below, words_of}
-use Rattle.certificate_file.specs.BodyLines.{kind_of, amount_in, is_amount, numbered_line, block_line, rest_line, line_with, line_of_words, line_of, is_end, is_of_model, may_follow, next_line, end_fault, fault_from, body_fault, lines_of_pieces}
-use Rattle.certificate_file.specs.Certificate.{Covers, UnlessMemory, has_pair, pit_of, block_if_pit, given_amount, gives_source, gives_rest, gives_sink, is_rest, amount_of}
-use Rattle.certificate_file.specs.Gathered.{Gathered, Adds}
-use Rattle.std.proofs.lemmas.Grind.{common_steps}
+use Rattle.certificate_file.specs.Prelude.{Piece, Unread, IsPieceRead, read_line, number_below, words_of, kind_of, amount_in, is_amount, numbered_line, block_line, rest_line, line_with, line_of_words, line_of, is_end, is_of_model, may_follow, next_line, end_fault, fault_from, body_fault, lines_of_pieces, Covers, UnlessMemory, pit_of, block_if_pit, given_amount, gives_source, gives_rest, gives_sink, is_rest, amount_of, Gathered, Adds}
+use Rattle.prec_file.specs.Rests.{has_pair}
 
 pub text_read : {A : Type 0} (f : List ℕ → Result A LineFault) (k : ℕ) (p : Piece) (x : A) → read_line f k p ≡ Ok x → f p.text ≡ Ok x
 text_read f k p x h = grind (arith, common_steps)
@@ -65,11 +60,10 @@ sound_rest counts n _ line h = no_line_is line h
 
 sound_with : (counts : Bool) (n : ℕ) (o : Option LineKind) (words : List (List ℕ)) (line : BodyLine) → line_with counts n o words ≡ Ok line → Sound counts n line
 sound_with counts n None words line h = no_line_is line h
-sound_with counts n (Some Pit) words line h = grind (arith, common_steps)
 sound_with counts n (Some Source) words line h = sound_block counts n Source words line refl h
 sound_with counts n (Some Rest) words line h = sound_rest counts n words line h
 sound_with counts n (Some Sink) words line h = sound_block counts n Sink words line refl h
-sound_with counts n (Some End) words line h = grind (arith, common_steps)
+sound_with counts n (Some _) words line h = grind (arith, common_steps)
 
 sound_words : (counts : Bool) (n : ℕ) (words : List (List ℕ)) (line : BodyLine) → line_of_words counts n words ≡ Ok line → Sound counts n line
 sound_words counts n [] line h = no_line_is line h

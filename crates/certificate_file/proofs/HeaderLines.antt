@@ -1,14 +1,11 @@
 -- The lines of a header, read one after another.
-use Rattle.std.proofs.Common.{◌≡◌, ℕ, ◌+◌, ◌∷◌, drop, Option, Result, Ok, Err, refl, arith}
+use Rattle.fixed_worth.proofs.Common.{◌≡◌, ℕ, ◌+◌, ◌∷◌, drop, Option, Result, Ok, Err, refl, arith, common_steps}
 use Rattle.ordered_group.specs.declared.groups.Group.{Group}
 use Rattle.certificate_file.specs.declared.header.Wanted.{Wanted}
 use Rattle.certificate_file.specs.declared.header.Price.{Price}
 use Rattle.certificate_file.specs.declared.header.Version.{Version}
 use Rattle.certificate_file.specs.declared.cert_fault.CertFault.{CertFault}
-use Rattle.certificate_file.specs.Pieces.{Piece, Unread, IsPieceRead, piece_at, read_line}
-use Rattle.certificate_file.specs.Written.{header_with}
-use Rattle.certificate_file.specs.Header.{◌>>=◌, header_for, version_in, blocks_in, price_in, group_in}
-use Rattle.std.proofs.lemmas.Grind.{common_steps}
+use Rattle.certificate_file.specs.Prelude.{Piece, Unread, IsPieceRead, piece_at, read_line, header_with, ◌>>=◌, header_for, version_in, blocks_in, price_in, group_in}
 
 -- four lines that are read, the price by the version
 pub all_ok : (a : Result Version CertFault) (b : Result ℕ CertFault) (c : Version → Result Price CertFault) (d : Result Group CertFault) (v : Version) (n : ℕ) (price : Price) (name : Group) → a ≡ Ok v → b ≡ Ok n → c v ≡ Ok price → d ≡ Ok name

@@ -1,9 +1,5 @@
 -- A header without a fault is spelled as its values are.
-use Rattle.std.proofs.Common.{◌≡◌, ℕ, ◌+◌, Bool, true, false, cond, List, [], ◌∷◌, ◌++◌, drop, Option, Some, None, Result, Ok, Err, refl, sym, ap, ◌∙◌, subst, append_assoc, arith}
-use Rattle.std.specs.Result.{result_unwrap_or}
-use Rattle.std.specs.Str.{bytes_eq}
-use Rattle.std.specs.Fmt.{decimal}
-use Rattle.std.proofs.lemmas.Slice.Eq.{bytes_eq-Decides}
+use Rattle.fixed_worth.proofs.Common.{◌≡◌, ℕ, ◌+◌, Bool, true, false, cond, List, [], ◌∷◌, ◌++◌, drop, Option, Some, None, Result, Ok, Err, refl, sym, ap, ◌∙◌, subst, append_assoc, arith, result_unwrap_or, bytes_eq, decimal, bytes_eq-Decides, common_steps}
 use lib.Chars.{codes}
 use Rattle.fixed_worth.specs.declared.limits.TheConstants.{MOST_BLOCKS, MOST_FACTOR}
 use Rattle.ordered_group.specs.declared.groups.Group.{Group}
@@ -17,14 +13,11 @@ use Rattle.certificate_file.specs.declared.header.Version.{Version}
 use Rattle.certificate_file.specs.declared.header.Version.TheVariants.{One, Two}
 use Rattle.certificate_file.specs.declared.cert_fault.LineFault.{LineFault}
 use Rattle.certificate_file.specs.declared.cert_fault.LineFault.TheVariants.{Text}
-use Rattle.certificate_file.specs.Pieces.{Piece, piece_at, read_line, words_of, number_below}
-use Rattle.certificate_file.specs.Header.{header_for, version_in, value_behind, value_behind_both, or_number, blocks_said, blocks_in, factor_of, price_said, mill_said, price_in, group_said, group_in}
-use Rattle.certificate_file.specs.Written.{spaced_words, lines_text, version_for, version_word, price_words, header_words}
+use Rattle.certificate_file.specs.Prelude.{Piece, piece_at, read_line, words_of, number_below, header_for, version_in, value_behind, value_behind_both, or_number, blocks_said, blocks_in, factor_of, price_said, mill_said, price_in, group_said, group_in, spaced_words, lines_text, version_for, version_word, price_words, header_words}
 use Rattle.certificate_file.proofs.Texts.{pieces_text, words_make_line}
 use Rattle.certificate_file.proofs.Going.{text_read}
 use Rattle.certificate_file.proofs.Spelling.{number_is, read_ends, piece_text}
 use Rattle.certificate_file.proofs.Wants.{joined}
-use Rattle.std.proofs.lemmas.Grind.{common_steps}
 
 behind_is : (key w : List ℕ) (words : List (List ℕ)) → value_behind key words ≡ Some w → words ≡ key ∷ w ∷ []
 behind_is key w words h = grind (arith, common_steps, bytes_eq-Decides)

@@ -1,18 +1,11 @@
 -- Lines in order are determined by what they say.
-use Rattle.std.proofs.Common.{◌≡◌, ℕ, ◌<◌, Bool, true, false, cond, ◌⊎◌, inl, inr, List, [], ◌∷◌, Option, Some, refl, sym, ap, ◌∙◌, subst, arith}
-use Rattle.std.specs.Cmp.{IsTotalOrder}
-use Rattle.std.specs.Ordering.{nat_cmp, ordering_then, is_lt}
-use Rattle.std.specs.declared.cmp.Ordering.{Ordering}
-use Rattle.std.specs.declared.cmp.Ordering.TheVariants.{Less}
-use Rattle.std.proofs.lemmas.Cmp.{nat_cmp_total, on_total, then_total}
+use Rattle.fixed_worth.proofs.Common.{◌≡◌, ℕ, ◌<◌, Bool, true, false, cond, ◌⊎◌, inl, inr, List, [], ◌∷◌, Option, Some, refl, sym, ap, ◌∙◌, subst, arith, IsTotalOrder, nat_cmp, ordering_then, is_lt, Ordering, Less, nat_cmp_total, on_total, then_total, common_steps}
 use Rattle.ordered_group.specs.Amount.{Amount, zero_amount, is_zero}
 use Rattle.certificate_file.specs.declared.body_lines.LineKind.TheVariants.{Pit}
 use Rattle.certificate_file.specs.declared.body_lines.BodyLine.{BodyLine}
-use Rattle.certificate_file.specs.BodyLines.{rank, is_end, is_of_model}
-use Rattle.certificate_file.specs.Certificate.{amount_of, given_amount, is_rest}
+use Rattle.certificate_file.specs.Prelude.{rank, is_end, is_of_model, amount_of, given_amount, is_rest}
 use Rattle.certificate_file.proofs.Going.{carries}
 use Rattle.certificate_file.proofs.Order.{InOrder, Good}
-use Rattle.std.proofs.lemmas.Grind.{common_steps}
 
 -- The order of lines.
 abbrev pub line_cmp : BodyLine → BodyLine → Ordering

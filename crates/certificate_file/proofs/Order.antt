@@ -1,18 +1,13 @@
 -- Lines in order: their PIT lines name ascending blocks, all below n.
-use Rattle.std.proofs.Common.{◌≡◌, ℕ, get_or, ◌+◌, ◌<◌, Bool, true, false, cond, List, [], ◌∷◌, length, Option, Some, None, Result, Ok, Err, refl, ap, ◌∙◌, subst, arith}
-use Rattle.std.specs.List.{All}
+use Rattle.fixed_worth.proofs.Common.{◌≡◌, ℕ, get_or, ◌+◌, ◌<◌, Bool, true, false, cond, List, [], ◌∷◌, length, Option, Some, None, Result, Ok, Err, refl, ap, ◌∙◌, subst, arith, All, common_steps}
 use Rattle.closure_net.specs.Network.{IsAscending}
 use Rattle.certificate_file.specs.declared.cert_fault.CertFault.{CertFault}
 use Rattle.certificate_file.specs.declared.cert_fault.CertFault.TheVariants as fault
 use Rattle.certificate_file.specs.declared.body_lines.LineKind.{LineKind}
 use Rattle.certificate_file.specs.declared.body_lines.LineKind.TheVariants.{Pit}
 use Rattle.certificate_file.specs.declared.body_lines.BodyLine.{BodyLine}
-use Rattle.certificate_file.specs.Pieces.{Piece, read_line}
-use Rattle.certificate_file.specs.Header.{◌>>=◌}
-use Rattle.certificate_file.specs.BodyLines.{line_of, is_end, is_of_model, is_above, may_follow, line_behind, next_line, in_order, in_model, end_fault, fault_from, body_fault, lines_of_pieces, lines_from}
-use Rattle.certificate_file.specs.Certificate.{pit_of, block_if_pit}
+use Rattle.certificate_file.specs.Prelude.{Piece, read_line, ◌>>=◌, line_of, is_end, is_of_model, is_above, may_follow, line_behind, next_line, in_order, in_model, end_fault, fault_from, body_fault, lines_of_pieces, lines_from, pit_of, block_if_pit}
 use Rattle.certificate_file.proofs.Going.{Sound, text_read, sound}
-use Rattle.std.proofs.lemmas.Grind.{common_steps}
 
 -- Lines that stand in order, of each of which P holds.
 abbrev pub InOrder : (BodyLine → Type 0) → Option BodyLine → List BodyLine → Type 0

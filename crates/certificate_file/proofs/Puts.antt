@@ -1,6 +1,5 @@
 -- A text that is put line after line.
-use Rattle.std.proofs.Common.{◌≡◌, ℕ, ◌+◌, ◌<◌, true, false, List, [], ◌∷◌, ◌++◌, length, map, get_or, drop, Option, refl, sym, ap, ◌∙◌, subst, append_assoc, append-nil, arith}
-use Rattle.std.specs.Io.KnownBytes.{Appends}
+use Rattle.fixed_worth.proofs.Common.{◌≡◌, ℕ, ◌+◌, ◌<◌, true, false, List, [], ◌∷◌, ◌++◌, length, map, get_or, drop, Option, refl, sym, ap, ◌∙◌, subst, append_assoc, append-nil, arith, Appends, common_steps}
 use Rattle.fixed_worth.specs.Device.{ReceivedPrefix, SentOrHeld}
 use Rattle.fixed_worth.proofs.Pieces.{all_held, held_more, held_more_prefix, prefix_of_first, held_both, held_sent, held_prefix, prefix_in_first, prefix_in_second}
 use Rattle.ordered_group.specs.Amount.{Amount, zero_amount, is_zero}
@@ -9,7 +8,6 @@ use Rattle.certificate_file.specs.declared.body_lines.LineKind.TheVariants.{Sour
 use Rattle.certificate_file.specs.declared.body_lines.LineKind.{LineKind}
 use Rattle.certificate_file.specs.declared.body_lines.BodyLine.{BodyLine}
 use Rattle.certificate_file.specs.Written.{spaced_words, line_words, body_text, amount_lines, pit_at, line_at, flow_lines}
-use Rattle.std.proofs.lemmas.Grind.{common_steps}
 
 -- Of all that is to be put, behind what was held at first, this is left.
 pub record Put (a b : Option (List ℕ)) (first now left all : List ℕ) : Type 0 where

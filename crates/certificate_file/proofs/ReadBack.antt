@@ -1,12 +1,5 @@
 -- The text of a value is read without a fault.
-use Rattle.std.proofs.Common.{◌≡◌, ℕ, ◌+◌, ◌≤◌, Bool, true, false, cond, ltb, List, [], ◌∷◌, ◌++◌, length, drop, Option, Some, None, Result, Ok, refl, ap, ◌∙◌, arith, append_assoc, length-append}
-use Rattle.std.proofs.lemmas.Bool.{eq-eqb}
-use Rattle.std.specs.Prelude.{pos}
-use Rattle.std.specs.Str.{bytes_eq}
-use Rattle.std.specs.Fmt.{decimal}
-use Rattle.std.proofs.lemmas.Slice.Eq.{bytes_eq-Decides}
-use Rattle.std.proofs.lemmas.Bool.Decides.{nat_tests}
-use Rattle.std.proofs.lemmas.Fmt.{length-decimal-le_wide}
+use Rattle.fixed_worth.proofs.Common.{◌≡◌, ℕ, ◌+◌, ◌≤◌, Bool, true, false, cond, ltb, List, [], ◌∷◌, ◌++◌, length, drop, Option, Some, None, Result, Ok, refl, ap, ◌∙◌, arith, append_assoc, length-append, eq-eqb, pos, bytes_eq, decimal, bytes_eq-Decides, nat_tests, length-decimal-le_wide, common_steps}
 use lib.Chars.{codes}
 use Rattle.fixed_worth.specs.declared.limits.TheConstants.{MOST_BLOCKS, LINE_BYTES, MOST_FACTOR}
 use Rattle.ordered_group.specs.declared.groups.Group.{Group}
@@ -19,12 +12,7 @@ use Rattle.certificate_file.specs.declared.cert_fault.LineFault.{LineFault}
 use Rattle.certificate_file.specs.declared.body_lines.LineKind.{LineKind}
 use Rattle.certificate_file.specs.declared.body_lines.LineKind.TheVariants.{End}
 use Rattle.certificate_file.specs.declared.body_lines.BodyLine.{BodyLine}
-use Rattle.certificate_file.specs.Pieces.{Piece, pieces_of, words_of, read_line, piece_fault, number_below}
-use Rattle.certificate_file.specs.Header.{header_for, version_in, value_behind, or_number, blocks_in, factor_of, price_in, group_in}
-use Rattle.certificate_file.specs.BodyLines.{is_end, rank, may_follow, body_fault, lines_of_pieces}
-use Rattle.certificate_file.specs.Certificate.{wanted_for}
-use Rattle.certificate_file.specs.ReadBack.{IsPrice}
-use Rattle.certificate_file.specs.Written.{spaced_words, lines_text, line_words, version_for, price_words, header_words, header_with, body_text, end_text}
+use Rattle.certificate_file.specs.Prelude.{Piece, pieces_of, words_of, read_line, piece_fault, number_below, header_for, version_in, value_behind, or_number, blocks_in, factor_of, price_in, group_in, is_end, rank, may_follow, body_fault, lines_of_pieces, wanted_for, IsPrice, spaced_words, lines_text, line_words, version_for, price_words, header_words, header_with, body_text, end_text}
 use Rattle.certificate_file.proofs.Texts.{is_word, are_words, has_no_feed, words_read, spaced_no_feed, line_before, decimal_is_word}
 use Rattle.certificate_file.proofs.HeaderLines.{all_ok}
 use Rattle.certificate_file.proofs.Heads.{version_text, regroup}
@@ -32,7 +20,6 @@ use Rattle.certificate_file.proofs.Order.{InOrder}
 use Rattle.certificate_file.proofs.LineOrder.{Proper}
 use Rattle.certificate_file.proofs.ValueLines.{UpTo, higher}
 use Rattle.certificate_file.proofs.Readable.{Readable, number_read}
-use Rattle.std.proofs.lemmas.Grind.{common_steps}
 
 abbrev pub line_piece : List ℕ → Piece
 line_piece text = record { text = text; ended = true }

@@ -1,11 +1,5 @@
 -- What is written of a line is read as that line.
-use Rattle.std.proofs.Common.{◌≡◌, ℕ, suc, ◌+◌, ◌<◌, ◌≤◌, ◌^◌, Bool, true, false, cond, not, ℤ, pos, negsuc, List, [], ◌∷◌, length, Option, Some, Ok, refl, ap, ◌∙◌, arith, length-append}
-use Rattle.std.specs.Prelude.{◌&&◌, FitsSigned}
-use Rattle.std.specs.Int.{w128}
-use Rattle.std.specs.Fmt.{decimal, signed_decimal}
-use Rattle.std.specs.Ordering.{int_eq}
-use Rattle.std.proofs.lemmas.Int.{ints}
-use Rattle.std.proofs.lemmas.Fmt.{length-decimal-le_wide}
+use Rattle.fixed_worth.proofs.Common.{◌≡◌, ℕ, suc, ◌+◌, ◌<◌, ◌≤◌, ◌^◌, Bool, true, false, cond, not, ℤ, pos, negsuc, List, [], ◌∷◌, length, Option, Some, Ok, refl, ap, ◌∙◌, arith, length-append, ◌&&◌, FitsSigned, w128, decimal, signed_decimal, int_eq, ints, length-decimal-le_wide, common_steps}
 use lib.Chars.{codes}
 use Rattle.fixed_worth.specs.declared.limits.TheConstants.{MOST_BLOCKS, LINE_BYTES}
 use Rattle.fixed_worth.proofs.PlainNumbers.{printed_is_plain}
@@ -13,14 +7,10 @@ use Rattle.ordered_group.specs.Amount.{Amount, is_zero, FitsPair}
 use Rattle.certificate_file.specs.declared.body_lines.LineKind.{LineKind}
 use Rattle.certificate_file.specs.declared.body_lines.LineKind.TheVariants.{Pit, Source, Rest, Sink}
 use Rattle.certificate_file.specs.declared.body_lines.BodyLine.{BodyLine}
-use Rattle.certificate_file.specs.Pieces.{number_below}
-use Rattle.certificate_file.specs.BodyLines.{amount_in, numbered_line, block_line, line_of_words, line_of}
-use Rattle.certificate_file.specs.ReadBack.{Writable}
-use Rattle.certificate_file.specs.Written.{spaced_words, words_with, line_words, pit_at, line_of_block}
+use Rattle.certificate_file.specs.Prelude.{number_below, amount_in, numbered_line, block_line, line_of_words, line_of, Writable, spaced_words, words_with, line_words, pit_at, line_of_block}
 use Rattle.certificate_file.proofs.Amounts.{zero_numbers}
 use Rattle.certificate_file.proofs.Texts.{is_word, are_words, has_no_feed, words_read, spaced_no_feed, decimal_is_word, signed_is_word}
 use Rattle.certificate_file.proofs.Going.{Counted}
-use Rattle.std.proofs.lemmas.Grind.{common_steps}
 
 -- A line whose text is read as the line.
 pub record Readable (counts : Bool) (n : ℕ) (l : BodyLine) : Type 0 where

@@ -1,20 +1,15 @@
 -- Two lists of lines in order that say the same are the same.
-use Rattle.std.proofs.Common.{◌≡◌, ℕ, suc, ◌<◌, Bool, true, false, eqb, ◌⊎◌, inl, inr, List, [], ◌∷◌, length, get_or, Option, refl, sym, ap, ◌∙◌, subst, arith}
-use Rattle.std.proofs.lemmas.Bool.{eqb-true, eq-eqb}
-use Rattle.std.specs.Prelude.{◌&&◌, ◌||◌}
-use Rattle.std.proofs.lemmas.Bool.Decides.{nat_tests}
-use Rattle.ordered_group.specs.Amount.{Amount, zero_amount}
-use Rattle.ordered_group.specs.Sums.{amount_at}
+use Rattle.fixed_worth.proofs.Common.{◌≡◌, ℕ, suc, ◌<◌, Bool, true, false, eqb, ◌⊎◌, inl, inr, List, [], ◌∷◌, length, get_or, Option, refl, sym, ap, ◌∙◌, subst, arith, eqb-true, eq-eqb, ◌&&◌, ◌||◌, nat_tests, common_steps}
+use Rattle.ordered_group.specs.Prelude.{Amount, zero_amount, amount_at}
 use Rattle.closure_net.specs.Network.{FlowView}
 use Rattle.certificate_file.specs.declared.body_lines.LineKind.{LineKind}
 use Rattle.certificate_file.specs.declared.body_lines.LineKind.TheVariants.{Pit, Source, Rest, Sink, End}
 use Rattle.certificate_file.specs.declared.body_lines.BodyLine.{BodyLine}
-use Rattle.certificate_file.specs.BodyLines.{is_of_model}
-use Rattle.certificate_file.specs.Certificate.{Denotes, has_pair, pit_of, block_if_pit, amount_of, given_amount, gives_source, gives_rest, gives_sink, is_source, is_rest, is_sink}
+use Rattle.certificate_file.specs.Prelude.{is_of_model, Denotes, pit_of, block_if_pit, amount_of, given_amount, gives_source, gives_rest, gives_sink, is_source, is_rest, is_sink}
+use Rattle.prec_file.specs.Rests.{has_pair}
 use Rattle.certificate_file.proofs.Going.{carries}
 use Rattle.certificate_file.proofs.Order.{InOrder}
 use Rattle.certificate_file.proofs.LineOrder.{Has, has_good, same_lines, Proper, Found, found, Tells, given_by}
-use Rattle.std.proofs.lemmas.Grind.{common_steps}
 
 source_kind : (k : LineKind) (t : Bool) → (is_source k && t) ≡ true → (k ≡ Source) × (t ≡ true)
 source_kind k t h = grind (arith, common_steps)

@@ -1,25 +1,18 @@
 -- A text without a fault is spelled as its lines are.
-use Rattle.std.proofs.Common.{◌≡◌, ℕ, ◌+◌, Bool, true, cond, ℤ, pos, List, [], ◌∷◌, ◌++◌, Option, Some, None, Result, Ok, Err, refl, sym, ap, ◌∙◌, arith}
-use Rattle.std.specs.Prelude.{unwrap_or}
-use Rattle.std.specs.Fmt.{decimal, signed_decimal}
-use Rattle.std.proofs.lemmas.Slice.Eq.{bytes_eq-Decides}
+use Rattle.fixed_worth.proofs.Common.{◌≡◌, ℕ, ◌+◌, Bool, true, cond, ℤ, pos, List, [], ◌∷◌, ◌++◌, Option, Some, None, Result, Ok, Err, refl, sym, ap, ◌∙◌, arith, unwrap_or, decimal, signed_decimal, bytes_eq-Decides, common_steps}
 use lib.Chars.{codes}
 use Rattle.fixed_worth.specs.declared.numerals.NumberFault.{NumberFault}
 use Rattle.fixed_worth.specs.Numeral.{plain_of}
 use Rattle.fixed_worth.proofs.PlainNumbers.{one_spelling}
 use Rattle.certificate_file.specs.declared.cert_fault.CertFault.{CertFault}
-use Rattle.certificate_file.specs.declared.cert_fault.CertFault.TheVariants as fault
 use Rattle.certificate_file.specs.declared.cert_fault.LineFault.{LineFault}
 use Rattle.certificate_file.specs.declared.body_lines.LineKind.{LineKind}
 use Rattle.certificate_file.specs.declared.body_lines.LineKind.TheVariants.{Pit, Source, Rest, Sink, End}
 use Rattle.certificate_file.specs.declared.body_lines.BodyLine.{BodyLine}
-use Rattle.certificate_file.specs.Pieces.{Piece, number_below, words_of, read_line}
-use Rattle.certificate_file.specs.BodyLines.{kind_of, amount_said, amount_in, block_line, rest_line, line_with, line_of_words, line_of, is_end, next_line, end_fault, fault_from, body_fault, lines_from, lines_of_pieces}
-use Rattle.certificate_file.specs.Written.{spaced_words, words_with, line_words, body_text, end_text}
+use Rattle.certificate_file.specs.Prelude.{Piece, number_below, words_of, read_line, kind_of, amount_said, amount_in, block_line, rest_line, line_with, line_of_words, line_of, is_end, next_line, end_fault, fault_from, body_fault, lines_from, lines_of_pieces, spaced_words, words_with, line_words, body_text, end_text}
 use Rattle.certificate_file.proofs.Texts.{pieces_text, words_make_line}
 use Rattle.certificate_file.proofs.Going.{numbered, text_read, no_line_is}
 use Rattle.certificate_file.proofs.Order.{met}
-use Rattle.std.proofs.lemmas.Grind.{common_steps}
 
 -- The key of a kind.
 abbrev pub key_word : LineKind → List ℕ
@@ -41,9 +34,7 @@ number_is word limit k h = grind (arith, common_steps, below_at)
 
 amount_of_words : (counts : Bool) (v w : List ℕ) (a : ℤ × ℤ) (r s : Result ℤ NumberFault) → plain_of v ≡ r → plain_of w ≡ s → amount_said counts r s ≡ Some a → (v ≡ signed_decimal a.0) × (w ≡ signed_decimal a.1)
 amount_of_words counts v w a (Ok x) (Ok y) e f h = grind (arith, common_steps, one_spelling)
-amount_of_words counts v w a (Ok x) (Err y) e f h = absurd cc
-amount_of_words counts v w a (Err x) (Ok y) e f h = absurd cc
-amount_of_words counts v w a (Err x) (Err y) e f h = absurd cc
+amount_of_words counts v w a r s e f h = absurd cc
 
 amount_is : (counts : Bool) (v w : List ℕ) (a : ℤ × ℤ) → amount_in counts v w ≡ Some a → (v ≡ signed_decimal a.0) × (w ≡ signed_decimal a.1)
 amount_is counts v w a h = amount_of_words counts v w a (plain_of v) (plain_of w) refl refl h

@@ -1,16 +1,6 @@
 -- Pieces and words make up their text again, and a text that is made of lines of words has these lines and words.
-use Rattle.std.proofs.Common.{◌≡◌, ℕ, ◌+◌, ◌<◌, Bool, true, false, cond, not, eqb, List, [], ◌∷◌, ◌++◌, refl, arith}
-use Rattle.std.proofs.lemmas.Bool.{and_parts}
-use Rattle.std.specs.Prelude.{◌&&◌, ◌^◌, ℤ, FitsSigned}
-use Rattle.std.specs.Int.{w128}
-use Rattle.std.specs.List.{onto_first, list_all}
-use Rattle.std.specs.Fmt.{decimal, signed_decimal}
-use Rattle.std.proofs.lemmas.Bool.Decides.{nat_tests}
-use Rattle.std.proofs.lemmas.List.Folds.{list_all-append}
-use Rattle.std.proofs.lemmas.Fmt.{decimal_by_steps_wide}
-use Rattle.certificate_file.specs.Pieces.{Piece, onto_piece, pieces_of, words_of}
-use Rattle.certificate_file.specs.Written.{spaced_words}
-use Rattle.std.proofs.lemmas.Grind.{common_steps}
+use Rattle.fixed_worth.proofs.Common.{◌≡◌, ℕ, ◌+◌, ◌<◌, Bool, true, false, cond, not, eqb, List, [], ◌∷◌, ◌++◌, refl, arith, and_parts, ◌&&◌, ◌^◌, ℤ, FitsSigned, w128, onto_first, list_all, decimal, signed_decimal, nat_tests, list_all-append, decimal_by_steps_wide, common_steps}
+use Rattle.certificate_file.specs.Prelude.{Piece, onto_piece, pieces_of, words_of, spaced_words}
 
 -- The text that pieces make.
 abbrev pub pieces_text : List Piece → List ℕ

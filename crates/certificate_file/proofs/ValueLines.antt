@@ -1,28 +1,17 @@
 -- The lines of a value stand in order, and say the value.
-use Rattle.std.proofs.Common.{◌≡◌, ◌≢◌, ℕ, zero, suc, ◌+◌, ◌<◌, ◌≤◌, Bool, true, false, cond, eqb, ltb, List, [], ◌∷◌, ◌++◌, length, map, get_or, Option, Some, None, refl, sym, ap, ◌∙◌, subst, arith, append-nil}
-use Rattle.std.proofs.lemmas.Bool.{eq-eqb, ne_eqb}
-use Rattle.std.specs.Prelude.{◌&&◌}
-use Rattle.std.specs.List.{All}
-use Rattle.std.specs.Cmp.{nat_cmp_is}
-use Rattle.std.specs.Ordering.{nat_cmp, ordering_then, is_lt}
-use Rattle.std.specs.declared.cmp.Ordering.{Ordering}
-use Rattle.std.specs.declared.cmp.Ordering.TheVariants.{Less, Equal}
-use Rattle.ordered_group.specs.Amount.{Amount, zero_amount, is_zero}
-use Rattle.ordered_group.specs.Sums.{amount_at}
+use Rattle.fixed_worth.proofs.Common.{◌≡◌, ◌≢◌, ℕ, zero, suc, ◌+◌, ◌<◌, ◌≤◌, Bool, true, false, cond, eqb, ltb, List, [], ◌∷◌, ◌++◌, length, map, get_or, Option, Some, None, refl, sym, ap, ◌∙◌, subst, arith, append-nil, eq-eqb, ne_eqb, ◌&&◌, All, nat_cmp_is, nat_cmp, ordering_then, is_lt, Ordering, Less, Equal, common_steps}
+use Rattle.ordered_group.specs.Prelude.{Amount, zero_amount, is_zero, amount_at}
 use Rattle.prec_file.proofs.Pairs.{tells_pair, pair_told}
-use Rattle.prec_file.specs.Rests.{IsRising, IsKnown}
+use Rattle.prec_file.specs.Prelude.{IsRising, IsKnown, has_pair}
 use Rattle.closure_net.specs.Network.{FlowView, IsAscending}
 use Rattle.closure_net.proofs.Ascending.{tail_ascends}
 use Rattle.certificate_file.specs.declared.body_lines.LineKind.{LineKind}
 use Rattle.certificate_file.specs.declared.body_lines.LineKind.TheVariants.{Pit, Source, Rest, Sink}
 use Rattle.certificate_file.specs.declared.body_lines.BodyLine.{BodyLine}
-use Rattle.certificate_file.specs.BodyLines.{rank, is_end, may_follow, is_of_model}
-use Rattle.certificate_file.specs.Certificate.{Covers, Denotes, has_pair, pit_of, block_if_pit, amount_of, given_amount, gives_source, gives_rest, gives_sink}
-use Rattle.certificate_file.specs.Written.{pit_at, line_of_block, pair_at, amount_lines, flow_lines, value_lines}
+use Rattle.certificate_file.specs.Prelude.{rank, is_end, may_follow, is_of_model, Covers, Denotes, pit_of, block_if_pit, amount_of, given_amount, gives_source, gives_rest, gives_sink, pit_at, line_of_block, pair_at, amount_lines, flow_lines, value_lines}
 use Rattle.certificate_file.proofs.Additions.{present, one_place}
 use Rattle.certificate_file.proofs.Order.{InOrder}
 use Rattle.certificate_file.proofs.LineOrder.{Proper}
-use Rattle.std.proofs.lemmas.Grind.{common_steps}
 
 -- What is read before has at most this rank.
 abbrev pub UpTo : ℕ → Option BodyLine → Type 0

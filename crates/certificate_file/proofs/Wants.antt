@@ -1,15 +1,12 @@
 -- A certificate that is read for a model, as a whole.
-use Rattle.std.proofs.Common.{◌≡◌, ℕ, List, Some, Result, Ok, arith}
+use Rattle.fixed_worth.proofs.Common.{◌≡◌, ℕ, List, Some, Result, Ok, arith, common_steps}
 use Rattle.ordered_group.specs.declared.groups.Group.{Group}
 use Rattle.certificate_file.specs.declared.header.Header.{Header}
 use Rattle.certificate_file.specs.declared.header.Wanted.{Wanted}
 use Rattle.certificate_file.specs.declared.header.Price.{Price}
 use Rattle.certificate_file.specs.declared.header.Version.{Version}
 use Rattle.certificate_file.specs.declared.cert_fault.CertFault.{CertFault}
-use Rattle.certificate_file.specs.Pieces.{Piece, piece_at, read_line}
-use Rattle.certificate_file.specs.Written.{header_with}
-use Rattle.certificate_file.specs.Header.{◌>>=◌, header_for, version_in, blocks_in, price_in, group_in}
-use Rattle.std.proofs.lemmas.Grind.{common_steps}
+use Rattle.certificate_file.specs.Prelude.{Piece, piece_at, read_line, header_with, ◌>>=◌, header_for, version_in, blocks_in, price_in, group_in}
 
 -- A header has the blocks and the group that are wanted.
 pub record Joined (a : Result Version CertFault) (b : Result ℕ CertFault) (c : Version → Result Price CertFault) (d : Result Group CertFault) (h : Header) : Type 0 where

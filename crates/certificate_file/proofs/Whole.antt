@@ -1,25 +1,15 @@
 -- A certificate that is read for a model, as a whole.
-use Rattle.std.proofs.Common.{◌≡◌, ℕ, ◌<◌, Bool, List, [], ◌++◌, length, drop, get_or, Some, None, Result, Ok, refl, sym, ap, ◌∙◌, subst, arith}
-use Rattle.std.specs.List.{All}
-use Rattle.std.specs.Result.{result_unwrap_or}
-use Rattle.std.proofs.lemmas.List.{same_lists}
+use Rattle.fixed_worth.proofs.Common.{◌≡◌, ℕ, ◌<◌, Bool, List, [], ◌++◌, length, drop, get_or, Some, None, Result, Ok, refl, sym, ap, ◌∙◌, subst, arith, All, result_unwrap_or, same_lists, common_steps}
 use Rattle.ordered_group.specs.declared.groups.Group.{Group}
-use Rattle.ordered_group.specs.Amount.{Amount, zero_amount}
-use Rattle.ordered_group.specs.Sums.{amount_at}
-use Rattle.prec_file.specs.Rests.{IsRests}
+use Rattle.ordered_group.specs.Prelude.{Amount, zero_amount, amount_at}
+use Rattle.prec_file.specs.Prelude.{IsRests, has_pair}
 use Rattle.closure_net.specs.Network.{FlowView, IsAscending}
 use Rattle.certificate_file.specs.declared.header.Header.{Header}
 use Rattle.certificate_file.specs.declared.header.Wanted.{Wanted}
 use Rattle.certificate_file.specs.declared.header.Price.{Price}
 use Rattle.certificate_file.specs.declared.body_lines.BodyLine.{BodyLine}
 use Rattle.certificate_file.specs.declared.cert_fault.CertFault.{CertFault}
-use Rattle.certificate_file.specs.Pieces.{Piece, Unread, pieces_of}
-use Rattle.certificate_file.specs.Header.{header_for}
-use Rattle.certificate_file.specs.BodyLines.{body_fault, lines_of_pieces}
-use Rattle.certificate_file.specs.Written.{lines_text, header_words, header_with, body_text, end_text, value_lines, text_of, line_of_block, pair_at}
-use Rattle.certificate_file.specs.Certificate.{Covers, IsRead, Denotes, has_pair, fault_of, fault_behind, wanted_for, given_amount, gives_source, gives_rest, gives_sink, pit_of}
-use Rattle.certificate_file.specs.ReadBack.{Writable, AreWritable, IsPrice, IsReadBack}
-use Rattle.certificate_file.specs.Gathered.{Gathered, Adds}
+use Rattle.certificate_file.specs.Prelude.{Piece, Unread, pieces_of, header_for, body_fault, lines_of_pieces, lines_text, header_words, header_with, body_text, end_text, value_lines, text_of, line_of_block, pair_at, Covers, IsRead, Denotes, fault_of, fault_behind, wanted_for, given_amount, gives_source, gives_rest, gives_sink, pit_of, Writable, AreWritable, IsPrice, IsReadBack, Gathered, Adds}
 use Rattle.certificate_file.proofs.Order.{InOrder, Good, in_order_weaker, stands_in_order, ascending, known}
 use Rattle.certificate_file.proofs.Wants.{header_wanted}
 use Rattle.certificate_file.proofs.Texts.{pieces_make_text}
@@ -31,7 +21,6 @@ use Rattle.certificate_file.proofs.ValueLines.{EachLine, each_all, each_both, va
 use Rattle.certificate_file.proofs.Readable.{Readable, pit_readable, source_readable, rest_readable, sink_readable}
 use Rattle.certificate_file.proofs.ReadBack.{Both, ReadAs, body_read, header_read, body_left}
 use Rattle.certificate_file.specs.declared.body_lines.LineKind.TheVariants.{Source, Sink}
-use Rattle.std.proofs.lemmas.Grind.{common_steps}
 
 -- A text without a fault is the text of the value that it gives.
 pub spelled : (counts : Bool) (name : Group) (n : ℕ) (pairs : List (ℕ × ℕ)) (text : List ℕ) (price : Price) (pit : List ℕ) (flow : FlowView) → IsRests (record { blocks = n; pairs = pairs }) → header_for (wanted_for n name) (pieces_of text) ≡ Ok (header_with n price name)

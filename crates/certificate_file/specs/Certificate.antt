@@ -1,8 +1,7 @@
 -- What a certificate's text says, and what is wrong with it.
 use Rattle.std.specs.Prelude.{◌≡◌, ℕ, ◌<◌, ◌==◌, ◌&&◌, Bool, true, false, cond, List, [], ◌∷◌, length, drop, slice_index_or, All, Option, Some, None, Result, Ok, Err, codes}
 use Rattle.ordered_group.specs.declared.groups.Group.{Group}
-use Rattle.ordered_group.specs.Amount.{Amount, zero_amount}
-use Rattle.ordered_group.specs.Sums.{amount_at}
+use Rattle.ordered_group.specs.Prelude.{Amount, zero_amount, amount_at}
 pub use Rattle.prec_file.specs.Rests.{has_pair}
 use Rattle.closure_net.specs.Network.{FlowView, IsAscending}
 use Rattle.certificate_file.specs.declared.header.Header.{Header}
@@ -11,7 +10,7 @@ use Rattle.certificate_file.specs.declared.header.Price.{Price}
 use Rattle.certificate_file.specs.declared.cert_fault.CertFault.{CertFault}
 use Rattle.certificate_file.specs.declared.cert_fault.CertFault.TheVariants.{NoMemory, Text, Number, OutOfOrder, UnknownPair, Truncated}
 use Rattle.certificate_file.specs.declared.body_lines.LineKind.{LineKind}
-use Rattle.certificate_file.specs.declared.body_lines.LineKind.TheVariants.{Pit, Source, Rest, Sink, End}
+use Rattle.certificate_file.specs.declared.body_lines.LineKind.TheVariants.{Pit, Source, Rest, Sink}
 use Rattle.certificate_file.specs.declared.body_lines.BodyLine.{BodyLine}
 use Rattle.certificate_file.specs.Pieces.{Piece, pieces_of}
 use Rattle.certificate_file.specs.Header.{header_for}

@@ -1,7 +1,6 @@
 -- A pit and a flow while their lines are read.
 use Rattle.std.specs.Prelude.{◌≡◌, ℕ, ◌<◌, List, ◌++◌, length, slice_index_or, slice_set}
-use Rattle.ordered_group.specs.Amount.{Amount}
-use Rattle.ordered_group.specs.Sums.{amount_at}
+use Rattle.ordered_group.specs.Prelude.{Amount, amount_at}
 use Rattle.closure_net.specs.Network.{FlowView, flow_view}
 use Rattle.certificate_file.specs.declared.body_lines.BodyLine.{BodyLine}
 use Rattle.certificate_file.specs.Certificate.{pit_of, given_amount, gives_source, gives_rest, gives_sink}

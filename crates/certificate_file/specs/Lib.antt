@@ -8,3 +8,5 @@ pub mod Certificate
 pub mod ReadBack
 -- for this crate alone: a pit and a flow while their lines are read
 pub mod Gathered
+-- the names of all of them
+pub mod Prelude

@@ -3,8 +3,7 @@ use Rattle.std.specs.Prelude.{ℕ, pos, ◌+◌, cond, List, [], ◌∷◌, ◌+
 use Rattle.std.specs.Fmt.{decimal, signed_decimal}
 use lib.Chars.{codes}
 use Rattle.ordered_group.specs.declared.groups.Group.{Group}
-use Rattle.ordered_group.specs.Group.{group_name}
-use Rattle.ordered_group.specs.Amount.{Amount, is_zero}
+use Rattle.ordered_group.specs.Prelude.{group_name, Amount, is_zero}
 use Rattle.closure_net.specs.Network.{FlowView}
 use Rattle.certificate_file.specs.declared.header.Header.{Header}
 use Rattle.certificate_file.specs.declared.header.Price.{Price}

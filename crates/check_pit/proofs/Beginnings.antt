@@ -1,17 +1,14 @@
 -- Reading a stream's body line after line: what was read of it begins with the lines that were taken, whatever follows.
-use Rattle.std.proofs.Common.{◌≡◌, ℕ, ◌+◌, ◌<◌, Bool, true, false, cond, List, [], ◌∷◌, ◌++◌, length, take, drop, Option, Some, None, Ok, Err, refl, sym, ap, ◌∙◌, subst, arith, append-nil, append_assoc}
+use Rattle.fixed_worth.proofs.Common.{◌≡◌, ℕ, ◌+◌, ◌<◌, Bool, true, false, cond, List, [], ◌∷◌, ◌++◌, length, take, drop, Option, Some, None, Ok, Err, refl, sym, ap, ◌∙◌, subst, arith, append-nil, append_assoc, common_steps}
 use Rattle.certificate_file.specs.declared.cert_fault.CertFault.{CertFault}
 use Rattle.certificate_file.specs.declared.cert_fault.CertFault.TheVariants as fault
 use Rattle.certificate_file.specs.declared.body_lines.BodyLine.{BodyLine}
-use Rattle.certificate_file.specs.Pieces.{Piece, pieces_of, piece_fault}
-use Rattle.certificate_file.specs.BodyLines.{line_of, is_end, may_follow, next_line, end_fault, body_fault, lines_of_pieces}
-use Rattle.certificate_file.specs.Certificate.{has_pair}
-use Rattle.check_pit.specs.StreamLines.{IsLine}
-use Rattle.check_pit.specs.TakenLines.{held_piece}
+use Rattle.certificate_file.specs.Prelude.{Piece, pieces_of, piece_fault, line_of, is_end, may_follow, next_line, end_fault, body_fault, lines_of_pieces}
+use Rattle.prec_file.specs.Rests.{has_pair}
+use Rattle.check_pit.specs.Prelude.{IsLine, held_piece}
 use Rattle.certificate_file.proofs.Going.{text_read, sound}
 use Rattle.check_pit.proofs.HeldLines.{line_held}
 use Rattle.certificate_file.proofs.Order.{InOrder, Good, met}
-use Rattle.std.proofs.lemmas.Grind.{common_steps}
 
 -- The last of some lines, or else this one.
 abbrev pub last_line : Option BodyLine → List BodyLine → Option BodyLine

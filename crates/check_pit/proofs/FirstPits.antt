@@ -1,5 +1,5 @@
 -- The PIT lines with which the lines of a certificate begin.
-use Rattle.std.proofs.Common.{◌≡◌, true, false, List, [], ◌∷◌, ◌++◌, Option, Some, refl, ap, append_assoc, append-nil, arith}
+use Rattle.fixed_worth.proofs.Common.{◌≡◌, true, false, List, [], ◌∷◌, ◌++◌, Option, Some, refl, ap, append_assoc, append-nil, arith, common_steps}
 use Rattle.certificate_file.specs.declared.body_lines.LineKind.{LineKind}
 use Rattle.certificate_file.specs.declared.body_lines.LineKind.TheVariants.{Pit}
 use Rattle.certificate_file.specs.declared.body_lines.BodyLine.{BodyLine}
@@ -8,7 +8,6 @@ use Rattle.check_pit.specs.StreamChecks.{is_pit, is_behind_pits, first_pits}
 use Rattle.certificate_file.proofs.Order.{InOrder}
 use Rattle.check_pit.proofs.Beginnings.{last_line}
 use Rattle.fixed_worth.proofs.Bits.{not_false}
-use Rattle.std.proofs.lemmas.Grind.{common_steps}
 
 -- Lines that are all PIT lines.
 abbrev pub AllPits : List BodyLine → Type 0

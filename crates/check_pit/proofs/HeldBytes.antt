@@ -1,10 +1,6 @@
 -- A part of a buffer that loses its first bytes, or gets more behind it.
-use Rattle.std.proofs.Common.{◌≡◌, ℕ, ◌+◌, ◌-◌, ◌≤◌, List, length, take, drop, slice_range, Option, ap, arith, length-take, length-take-le, length-drop, drop-drop}
-use Rattle.std.proofs.lemmas.List.{drop-take}
-use Rattle.std.proofs.Math.Seq.{take-add}
-use Rattle.std.specs.Io.KnownBytes.{Consumes}
+use Rattle.fixed_worth.proofs.Common.{◌≡◌, ℕ, ◌+◌, ◌-◌, ◌≤◌, List, length, take, drop, slice_range, Option, ap, arith, length-take, length-take-le, length-drop, drop-drop, drop-take, take-add, Consumes, common_steps}
 use Rattle.check_pit.specs.StreamBytes.{ReadBehind}
-use Rattle.std.proofs.lemmas.Grind.{common_steps}
 
 -- the first n bytes of a part are passed
 pub passed : (xs ys : List ℕ) (a e n : ℕ) → slice_range xs a e ≡ ys → n ≤ length ys → slice_range xs (a + n) e ≡ drop n ys

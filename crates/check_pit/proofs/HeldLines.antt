@@ -1,16 +1,11 @@
 -- What is held of a text, and the pieces of the whole text, whatever follows.
-use Rattle.std.proofs.Common.{◌≡◌, ℕ, zero, suc, get_or, ◌+◌, ◌<◌, ◌≤◌, Bool, true, false, eqb, List, [], ◌∷◌, ◌++◌, length, take, drop, Option, Some, None, refl, sym, ap, ◌∙◌, subst, arith}
-use Rattle.std.specs.Prelude.{position, unwrap_or}
-use Rattle.std.specs.List.{position_or_len}
+use Rattle.fixed_worth.proofs.Common.{◌≡◌, ℕ, zero, suc, get_or, ◌+◌, ◌<◌, ◌≤◌, Bool, true, false, eqb, List, [], ◌∷◌, ◌++◌, length, take, drop, Option, Some, None, refl, sym, ap, ◌∙◌, subst, arith, position, unwrap_or, position_or_len, position-Some, common_steps}
 use Rattle.fixed_worth.proofs.Cuts.{position_none}
-use Rattle.std.proofs.lemmas.List.Quantifiers.{position-Some}
 use Rattle.fixed_worth.specs.declared.limits.TheConstants.{LINE_BYTES}
 use Rattle.certificate_file.specs.declared.cert_fault.CertFault.TheVariants as fault
 use Rattle.certificate_file.specs.Pieces.{Piece, onto_piece, pieces_of, piece_at, piece_fault}
-use Rattle.check_pit.specs.StreamView.{LineView}
-use Rattle.check_pit.specs.StreamLines.{ReadsSome}
+use Rattle.check_pit.specs.Prelude.{LineView, ReadsSome}
 use Rattle.certificate_file.proofs.Splits.{cut_off}
-use Rattle.std.proofs.lemmas.Grind.{common_steps}
 
 onto_text : (b : ℕ) (ps : List Piece) → (piece_at (onto_piece b ps) 0).text ≡ b ∷ (piece_at ps 0).text
 onto_text b ps = grind (arith, common_steps)

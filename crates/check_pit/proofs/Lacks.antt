@@ -1,11 +1,8 @@
 -- What a set lacks, from the blocks above each of its blocks.
-use Rattle.std.proofs.Common.{◌≡◌, ℕ, ◌<◌, ◌≤◌, ◌==◌, Bool, false, IsTrue, List, length, get_or, sym, refl, ap, subst, ◌∙◌, arith}
-use Rattle.std.proofs.lemmas.Bool.{eq-eqb, eqb-true}
-use Rattle.std.proofs.lemmas.List.{get_or-map, length-map}
+use Rattle.fixed_worth.proofs.Common.{◌≡◌, ℕ, ◌<◌, ◌≤◌, ◌==◌, Bool, false, IsTrue, List, length, get_or, sym, refl, ap, subst, ◌∙◌, arith, eq-eqb, eqb-true, get_or-map, length-map, common_steps}
 use Rattle.prec_file.specs.Rests.{numbers, above_of, from_at, to_at}
 use Rattle.prec_file.proofs.Passing.{passing_at, passing_here, passing_after}
 use Rattle.check_pit.specs.Closing.{HoldsAbove, IsLacking}
-use Rattle.std.proofs.lemmas.Grind.{common_steps}
 
 module _ (ps : List (ℕ × ℕ)) (e : ℕ → Bool) (b : ℕ) (above : List ℕ) (is : above ≡ above_of ps b) where
   ks : List ℕ

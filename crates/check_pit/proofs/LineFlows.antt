@@ -1,33 +1,21 @@
 -- The flow and the pit that the lines of a faultless text say, and what sums over the lines tell of them.
-use Rattle.std.proofs.Common.{◌≡◌, ◌≢◌, ℕ, suc, get_or, ◌<◌, Bool, true, false, eqb, inl, inr, List, [], ◌∷◌, length, None, refl, sym, ap, ◌∙◌, subst, arith}
-use Rattle.std.specs.Prelude.{◌↔◌}
-use Rattle.std.specs.List.{All}
-use Rattle.std.proofs.lemmas.Int.{ints}
-use Rattle.std.proofs.lemmas.Bool.{eq-eqb, ne_eqb}
-use Rattle.std.proofs.lemmas.List.FromFn.{length-map-range_with_len, get_or-map-range_with_len}
-use Rattle.ordered_group.specs.Amount.{Amount, zero_amount, plus, minus, AtMost, positive, negative, Amount_eq}
-use Rattle.ordered_group.specs.Sums.{total, where_so, amount_at}
+use Rattle.fixed_worth.proofs.Common.{◌≡◌, ◌≢◌, ℕ, suc, get_or, ◌<◌, Bool, true, false, eqb, inl, inr, List, [], ◌∷◌, length, None, refl, sym, ap, ◌∙◌, subst, arith, ◌↔◌, All, ints, eq-eqb, ne_eqb, length-map-range_with_len, get_or-map-range_with_len, common_steps}
+use Rattle.ordered_group.specs.Prelude.{Amount, zero_amount, plus, minus, AtMost, positive, negative, Amount_eq, total, where_so, amount_at}
 use Rattle.ordered_group.proofs.Order.{AtMost-refl}
 use Rattle.ordered_group.proofs.Signs.{NonNeg-positive, NonNeg-negative}
 use Rattle.ordered_group.proofs.Totals.{total-same, total-minus, total-zero, total_changed}
-use Rattle.prec_file.specs.Rests.{IsRests, from_at, to_at}
-use Rattle.closure_net.specs.Network.{NetView, IsAscending, holds_of}
-use Rattle.closure_net.specs.Closure.{group_worth}
-use Rattle.closure_net.specs.Flows.{IsBalancedAt, source_residual, inflow, outflow}
+use Rattle.prec_file.specs.Prelude.{IsRests, from_at, to_at, has_pair}
+use Rattle.closure_net.specs.Prelude.{NetView, IsAscending, holds_of, group_worth, IsBalancedAt, source_residual, inflow, outflow}
 use Rattle.closure_net.proofs.Holding.{place_of}
 use Rattle.certificate_file.specs.declared.body_lines.LineKind.{LineKind}
 use Rattle.certificate_file.specs.declared.body_lines.LineKind.TheVariants.{Source, Rest, Sink}
 use Rattle.certificate_file.specs.declared.body_lines.BodyLine.{BodyLine}
-use Rattle.certificate_file.specs.BodyLines.{lines_of_pieces, is_of_model}
-use Rattle.certificate_file.specs.Certificate.{Denotes, has_pair, pit_of, amount_of, given_amount, gives_source, gives_rest, gives_sink}
-use Rattle.check_pit.specs.Checks.{NoneBelowZero, AllWithin}
-use Rattle.check_pit.specs.LineSums.{balance_of, residual_behind, worth_of_blocks, flow_of, keeps_by, KeepLimits}
-use Rattle.check_pit.specs.LineLaws.{LineSumsTell}
+use Rattle.certificate_file.specs.Prelude.{lines_of_pieces, is_of_model, Denotes, pit_of, amount_of, given_amount, gives_source, gives_rest, gives_sink}
+use Rattle.check_pit.specs.Prelude.{NoneBelowZero, AllWithin, balance_of, residual_behind, worth_of_blocks, flow_of, keeps_by, KeepLimits, LineSumsTell}
 use Rattle.certificate_file.proofs.Order.{InOrder, Good, in_order_weaker, stands_in_order, ascending, known}
 use Rattle.certificate_file.proofs.LineOrder.{Has, has_good, Proper, good_is_proper, found}
 use Rattle.certificate_file.proofs.SameLines.{tells_source, tells_sink, tells_rest, source_so, sink_so, rest_so}
 use Rattle.check_pit.proofs.LineSums.{sum_giving, sum_giving_in_order, sources_of_lines, end_sum, ends_of_lines, balance_is}
-use Rattle.std.proofs.lemmas.Grind.{common_steps}
 
 -- what the pit is worth, block by block
 

@@ -1,24 +1,18 @@
 -- What is summed line by line is what is summed over the flow and the pit that lines in order say.
-use Rattle.std.proofs.Common.{◌≡◌, ℕ, get_or, ◌<◌, Bool, true, false, cond, eqb, ltb, inl, inr, List, [], ◌∷◌, length, Option, Some, refl, sym, ap, ◌∙◌, arith}
-use Rattle.std.specs.Prelude.{◌&&◌}
-use Rattle.std.proofs.lemmas.Int.{ints}
-use Rattle.std.proofs.lemmas.Bool.{eqb-true, eq-eqb}
-use Rattle.ordered_group.specs.Amount.{Amount, zero_amount, plus, minus, Amount_eq}
-use Rattle.ordered_group.specs.Sums.{total, where_so}
+use Rattle.fixed_worth.proofs.Common.{◌≡◌, ℕ, get_or, ◌<◌, Bool, true, false, cond, eqb, ltb, inl, inr, List, [], ◌∷◌, length, Option, Some, refl, sym, ap, ◌∙◌, arith, ◌&&◌, ints, eqb-true, eq-eqb, common_steps}
+use Rattle.ordered_group.specs.Prelude.{Amount, zero_amount, plus, minus, Amount_eq, total, where_so}
 use Rattle.ordered_group.proofs.Totals.{plus-zero_left, where_so-zero, where_so-plus, total-same, total-plus, total-zero, total-none, total-one}
-use Rattle.prec_file.specs.Rests.{IsRising}
+use Rattle.prec_file.specs.Prelude.{IsRising, has_pair}
 use Rattle.prec_file.proofs.Pairs.{is_pair, tells_pair, pair_told}
 use Rattle.certificate_file.specs.declared.body_lines.LineKind.{LineKind}
-use Rattle.certificate_file.specs.declared.body_lines.LineKind.TheVariants.{Pit, Source, Rest, Sink, End}
+use Rattle.certificate_file.specs.declared.body_lines.LineKind.TheVariants.{Source, Rest}
 use Rattle.certificate_file.specs.declared.body_lines.BodyLine.{BodyLine}
-use Rattle.certificate_file.specs.BodyLines.{is_of_model}
-use Rattle.certificate_file.specs.Certificate.{has_pair, amount_of, given_amount, gives_source, gives_rest, gives_sink, is_source, is_rest, is_sink}
+use Rattle.certificate_file.specs.Prelude.{is_of_model, amount_of, given_amount, gives_source, gives_rest, gives_sink, is_source, is_rest, is_sink}
 use Rattle.check_pit.specs.LineSums.{brings_by, balance_of, source_by, source_sum}
 use Rattle.certificate_file.proofs.Additions.{one_place}
 use Rattle.certificate_file.proofs.Order.{InOrder}
 use Rattle.certificate_file.proofs.LineOrder.{Has, has_good, all_above, Tells, none_gives}
 use Rattle.certificate_file.proofs.SameLines.{pair_place}
-use Rattle.std.proofs.lemmas.Grind.{common_steps}
 
 -- the amounts of the lines that give
 abbrev pub sum_giving : (BodyLine → Bool) → List BodyLine → Amount

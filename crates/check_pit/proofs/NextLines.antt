@@ -1,28 +1,21 @@
 -- Why a stream gives no further line.
-use Rattle.std.proofs.Common.{◌≡◌, ℕ, get_or, ◌+◌, ◌<◌, ◌≤◌, Bool, true, List, [], ◌++◌, length, take, Option, Some, None, Result, Ok, Err, refl, sym, ap, ◌∙◌, arith}
-use Rattle.std.specs.Prelude.{cond, nat_lt, Contains, MatchOption, MatchResult}
-use Rattle.std.specs.Option.{is_some}
-use Rattle.std.proofs.lemmas.List.{length-take-le}
+use Rattle.fixed_worth.proofs.Common.{◌≡◌, ℕ, get_or, ◌+◌, ◌<◌, ◌≤◌, Bool, true, List, [], ◌++◌, length, take, Option, Some, None, Result, Ok, Err, refl, sym, ap, ◌∙◌, arith, cond, nat_lt, Contains, MatchOption, MatchResult, is_some, length-take-le, common_steps}
 use Rattle.fixed_worth.specs.declared.limits.TheConstants.{LINE_BYTES}
 use Rattle.certificate_file.specs.declared.cert_fault.CertFault.{CertFault}
 use Rattle.certificate_file.specs.declared.cert_fault.CertFault.TheVariants as fault
 use Rattle.certificate_file.specs.declared.cert_fault.LineFault.{LineFault}
-use Rattle.certificate_file.specs.declared.cert_fault.LineFault.TheVariants.{Text, Number}
+use Rattle.certificate_file.specs.declared.cert_fault.LineFault.TheVariants.{Text}
 use Rattle.certificate_file.specs.declared.body_lines.LineKind.TheVariants.{Rest}
 use Rattle.certificate_file.specs.declared.body_lines.BodyLine.{BodyLine}
 use Rattle.check_pit.specs.declared.pit_fault.PitFault.{PitFault}
 use Rattle.check_pit.specs.declared.stream_fault.StreamFault.{StreamFault}
 use Rattle.check_pit.specs.declared.stream_fault.StreamFault.TheVariants.{Cert}
-use Rattle.certificate_file.specs.Pieces.{Piece, pieces_of, piece_at, piece_fault, in_line, unless_fault, read_line}
-use Rattle.certificate_file.specs.BodyLines.{is_of_model, next_line}
-use Rattle.certificate_file.specs.Certificate.{has_pair}
-use Rattle.check_pit.specs.StreamView.{LineView}
-use Rattle.check_pit.specs.StreamLines.{ReadsSome, IsLine}
-use Rattle.check_pit.specs.TakenLines.{held_piece, PassesLine, GoesBehind, TakesLine, LacksLine, FaultIs, NoNextLine}
+use Rattle.certificate_file.specs.Prelude.{Piece, pieces_of, piece_at, piece_fault, in_line, unless_fault, read_line, is_of_model, next_line}
+use Rattle.prec_file.specs.Rests.{has_pair}
+use Rattle.check_pit.specs.Prelude.{LineView, ReadsSome, IsLine, held_piece, PassesLine, GoesBehind, TakesLine, LacksLine, FaultIs, NoNextLine}
 use Rattle.certificate_file.proofs.Additions.{absent, present}
 use Rattle.check_pit.proofs.Beginnings.{no_line_next}
 use Rattle.check_pit.proofs.HeldLines.{line_held}
-use Rattle.std.proofs.lemmas.Grind.{common_steps}
 
 -- Only a piece that is no line is cut off, and memory is refused to none.
 abbrev IsOutside : CertFault → Type 0

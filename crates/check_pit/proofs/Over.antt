@@ -1,15 +1,11 @@
 -- Sums over the index of the pairs, and the prefix sums over all pairs that they stand for.
-use Rattle.std.proofs.Common.{◌≡◌, ℕ, ◌+◌, ◌<◌, ◌≤◌, ◌==◌, List, length, get_or, sym, refl, ap, subst, ◌∙◌, arith, below_more}
-use Rattle.std.proofs.lemmas.Bool.{eq-eqb, eqb-true}
-use Rattle.std.proofs.lemmas.Int.{ints}
-use Rattle.ordered_group.specs.Amount.{Amount, plus, FitsPair, Amount_eq}
-use Rattle.ordered_group.specs.Sums.{at_end}
+use Rattle.fixed_worth.proofs.Common.{◌≡◌, ℕ, ◌+◌, ◌<◌, ◌≤◌, ◌==◌, List, length, get_or, sym, refl, ap, subst, ◌∙◌, arith, below_more, eq-eqb, eqb-true, ints, common_steps}
+use Rattle.ordered_group.specs.Prelude.{Amount, plus, FitsPair, Amount_eq, at_end}
 use Rattle.check_pit.specs.Fits.{EndFits, EndOverflows}
 use Rattle.ordered_group.proofs.Numbers.{over, over-numbers, over-first}
 use Rattle.ordered_group.proofs.Steps.{total_step, fits_there}
 use Rattle.prec_file.specs.Rests.{numbers}
 use Rattle.prec_file.proofs.Passing.{passing_at, passing_here, passing_after}
-use Rattle.std.proofs.lemmas.Grind.{common_steps}
 
 -- the sum over the pairs that end at b, by their list
 all_over : (end : ℕ → ℕ) (f : ℕ → Amount) (m b : ℕ) → over f (numbers end b m) (length (numbers end b m)) ≡ at_end end f m b

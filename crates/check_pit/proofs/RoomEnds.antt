@@ -1,17 +1,11 @@
 -- What the sums of a room say of the flow and the pit of the lines, once these are all read.
-use Rattle.std.proofs.Common.{◌≡◌, ℕ, Bool, List, length, sym, ◌∙◌, arith}
-use Rattle.std.specs.Prelude.{◌↔◌, IsTrue}
-use Rattle.ordered_group.specs.Amount.{zero_amount}
-use Rattle.ordered_group.specs.Sums.{amount_at}
+use Rattle.fixed_worth.proofs.Common.{◌≡◌, ℕ, Bool, List, length, sym, ◌∙◌, arith, ◌↔◌, IsTrue, common_steps}
+use Rattle.ordered_group.specs.Prelude.{zero_amount, amount_at}
 use Rattle.prec_file.specs.Rests.{IsFirstNot}
-use Rattle.closure_net.specs.Network.{NetView, holds_of}
-use Rattle.closure_net.specs.Flows.{IsTight}
+use Rattle.closure_net.specs.Prelude.{NetView, holds_of, IsTight}
 use Rattle.certificate_file.specs.declared.body_lines.BodyLine.{BodyLine}
 use Rattle.certificate_file.specs.Certificate.{pit_of}
-use Rattle.check_pit.specs.LineSums.{flow_of}
-use Rattle.check_pit.specs.LineLaws.{LinesTell}
-use Rattle.check_pit.specs.Rooms.{RoomView, AreSumsOf, IsFirstUnbalanced, TellsTight}
-use Rattle.std.proofs.lemmas.Grind.{common_steps}
+use Rattle.check_pit.specs.Prelude.{flow_of, LinesTell, RoomView, AreSumsOf, IsFirstUnbalanced, TellsTight}
 
 -- ---- all lines
 

@@ -1,12 +1,6 @@
 -- What comes of putting a line of each kind into a room.
-use Rattle.std.proofs.Common.{◌≡◌, ◌≢◌, ℕ, ◌<◌, eqb, length, refl, sym, subst, arith, Result, Ok, Err, MatchResult, get_or-set_other}
-use Rattle.std.specs.Prelude.{IfOk, IfErr}
-use Rattle.std.proofs.lemmas.List.{length-append}
-use Rattle.std.proofs.Math.Seq.{get_or-append_seam}
-use Rattle.std.proofs.lemmas.Int.{ints}
-use Rattle.std.proofs.lemmas.Bool.{eq-eqb, ne_eqb}
-use Rattle.ordered_group.specs.Amount.{Amount, zero_amount, plus, minus, AtMost, FitsPair, Amount_eq}
-use Rattle.ordered_group.specs.Sums.{where_so, amount_at}
+use Rattle.fixed_worth.proofs.Common.{◌≡◌, ◌≢◌, ℕ, ◌<◌, eqb, length, refl, sym, subst, arith, Result, Ok, Err, MatchResult, get_or-set_other, IfOk, IfErr, length-append, get_or-append_seam, ints, eq-eqb, ne_eqb, common_steps}
+use Rattle.ordered_group.specs.Prelude.{Amount, zero_amount, plus, minus, AtMost, FitsPair, Amount_eq, where_so, amount_at}
 use Rattle.ordered_group.proofs.Steps.{fits_same}
 use Rattle.ordered_group.proofs.Totals.{plus-zero_right}
 use Rattle.closure_net.specs.Network.{NetView}
@@ -16,10 +10,8 @@ use Rattle.check_pit.specs.declared.pit_fault.PitFault.TheVariants.{TooLarge}
 use Rattle.certificate_file.specs.declared.body_lines.LineKind.TheVariants.{Pit, Source, Rest, Sink}
 use Rattle.certificate_file.specs.declared.body_lines.BodyLine.{BodyLine}
 use Rattle.certificate_file.specs.Certificate.{amount_of}
-use Rattle.check_pit.specs.LineSums.{keeps_by}
-use Rattle.check_pit.specs.Rooms.{RoomView, MayPut, WithLine, SumOverflowsWith, RefusedWhere, PutsLine, RefusesLine, with_balance, with_left}
+use Rattle.check_pit.specs.Prelude.{keeps_by, RoomView, MayPut, WithLine, SumOverflowsWith, RefusedWhere, PutsLine, RefusesLine, with_balance, with_left}
 use Rattle.check_pit.proofs.RoomSums.{puts_line, refuses_line, with_sink}
-use Rattle.std.proofs.lemmas.Grind.{common_steps}
 
 -- ---- space for a block that stands behind those before it
 

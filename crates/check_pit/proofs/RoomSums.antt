@@ -1,9 +1,6 @@
 -- The sums of a room, with one line more.
-use Rattle.std.proofs.Common.{◌≡◌, ℕ, set, ◌+◌, ◌<◌, Bool, false, eqb, List, [], ◌∷◌, ◌++◌, length, map, refl, sym, ap, ◌∙◌, arith, append-nil, Option}
-use Rattle.std.proofs.lemmas.Int.{ints}
-use Rattle.std.proofs.lemmas.List.{length-set, map-set}
-use Rattle.ordered_group.specs.Amount.{Amount, zero_amount, plus, minus, Amount_eq}
-use Rattle.ordered_group.specs.Sums.{where_so, amount_at}
+use Rattle.fixed_worth.proofs.Common.{◌≡◌, ℕ, set, ◌+◌, ◌<◌, Bool, false, eqb, List, [], ◌∷◌, ◌++◌, length, map, refl, sym, ap, ◌∙◌, arith, append-nil, Option, ints, length-set, map-set, is_some, common_steps}
+use Rattle.ordered_group.specs.Prelude.{Amount, zero_amount, plus, minus, Amount_eq, where_so, amount_at}
 use Rattle.ordered_group.proofs.Totals.{plus-zero_left, plus-zero_right, plus-assoc}
 use Rattle.ordered_group.proofs.Steps.{fits_same}
 use Rattle.closure_net.specs.Network.{NetView}
@@ -11,12 +8,8 @@ use Rattle.check_pit.specs.declared.pit_fault.PitFault.{PitFault}
 use Rattle.certificate_file.specs.declared.body_lines.LineKind.TheVariants.{Rest, Sink, End}
 use Rattle.certificate_file.specs.declared.body_lines.BodyLine.{BodyLine}
 use Rattle.certificate_file.specs.Certificate.{block_if_pit, pit_of, amount_of}
-use Rattle.check_pit.specs.LineSums.{brings_by, balance_of, source_by, source_sum, worth_of_blocks, residual_behind, SomeLineSumOverflows}
-use Rattle.std.specs.Option.{is_some}
-use Rattle.check_pit.specs.PitLists.{blocks_of_pit}
-use Rattle.check_pit.specs.Rooms.{RoomView, AreSumsOf, WithLine, SumOverflowsWith, RefusedWhere, PutsLine, RefusesLine, with_balance}
+use Rattle.check_pit.specs.Prelude.{brings_by, balance_of, source_by, source_sum, worth_of_blocks, residual_behind, SomeLineSumOverflows, blocks_of_pit, RoomView, AreSumsOf, WithLine, SumOverflowsWith, RefusedWhere, PutsLine, RefusesLine, with_balance}
 use Rattle.certificate_file.proofs.ValueLines.{joins}
-use Rattle.std.proofs.lemmas.Grind.{common_steps}
 
 -- ---- the sums over some lines, and over one more
 

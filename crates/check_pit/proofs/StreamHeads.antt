@@ -1,25 +1,15 @@
 -- The first lines of a stream, one after another, whatever follows them.
-use Rattle.std.proofs.Common.{◌≡◌, ℕ, ◌+◌, List, [], ◌∷◌, ◌++◌, length, drop, Option, Result, Ok, Err, refl, sym, ap, ◌∙◌, arith, append-nil, append_assoc}
-use Rattle.std.specs.Prelude.{None}
-use Rattle.std.specs.Io.KnownBytes.{Consumes}
-use Rattle.std.proofs.KnownBytes.{Consumes-nil}
-use Rattle.std.proofs.lemmas.List.{length-append}
+use Rattle.fixed_worth.proofs.Common.{◌≡◌, ℕ, ◌+◌, List, [], ◌∷◌, ◌++◌, length, drop, Option, Result, Ok, Err, refl, sym, ap, ◌∙◌, arith, append-nil, append_assoc, None, Consumes, Consumes-nil, length-append, common_steps}
 use Rattle.ordered_group.specs.declared.groups.Group.{Group}
 use Rattle.certificate_file.specs.declared.header.Price.{Price}
 use Rattle.certificate_file.specs.declared.header.Version.{Version}
 use Rattle.certificate_file.specs.declared.cert_fault.CertFault.{CertFault}
 use Rattle.check_pit.specs.declared.stream_fault.StreamFault.{StreamFault}
-use Rattle.certificate_file.specs.Pieces.{Piece, pieces_of, piece_at, read_line}
-use Rattle.certificate_file.specs.Header.{header_of, version_in, blocks_in, price_in, group_in}
-use Rattle.certificate_file.specs.Written.{header_with}
-use Rattle.check_pit.specs.StreamView.{LineView}
-use Rattle.check_pit.specs.StreamLines.{ReadsBytes}
-use Rattle.check_pit.specs.TakenLines.{held_piece, PassesLine, TakesLine, LacksLine, NoPitFault}
-use Rattle.check_pit.specs.StreamHeaders.{GivesHeader, LacksHeader}
+use Rattle.certificate_file.specs.Prelude.{Piece, pieces_of, piece_at, read_line, header_of, version_in, blocks_in, price_in, group_in, header_with}
+use Rattle.check_pit.specs.Prelude.{LineView, ReadsBytes, held_piece, PassesLine, TakesLine, LacksLine, NoPitFault, GivesHeader, LacksHeader}
 use Rattle.certificate_file.proofs.HeaderLines.{all_ok}
 use Rattle.check_pit.proofs.HeldLines.{line_held}
 use Rattle.check_pit.proofs.NextLines.{fault_as}
-use Rattle.std.proofs.lemmas.Grind.{common_steps}
 
 -- k lines were passed, which the text begins with.
 pub record Heads {R : Type 0} (remaining : R → Option (List ℕ)) (before later : LineView R) (bytes : List ℕ) (ps : List Piece) (k : ℕ) : Type 0 where

@@ -1,22 +1,15 @@
 -- Reading the body of a stream, line after line.
-use Rattle.std.proofs.Common.{◌≡◌, ℕ, ◌+◌, ◌≤◌, Bool, true, false, List, [], ◌∷◌, ◌++◌, length, drop, Option, Some, None, Result, sym, arith, append_assoc}
-use Rattle.std.specs.Io.KnownBytes.{IsAtEnd}
-use Rattle.std.proofs.KnownBytes.{Consumes-nil}
+use Rattle.fixed_worth.proofs.Common.{◌≡◌, ℕ, ◌+◌, ◌≤◌, Bool, true, false, List, [], ◌∷◌, ◌++◌, length, drop, Option, Some, None, Result, sym, arith, append_assoc, IsAtEnd, Consumes-nil, common_steps}
 use Rattle.closure_net.specs.Network.{NetView}
 use Rattle.certificate_file.specs.declared.cert_fault.CertFault.{CertFault}
 use Rattle.check_pit.specs.declared.stream_fault.StreamFault.{StreamFault}
 use Rattle.fixed_worth.specs.declared.limits.TheConstants.{MOST_BYTES}
 use Rattle.certificate_file.specs.declared.body_lines.BodyLine.{BodyLine}
-use Rattle.certificate_file.specs.Pieces.{Piece, pieces_of}
-use Rattle.certificate_file.specs.BodyLines.{is_end, next_line, lines_of_pieces}
-use Rattle.certificate_file.specs.Certificate.{has_pair}
-use Rattle.check_pit.specs.StreamView.{LineView}
-use Rattle.check_pit.specs.StreamLines.{ReadsBytes}
-use Rattle.check_pit.specs.TakenLines.{held_piece, PassesLine, TakesLine, LacksLine}
-use Rattle.check_pit.specs.StreamChecks.{ReadsOn, lines_of_body, LinesBegin, IsWholeBody, BodyFails}
+use Rattle.certificate_file.specs.Prelude.{Piece, pieces_of, is_end, next_line, lines_of_pieces}
+use Rattle.prec_file.specs.Rests.{has_pair}
+use Rattle.check_pit.specs.Prelude.{LineView, ReadsBytes, held_piece, PassesLine, TakesLine, LacksLine, ReadsOn, lines_of_body, LinesBegin, IsWholeBody, BodyFails}
 use Rattle.certificate_file.proofs.Order.{Met, met}
 use Rattle.check_pit.proofs.Beginnings.{BeginsWith, begins, reads_on, takes_line, Ends, takes_end, ends_whole}
-use Rattle.std.proofs.lemmas.Grind.{common_steps}
 
 -- Bytes that were read one after another.
 pub reads_nothing : {R : Type 0} (remaining : R → Option (List ℕ)) (s : LineView R) → ReadsOn remaining s s []

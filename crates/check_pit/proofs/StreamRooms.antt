@@ -1,30 +1,17 @@
 -- The sums of a check of a stream, line after line.
-use Rattle.std.proofs.Common.{◌≡◌, ℕ, ◌<◌, Bool, true, false, not, List, [], ◌∷◌, ◌++◌, length, Option, Some, None, Result, Ok, Err, refl, sym, ap, ◌∙◌, subst, arith, append-nil}
-use Rattle.std.specs.Prelude.{IfOk, MatchResult}
-use Rattle.std.specs.List.{All}
-use Rattle.std.proofs.lemmas.List.Elements.{All-append}
-use Rattle.prec_file.specs.Rests.{IsRests}
-use Rattle.closure_net.specs.Network.{NetView, IsAscending, holds_of}
-use Rattle.closure_net.specs.Closure.{IsClosed, IsGreatest, group_worth}
+use Rattle.fixed_worth.proofs.Common.{◌≡◌, ℕ, ◌<◌, Bool, true, false, not, List, [], ◌∷◌, ◌++◌, length, Option, Some, None, Result, Ok, Err, refl, sym, ap, ◌∙◌, subst, arith, append-nil, IfOk, MatchResult, All, All-append, common_steps}
+use Rattle.prec_file.specs.Prelude.{IsRests, has_pair}
+use Rattle.closure_net.specs.Prelude.{NetView, IsAscending, holds_of, IsClosed, IsGreatest, group_worth}
 use Rattle.closure_net.proofs.Duality.{greatest_from_tight}
 use Rattle.check_pit.specs.declared.pit_fault.PitFault.{PitFault}
 use Rattle.check_pit.specs.declared.pit_fault.PitFault.TheVariants as pit_fault
 use Rattle.check_pit.specs.declared.stream_fault.StreamFault.{StreamFault}
 use Rattle.check_pit.specs.declared.stream_fault.StreamFault.TheVariants as stream
 use Rattle.certificate_file.specs.declared.body_lines.LineKind.{LineKind}
-use Rattle.certificate_file.specs.declared.body_lines.LineKind.TheVariants.{Pit, Source, Rest, Sink, End}
+use Rattle.certificate_file.specs.declared.body_lines.LineKind.TheVariants.{Pit, Rest}
 use Rattle.certificate_file.specs.declared.body_lines.BodyLine.{BodyLine}
-use Rattle.certificate_file.specs.Pieces.{pieces_of}
-use Rattle.certificate_file.specs.BodyLines.{line_of, is_end, is_of_model, may_follow, body_fault, lines_of_pieces}
-use Rattle.certificate_file.specs.Certificate.{has_pair, pit_of, block_if_pit}
-use Rattle.check_pit.specs.Checks.{ProvesPit}
-use Rattle.check_pit.specs.LineSums.{worth_of_blocks, keeps_by, KeepLimits}
-use Rattle.check_pit.specs.LineLaws.{LinesTell}
-use Rattle.check_pit.specs.Rooms.{RoomView, AreSumsOf, TakesBlock, MayPut, LineRefused, PutsLine, RefusesLine}
-use Rattle.check_pit.specs.StreamView.{LineView}
-use Rattle.check_pit.specs.StreamLines.{ReadsSome}
-use Rattle.check_pit.specs.TakenLines.{TakesLine}
-use Rattle.check_pit.specs.StreamChecks.{is_pit, is_behind_pits, ReadsOn, fault_of_body, lines_of_body, flow_by, first_pits, LinesBegin, IsWholeBody, HasPit, BodyRefused, BodyFails, BodyProves, ClosesPit, IsOpenPit, SumsSettle, SumsFail, IsDone, EndFails}
+use Rattle.certificate_file.specs.Prelude.{pieces_of, line_of, is_end, is_of_model, may_follow, body_fault, lines_of_pieces, pit_of, block_if_pit}
+use Rattle.check_pit.specs.Prelude.{ProvesPit, worth_of_blocks, keeps_by, KeepLimits, LinesTell, RoomView, AreSumsOf, TakesBlock, MayPut, LineRefused, PutsLine, RefusesLine, LineView, ReadsSome, TakesLine, is_pit, is_behind_pits, ReadsOn, fault_of_body, lines_of_body, flow_by, first_pits, LinesBegin, IsWholeBody, HasPit, BodyRefused, BodyFails, BodyProves, ClosesPit, IsOpenPit, SumsSettle, SumsFail, IsDone, EndFails}
 use Rattle.certificate_file.proofs.Going.{Sound, sound, text_read}
 use Rattle.certificate_file.proofs.Order.{InOrder, Good, stands_in_order, later_pits, ascending, known}
 use Rattle.check_pit.proofs.LineFlows.{worth_is, sums_tell}
@@ -35,7 +22,6 @@ use Rattle.check_pit.proofs.StreamReadings.{Reading, Ended, MetNext, next_of, Fa
 use Rattle.fixed_worth.proofs.Bits.{not_true}
 use Rattle.certificate_file.proofs.ValueLines.{pit_append}
 use Rattle.certificate_file.proofs.SameLines.{pair_place}
-use Rattle.std.proofs.lemmas.Grind.{common_steps}
 
 -- What the room has of the lines so far.
 pub record Summed (net : NetView) (previous : Option BodyLine) (room : RoomView) (ls : List BodyLine) : Type 0 where
@@ -187,13 +173,9 @@ proves_at left taken counts net body room ls r w same a s = grind (arith, common
 
 -- They don't.
 fails_at : (left : Option (List ℕ)) (taken : ℕ) (counts : Bool) (net : NetView) (body : List ℕ) (room : RoomView) (e : PitFault) → LinesTell net (lines_of_body counts net body) → IsWholeBody left taken counts net body → AreSumsOf net (lines_of_body counts net body) room → SumsFail net room e → BodyRefused left taken counts net body e
-fails_at left taken counts net body room pit_fault.WrongSize t w s h = absurd h
-fails_at left taken counts net body room (pit_fault.NotClosed x y) t w s h = absurd h
-fails_at left taken counts net body room pit_fault.Negative t w s h = absurd h
-fails_at left taken counts net body room (pit_fault.OverCapacity x) t w s h = absurd h
 fails_at left taken counts net body room (pit_fault.Unbalanced b) t w s h = grind (arith, common_steps)
 fails_at left taken counts net body room pit_fault.NotTight t w s h = grind (arith, common_steps)
-fails_at left taken counts net body room pit_fault.TooLarge t w s h = absurd h
+fails_at left taken counts net body room e t w s h = absurd h
 
 -- The pit of an accepted body is a greatest closed set, and the room has what it is worth.
 pub accepted_worth : (left : Option (List ℕ)) (taken : ℕ) (counts : Bool) (net : NetView) (body pit : List ℕ) → BodyProves left taken counts net body pit → group_worth net.worths (holds_of pit) ≡ worth_of_blocks net.worths pit

@@ -1,14 +1,9 @@
 -- What the steps of a check come to.
-use Rattle.std.proofs.Common.{◌≡◌, ℕ, List, inl, inr, subst, arith}
-use Rattle.std.proofs.lemmas.Bool.{cases_lt}
-use Rattle.closure_net.specs.Network.{NetView, FlowView}
-use Rattle.closure_net.specs.Flows.{IsFlow}
-use Rattle.check_pit.specs.Fits.{BalanceFits, BalanceOverflows, SumsFit, SomeSumOverflows}
-use Rattle.check_pit.specs.Checks.{ProvesPit, Sizes, NoneBelowZero, PassesCapacities, AllWithin, AllBalanced, BalancedWhileFit, FaultHolds, PitFaultStands}
-use Rattle.check_pit.specs.Balances.{ComesTo, BalanceFault}
+use Rattle.fixed_worth.proofs.Common.{◌≡◌, ℕ, List, inl, inr, subst, arith, cases_lt, common_steps}
+use Rattle.closure_net.specs.Prelude.{NetView, FlowView, IsFlow}
+use Rattle.check_pit.specs.Prelude.{BalanceFits, BalanceOverflows, SumsFit, SomeSumOverflows, ProvesPit, Sizes, NoneBelowZero, PassesCapacities, AllWithin, AllBalanced, BalancedWhileFit, FaultHolds, PitFaultStands, ComesTo, BalanceFault}
 use Rattle.check_pit.specs.declared.pit_fault.PitFault.{PitFault}
-use Rattle.check_pit.specs.declared.pit_fault.PitFault.TheVariants.{WrongSize, NotClosed, Negative, OverCapacity, Unbalanced, NotTight, TooLarge}
-use Rattle.std.proofs.lemmas.Grind.{common_steps}
+use Rattle.check_pit.specs.declared.pit_fault.PitFault.TheVariants.{Unbalanced, TooLarge}
 
 -- what passes every test but the last is a flow
 pub flow_found : (net : NetView) (flow : FlowView) (pit : List ℕ) → Sizes net flow pit → NoneBelowZero flow → AllWithin net flow → AllBalanced net flow → IsFlow net flow

@@ -1,8 +1,7 @@
 -- What an accepted pit is known to be.
 use Rattle.std.specs.Prelude.{◌≡◌, ℕ, List}
 use Rattle.ordered_group.specs.Amount.{Amount}
-use Rattle.closure_net.specs.Network.{NetView, holds_of}
-use Rattle.closure_net.specs.Closure.{IsGreatest, group_worth}
+use Rattle.closure_net.specs.Prelude.{NetView, holds_of, IsGreatest, group_worth}
 use Rattle.check_pit.specs.Checks.{IsOfNet}
 
 -- the net, the pit, and what the pit sums to

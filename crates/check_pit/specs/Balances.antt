@@ -1,7 +1,6 @@
 -- What is found of the balances alone.
 use Rattle.std.specs.Prelude.{ℕ, ◌<◌, length}
-use Rattle.closure_net.specs.Network.{NetView, FlowView}
-use Rattle.closure_net.specs.Flows.{IsBalancedAt}
+use Rattle.closure_net.specs.Prelude.{NetView, FlowView, IsBalancedAt}
 use Rattle.check_pit.specs.Fits.{BalanceFits, BalanceOverflows}
 use Rattle.check_pit.specs.Checks.{BalanceStands}
 use Rattle.check_pit.specs.declared.pit_fault.PitFault.{PitFault}

@@ -1,5 +1,5 @@
 -- What contracts see of a certificate that a device gives.
-use Rattle.std.specs.Prelude.{◌≡◌, ℕ, Bool, true, false, Option, Some, None}
+use Rattle.std.specs.Prelude.{◌≡◌, ℕ, Bool, false, Option, Some, None}
 use Rattle.ordered_group.specs.declared.groups.Group.{Group}
 use Rattle.certificate_file.specs.declared.header.Header.{Header}
 use Rattle.check_pit.specs.declared.stream_fault.StreamFault.{StreamFault}

@@ -1,8 +1,6 @@
 -- What a check of a pit and a flow finds.
 use Rattle.std.specs.Prelude.{◌≡◌, ℕ, ◌<◌, ◌≤◌, Bool, List, length, slice_index_or, All, Contains}
-use Rattle.closure_net.specs.Network.{NetView, FlowView, FlowFits, holds_of}
-use Rattle.closure_net.specs.Closure.{Stays, IsClosed}
-use Rattle.closure_net.specs.Flows.{NoneNegative, WithinAt, IsBalancedAt, IsFlow, IsTight}
+use Rattle.closure_net.specs.Prelude.{NetView, FlowView, FlowFits, holds_of, Stays, IsClosed, NoneNegative, WithinAt, IsBalancedAt, IsFlow, IsTight}
 use Rattle.check_pit.specs.Fits.{BalanceFits, SumsFit, SomeSumOverflows}
 use Rattle.check_pit.specs.declared.pit_fault.PitFault.{PitFault}
 use Rattle.check_pit.specs.declared.pit_fault.PitFault.TheVariants.{WrongSize, NotClosed, Negative, OverCapacity, Unbalanced, NotTight, TooLarge}

@@ -1,9 +1,7 @@
 -- The law that a check stands on.
 use Rattle.std.specs.Prelude.{ℕ, Bool, length}
 use Rattle.prec_file.specs.Rests.{IsRests}
-use Rattle.closure_net.specs.Network.{NetView, FlowView}
-use Rattle.closure_net.specs.Closure.{IsClosed, IsGreatest}
-use Rattle.closure_net.specs.Flows.{IsFlow, IsTight, IsGreatestFlow}
+use Rattle.closure_net.specs.Prelude.{NetView, FlowView, IsClosed, IsGreatest, IsFlow, IsTight, IsGreatestFlow}
 
 -- no closed set sums to more than a tight one, and no flow takes more from the source than the flow that shows it
 pub record TightIsGreatest (net : NetView) (flow : FlowView) (e : ℕ → Bool) : Type 0 where

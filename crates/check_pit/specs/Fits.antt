@@ -1,10 +1,8 @@
 -- Which of a checker's sums fit the machine numbers, each sum on the way included.
 use Rattle.std.specs.Prelude.{◌≡◌, ℕ, ◌<◌, Bool, IsTrue, ◌⊎◌, List, length}
-use Rattle.ordered_group.specs.Amount.{Amount, plus, FitsPair}
-use Rattle.ordered_group.specs.Sums.{total, where_so, at_end, amount_at}
+use Rattle.ordered_group.specs.Prelude.{Amount, plus, FitsPair, total, where_so, at_end, amount_at}
 use Rattle.prec_file.specs.Rests.{from_at, to_at}
-use Rattle.closure_net.specs.Network.{NetView, FlowView, holds_of}
-use Rattle.closure_net.specs.Flows.{residual_at}
+use Rattle.closure_net.specs.Prelude.{NetView, FlowView, holds_of, residual_at}
 
 -- start, and after it the amounts of the pairs that end at b in their order: each sum on the way fits
 abbrev pub EndFits : Amount → (ℕ → ℕ) → (ℕ → Amount) → ℕ → ℕ → Type 0

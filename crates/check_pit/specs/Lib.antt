@@ -23,3 +23,5 @@ pub mod Balances
 pub mod PitLists
 -- how faults print
 pub mod FaultText
+-- the names of all of them
+pub mod Prelude

@@ -1,13 +1,10 @@
 -- What sums over the lines of a faultless text say of its flow.
 use Rattle.std.specs.Prelude.{◌≡◌, ◌↔◌, ℕ, ◌<◌, Bool, List, length, None}
 use Rattle.ordered_group.specs.Amount.{zero_amount}
-use Rattle.prec_file.specs.Rests.{IsRests}
-use Rattle.closure_net.specs.Network.{NetView, holds_of}
-use Rattle.closure_net.specs.Flows.{IsBalancedAt, IsTight}
+use Rattle.prec_file.specs.Prelude.{IsRests, has_pair}
+use Rattle.closure_net.specs.Prelude.{NetView, holds_of, IsBalancedAt, IsTight}
 use Rattle.certificate_file.specs.declared.body_lines.BodyLine.{BodyLine}
-use Rattle.certificate_file.specs.Pieces.{Piece}
-use Rattle.certificate_file.specs.BodyLines.{body_fault, lines_of_pieces}
-use Rattle.certificate_file.specs.Certificate.{Denotes, has_pair, pit_of}
+use Rattle.certificate_file.specs.Prelude.{Piece, body_fault, lines_of_pieces, Denotes, pit_of}
 use Rattle.check_pit.specs.Checks.{NoneBelowZero, AllWithin}
 use Rattle.check_pit.specs.LineSums.{balance_of, worth_of_blocks, residual_behind, flow_of, KeepLimits}
 

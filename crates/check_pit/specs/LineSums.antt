@@ -1,11 +1,10 @@
 -- Sums over the lines of a certificate, as they are made while the lines are read.
 use Rattle.std.specs.Prelude.{ℕ, ◌<◌, ◌==◌, ◌⊎◌, List, [], ◌∷◌, length, map, slice_index_or, All}
 use Rattle.std.specs.List.{range_with_len}
-use Rattle.ordered_group.specs.Amount.{Amount, zero_amount, plus, minus, AtMost, FitsPair, positive, negative}
-use Rattle.ordered_group.specs.Sums.{total, where_so, amount_at}
+use Rattle.ordered_group.specs.Prelude.{Amount, zero_amount, plus, minus, AtMost, FitsPair, positive, negative, total, where_so, amount_at}
 use Rattle.closure_net.specs.Network.{NetView, FlowView, flow_view}
 use Rattle.certificate_file.specs.declared.body_lines.LineKind.{LineKind}
-use Rattle.certificate_file.specs.declared.body_lines.LineKind.TheVariants.{Pit, Source, Rest, Sink, End}
+use Rattle.certificate_file.specs.declared.body_lines.LineKind.TheVariants.{Source, Rest, Sink}
 use Rattle.certificate_file.specs.declared.body_lines.BodyLine.{BodyLine}
 use Rattle.certificate_file.specs.Certificate.{pit_of, amount_of, given_amount, gives_source, gives_rest, gives_sink}
 

@@ -1,12 +1,10 @@
 -- The sums that a check makes while it reads lines.
 use Rattle.std.specs.Prelude.{◌≡◌, ◌↔◌, ℕ, ◌<◌, ◌≤◌, Bool, false, IsTrue, ◌⊎◌, List, [], ◌∷◌, ◌++◌, length, slice_set}
-use Rattle.ordered_group.specs.Amount.{Amount, zero_amount, plus, minus, AtMost, FitsPair, positive, negative}
-use Rattle.ordered_group.specs.Sums.{amount_at}
+use Rattle.ordered_group.specs.Prelude.{Amount, zero_amount, plus, minus, AtMost, FitsPair, positive, negative, amount_at}
 use Rattle.prec_file.specs.Rests.{IsFirstNot}
-use Rattle.closure_net.specs.Network.{NetView, IsAscending, holds_of}
-use Rattle.closure_net.specs.Flows.{IsBalancedAt, IsTight}
+use Rattle.closure_net.specs.Prelude.{NetView, IsAscending, holds_of, IsBalancedAt, IsTight}
 use Rattle.check_pit.specs.declared.pit_fault.PitFault.{PitFault}
-use Rattle.check_pit.specs.declared.pit_fault.PitFault.TheVariants.{WrongSize, NotClosed, Negative, OverCapacity, Unbalanced, NotTight, TooLarge}
+use Rattle.check_pit.specs.declared.pit_fault.PitFault.TheVariants.{Negative, OverCapacity, TooLarge}
 use Rattle.certificate_file.specs.declared.body_lines.LineKind.{LineKind}
 use Rattle.certificate_file.specs.declared.body_lines.LineKind.TheVariants.{Pit, Source, Rest, Sink, End}
 use Rattle.certificate_file.specs.declared.body_lines.BodyLine.{BodyLine}

@@ -1,12 +1,9 @@
 -- What a check of a stream finds: the lines behind the header say a pit and a flow, and the flow proves the pit.
 use Rattle.std.specs.Prelude.{◌≡◌, ℕ, ◌+◌, ◌<◌, ◌≤◌, Bool, true, false, not, cond, List, [], ◌∷◌, ◌++◌, length, Option, Some, None}
 use Rattle.std.specs.Io.KnownBytes.{Consumes, IsAtEnd}
-use Rattle.ordered_group.specs.Amount.{zero_amount}
-use Rattle.ordered_group.specs.Sums.{amount_at}
-use Rattle.prec_file.specs.Rests.{IsFirstNot}
-use Rattle.closure_net.specs.Network.{NetView, FlowView, holds_of}
-use Rattle.closure_net.specs.Closure.{IsClosed}
-use Rattle.closure_net.specs.Flows.{IsBalancedAt, IsTight}
+use Rattle.ordered_group.specs.Prelude.{zero_amount, amount_at}
+use Rattle.prec_file.specs.Prelude.{IsFirstNot, has_pair}
+use Rattle.closure_net.specs.Prelude.{NetView, FlowView, holds_of, IsClosed, IsBalancedAt, IsTight}
 use Rattle.certificate_file.specs.declared.cert_fault.CertFault.{CertFault}
 use Rattle.certificate_file.specs.declared.cert_fault.CertFault.TheVariants as fault
 use Rattle.check_pit.specs.declared.pit_fault.PitFault.{PitFault}
@@ -16,11 +13,9 @@ use Rattle.check_pit.specs.declared.stream_fault.StreamFault.TheVariants.{Device
 use Rattle.check_pit.specs.declared.stream_fault.StreamFault.TheVariants as stream
 use Rattle.fixed_worth.specs.declared.limits.TheConstants.{MOST_BYTES}
 use Rattle.certificate_file.specs.declared.body_lines.LineKind.{LineKind}
-use Rattle.certificate_file.specs.declared.body_lines.LineKind.TheVariants.{Pit, Source, Rest, Sink, End}
+use Rattle.certificate_file.specs.declared.body_lines.LineKind.TheVariants.{Pit}
 use Rattle.certificate_file.specs.declared.body_lines.BodyLine.{BodyLine}
-use Rattle.certificate_file.specs.Pieces.{pieces_of}
-use Rattle.certificate_file.specs.BodyLines.{body_fault, lines_of_pieces}
-use Rattle.certificate_file.specs.Certificate.{Denotes, UnlessMemory, has_pair, pit_of}
+use Rattle.certificate_file.specs.Prelude.{pieces_of, body_fault, lines_of_pieces, Denotes, UnlessMemory, pit_of}
 use Rattle.check_pit.specs.Checks.{ProvesPit}
 use Rattle.check_pit.specs.Closing.{IsFirstOpen}
 use Rattle.check_pit.specs.LineSums.{KeepLimits, flow_of}

@@ -5,8 +5,7 @@ use Rattle.certificate_file.specs.declared.header.Header.{Header}
 use Rattle.check_pit.specs.declared.stream_fault.StreamFault.{StreamFault}
 use Rattle.check_pit.specs.StreamView.{LineView}
 use Rattle.check_pit.specs.TakenLines.{FaultIs, NoPitFault}
-use Rattle.certificate_file.specs.Pieces.{pieces_of}
-use Rattle.certificate_file.specs.Header.{header_of}
+use Rattle.certificate_file.specs.Prelude.{pieces_of, header_of}
 
 -- These bytes were read, and the four lines of the header passed. It is the header of the text, whatever follows, whose other
 -- lines are those of what is held.

@@ -1,15 +1,8 @@
 -- Ascending lists, and what a binary search among one finds.
-use Rattle.std.proofs.Common.{◌≡◌, ℕ, zero, suc, ◌+◌, ◌-◌, ◌<◌, ◌≤◌, false, List, ◌∷◌, length, get_or, take, drop, slice_range, arith, inl, inr, Result, Ok, Err, MatchResult, subst, sym, ap, ◌∙◌}
-use Rattle.std.specs.List.Sorted.{IsBinarySearchResult}
-use Rattle.std.specs.Ordering.{nat_cmp}
-use Rattle.std.specs.Result.{is_ok}
-use Rattle.std.proofs.lemmas.Bool.{cases_eq, cases_lt, cases_Bool}
-use Rattle.std.proofs.lemmas.List.Sorted.{searched}
+use Rattle.fixed_worth.proofs.Common.{◌≡◌, ℕ, zero, suc, ◌+◌, ◌-◌, ◌<◌, ◌≤◌, false, List, ◌∷◌, length, get_or, take, drop, slice_range, arith, inl, inr, Result, Ok, Err, MatchResult, subst, sym, ap, ◌∙◌, IsBinarySearchResult, nat_cmp, is_ok, cases_eq, cases_lt, cases_Bool, searched, common_steps}
 use Rattle.prec_file.proofs.Parts.{length-part, get_or-part}
-use Rattle.closure_net.specs.Network.{IsAscending, holds_of}
-use Rattle.closure_net.specs.Searches.{StandsFrom, StandsBelow}
+use Rattle.closure_net.specs.Prelude.{IsAscending, holds_of, StandsFrom, StandsBelow}
 use Rattle.closure_net.proofs.Holding.{holds_at, place_of}
-use Rattle.std.proofs.lemmas.Grind.{common_steps}
 
 -- each place from 1 up to m is above the one before it
 abbrev pub StepsRise : List ℕ → ℕ → Type 0

@@ -1,12 +1,9 @@
 -- Pits, and which of them is best.
-use Rattle.std.proofs.Common.{◌≡◌, ℕ, ◌≤◌, ◌≤ℤ◌, Bool, true, IsTrue, inl, inr, sym, subst, ◌∙◌, arith}
-use Rattle.std.proofs.lemmas.Int.{ints}
-use Rattle.std.proofs.lemmas.Bool.{and_parts, and_from, or_cases, or_left, or_right, cases_lt}
+use Rattle.fixed_worth.proofs.Common.{◌≡◌, ℕ, ◌≤◌, ◌≤ℤ◌, Bool, true, IsTrue, inl, inr, sym, subst, ◌∙◌, arith, ints, and_parts, and_from, or_cases, or_left, or_right, cases_lt, common_steps}
 use Rattle.ordered_group.specs.Sets.{worth_in}
 use Rattle.ordered_group.proofs.Totals.{union, intersection, within_first, within_second}
 use Rattle.ordered_group.proofs.BlockSets.{count_in-within, worth_of_two, lead_rises, worth_in-same, count_in-same}
 use Rattle.closure_net.specs.Mine.{Mine, IsPit, worth_of, block_count_of, AreSame, IsBest, RisesTo, LiesWithin, RestsWithin}
-use Rattle.std.proofs.lemmas.Grind.{common_steps}
 
 pub union_is_pit : (mine : Mine) (e c : ℕ → Bool) → IsPit mine e → IsPit mine c → IsPit mine (union e c)
 union_is_pit mine e c h k b p r t = elim (or_cases (e b) (c b) t) [ inl x ↦ or_left (e p) (c p) (h b p r x) | inr x ↦ or_right (e p) (c p) (k b p r x) ]

@@ -1,14 +1,10 @@
 -- Weak duality: closed sets against flows.
-use Rattle.std.proofs.Common.{◌≡◌, ℕ, Bool, length, All, arith}
-use Rattle.std.proofs.lemmas.Int.{ints}
-use Rattle.ordered_group.specs.Amount.{Amount, minus, AtMost, positive}
-use Rattle.ordered_group.specs.Sums.{total, amount_at}
+use Rattle.fixed_worth.proofs.Common.{◌≡◌, ℕ, Bool, length, All, arith, ints}
+use Rattle.ordered_group.specs.Prelude.{Amount, minus, AtMost, positive, total, amount_at}
 use Rattle.ordered_group.proofs.Totals.Ranges.{total-minus}
 use Rattle.ordered_group.proofs.Totals.Duality.{weak_duality}
 use Rattle.prec_file.specs.Rests.{IsKnown, from_at, to_at}
-use Rattle.closure_net.specs.Network.{NetView, FlowView}
-use Rattle.closure_net.specs.Closure.{IsClosed, IsGreatest, group_worth}
-use Rattle.closure_net.specs.Flows.{IsFlow, IsTight, IsGreatestFlow, source_residual}
+use Rattle.closure_net.specs.Prelude.{NetView, FlowView, IsClosed, IsGreatest, group_worth, IsFlow, IsTight, IsGreatestFlow, source_residual}
 
 -- the pairs are of blocks of the net
 abbrev pub PairsKnown : NetView → Type 0

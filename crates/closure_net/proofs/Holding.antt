@@ -1,9 +1,6 @@
 -- What a list of blocks holds.
-use Rattle.std.proofs.Common.{◌≡◌, ℕ, ◌<◌, ◌==◌, Bool, true, false, List, length, get_or, refl, arith}
-use Rattle.std.proofs.lemmas.List.Folds.{Any-from_list_any, list_any_at}
-use Rattle.std.proofs.lemmas.Bool.{eq-eqb}
+use Rattle.fixed_worth.proofs.Common.{◌≡◌, ℕ, ◌<◌, ◌==◌, Bool, true, false, List, length, get_or, refl, arith, Any-from_list_any, list_any_at, eq-eqb, common_steps}
 use Rattle.closure_net.specs.Network.{holds_of}
-use Rattle.std.proofs.lemmas.Grind.{common_steps}
 
 -- a test has one answer
 pub apart : (t : Bool) → t ≡ false → t ≡ true → ⊥

@@ -1,20 +1,10 @@
 -- From the net of a mine to the mine: closed sets are pits, and sums are worths.
-use Rattle.std.proofs.Common.{◌≡◌, ℕ, ◌<◌, ◌≤◌, ℤ, ◌<ℤ◌, Bool, ◌⊎◌, inl, inr, get_or, sym, arith}
-use Rattle.std.proofs.lemmas.Int.{ints}
-use Rattle.std.proofs.lemmas.Bool.{cases_lt}
-use Rattle.std.proofs.lemmas.List.Elements.{All-contains, Contains-get_or}
-use Rattle.ordered_group.specs.Amount.{Amount, AtMost}
-use Rattle.ordered_group.specs.Sets.{group_sum, IsBefore}
-use Rattle.ordered_group.specs.Block.{worth_block}
-use Rattle.ordered_group.specs.Laws.{SumsOrderSets}
-use Rattle.ordered_group.specs.LawProofs.{worth_told}
+use Rattle.fixed_worth.proofs.Common.{◌≡◌, ℕ, ◌<◌, ◌≤◌, ℤ, ◌<ℤ◌, Bool, ◌⊎◌, inl, inr, get_or, sym, arith, ints, cases_lt, All-contains, Contains-get_or, common_steps}
+use Rattle.ordered_group.specs.Prelude.{Amount, AtMost, group_sum, IsBefore, worth_block, SumsOrderSets, worth_told}
 use Rattle.ordered_group.proofs.Order.{Below-not}
 use Rattle.ordered_group.proofs.Totals.{total-same}
-use Rattle.closure_net.specs.Network.{NetView}
-use Rattle.closure_net.specs.Closure.{Stays, IsClosed, group_worth, IsGreatest}
-use Rattle.closure_net.specs.Mine.{Mine, IsPit, block_count_of, IsRichest, IsBest, IsNetOf}
+use Rattle.closure_net.specs.Prelude.{NetView, Stays, IsClosed, group_worth, IsGreatest, Mine, IsPit, block_count_of, IsRichest, IsBest, IsNetOf}
 use Rattle.closure_net.proofs.BestPits.{best_from_fewest}
-use Rattle.std.proofs.lemmas.Grind.{common_steps}
 
 module _ (block : ℤ → ℕ → Amount) (mine : Mine) (net : NetView) (h : IsNetOf block mine net) where
   pub pit_from_closed : (e : ℕ → Bool) → IsClosed net.pairs e → IsPit mine e

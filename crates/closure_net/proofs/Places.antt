@@ -1,9 +1,5 @@
 -- Amounts that are kept by their places.
-use Rattle.std.proofs.Common.{◌≡◌, ℕ, zero, suc, ◌≤◌, ◌<◌, ◌^◌, List, [], ◌∷◌, ◌++◌, length, map, replicate, set, get_or, inl, inr, Option, None, Some, All, refl, sym, ap, ◌∙◌, arith, length-set, get_or-set_same, get_or-set_other}
-use Rattle.std.proofs.lemmas.Bool.{cases_eq}
-use Rattle.std.proofs.lemmas.List.{map-set, get_or-map, get_or-replicate, length-map, length-replicate, ext_get_or, length-append}
-use Rattle.std.proofs.lemmas.Grind.{get_or-set_at, common_steps}
-use Rattle.std.proofs.Math.Seq.{get_or-append_seam}
+use Rattle.fixed_worth.proofs.Common.{◌≡◌, ℕ, zero, suc, ◌≤◌, ◌<◌, ◌^◌, List, [], ◌∷◌, ◌++◌, length, map, replicate, set, get_or, inl, inr, Option, None, Some, All, refl, sym, ap, ◌∙◌, arith, length-set, get_or-set_same, get_or-set_other, cases_eq, map-set, get_or-map, get_or-replicate, length-map, length-replicate, ext_get_or, length-append, get_or-set_at, common_steps, get_or-append_seam}
 use Rattle.ordered_group.specs.Amount.{Amount, zero_amount}
 use Rattle.closure_net.specs.Carrying.{amount_of_place, carried_by, placed_count, ArePlaces}
 

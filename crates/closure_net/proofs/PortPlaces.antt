@@ -1,15 +1,11 @@
 -- The ports of a block, by the two indexes of its pairs.
-use Rattle.std.proofs.Common.{◌≡◌, ℕ, ◌+◌, ◌<◌, ◌≤◌, ◌==◌, List, length, get_or, sym, ap, ◌∙◌, arith, Some}
-use Rattle.std.specs.Prelude.{slice_get}
-use Rattle.std.proofs.lemmas.List.{get_or-map, length-map}
-use Rattle.std.proofs.lemmas.Option.{slice_get-get_or}
+use Rattle.fixed_worth.proofs.Common.{◌≡◌, ℕ, ◌+◌, ◌<◌, ◌≤◌, ◌==◌, List, length, get_or, sym, ap, ◌∙◌, arith, Some, slice_get, get_or-map, length-map, slice_get-get_or, common_steps}
 use Rattle.prec_file.specs.Rests.{from_at, to_at, numbers, above_of, below_of, first_of, IsRising}
 use Rattle.prec_file.proofs.Passing.{passing_at, passing_most}
 use Rattle.prec_file.proofs.Order.{own_at}
 use Rattle.closure_net.specs.declared.port.Port.{Port}
 use Rattle.closure_net.specs.declared.port.PortKind.TheVariants.{Forward}
 use Rattle.closure_net.specs.Ports.{forward_port, backward_port, forward_ports, backward_ports}
-use Rattle.std.proofs.lemmas.Grind.{common_steps}
 
 -- the ports of these pairs to the blocks that b rests on, and to those that rest on b
 abbrev pub fore : List (ℕ × ℕ) → ℕ → List Port

@@ -1,15 +1,9 @@
 -- A search that has passed over all that it found has reached the least set.
-use Rattle.std.proofs.Common.{◌≡◌, ℕ, ◌+◌, ◌<◌, ◌≤◌, ◌==◌, nat_lt, Bool, true, inl, inr, List, length, get_or, sym, ap, subst, ◌∙◌, arith, All, length-append}
-use Rattle.std.proofs.lemmas.Bool.{cases_eq, eq-eqb, eqb-true, ltb-true, or_left}
-use Rattle.std.proofs.lemmas.List.{get_or-map, get_or_default, length-map, get_or_append_left}
+use Rattle.fixed_worth.proofs.Common.{◌≡◌, ℕ, ◌+◌, ◌<◌, ◌≤◌, ◌==◌, nat_lt, Bool, true, inl, inr, List, length, get_or, sym, ap, subst, ◌∙◌, arith, All, length-append, cases_eq, eq-eqb, eqb-true, ltb-true, or_left, get_or-map, get_or_default, length-map, get_or_append_left, common_steps, list_any-append}
 use Rattle.prec_file.specs.Rests.{from_at, to_at, numbers_passing, numbers, above_of, below_of, IsKnown}
 use Rattle.prec_file.proofs.Passing.{passing_at, passing_here, passing_after, passing_grows}
-use Rattle.closure_net.specs.Reached.{HasSourceResidual, Carries, Reaches, IsReached}
-use Rattle.closure_net.specs.Network.{NetView, FlowView, holds_of, IsAscending}
-use Rattle.closure_net.specs.Searches.{PassedPlaces, Always, above_at, sender_at, SendsAt, Extends}
+use Rattle.closure_net.specs.Prelude.{HasSourceResidual, Carries, Reaches, IsReached, NetView, FlowView, holds_of, IsAscending, PassedPlaces, Always, above_at, sender_at, SendsAt, Extends}
 use Rattle.closure_net.proofs.Holding.{holds_at, place_of}
-use Rattle.std.proofs.lemmas.Grind.{common_steps}
-use Rattle.std.proofs.lemmas.List.Folds.{list_any-append}
 
 -- a list that becomes longer keeps what it holds, and where
 pub holds_grows : (old new : List ℕ) (x : ℕ) → Extends old new → holds_of old x ≡ true → holds_of new x ≡ true

@@ -1,10 +1,8 @@
 -- Passes over the blocks beside one, and what they add to what is found.
-use Rattle.std.proofs.Common.{◌≡◌, ℕ, ◌+◌, ◌<◌, ◌==◌, List, length, get_or, sym, subst, arith}
-use Rattle.std.proofs.lemmas.List.{get_or-map, length-map}
+use Rattle.fixed_worth.proofs.Common.{◌≡◌, ℕ, ◌+◌, ◌<◌, ◌==◌, List, length, get_or, sym, subst, arith, get_or-map, length-map, common_steps}
 use Rattle.prec_file.specs.Rests.{from_at, to_at, RestsView, IsRests, numbers, above_of, below_of}
 use Rattle.prec_file.proofs.Passing.{passing_at}
 use Rattle.closure_net.specs.Searches.{list_with, PassedPlaces}
-use Rattle.std.proofs.lemmas.Grind.{common_steps}
 
 -- a place that does not count
 pub passed_skip : (W : ℕ → Type 0) (g : ℕ → ℕ) (old cur : List ℕ) (i : ℕ) → PassedPlaces W g old cur i → ¬ (W i) → PassedPlaces W g old cur (i + 1)

@@ -1,8 +1,6 @@
 -- Lists of values, seen as lists of amounts, and lists that agree at each place.
-use Rattle.std.proofs.Common.{◌≡◌, ℕ, ◌<◌, List, length, get_or, map, sym, ap, ◌∙◌, arith}
-use Rattle.std.proofs.lemmas.List.{length-map, same_lists, get_or_default}
-use Rattle.ordered_group.specs.Amount.{Amount}
-use Rattle.ordered_group.specs.Sums.{amount_at}
+use Rattle.fixed_worth.proofs.Common.{◌≡◌, ℕ, ◌<◌, List, length, get_or, map, sym, ap, ◌∙◌, arith, length-map, same_lists, get_or_default}
+use Rattle.ordered_group.specs.Prelude.{Amount, amount_at}
 use Rattle.ordered_group.proofs.Lists.{at_map}
 
 -- there are as many amounts as values

@@ -1,7 +1,6 @@
 -- What arcs carry, as it is kept.
 use Rattle.std.specs.Prelude.{◌≡◌, ◌≢◌, ℕ, zero, suc, ◌<◌, ◌≤◌, ◌^◌, [], ◌∷◌, Option, None, Some, List, map, length, All, slice_index_or}
-use Rattle.ordered_group.specs.Amount.{Amount, zero_amount}
-use Rattle.ordered_group.specs.Sums.{amount_at}
+use Rattle.ordered_group.specs.Prelude.{Amount, zero_amount, amount_at}
 
 -- the amount of a place, where places begin with 1 and 0 is that of nothing
 abbrev pub amount_of_place : List Amount → ℕ → Amount

@@ -1,7 +1,6 @@
 -- Closed sets of a net, and what they sum to.
 use Rattle.std.specs.Prelude.{ℕ, Bool, List, length, All, IsTrue}
-use Rattle.ordered_group.specs.Amount.{Amount, AtMost}
-use Rattle.ordered_group.specs.Sums.{total, where_so, amount_at}
+use Rattle.ordered_group.specs.Prelude.{Amount, AtMost, total, where_so, amount_at}
 use Rattle.closure_net.specs.Network.{NetView}
 
 -- of a pair (b, p): p stays in the set if b is in it

@@ -1,7 +1,6 @@
 -- When a net can't be built, and how that prints.
 use Rattle.std.specs.Prelude.{◌≡◌, ◌≢◌, ℕ, ◌<◌, ℤ, pos, ◌⊎◌, List, length, map, slice_index_or, codes}
-use Rattle.ordered_group.specs.Amount.{Amount, zero_amount, minus, positive, FitsPair}
-use Rattle.ordered_group.specs.Sums.{amount_at, SumFits, SumOverflows}
+use Rattle.ordered_group.specs.Prelude.{Amount, zero_amount, minus, positive, FitsPair, amount_at, SumFits, SumOverflows}
 use Rattle.closure_net.specs.declared.net.NetFault.{NetFault}
 use Rattle.closure_net.specs.declared.net.NetFault.TheVariants.{WrongLength, TooLarge, NoMemory}
 

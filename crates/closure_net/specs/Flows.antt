@@ -1,7 +1,6 @@
 -- Flows of a net.
 use Rattle.std.specs.Prelude.{◌≡◌, ℕ, ◌<◌, Bool, List, length}
-use Rattle.ordered_group.specs.Amount.{Amount, zero_amount, plus, minus, AtMost, positive, negative}
-use Rattle.ordered_group.specs.Sums.{total, at_end, amount_at}
+use Rattle.ordered_group.specs.Prelude.{Amount, zero_amount, plus, minus, AtMost, positive, negative, total, at_end, amount_at}
 use Rattle.prec_file.specs.Rests.{from_at, to_at}
 use Rattle.closure_net.specs.Network.{NetView, FlowView, FlowFits}
 use Rattle.closure_net.specs.Closure.{group_worth}

@@ -11,3 +11,5 @@ pub mod Searches
 pub mod Carrying
 -- when there is no net, and how that prints
 pub mod Faults
+-- the names of all of them
+pub mod Prelude

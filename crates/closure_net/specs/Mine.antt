@@ -1,8 +1,6 @@
 -- The model that the files of a mine denote, its pits, and which of them is best.
 use Rattle.std.specs.Prelude.{◌≡◌, ◌↔◌, ℕ, ◌<◌, ℤ, ◌≤ℤ◌, Bool, IsTrue, length, Contains}
-use Rattle.ordered_group.specs.Amount.{Amount}
-use Rattle.ordered_group.specs.Sums.{amount_at}
-use Rattle.ordered_group.specs.Sets.{worth_in, count_in}
+use Rattle.ordered_group.specs.Prelude.{Amount, amount_at, worth_in, count_in}
 use Rattle.closure_net.specs.Network.{NetView}
 
 -- How many blocks there are, which block rests on which, and what each block is worth in billionths. A set of blocks is a test.

@@ -1,8 +1,7 @@
 -- Nets, flows and sets of blocks, as contracts see them.
 use Rattle.std.specs.Prelude.{◌≡◌, ℕ, ◌<◌, ◌==◌, Bool, List, length, slice_index}
 use Rattle.std.specs.List.{list_any}
-use Rattle.ordered_group.specs.Amount.{Amount, zero_amount, minus, positive, FitsPair}
-use Rattle.ordered_group.specs.Sums.{amount_at, SumFits}
+use Rattle.ordered_group.specs.Prelude.{Amount, zero_amount, minus, positive, FitsPair, amount_at, SumFits}
 use Rattle.prec_file.specs.Rests.{RestsView, IsRests}
 
 -- the pairs (b, p) in which b rests on p, and the worth of each block

@@ -1,8 +1,7 @@
 -- The ports of a block: where an amount may leave it, in the order in which they are tried.
 use Rattle.std.specs.Prelude.{ℕ, Bool, cond, List, [], ◌∷◌, ◌++◌, map, length}
 use Rattle.std.specs.Ordering.{is_lt}
-use Rattle.ordered_group.specs.Amount.{Amount, zero_amount, amount_cmp}
-use Rattle.ordered_group.specs.Sums.{amount_at}
+use Rattle.ordered_group.specs.Prelude.{Amount, zero_amount, amount_cmp, amount_at}
 use Rattle.prec_file.specs.Rests.{from_at, to_at, numbers}
 use Rattle.closure_net.specs.Network.{NetView}
 use Rattle.closure_net.specs.declared.port.Port.{Port}

@@ -1,7 +1,6 @@
 -- What the source of a network reaches in what is left of it by a flow.
 use Rattle.std.specs.Prelude.{ℕ, ◌<◌, Bool, List, length, IsTrue}
-use Rattle.ordered_group.specs.Amount.{Amount, zero_amount, AtMost, positive}
-use Rattle.ordered_group.specs.Sums.{amount_at}
+use Rattle.ordered_group.specs.Prelude.{Amount, zero_amount, AtMost, positive, amount_at}
 use Rattle.prec_file.specs.Rests.{from_at, to_at}
 use Rattle.closure_net.specs.Network.{NetView, FlowView}
 

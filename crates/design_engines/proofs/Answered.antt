@@ -7,39 +7,21 @@ use Rattle.mine_inputs.specs.declared.engine_fault.EngineFault.TheVariants as en
 use Rattle.mine_inputs.specs.declared.mines.MineInputs.{MineInputs}
 use Rattle.mine_inputs.specs.declared.worths.Worths.{Worths}
 use Rattle.engines.specs.Checking.{LineFails}
-use Rattle.mine_inputs.specs.FaultStands.{MineFails}
-use Rattle.mine_inputs.specs.MineInputs.{ForTexts}
-use Rattle.mine_inputs.specs.Mines.{MineTexts, DenoteMine}
-use Rattle.mine_inputs.specs.ReadMines.{AreRead, IsMineRead}
-use Rattle.mine_inputs.specs.Worths.{nanos_at}
+use Rattle.mine_inputs.specs.Prelude.{MineFails, ForTexts, MineTexts, DenoteMine, AreRead, IsMineRead, nanos_at}
 use Rattle.engines.proofs.Answered.{keeps_self}
 use Rattle.mine_inputs.proofs.MinesRead.{read_as}
 use Rattle.mine_inputs.proofs.MineDevices.{always, under, for_texts}
 use Rattle.design_engines.specs.declared.value_fault.DesignProblem.TheVariants as problem
 use Rattle.design_engines.specs.declared.value_fault.ValueFault.{ValueFault}
 use Rattle.design_engines.specs.declared.value_fault.ValueFault.TheVariants as value
-use Rattle.design_engines.specs.DesignTexts.{ReadsDesign, DesignReadFails}
-use Rattle.design_engines.specs.Designs.{DesignView, IsValued, design_text}
-use Rattle.design_engines.specs.Values.{ValueAtFault, Values}
+use Rattle.design_engines.specs.Prelude.{ReadsDesign, DesignReadFails, DesignView, IsValued, design_text, ValueAtFault, Values}
 
 -- ---- faults, over texts
 
 -- nothing was written: so it is at any fault
 at_fault : (texts : MineTexts) (d : List ℕ) (w : Option (List ℕ)) (e : ValueFault) → ValueAtFault texts d w w e
-at_fault texts d w (value.Design q) = keeps_self w
-at_fault texts d w (value.Engine (engine.Upit q)) = keeps_self w
-at_fault texts d w (value.Engine (engine.Prec q)) = keeps_self w
-at_fault texts d w (value.Engine (engine.Model q)) = keeps_self w
-at_fault texts d w (value.Engine (engine.Certificate q)) = keeps_self w
-at_fault texts d w (value.Engine (engine.Trace q)) = keeps_self w
-at_fault texts d w (value.Engine (engine.Blocks q)) = keeps_self w
-at_fault texts d w (value.Engine (engine.Slope q)) = keeps_self w
-at_fault texts d w (value.Engine (engine.Settings q)) = keeps_self w
-at_fault texts d w (value.Engine (engine.Prices q)) = keeps_self w
-at_fault texts d w (value.Engine engine.Thread) = keeps_self w
-at_fault texts d w (value.Engine engine.Stranger) = keeps_self w
-at_fault texts d w (value.Engine engine.Memory) = keeps_self w
 at_fault texts d w (value.Engine engine.Device) = inl (keeps_self w)
+at_fault texts d w e = keeps_self w
 
 -- the texts of the mine were not read
 unread_at : (texts : MineTexts) (d : List ℕ) (w : Option (List ℕ)) (e : EngineFault) → MineFails texts e → Values texts d w w (Err (value.Engine e))
@@ -49,36 +31,15 @@ unread_at texts d w e h = (h, at_fault texts d w (value.Engine e))
 undrawn : (texts : MineTexts) (n : ℕ) (d : List ℕ) (w : Option (List ℕ)) (e : ValueFault) → DenoteMine texts n → DesignReadFails n d e → Values texts d w w (Err e)
 undrawn texts n d w (value.Design problem.InputTooLong) m h = ((n, m, h), keeps_self w)
 undrawn texts n d w (value.Design (problem.Fault q)) m h = ((n, m, h), keeps_self w)
-undrawn texts n d w (value.Design problem.TooLarge) m h = absurd h
 undrawn texts n d w (value.Engine engine.Memory) m h = (tt, keeps_self w)
 undrawn texts n d w (value.Engine engine.Device) m h = (tt, inl (keeps_self w))
-undrawn texts n d w (value.Engine (engine.Upit q)) m h = absurd h
-undrawn texts n d w (value.Engine (engine.Prec q)) m h = absurd h
-undrawn texts n d w (value.Engine (engine.Model q)) m h = absurd h
-undrawn texts n d w (value.Engine (engine.Certificate q)) m h = absurd h
-undrawn texts n d w (value.Engine (engine.Trace q)) m h = absurd h
-undrawn texts n d w (value.Engine (engine.Blocks q)) m h = absurd h
-undrawn texts n d w (value.Engine (engine.Slope q)) m h = absurd h
-undrawn texts n d w (value.Engine (engine.Settings q)) m h = absurd h
-undrawn texts n d w (value.Engine (engine.Prices q)) m h = absurd h
-undrawn texts n d w (value.Engine engine.Thread) m h = absurd h
-undrawn texts n d w (value.Engine engine.Stranger) m h = absurd h
+undrawn texts n d w e m h = absurd h
 
 -- its lines could not be written
 pub lines_failed : (texts : MineTexts) (d : List ℕ) (v : DesignView) (old new : Option (List ℕ)) (e : EngineFault) → IsValued texts d v → LineFails old new (design_text v) e → Values texts d old new (Err (value.Engine e))
 lines_failed texts d v old new engine.Memory h k = (tt, k)
 lines_failed texts d v old new engine.Device h k = (tt, inr (v, h, k))
-lines_failed texts d v old new (engine.Upit q) h k = absurd k
-lines_failed texts d v old new (engine.Prec q) h k = absurd k
-lines_failed texts d v old new (engine.Model q) h k = absurd k
-lines_failed texts d v old new (engine.Certificate q) h k = absurd k
-lines_failed texts d v old new (engine.Trace q) h k = absurd k
-lines_failed texts d v old new (engine.Blocks q) h k = absurd k
-lines_failed texts d v old new (engine.Slope q) h k = absurd k
-lines_failed texts d v old new (engine.Settings q) h k = absurd k
-lines_failed texts d v old new (engine.Prices q) h k = absurd k
-lines_failed texts d v old new engine.Thread h k = absurd k
-lines_failed texts d v old new engine.Stranger h k = absurd k
+lines_failed texts d v old new e h k = absurd k
 
 -- ---- the engine, where the readers tell their bytes
 

@@ -2,17 +2,14 @@
 use Rattle.std.proofs.Common.{ℕ, Bool, List, Option, IfSome}
 use Rattle.prec_file.specs.Rests.{RestsView}
 use Rattle.engines.specs.Judging.{factor_in}
-use Rattle.mine_inputs.specs.Mines.{MineTexts}
-use Rattle.mine_inputs.specs.ReadMines.{IsMineRead}
+use Rattle.mine_inputs.specs.Prelude.{MineTexts, IsMineRead}
 use Rattle.mine_inputs.specs.declared.worths.Worths.{Worths}
 use Rattle.mine_inputs.proofs.MineDevices.{under}
 use Rattle.mine_inputs.specs.declared.engine_fault.EngineFault.TheVariants as engine
 use Rattle.design_engines.specs.declared.value_fault.DesignProblem.TheVariants as problem
 use Rattle.design_engines.specs.declared.value_fault.ValueFault.{ValueFault}
 use Rattle.design_engines.specs.declared.value_fault.ValueFault.TheVariants as value
-use Rattle.design_engines.specs.Compares.{BesideFails}
-use Rattle.design_engines.specs.DesignTexts.{ReadsDesign}
-use Rattle.design_engines.specs.Values.{NoValue}
+use Rattle.design_engines.specs.Prelude.{BesideFails, ReadsDesign, NoValue}
 use Rattle.design_engines.proofs.ComparedAnswers.{ReadBeside}
 
 -- a fault of the design's value is one beside a certificate

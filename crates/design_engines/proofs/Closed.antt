@@ -1,6 +1,5 @@
 -- No pair leads out exactly where the set is a pit.
-use Rattle.std.proofs.Common.{◌≡◌, ◌↔◌, ℕ, Bool, true, false, cond, not, ◌&&◌, List, [], ◌∷◌, length, get_or, refl, ap, ◌∙◌, arith, All, filter}
-use Rattle.std.proofs.lemmas.List.Elements.{All-nil, All-cons, All-head, All-tail, All-contains, Contains-get_or}
+use Rattle.fixed_worth.proofs.Common.{◌≡◌, ◌↔◌, ℕ, Bool, true, false, cond, not, ◌&&◌, List, [], ◌∷◌, length, get_or, refl, ap, ◌∙◌, arith, All, filter, All-nil, All-cons, All-head, All-tail, All-contains, Contains-get_or}
 use Rattle.prec_file.specs.Rests.{ArePairsOf}
 use Rattle.closure_net.specs.Mine.{IsPit}
 use Rattle.design_value.specs.OpenPairs.{leads_out, open_pairs}
@@ -30,8 +29,7 @@ leads_not true b h = rw (h refl) refl
 
 follows : (a b : Bool) → (a && not b) ≡ false → a ≡ true → b ≡ true
 follows true true h e = refl
-follows true false h e = cc
-follows false b h e = cc
+follows a b h e = cc
 
 pub closed_where : (texts : MineTexts) (n : ℕ) (pairs : List (ℕ × ℕ)) (e : ℕ → Bool) (leading : ℕ) → ArePairsOf (prec.pairs_of_text (precedence_of texts)) pairs → leading ≡ length (open_pairs e pairs) → (leading ≡ 0) ↔ IsPit (mine_of n texts) e
 closed_where texts n pairs e leading are is =

@@ -1,24 +1,17 @@
 -- A design beside a pit that is proved: the gap, and how the comparison is told.
-use Rattle.std.proofs.Common.{◌≡◌, ℕ, ℤ, pos, ◌-ℤ◌, ◌≤ℤ◌, Bool, List, sym, ◌∙◌, subst, arith, Option, Err, inl, inr, FitsSigned}
-use Rattle.std.specs.Int.{w128}
-use Rattle.std.proofs.lemmas.Int.{ints}
+use Rattle.fixed_worth.proofs.Common.{◌≡◌, ℕ, ℤ, pos, ◌-ℤ◌, ◌≤ℤ◌, Bool, List, sym, ◌∙◌, subst, arith, Option, Err, inl, inr, FitsSigned, w128, ints}
 use Rattle.ordered_group.specs.declared.groups.Group.{Group}
-use Rattle.ordered_group.specs.declared.groups.Group.TheVariants.{Worth, Pair, Scaled}
-use Rattle.closure_net.specs.Network.{holds_of}
-use Rattle.closure_net.specs.Mine.{Mine, IsPit, worth_of}
+use Rattle.ordered_group.specs.declared.groups.Group.TheVariants.{Worth}
+use Rattle.closure_net.specs.Prelude.{holds_of, Mine, IsPit, worth_of}
 use Rattle.design_file.specs.Records.{design_of}
 use Rattle.mine_inputs.specs.declared.engine_fault.EngineFault.{EngineFault}
 use Rattle.mine_inputs.specs.declared.engine_fault.EngineFault.TheVariants as engine
-use Rattle.engines.specs.Checking.{LineFails}
-use Rattle.engines.specs.Judgements.{CertificateAccepted}
+use Rattle.engines.specs.Prelude.{LineFails, CertificateAccepted, IsProvedPit}
 use Rattle.mine_inputs.specs.Mines.{MineTexts, mine_texts, priced_texts, mine_of, WorthsRead}
-use Rattle.engines.specs.Readings.{IsProvedPit}
 use Rattle.engines.proofs.Answered.{keeps_self}
 use Rattle.design_engines.specs.declared.value_fault.DesignProblem.TheVariants as problem
 use Rattle.design_engines.specs.declared.value_fault.ValueFault.TheVariants as value
-use Rattle.design_engines.specs.Comparisons.{IsDrawn, IsCompared, ComparedView, IsComparison, compared_text}
-use Rattle.design_engines.specs.Compares.{Compares}
-use Rattle.design_engines.specs.Designs.{DesignView, IsValued}
+use Rattle.design_engines.specs.Prelude.{IsDrawn, IsCompared, ComparedView, IsComparison, compared_text, Compares, DesignView, IsValued}
 
 -- ---- the gap
 
@@ -30,8 +23,7 @@ one_size (priced_texts settings blocks precedence factor) n m a b = sym a.count 
 -- no pit is worth more than one that is proved
 richest : (name : Group) (mine : Mine) (e : ℕ → Bool) → IsProvedPit name mine e → (other : ℕ → Bool) → IsPit mine other → worth_of mine other ≤ℤ worth_of mine e
 richest Worth mine e h = h.most
-richest Pair mine e h = h.most
-richest Scaled mine e h = h.most
+richest name mine e h = h.most
 
 not_less : (gap best design worth told : ℤ) → gap ≡ best -ℤ told → worth ≡ best → told ≡ design → design ≤ℤ worth → pos 0 ≤ℤ gap
 not_less gap best design worth told g w t le = omega (arith, ints, g, w, t, le)
@@ -64,14 +56,4 @@ gap_leaves texts design c v name count worth w valued best leaves = (inr (record
 pub compared_failed : (texts : MineTexts) (design c : List ℕ) (x : ComparedView) (old new : Option (List ℕ)) (e : EngineFault) → IsComparison texts design c x → LineFails old new (compared_text x) e → Compares texts design c old new (Err (value.Engine e))
 compared_failed texts design c x old new engine.Memory h k = ((tt, inl tt), k)
 compared_failed texts design c x old new engine.Device h k = ((tt, inl tt), inr (x, h, k))
-compared_failed texts design c x old new (engine.Upit q) h k = absurd k
-compared_failed texts design c x old new (engine.Prec q) h k = absurd k
-compared_failed texts design c x old new (engine.Model q) h k = absurd k
-compared_failed texts design c x old new (engine.Certificate q) h k = absurd k
-compared_failed texts design c x old new (engine.Trace q) h k = absurd k
-compared_failed texts design c x old new (engine.Blocks q) h k = absurd k
-compared_failed texts design c x old new (engine.Slope q) h k = absurd k
-compared_failed texts design c x old new (engine.Settings q) h k = absurd k
-compared_failed texts design c x old new (engine.Prices q) h k = absurd k
-compared_failed texts design c x old new engine.Thread h k = absurd k
-compared_failed texts design c x old new engine.Stranger h k = absurd k
+compared_failed texts design c x old new e h k = absurd k

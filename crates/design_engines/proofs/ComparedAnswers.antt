@@ -7,39 +7,21 @@ use Rattle.mine_inputs.specs.declared.engine_fault.EngineFault.{EngineFault}
 use Rattle.mine_inputs.specs.declared.engine_fault.EngineFault.TheVariants as engine
 use Rattle.mine_inputs.specs.declared.mines.MineInputs.{MineInputs}
 use Rattle.mine_inputs.specs.declared.worths.Worths.{Worths}
-use Rattle.mine_inputs.specs.FaultStands.{MineFails}
+use Rattle.mine_inputs.specs.Prelude.{MineFails, ForTexts, MineTexts, DenoteMine, IsMineRead}
 use Rattle.engines.specs.Judging.{factor_in}
-use Rattle.mine_inputs.specs.MineInputs.{ForTexts}
-use Rattle.mine_inputs.specs.Mines.{MineTexts, DenoteMine}
-use Rattle.mine_inputs.specs.ReadMines.{IsMineRead}
 use Rattle.engines.proofs.Answered.{keeps_self, fails}
 use Rattle.mine_inputs.proofs.MineDevices.{always, under, for_texts}
 use Rattle.design_engines.specs.declared.value_fault.DesignProblem.TheVariants as problem
 use Rattle.design_engines.specs.declared.value_fault.ValueFault.{ValueFault}
 use Rattle.design_engines.specs.declared.value_fault.ValueFault.TheVariants as value
-use Rattle.design_engines.specs.Comparisons.{IsDrawn}
-use Rattle.design_engines.specs.Compares.{IsBeside, BesideFails, CompareAtFault, Compares}
-use Rattle.design_engines.specs.DesignTexts.{ReadsDesign, DesignReadFails}
-use Rattle.design_engines.specs.Designs.{DesignView}
+use Rattle.design_engines.specs.Prelude.{IsDrawn, IsBeside, BesideFails, CompareAtFault, Compares, ReadsDesign, DesignReadFails, DesignView}
 
 -- ---- faults, over texts
 
 -- nothing was written: so it is at any fault
 at_fault : (texts : MineTexts) (d c : List ℕ) (w : Option (List ℕ)) (e : ValueFault) → CompareAtFault texts d c w w e
-at_fault texts d c w (value.Design q) = keeps_self w
-at_fault texts d c w (value.Engine (engine.Upit q)) = keeps_self w
-at_fault texts d c w (value.Engine (engine.Prec q)) = keeps_self w
-at_fault texts d c w (value.Engine (engine.Model q)) = keeps_self w
-at_fault texts d c w (value.Engine (engine.Certificate q)) = keeps_self w
-at_fault texts d c w (value.Engine (engine.Trace q)) = keeps_self w
-at_fault texts d c w (value.Engine (engine.Blocks q)) = keeps_self w
-at_fault texts d c w (value.Engine (engine.Slope q)) = keeps_self w
-at_fault texts d c w (value.Engine (engine.Settings q)) = keeps_self w
-at_fault texts d c w (value.Engine (engine.Prices q)) = keeps_self w
-at_fault texts d c w (value.Engine engine.Thread) = keeps_self w
-at_fault texts d c w (value.Engine engine.Stranger) = keeps_self w
-at_fault texts d c w (value.Engine engine.Memory) = keeps_self w
 at_fault texts d c w (value.Engine engine.Device) = inl (keeps_self w)
+at_fault texts d c w e = keeps_self w
 
 -- the texts of the mine were not read
 unread_at : (texts : MineTexts) (d c : List ℕ) (w : Option (List ℕ)) (e : EngineFault) → MineFails texts e → Compares texts d c w w (Err (value.Engine e))
@@ -49,27 +31,15 @@ unread_at texts d c w e h = ((fails texts c e h, inl h), at_fault texts d c w (v
 undrawn : (texts : MineTexts) (n : ℕ) (d c : List ℕ) (w : Option (List ℕ)) (e : ValueFault) → DenoteMine texts n → DesignReadFails n d e → Compares texts d c w w (Err e)
 undrawn texts n d c w (value.Design problem.InputTooLong) m h = ((n, m, h), keeps_self w)
 undrawn texts n d c w (value.Design (problem.Fault q)) m h = ((n, m, h), keeps_self w)
-undrawn texts n d c w (value.Design problem.TooLarge) m h = absurd h
 undrawn texts n d c w (value.Engine engine.Memory) m h = ((tt, inl tt), keeps_self w)
 undrawn texts n d c w (value.Engine engine.Device) m h = ((tt, inl tt), inl (keeps_self w))
-undrawn texts n d c w (value.Engine (engine.Upit q)) m h = absurd h
-undrawn texts n d c w (value.Engine (engine.Prec q)) m h = absurd h
-undrawn texts n d c w (value.Engine (engine.Model q)) m h = absurd h
-undrawn texts n d c w (value.Engine (engine.Certificate q)) m h = absurd h
-undrawn texts n d c w (value.Engine (engine.Trace q)) m h = absurd h
-undrawn texts n d c w (value.Engine (engine.Blocks q)) m h = absurd h
-undrawn texts n d c w (value.Engine (engine.Slope q)) m h = absurd h
-undrawn texts n d c w (value.Engine (engine.Settings q)) m h = absurd h
-undrawn texts n d c w (value.Engine (engine.Prices q)) m h = absurd h
-undrawn texts n d c w (value.Engine engine.Thread) m h = absurd h
-undrawn texts n d c w (value.Engine engine.Stranger) m h = absurd h
+undrawn texts n d c w e m h = absurd h
 
 -- there is nothing to compare
 unpaired : (texts : MineTexts) (d c : List ℕ) (w : Option (List ℕ)) (e : ValueFault) → IsDrawn texts d → BesideFails texts d c e → Compares texts d c w w (Err e)
 unpaired texts d c w (value.Engine e) drawn h = ((h, inr drawn), at_fault texts d c w (value.Engine e))
 unpaired texts d c w (value.Design problem.TooLarge) drawn h = (inl h, keeps_self w)
-unpaired texts d c w (value.Design problem.InputTooLong) drawn h = absurd h
-unpaired texts d c w (value.Design (problem.Fault q)) drawn h = absurd h
+unpaired texts d c w (value.Design _) drawn h = absurd h
 
 -- ---- the engine, where the readers tell their bytes
 

@@ -1,18 +1,12 @@
 -- What the marks of a design come to is what the design of the text comes to.
-use Rattle.std.proofs.Common.{◌≡◌, ℕ, ◌<◌, ◌≤◌, ℤ, Bool, List, [], ◌∷◌, length, take, refl, ap, ◌∙◌, subst, arith, All, FitsSigned}
-use Rattle.std.specs.Int.{w128}
-use Rattle.std.proofs.lemmas.List.Elements.{All-head, All-tail}
+use Rattle.fixed_worth.proofs.Common.{◌≡◌, ℕ, ◌<◌, ◌≤◌, ℤ, Bool, List, [], ◌∷◌, length, take, refl, ap, ◌∙◌, subst, arith, All, FitsSigned, w128, All-head, All-tail}
 use Rattle.prec_file.specs.Rests.{RestsView, IsRests, IsKnown}
 use Rattle.ordered_group.specs.Sets.{worth_in, count_in}
 use Rattle.ordered_group.proofs.BlockSets.{count_in-same, worth_in-agrees}
 use Rattle.design_file.specs.Records.{design_of}
-use Rattle.design_value.specs.OpenPairs.{leads_out, open_pairs, most_told, AreOpen}
-use Rattle.design_value.specs.Sums.{marked_in, worth_listed, SumLeaves}
-use Rattle.mine_inputs.specs.Mines.{MineTexts, worth_by}
-use Rattle.mine_inputs.specs.ReadMines.{AreRead}
-use Rattle.design_engines.specs.DesignTexts.{ReadsDesign}
-use Rattle.design_engines.specs.Designs.{IsValued}
-use Rattle.design_engines.specs.Values.{WorthLeaves}
+use Rattle.design_value.specs.Prelude.{leads_out, open_pairs, most_told, AreOpen, marked_in, worth_listed, SumLeaves}
+use Rattle.mine_inputs.specs.Prelude.{MineTexts, worth_by, AreRead}
+use Rattle.design_engines.specs.Prelude.{ReadsDesign, IsValued, WorthLeaves}
 use Rattle.design_engines.proofs.Closed.{closed_where}
 
 -- ---- two sets of blocks that agree below n

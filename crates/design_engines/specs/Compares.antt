@@ -7,10 +7,8 @@ use Rattle.ordered_group.specs.declared.groups.Group.{Group}
 use Rattle.engines.specs.declared.judgement.Judgement.{Judgement}
 use Rattle.engines.specs.declared.judgement.Verdict.{Verdict}
 use Rattle.mine_inputs.specs.declared.engine_fault.EngineFault.TheVariants as engine
-use Rattle.mine_inputs.specs.FaultStands.{MineFails}
-use Rattle.engines.specs.FaultStands.{Fails}
-use Rattle.engines.specs.Judgements.{CertificateAccepted, IsJudged}
-use Rattle.mine_inputs.specs.Mines.{MineTexts, DenoteMine}
+use Rattle.mine_inputs.specs.Prelude.{MineFails, MineTexts, DenoteMine}
+use Rattle.engines.specs.Prelude.{Fails, CertificateAccepted, IsJudged}
 use Rattle.design_engines.specs.declared.value_fault.DesignProblem.TheVariants as problem
 use Rattle.design_engines.specs.declared.value_fault.ValueFault.{ValueFault}
 use Rattle.design_engines.specs.declared.value_fault.ValueFault.TheVariants as value

@@ -8,9 +8,8 @@ use Rattle.design_file.specs.Records.{design_of}
 use Rattle.engines.specs.declared.judgement.Judgement.TheVariants.{Refused}
 use Rattle.engines.specs.declared.judgement.Verdict.{Verdict}
 use Rattle.engines.specs.declared.judgement.Verdict.TheVariants.{No}
-use Rattle.engines.specs.Judgements.{CertificateAccepted, CertificateRefused}
+use Rattle.engines.specs.Prelude.{CertificateAccepted, CertificateRefused, judgement_line}
 use Rattle.mine_inputs.specs.Mines.{MineTexts, DenoteMine, mine_of}
-use Rattle.engines.specs.OutputLines.{judgement_line}
 use Rattle.design_engines.specs.DesignTexts.{IsDesign}
 use Rattle.design_engines.specs.Designs.{DesignView, IsValued, design_text, verdict_for}
 

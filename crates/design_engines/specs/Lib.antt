@@ -9,3 +9,5 @@ pub mod DesignTexts
 pub mod FaultText
 -- for this crate alone: what the program holds of a design
 pub mod Told
+-- the names of all of them
+pub mod Prelude

@@ -6,8 +6,7 @@ use Rattle.design_file.specs.Records.{design_of}
 use Rattle.design_value.specs.Sums.{SumLeaves}
 use Rattle.engines.specs.declared.judgement.Verdict.{Verdict}
 use Rattle.mine_inputs.specs.declared.engine_fault.EngineFault.TheVariants as engine
-use Rattle.mine_inputs.specs.FaultStands.{MineFails}
-use Rattle.mine_inputs.specs.Mines.{MineTexts, DenoteMine, worth_by}
+use Rattle.mine_inputs.specs.Prelude.{MineFails, MineTexts, DenoteMine, worth_by}
 use Rattle.design_engines.specs.declared.value_fault.DesignProblem.TheVariants as problem
 use Rattle.design_engines.specs.declared.value_fault.ValueFault.{ValueFault}
 use Rattle.design_engines.specs.declared.value_fault.ValueFault.TheVariants as value
@@ -24,9 +23,8 @@ pub record WorthLeaves (texts : MineTexts) (design : List ℕ) : Type 0 where
 -- nothing is told of a design for want of memory, or where its worth doesn't fit
 abbrev pub NoValue : MineTexts → List ℕ → ValueFault → Type 0
 NoValue texts design (value.Engine engine.Memory) = Unit {0}
-NoValue texts design (value.Engine _) = ⊥
 NoValue texts design (value.Design problem.TooLarge) = WorthLeaves texts design
-NoValue texts design (value.Design _) = ⊥
+NoValue texts design _ = ⊥
 
 -- Why the engine answers a fault: it is one of the texts of the mine; or, where they are read, one of the design.
 abbrev pub ValueFails : MineTexts → List ℕ → ValueFault → Type 0

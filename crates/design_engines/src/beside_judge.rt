@@ -101,7 +101,12 @@ fn beside_stream<R: Threads + Sync, C: CountedRead>(
         marks,
     } = case;
     let mine = price_mine(rt, alloc, mine, stream)?;
-    let valued = value_of(alloc, mine.nanos.as_slice(), &mine.predecessors, marks.as_slice())?;
+    let valued = value_of(
+        alloc,
+        mine.nanos.as_slice(),
+        &mine.predecessors,
+        marks.as_slice(),
+    )?;
     drop(marks);
     let judgement = judge_priced(alloc, mine, stream)?;
     Ok(Beside { valued, judgement })

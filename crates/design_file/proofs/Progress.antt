@@ -1,14 +1,10 @@
 -- Reading line after line.
-use Rattle.std.proofs.Common.{◌≡◌, ℕ, ◌+◌, ◌<◌, ◌≤◌, Bool, false, List, [], ◌∷◌, ◌++◌, length, get_or, Some, None, refl, subst, arith, append_assoc, append-nil, true, cond, Option, sym, ap, ◌∙◌}
-use Rattle.std.specs.Option.{option_or}
-use Rattle.std.proofs.lemmas.List.Concat.{flat_map-append}
-use Rattle.fixed_worth.specs.Text.{Left, fields_of}
+use Rattle.fixed_worth.proofs.Common.{◌≡◌, ℕ, ◌+◌, ◌<◌, ◌≤◌, Bool, false, List, [], ◌∷◌, ◌++◌, length, get_or, Some, None, refl, subst, arith, append_assoc, append-nil, true, cond, Option, sym, ap, ◌∙◌, option_or, flat_map-append, common_steps}
+use Rattle.fixed_worth.specs.Prelude.{Left, fields_of, Line, numbered_lines, lines_in, has}
 use Rattle.fixed_worth.specs.declared.limits.TheConstants.{LINE_BYTES}
-use Rattle.fixed_worth.specs.Record.{Line, numbered_lines, lines_in}
 use Rattle.design_file.specs.declared.design_fault.DesignFault.{DesignFault}
-use Rattle.design_file.specs.declared.design_fault.DesignFault.TheVariants.{Text, Number, UnknownBlock, Repeated, NoMemory}
-use Rattle.design_file.specs.Records.{record_fault, line_fault, blocks_of, has, first_fault, fault_of, marks_after, UnlessMemory, is_passed, block_word, named_fault, block_in, blocks_of_fields, set_in}
-use Rattle.std.proofs.lemmas.Grind.{common_steps}
+use Rattle.design_file.specs.declared.design_fault.DesignFault.TheVariants.{NoMemory}
+use Rattle.design_file.specs.Records.{record_fault, line_fault, blocks_of, first_fault, fault_of, marks_after, UnlessMemory, is_passed, block_word, named_fault, block_in, blocks_of_fields, set_in}
 
 -- ---- marks
 
@@ -35,10 +31,7 @@ pub record ReadSoFar (n : ℕ) (text : List ℕ) (marks : List Bool) (left : Lef
 
 pub unless : (e : DesignFault) {Q : Type 0} → Q → UnlessMemory e Q
 unless NoMemory h = tt
-unless (Text k) h = h
-unless (Number k) h = h
-unless (UnknownBlock k) h = h
-unless (Repeated k) h = h
+unless e h = h
 
 -- The fault of the next line is that of its record, as the reader knows it.
 behind : (n : ℕ) (text : List ℕ) (marks : List Bool) (left : Left) (g : ReadSoFar n text marks left) (k : ℕ) (line : List ℕ) → length line ≤ LINE_BYTES

@@ -3,12 +3,11 @@ use Rattle.std.specs.Prelude.{◌≡◌, ℕ, ◌<◌, ◌||◌, Bool, true, fal
 use Rattle.std.specs.Option.{option_or}
 use Rattle.std.specs.List.{flat_map}
 use Rattle.fixed_worth.specs.declared.limits.TheConstants.{LINE_BYTES}
-use Rattle.fixed_worth.specs.Text.{fields_of}
+use Rattle.fixed_worth.specs.Prelude.{fields_of, at_line}
 pub use Rattle.fixed_worth.specs.Record.{Line, lines_in, reads, number_of, is_remark, has}
 use Rattle.design_file.specs.declared.design_fault.DesignFault.{DesignFault}
 use Rattle.design_file.specs.declared.design_fault.DesignFault.TheVariants.{Text, Number, UnknownBlock, Repeated, NoMemory}
 use Rattle.std.specs.Str.{bytes_eq}
-use Rattle.fixed_worth.specs.FaultText.{at_line}
 use Rattle.design_file.specs.declared.design_fault.DesignFault.TheVariants as design
 
 -- A certificate has lines that begin with this word, and they name no block of its pit.

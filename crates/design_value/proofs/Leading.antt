@@ -1,13 +1,10 @@
 -- The pairs that lead out of a set, pair by pair and block by block.
-use Rattle.std.proofs.Common.{◌≡◌, ℕ, suc, ◌+◌, ◌<◌, ◌≤◌, Bool, true, false, cond, List, [], ◌∷◌, ◌++◌, length, take, get_or, refl, sym, ap, ◌∙◌, subst, arith, add-one, length-append}
-use Rattle.std.proofs.lemmas.List.{take_all, take_more, take-append-le, length-take-le}
-use Rattle.std.proofs.lemmas.List.Elements.{filter-append}
+use Rattle.fixed_worth.proofs.Common.{◌≡◌, ℕ, suc, ◌+◌, ◌<◌, ◌≤◌, Bool, true, false, cond, List, [], ◌∷◌, ◌++◌, length, take, get_or, refl, sym, ap, ◌∙◌, subst, arith, add-one, length-append, take_all, take_more, take-append-le, length-take-le, filter-append, common_steps}
 use Rattle.prec_file.specs.Rests.{IsKnown, IsRests, RestsView, from_at, first_of, above_of}
 use Rattle.prec_file.proofs.Finding.{above_at, above_length}
 use Rattle.prec_file.proofs.Slots.{ending_next, ending_none, ending_all}
 use Rattle.prec_file.proofs.Sorting.{length_filter_most}
 use Rattle.design_value.specs.OpenPairs.{leads_out, open_pairs, most_told, AreOpen}
-use Rattle.std.proofs.lemmas.Grind.{common_steps}
 
 -- ---- one pair more
 

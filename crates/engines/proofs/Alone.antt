@@ -1,11 +1,9 @@
 -- The texts denote one net, and the lines of a certificate one flow.
 use Rattle.std.proofs.Common.{◌≡◌, ℕ, ◌<◌, ℤ, Bool, List, length, sym, ◌∙◌, arith, Result, Ok}
-use Rattle.ordered_group.specs.Amount.{Amount, zero_amount}
-use Rattle.ordered_group.specs.Sums.{amount_at}
+use Rattle.ordered_group.specs.Prelude.{Amount, zero_amount, amount_at}
 use Rattle.prec_file.specs.Records as prec
 use Rattle.prec_file.proofs.OneListing.{one_listing}
-use Rattle.closure_net.specs.Network.{NetView, FlowView, IsNet}
-use Rattle.closure_net.specs.Mine.{IsNetOf}
+use Rattle.closure_net.specs.Prelude.{NetView, FlowView, IsNet, IsNetOf}
 use Rattle.closure_net.proofs.Views.{same_at_default}
 use Rattle.certificate_file.specs.Certificate.{lines_of_text, Denotes}
 use Rattle.mine_inputs.specs.Mines.{MineTexts, precedence_of, mine_of}

@@ -1,6 +1,5 @@
 -- From the parts of an engine to its answer, where the readers tell their bytes.
-use Rattle.std.proofs.Common.{◌≡◌, ℕ, ℤ, List, refl, sym, subst, Option, Some, None, Result, Ok, Err, inl, inr, IfSome}
-use Rattle.std.specs.Io.KnownBytes.{Appends, Keeps}
+use Rattle.fixed_worth.proofs.Common.{◌≡◌, ℕ, ℤ, List, refl, sym, subst, Option, Some, None, Result, Ok, Err, inl, inr, IfSome, Appends, Keeps}
 use Rattle.ordered_group.specs.declared.groups.Group.{Group}
 use Rattle.prec_file.specs.Rests.{RestsView}
 use Rattle.certificate_file.specs.declared.header.Price.{Price}
@@ -12,17 +11,8 @@ use Rattle.mine_inputs.specs.declared.engine_fault.EngineFault.TheVariants as en
 use Rattle.engines.specs.declared.method.Method.{Method}
 use Rattle.mine_inputs.specs.declared.mines.MineInputs.{MineInputs}
 use Rattle.mine_inputs.specs.declared.worths.Worths.{Worths}
-use Rattle.engines.specs.Checking.{Checks, SoundIsAccepted, WritesAtFault, LineFails}
-use Rattle.mine_inputs.specs.FaultStands.{MineFails}
-use Rattle.engines.specs.FaultStands.{Fails}
-use Rattle.engines.specs.Judgements.{IsJudged}
-use Rattle.engines.specs.Judging.{Judges, factor_in}
-use Rattle.mine_inputs.specs.MineInputs.{ForTexts}
-use Rattle.mine_inputs.specs.Mines.{MineTexts, price_wanted}
-use Rattle.engines.specs.OutputLines.{judgement_line}
-use Rattle.mine_inputs.specs.ReadMines.{AreRead, IsMineRead}
-use Rattle.engines.specs.Solving.{Solves}
-use Rattle.engines.specs.Verdicts.{verdict_of}
+use Rattle.engines.specs.Prelude.{Checks, SoundIsAccepted, WritesAtFault, LineFails, Fails, IsJudged, Judges, factor_in, judgement_line, Solves, verdict_of}
+use Rattle.mine_inputs.specs.Prelude.{MineFails, ForTexts, MineTexts, price_wanted, AreRead, IsMineRead}
 use Rattle.engines.proofs.Complete.{complete_at}
 use Rattle.mine_inputs.proofs.MineDevices.{always, under, for_texts}
 
@@ -32,56 +22,29 @@ keeps_self (Some xs) = refl
 
 -- nothing was written: so it is at any fault
 pub at_fault : (texts : MineTexts) (c : List ℕ) (old new : Option (List ℕ)) (fault : EngineFault) → Keeps old new → WritesAtFault texts c old new fault
-at_fault texts c old new (engine.Upit q) k = k
-at_fault texts c old new (engine.Prec q) k = k
-at_fault texts c old new (engine.Model q) k = k
-at_fault texts c old new (engine.Certificate q) k = k
-at_fault texts c old new (engine.Trace q) k = k
-at_fault texts c old new (engine.Blocks q) k = k
-at_fault texts c old new (engine.Slope q) k = k
-at_fault texts c old new (engine.Settings q) k = k
-at_fault texts c old new (engine.Prices q) k = k
-at_fault texts c old new engine.Memory k = k
-at_fault texts c old new engine.Thread k = k
-at_fault texts c old new engine.Stranger k = k
 at_fault texts c old new engine.Device k = inl k
+at_fault texts c old new fault k = k
 
 pub written : (texts : MineTexts) (c : List ℕ) (old new : Option (List ℕ)) (judgement : Judgement) → IsJudged texts c judgement → Appends old new (judgement_line judgement) → Checks texts c old new (Ok (verdict_of judgement))
 written texts c old new (Accepted group count worth) h k = record { group = group; count = count; worth = worth; accepted = h; written = k }
 written texts c old new (Refused fault) h k = record { fault = fault; refused = h; written = k }
 
 pub line_failed : (texts : MineTexts) (c : List ℕ) (old new : Option (List ℕ)) (judgement : Judgement) (fault : EngineFault) → IsJudged texts c judgement → LineFails old new (judgement_line judgement) fault → Checks texts c old new (Err fault)
-line_failed texts c old new j (engine.Upit q) h k = absurd k
-line_failed texts c old new j (engine.Prec q) h k = absurd k
-line_failed texts c old new j (engine.Model q) h k = absurd k
-line_failed texts c old new j (engine.Certificate q) h k = absurd k
-line_failed texts c old new j (engine.Trace q) h k = absurd k
-line_failed texts c old new j (engine.Blocks q) h k = absurd k
-line_failed texts c old new j (engine.Slope q) h k = absurd k
-line_failed texts c old new j (engine.Settings q) h k = absurd k
-line_failed texts c old new j (engine.Prices q) h k = absurd k
 line_failed texts c old new j engine.Memory h k = (tt, k)
-line_failed texts c old new j engine.Thread h k = absurd k
-line_failed texts c old new j engine.Stranger h k = absurd k
 line_failed texts c old new j engine.Device h k = (tt, inr (j, h, k))
+line_failed texts c old new j fault h k = absurd k
 
 -- ---- a check, where the readers tell their bytes
 
 -- a fault of the texts of the mine is one of their check
 pub fails : (texts : MineTexts) (c : List ℕ) (e : EngineFault) → MineFails texts e → Fails texts c e
-fails texts c (engine.Upit q) h = h
-fails texts c (engine.Settings q) h = h
-fails texts c (engine.Blocks q) h = h
-fails texts c (engine.Prices q) h = h
-fails texts c (engine.Prec q) h = h
-fails texts c engine.Memory h = h
-fails texts c engine.Device h = h
 fails texts c (engine.Model q) h = absurd h
 fails texts c (engine.Certificate q) h = absurd h
 fails texts c (engine.Trace q) h = absurd h
 fails texts c (engine.Slope q) h = absurd h
 fails texts c engine.Thread h = absurd h
 fails texts c engine.Stranger h = absurd h
+fails texts c e h = h
 
 -- what is answered of a certificate for a mine that was read, at the factor that it names
 abbrev pub JudgedBy : Worths → RestsView → Result Judgement EngineFault → List ℕ → Type 0
@@ -124,12 +87,6 @@ module _ {D : Type 0} (inputs : MineInputs D) (remaining : D → Option (List �
 
 -- a fault of the texts of the mine is one of solving it
 unsolved_at : (texts : MineTexts) (name : Group) (method : Method) (limit : ℕ) (w : Option (List ℕ)) (e : EngineFault) → MineFails texts e → Solves texts name method limit w w (Err e)
-unsolved_at texts name method limit w (engine.Upit q) h = (h, keeps_self w)
-unsolved_at texts name method limit w (engine.Settings q) h = (h, keeps_self w)
-unsolved_at texts name method limit w (engine.Blocks q) h = (h, keeps_self w)
-unsolved_at texts name method limit w (engine.Prices q) h = (h, keeps_self w)
-unsolved_at texts name method limit w (engine.Prec q) h = (h, keeps_self w)
-unsolved_at texts name method limit w engine.Memory h = (h, keeps_self w)
 unsolved_at texts name method limit w engine.Device h = (h, inl (keeps_self w))
 unsolved_at texts name method limit w (engine.Model q) h = absurd h
 unsolved_at texts name method limit w (engine.Certificate q) h = absurd h
@@ -137,6 +94,7 @@ unsolved_at texts name method limit w (engine.Trace q) h = absurd h
 unsolved_at texts name method limit w (engine.Slope q) h = absurd h
 unsolved_at texts name method limit w engine.Thread h = absurd h
 unsolved_at texts name method limit w engine.Stranger h = absurd h
+unsolved_at texts name method limit w e h = (h, keeps_self w)
 
 module _ {D : Type 0} (inputs : MineInputs D) (remaining : D → Option (List ℕ)) (factor : ℕ) where
   -- and of whatever is answered where solving is

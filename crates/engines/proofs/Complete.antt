@@ -22,9 +22,6 @@ complete_at texts c old new (Err (engine.Certificate (problem.Fault f))) h read 
 complete_at texts c old new (Err (engine.Settings q)) h read s = settings_read texts c q read h.0
 complete_at texts c old new (Err (engine.Blocks q)) h read s = blocks_read texts c q read h.0
 complete_at texts c old new (Err (engine.Prices f)) h read s = prices_read texts c f read h.0
-complete_at texts c old new (Err (engine.Slope q)) h read s = absurd h.0
-complete_at texts c old new (Err (engine.Trace q)) h read s = absurd h.0
 complete_at texts c old new (Err engine.Memory) h read s = tt
-complete_at texts c old new (Err engine.Thread) h read s = absurd h.0
-complete_at texts c old new (Err engine.Stranger) h read s = absurd h.0
 complete_at texts c old new (Err engine.Device) h read s = tt
+complete_at texts c old new (Err _) h read s = absurd h.0

@@ -1,13 +1,9 @@
 -- The number of blocks of an ascending list.
-use Rattle.std.proofs.Common.{◌≡◌, ℕ, zero, suc, ◌+◌, ◌<◌, ◌≤◌, Bool, false, cond, ◌||◌, ◌==◌, List, [], ◌∷◌, length, get_or, refl, ap, ◌∙◌, arith, inl, inr, All}
-use Rattle.std.proofs.lemmas.Bool.{cases_eq, ne_eqb}
-use Rattle.std.proofs.lemmas.List.Folds.{list_any_none}
-use Rattle.std.proofs.lemmas.List.{get_or_default}
+use Rattle.fixed_worth.proofs.Common.{◌≡◌, ℕ, zero, suc, ◌+◌, ◌<◌, ◌≤◌, Bool, false, cond, ◌||◌, ◌==◌, List, [], ◌∷◌, length, get_or, refl, ap, ◌∙◌, arith, inl, inr, All, cases_eq, ne_eqb, list_any_none, get_or_default, common_steps}
 use Rattle.ordered_group.specs.Sets.{count_in}
 use Rattle.ordered_group.proofs.BlockSets.{count_in-most}
 use Rattle.closure_net.specs.Network.{IsAscending, holds_of}
 use Rattle.closure_net.proofs.Ascending.{tail_ascends}
-use Rattle.std.proofs.lemmas.Grind.{common_steps}
 
 -- the set with one block more
 with_block : ℕ → (ℕ → Bool) → ℕ → Bool

@@ -1,25 +1,16 @@
 -- Where there is a net of a mine, its worths fit.
-use Rattle.std.proofs.Common.{◌≡◌, ℕ, ◌<◌, ℤ, pos, List, length, map, sym, ap, ◌∙◌, subst, arith, inl, inr, FitsSigned}
-use Rattle.std.specs.Int.{w128}
-use Rattle.std.proofs.lemmas.Int.{ints}
-use Rattle.std.proofs.lemmas.List.{length-map, get_or-map}
-use Rattle.ordered_group.specs.Amount.{Amount, zero_amount, plus, minus, positive, FitsPair}
-use Rattle.ordered_group.specs.Sums.{total, amount_at}
+use Rattle.fixed_worth.proofs.Common.{◌≡◌, ℕ, ◌<◌, ℤ, pos, List, length, map, sym, ap, ◌∙◌, subst, arith, inl, inr, FitsSigned, w128, ints, length-map, get_or-map, common_steps}
+use Rattle.ordered_group.specs.Prelude.{Amount, zero_amount, plus, minus, positive, FitsPair, total, amount_at}
 use Rattle.ordered_group.specs.declared.groups.Group.{Group}
-use Rattle.ordered_group.specs.declared.groups.Group.TheVariants.{Worth, Pair, Scaled}
+use Rattle.ordered_group.specs.declared.groups.Group.TheVariants.{Worth}
 use Rattle.ordered_group.proofs.Signs.{NonNeg, NonNeg-positive}
 use Rattle.ordered_group.proofs.Totals.Ranges.{total_nonneg}
-use Rattle.closure_net.specs.Network.{NetView, IsNet}
-use Rattle.closure_net.specs.Mine.{IsNetOf}
-use Rattle.closure_net.specs.Faults.{BlockOverflows, WorthsOverflow}
+use Rattle.closure_net.specs.Prelude.{NetView, IsNet, IsNetOf, BlockOverflows, WorthsOverflow}
 use Rattle.closure_net.specs.declared.net.NetFault.{NetFault}
 use Rattle.closure_net.specs.declared.net.NetFault.TheVariants as net_fault
 use Rattle.closure_net.proofs.Views.{same_at_default}
-use Rattle.mine_inputs.specs.Mines.{MineTexts, mine_of}
-use Rattle.mine_inputs.specs.FaultStands.{AreWorths}
-use Rattle.engines.specs.FaultStands.{ModelFails}
-use Rattle.engines.specs.Readings.{block_by}
-use Rattle.std.proofs.lemmas.Grind.{common_steps}
+use Rattle.mine_inputs.specs.Prelude.{MineTexts, mine_of, AreWorths}
+use Rattle.engines.specs.Prelude.{ModelFails, block_by}
 
 -- a worth fits whose opposite does, and whose sum with one that isn't negative does where it is positive itself
 worth_fits : (x t : Amount) → NonNeg t → FitsPair (minus zero_amount x) → FitsPair (plus t (positive x)) → FitsSigned w128 x.w
@@ -34,8 +25,7 @@ net_worth_fits net is_net b h =
 -- one block's amount fits where its worth does
 block_fits : (group : Group) (v : ℤ) (n : ℕ) → FitsSigned w128 (block_by group v n).w → FitsPair (block_by group v n)
 block_fits Worth v n h = (h, omega (arith, ints))
-block_fits Pair v n h = (h, omega (arith, ints))
-block_fits Scaled v n h = (h, omega (arith, ints))
+block_fits group v n h = (h, omega (arith, ints))
 
 module _ (texts : MineTexts) (n : ℕ) (group : Group) (net : NetView) (is_net : IsNet net) (of_mine : IsNetOf (block_by group) (mine_of n texts) net) where
   -- the amounts of the worths are those of the net

@@ -1,18 +1,12 @@
 -- What is answered where the header of a certificate is read from a stream, where the device tells its bytes.
-use Rattle.std.proofs.Common.{◌≡◌, ◌≢◌, ℕ, List, [], ◌++◌, length, drop, Option, Some, None, Ok, refl, sym, ap, ◌∙◌, subst, arith, IfSome, inl, inr}
-use Rattle.std.proofs.lemmas.List.{length-append}
-use Rattle.std.specs.Io.KnownBytes.{Consumes}
+use Rattle.fixed_worth.proofs.Common.{◌≡◌, ◌≢◌, ℕ, List, [], ◌++◌, length, drop, Option, Some, None, Ok, refl, sym, ap, ◌∙◌, subst, arith, IfSome, inl, inr, length-append, Consumes}
 use Rattle.certificate_file.specs.declared.cert_fault.CertFault.TheVariants as cert
 use Rattle.certificate_file.specs.declared.header.Header.{Header}
-use Rattle.certificate_file.specs.Header.{header_of}
-use Rattle.certificate_file.specs.Pieces.{pieces_of}
-use Rattle.check_pit.specs.StreamHeaders.{ReadsHeader, GivesHeader}
-use Rattle.check_pit.specs.StreamView.{LineView}
+use Rattle.certificate_file.specs.Prelude.{header_of, pieces_of}
+use Rattle.check_pit.specs.Prelude.{ReadsHeader, GivesHeader, LineView}
 use Rattle.mine_inputs.specs.declared.engine_fault.EngineFault.{EngineFault}
-use Rattle.mine_inputs.specs.Mines.{MineTexts, DenoteMine}
-use Rattle.engines.specs.FaultStands.{Fails}
-use Rattle.engines.specs.Judging.{StandsBehind}
-use Rattle.mine_inputs.specs.EngineFaults.{of_certificate}
+use Rattle.mine_inputs.specs.Prelude.{MineTexts, DenoteMine, of_certificate}
+use Rattle.engines.specs.Prelude.{Fails, StandsBehind}
 
 -- what a device has left of its bytes, where they are known
 pub consumed : (rem : Option (List ℕ)) (old bytes : List ℕ) → Consumes (Some old) rem bytes → (left : List ℕ) × (rem ≡ Some left) × (old ≡ bytes ++ left)

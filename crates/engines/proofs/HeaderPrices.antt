@@ -1,12 +1,8 @@
 -- The price of a header that is read is one that certificates may name.
-use Rattle.std.proofs.Common.{◌+◌, ◌≡◌, ℕ, List, refl, ap, subst, arith, cond, Bool, true, false, Option, Some, None, Result, Ok}
-use Rattle.std.specs.Result.{result_unwrap_or}
-use Rattle.std.specs.Str.{bytes_eq}
+use Rattle.fixed_worth.proofs.Common.{◌+◌, ◌≡◌, ℕ, List, refl, ap, subst, arith, cond, Bool, true, false, Option, Some, None, Result, Ok, result_unwrap_or, bytes_eq, common_steps}
 use Rattle.fixed_worth.specs.declared.limits.TheConstants.{MOST_FACTOR}
 use lib.Chars.{codes}
-use Rattle.certificate_file.specs.Pieces.{Piece, piece_at, read_line, words_of, number_below}
-use Rattle.certificate_file.specs.Header.{header_of, price_in, price_said, mill_said, or_number, factor_of, mill_of, value_behind, value_behind_both, version_in, blocks_in, group_in}
-use Rattle.certificate_file.specs.ReadBack.{IsPrice}
+use Rattle.certificate_file.specs.Prelude.{Piece, piece_at, read_line, words_of, number_below, header_of, price_in, price_said, mill_said, or_number, factor_of, mill_of, value_behind, value_behind_both, version_in, blocks_in, group_in, IsPrice}
 use Rattle.certificate_file.specs.declared.header.Header.{Header}
 use Rattle.certificate_file.specs.declared.header.Price.{Price}
 use Rattle.certificate_file.specs.declared.header.Price.TheVariants.{Objective}
@@ -15,7 +11,6 @@ use Rattle.certificate_file.specs.declared.header.Version.TheVariants.{One, Two}
 use Rattle.certificate_file.specs.declared.cert_fault.LineFault.{LineFault}
 use Rattle.certificate_file.proofs.Going.{text_read}
 use Rattle.certificate_file.proofs.Wants.{joined}
-use Rattle.std.proofs.lemmas.Grind.{common_steps}
 
 factor_below : (word : List ℕ) (o : Option ℕ) (price : Price) → number_below (MOST_FACTOR + 1) word ≡ o → or_number (factor_of o) ≡ Ok price → IsPrice price
 factor_below word (Some k) price e h = grind (arith, common_steps)

@@ -1,32 +1,20 @@
 -- From what was read to the judgement.
-use Rattle.std.proofs.Common.{◌≡◌, ℕ, ℤ, pos, Bool, List, length, map, refl, sym, ap, ◌∙◌, subst, arith, None, Some, inr}
-use Rattle.std.proofs.lemmas.List.{length-map, get_or-map}
-use Rattle.ordered_group.specs.Amount.{Amount}
-use Rattle.ordered_group.specs.Laws.{SumsTellWorth}
+use Rattle.fixed_worth.proofs.Common.{◌≡◌, ℕ, ℤ, pos, Bool, List, length, map, refl, sym, ap, ◌∙◌, subst, arith, None, Some, inr, length-map, get_or-map, common_steps}
+use Rattle.ordered_group.specs.Prelude.{Amount, SumsTellWorth}
 use Rattle.ordered_group.specs.declared.groups.Group.{Group}
 use Rattle.prec_file.specs.Rests.{RestsView}
-use Rattle.closure_net.specs.Network.{NetView, FlowView, net_view, IsNet, holds_of}
-use Rattle.closure_net.specs.Closure.{IsGreatest, group_worth}
-use Rattle.closure_net.specs.Mine.{IsNetOf}
+use Rattle.closure_net.specs.Prelude.{NetView, FlowView, net_view, IsNet, holds_of, IsGreatest, group_worth, IsNetOf, WorthsFaultStands}
 use Rattle.check_pit.specs.Checks.{ProvesPit}
 use Rattle.certificate_file.specs.Certificate.{fault_of, lines_of_text, IsRead, Denotes, UnlessMemory}
 use Rattle.certificate_file.specs.declared.header.Price.{Price}
-use Rattle.mine_inputs.specs.Limits.{IsWithinLimit}
-use Rattle.mine_inputs.specs.Mines.{MineTexts, mine_of, DenoteMine}
-use Rattle.engines.specs.Readings.{IsHeader, Reads, IsGroupNamed}
-use Rattle.engines.specs.Judgements.{CertificateAccepted}
-use Rattle.mine_inputs.specs.FaultStands.{AreWorths}
-use Rattle.engines.specs.FaultStands.{BodyTextFails, NetFails, Fails}
-use Rattle.closure_net.specs.Faults.{WorthsFaultStands}
+use Rattle.mine_inputs.specs.Prelude.{IsWithinLimit, MineTexts, mine_of, DenoteMine, AreWorths, of_certificate, of_model, AreRead}
+use Rattle.engines.specs.Prelude.{IsHeader, Reads, IsGroupNamed, CertificateAccepted, BodyTextFails, NetFails, Fails}
 use Rattle.closure_net.specs.declared.net.NetFault.{NetFault}
 use Rattle.closure_net.specs.declared.net.NetFault.TheVariants as net
 use Rattle.certificate_file.specs.declared.cert_fault.CertFault.{CertFault}
 use Rattle.certificate_file.specs.declared.cert_fault.CertFault.TheVariants as cert
-use Rattle.mine_inputs.specs.EngineFaults.{of_certificate, of_model}
-use Rattle.mine_inputs.specs.ReadMines.{AreRead}
 use Rattle.engines.proofs.Told.{size_told, worth_told}
 use Rattle.engines.proofs.Listed.{listed_rests}
-use Rattle.std.proofs.lemmas.Grind.{common_steps}
 
 -- the net that is made of the worths that were read
 pub net_made : (block : ℤ → ℕ → Amount) (texts : MineTexts) (rests : RestsView) (worths : List ℤ) → AreRead texts worths rests → IsNetOf block (mine_of rests.blocks texts) (net_view rests.pairs (map (λ v. block v rests.blocks) worths))
@@ -80,12 +68,8 @@ body_fails name block counts texts certificate net fault named header is_net of_
 
 -- a fault in answering it
 pub text_fails : (name : Group) (block : ℤ → ℕ → Amount) (counts : Bool) (texts : MineTexts) (certificate : List ℕ) (net : NetView) (fault : CertFault) → DenoteMine texts (length net.worths) → IsGroupNamed name block counts → IsHeader texts certificate (length net.worths) name → IsNet net → IsNetOf block (mine_of (length net.worths) texts) net → UnlessMemory fault (fault_of counts name (length net.worths) net.pairs certificate ≡ Some fault) → Fails texts certificate (of_certificate fault)
-text_fails name block counts texts certificate net (cert.Text k) mine named header is_net of_mine f = (length net.worths, mine, inr (body_fails name block counts texts certificate net _ named header is_net of_mine f))
-text_fails name block counts texts certificate net (cert.Number k) mine named header is_net of_mine f = (length net.worths, mine, inr (body_fails name block counts texts certificate net _ named header is_net of_mine f))
-text_fails name block counts texts certificate net (cert.OutOfOrder k) mine named header is_net of_mine f = (length net.worths, mine, inr (body_fails name block counts texts certificate net _ named header is_net of_mine f))
-text_fails name block counts texts certificate net (cert.UnknownPair k) mine named header is_net of_mine f = (length net.worths, mine, inr (body_fails name block counts texts certificate net _ named header is_net of_mine f))
-text_fails name block counts texts certificate net cert.Truncated mine named header is_net of_mine f = (length net.worths, mine, inr (body_fails name block counts texts certificate net _ named header is_net of_mine f))
 text_fails name block counts texts certificate net cert.NoMemory mine named header is_net of_mine f = tt
+text_fails name block counts texts certificate net fault mine named header is_net of_mine f = (length net.worths, mine, inr (body_fails name block counts texts certificate net _ named header is_net of_mine f))
 
 pub worths_fail : (name : Group) (block : ℤ → ℕ → Amount) (counts : Bool) (texts : MineTexts) (n : ℕ) (worths : List ℤ) (fault : NetFault) → AreWorths texts n worths → IsGroupNamed name block counts → WorthsFaultStands block n worths fault → NetFails texts n name fault
 worths_fail name block counts texts n worths fault are named f =

@@ -1,13 +1,8 @@
 -- The pairs of a text, as a list in order and as a test.
-use Rattle.std.proofs.Common.{◌≡◌, ◌↔◌, ℕ, true, false, not, ◌==◌, List, get_or, refl, IsTrue, arith}
-use Rattle.std.specs.List.{list_any, Contains}
-use Rattle.std.proofs.lemmas.Bool.{and_parts, and_from, eq-eqb, ne_eqb}
-use Rattle.std.proofs.lemmas.List.{get_or_default}
-use Rattle.std.proofs.lemmas.List.Folds.{Any-from_list_any, list_any_at}
+use Rattle.fixed_worth.proofs.Common.{◌≡◌, ◌↔◌, ℕ, true, false, not, ◌==◌, List, get_or, refl, IsTrue, arith, list_any, Contains, and_parts, and_from, eq-eqb, ne_eqb, get_or_default, Any-from_list_any, list_any_at, common_steps}
 use Rattle.prec_file.specs.Rests.{ArePairsOf, IsRising}
 use Rattle.prec_file.proofs.Pairs.{is_pair, tells_pair, pair_told}
 use Rattle.mine_inputs.specs.Mines.{rests_by}
-use Rattle.std.proofs.lemmas.Grind.{common_steps}
 
 pub is_listed : (listed : List (ℕ × ℕ)) (b p : ℕ) → Contains listed (b, p) → list_any (is_pair b p) listed ≡ true
 is_listed listed b p c = list_any_at (is_pair b p) listed c.0 (b, p) c.1 (tells_pair b p (get_or listed c.0 (b, p)) c.2)

@@ -1,20 +1,15 @@
 -- Accepted pits over one table of prices are nested.
-use Rattle.std.proofs.Common.{◌≡◌, ℕ, Bool, List, sym, ◌∙◌, subst, unwrap_or}
-use Rattle.std.proofs.lemmas.List.FromFn.{length-map-range_with_len}
+use Rattle.fixed_worth.proofs.Common.{◌≡◌, ℕ, Bool, List, sym, ◌∙◌, subst, unwrap_or, length-map-range_with_len}
 use Rattle.blocks_file.specs.Records as blocks
 use Rattle.prec_file.specs.Records as prec
-use Rattle.closure_net.specs.Network.{holds_of}
-use Rattle.closure_net.specs.Mine.{Mine, IsBest, LiesWithin}
+use Rattle.closure_net.specs.Prelude.{holds_of, Mine, IsBest, LiesWithin}
 use Rattle.settings_file.specs.Settings.{settings_of}
-use Rattle.shells.specs.Prices.{PricesView, priced_count, worth_at}
-use Rattle.shells.specs.Series.{mine_of_prices}
+use Rattle.shells.specs.Prelude.{PricesView, priced_count, worth_at, mine_of_prices}
 use Rattle.shells.proofs.Rising.{best_is_nested}
-use Rattle.mine_inputs.specs.PricedTexts.{cell, table_of, PricesRead}
-use Rattle.mine_inputs.specs.Mines.{priced_texts, rests_by, mine_of}
+use Rattle.mine_inputs.specs.Prelude.{cell, table_of, PricesRead, priced_texts, rests_by, mine_of}
 use Rattle.ordered_group.specs.declared.groups.Group.{Group}
-use Rattle.ordered_group.specs.declared.groups.Group.TheVariants.{Worth, Pair, Scaled}
-use Rattle.engines.specs.Readings.{IsProvedPit, TellsSizes}
-use Rattle.engines.specs.Nested.{AcceptedAreNested}
+use Rattle.ordered_group.specs.declared.groups.Group.TheVariants.{Worth}
+use Rattle.engines.specs.Prelude.{IsProvedPit, TellsSizes, AcceptedAreNested}
 
 -- the table is of the blocks that the mine has
 table_size : (settings text : List ℕ) (n : ℕ) → PricesRead settings text n → n ≡ priced_count (table_of settings text)
@@ -30,8 +25,7 @@ same_mine above above' table table' k e f = let g = sym f in λ i. record { bloc
 -- a pit that is proved in amounts that tell sizes is the best one
 best_of : (name : Group) (mine : Mine) (e : ℕ → Bool) → TellsSizes name → IsProvedPit name mine e → IsBest mine e
 best_of Worth mine e tells h = absurd tells
-best_of Pair mine e tells h = h
-best_of Scaled mine e tells h = h
+best_of name mine e tells h = h
 
 pub accepted_are_nested : AcceptedAreNested
 accepted_are_nested s t p s' t' p' lower higher j k count count' worth worth' name name' tells tells' one le low high =

@@ -1,6 +1,5 @@
 -- From what is found for a net to what is written for it.
-use Rattle.std.proofs.Common.{◌≡◌, ℕ, Bool, List, length, refl, sym, subst, Option, Result, Ok, Err, inl, inr}
-use Rattle.std.specs.Prelude.{MatchResult}
+use Rattle.fixed_worth.proofs.Common.{◌≡◌, ℕ, Bool, List, length, refl, sym, subst, Option, Result, Ok, Err, inl, inr, MatchResult}
 use Rattle.fixed_worth.specs.Device.{ReceivedPrefix}
 use Rattle.ordered_group.specs.declared.groups.Group.{Group}
 use Rattle.closure_net.specs.Network.{NetView, FlowView}
@@ -12,9 +11,8 @@ use Rattle.mine_inputs.specs.declared.engine_fault.EngineFault.{EngineFault}
 use Rattle.mine_inputs.specs.declared.engine_fault.EngineFault.TheVariants as engine
 use Rattle.engines.specs.declared.method.Method.{Method}
 use Rattle.engines.specs.declared.solvers.Unsolved.{Unsolved}
-use Rattle.engines.specs.declared.solvers.Unsolved.TheVariants.{Unsettled, TooLarge, GaveUp, NoMemory, NoThread, Stranger}
-use Rattle.engines.specs.NetAnswers.{SendsCertificate, SendsLine, SendsNo, certificate_text, unsettled_line, too_large_line}
-use Rattle.engines.specs.Solving.{UnsolvedStands, IsNoOf, SolvesNet}
+use Rattle.engines.specs.declared.solvers.Unsolved.TheVariants.{Unsettled, TooLarge, GaveUp}
+use Rattle.engines.specs.Prelude.{SendsCertificate, SendsLine, SendsNo, certificate_text, unsettled_line, too_large_line, UnsolvedStands, IsNoOf, SolvesNet}
 
 -- ---- a certificate
 
@@ -41,9 +39,7 @@ module _ (counts : Bool) (name : Group) (price : Price) (net : NetView) (method 
   said_no Unsettled r h a = said unsettled_line r (inr (inl (h, refl))) a
   said_no GaveUp r h a = said unsettled_line r (inl (h, refl)) a
   said_no TooLarge r h a = said too_large_line r (inr (inr (h, refl))) a
-  said_no NoMemory r h a = subst (λ (x : Result Verdict EngineFault). SolvesNet counts name price net method limit old new x) (sym a.0) a.1
-  said_no NoThread r h a = subst (λ (x : Result Verdict EngineFault). SolvesNet counts name price net method limit old new x) (sym a.0) a.1
-  said_no Stranger r h a = subst (λ (x : Result Verdict EngineFault). SolvesNet counts name price net method limit old new x) (sym a.0) a.1
+  said_no why r h a = subst (λ (x : Result Verdict EngineFault). SolvesNet counts name price net method limit old new x) (sym a.0) a.1
 
   pub answered : {A : Type 0} (flow : A → FlowView) (pit : A → List ℕ) (Is : A → Type 0) (found : Result A Unsolved) (r : Result Verdict EngineFault) → ((s : A) → Is s → IsSound net (flow s) (pit s)) → MatchResult found Is (λ why. UnsolvedStands net method limit why)
       → MatchResult found (λ s. SendsCertificate counts name price net (pit s) (flow s) old new r) (λ why. SendsNo why old new r) → SolvesNet counts name price net method limit old new r

@@ -1,6 +1,5 @@
 -- What the pieces of a word name.
-use Rattle.std.proofs.Common.{◌≡◌, ℕ, ◌<◌, cond, List, [], ◌∷◌, length, None, refl, ap, ◌∙◌, arith, codes}
-use Rattle.std.specs.Str.{bytes_eq}
+use Rattle.fixed_worth.proofs.Common.{◌≡◌, ℕ, ◌<◌, cond, List, [], ◌∷◌, length, None, refl, ap, ◌∙◌, arith, codes, bytes_eq}
 use Rattle.fixed_worth.specs.Text.{parts}
 use Rattle.fixed_worth.proofs.Parts.{some_part}
 use Rattle.engines.specs.PatternWords.{cone_of, pattern_with, pattern_of}

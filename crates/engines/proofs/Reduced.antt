@@ -1,6 +1,5 @@
 -- The reduced pairs of a pattern decide the same pits as every pair.
-use Rattle.std.proofs.Common.{ℕ, ℤ, Bool, List}
-use Rattle.std.specs.List.{Contains}
+use Rattle.fixed_worth.proofs.Common.{ℕ, ℤ, Bool, List, Contains}
 use Rattle.slope.specs.Slopes.{IsClosedBy}
 use Rattle.slope.proofs.Reduction.{closed_by_either}
 use Rattle.closure_net.specs.Mine.{IsPit, IsBest}

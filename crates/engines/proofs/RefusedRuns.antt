@@ -1,15 +1,13 @@
 -- What a check can refuse of a flow that solves its net: nothing but sums that don't fit.
 use Rattle.std.proofs.Common.{◌≡◌, ℕ, List, subst}
-use Rattle.closure_net.specs.Network.{NetView, FlowView, holds_of}
-use Rattle.closure_net.specs.Reached.{IsReached}
+use Rattle.closure_net.specs.Prelude.{NetView, FlowView, holds_of, IsReached}
 use Rattle.machine_law.specs.Quiet.{IsSolved}
 use Rattle.workers.specs.Runs.{Settles}
 use Rattle.check_pit.specs.Checks.{IsOfNet, PitFaultStands}
 use Rattle.check_pit.specs.declared.pit_fault.PitFault.{PitFault}
 use Rattle.check_pit.specs.declared.pit_fault.PitFault.TheVariants.{TooLarge}
 use Rattle.check_pit.proofs.Tightness.{refused_for_size_only}
-use Rattle.engines.specs.Certification.{IsRefusedFlow}
-use Rattle.engines.specs.Solving.{CheckOverflows}
+use Rattle.engines.specs.Prelude.{IsRefusedFlow, CheckOverflows}
 
 -- The check refused the flow, with the blocks that the source reaches in it, for a sum that doesn't fit.
 pub record IsRefusedForSize (net : NetView) (flow : FlowView) (fault : PitFault) : Type 0 where

@@ -1,98 +1,49 @@
 -- From the parts of the engine of slopes by settings to its answer, where the readers tell their bytes.
-use Rattle.std.proofs.Common.{◌≡◌, ℕ, List, [], sym, ap, ◌∙◌, subst, Option, Some, None, Ok, Err, inl, inr, IfSome}
-use Rattle.std.specs.List.{Contains}
-use Rattle.std.specs.Io.KnownBytes.{Appends}
+use Rattle.fixed_worth.proofs.Common.{◌≡◌, ℕ, List, [], sym, ap, ◌∙◌, subst, Option, Some, None, Ok, Err, inl, inr, IfSome, Contains, Appends}
 use Rattle.fixed_worth.specs.Device.{ReceivedPrefix}
 use Rattle.blocks_file.specs.Denotes.{BlocksView}
-use Rattle.prec_file.specs.Rests.{RestsView}
-use Rattle.prec_file.specs.Written.{prec_text}
+use Rattle.prec_file.specs.Prelude.{RestsView, prec_text}
 use Rattle.settings_file.specs.Settings.{SettingsView, settings_of, first_missing}
 use Rattle.settings_file.proofs.Known.{settings_are}
-use Rattle.slope.specs.Offsets.{Offset, AreOffsets}
-use Rattle.slope.specs.Slopes.{AreSlopes}
+use Rattle.slope.specs.Prelude.{Offset, AreOffsets, AreSlopes}
 use Rattle.slope.specs.declared.up.Up.{Up}
 use Rattle.slope.specs.declared.selection.Selection.{Selection}
 use Rattle.engines.specs.declared.judgement.Verdict.TheVariants.{Done}
 use Rattle.mine_inputs.specs.declared.engine_fault.SlopeProblem.TheVariants as of
 use Rattle.mine_inputs.specs.declared.engine_fault.EngineFault.{EngineFault}
 use Rattle.mine_inputs.specs.declared.engine_fault.EngineFault.TheVariants as engine
-use Rattle.mine_inputs.specs.BlockTexts.{ReadsBlocks, BlocksReadFails}
-use Rattle.mine_inputs.specs.PricedTexts.{KeysSaid}
-use Rattle.mine_inputs.specs.Inputs.{ReadsSettingsText, IsMissing}
+use Rattle.mine_inputs.specs.Prelude.{ReadsBlocks, BlocksReadFails, KeysSaid, ReadsSettingsText, IsMissing}
 use Rattle.engines.specs.Slopes.{offset_keys, listed_offsets, OffsetsSource, listed, ListFails, AreSlopesBy, SlopesFail, SlopesAtFault, GivesSlopes, PatternMakingFails, PairsMakingFail}
 use Rattle.engines.proofs.Answered.{keeps_self}
 use Rattle.mine_inputs.proofs.PricedAnswers.{anything, key_missing, keys_said}
 
 under2 : (o q : Option (List ℕ)) (P R : List ℕ → Type 0) (Q : List ℕ → List ℕ → Type 0) → IfSome o P → IfSome q R → ((s b : List ℕ) → P s → R b → Q s b) → IfSome o (λ s. IfSome q (λ b. Q s b))
-under2 None q P R Q h k f = tt
-under2 (Some s) None P R Q h k f = tt
 under2 (Some s) (Some b) P R Q h k f = f s b h k
+under2 o q P R Q h k f = tt
 
 -- nothing was written: so it is at any fault
 unwritten : (source : OffsetsSource) (text : List ℕ) (up : Up) (sel : Selection) (w : Option (List ℕ)) (e : EngineFault) → SlopesAtFault source text up sel w w e
-unwritten source text up sel w (engine.Settings q) = keeps_self w
-unwritten source text up sel w (engine.Blocks q) = keeps_self w
-unwritten source text up sel w (engine.Prices q) = keeps_self w
-unwritten source text up sel w (engine.Prec q) = keeps_self w
-unwritten source text up sel w (engine.Upit q) = keeps_self w
-unwritten source text up sel w (engine.Slope q) = keeps_self w
-unwritten source text up sel w (engine.Model q) = keeps_self w
-unwritten source text up sel w (engine.Certificate q) = keeps_self w
-unwritten source text up sel w (engine.Trace q) = keeps_self w
-unwritten source text up sel w engine.Memory = keeps_self w
-unwritten source text up sel w engine.Thread = keeps_self w
-unwritten source text up sel w engine.Stranger = keeps_self w
 unwritten source text up sel w engine.Device = inl (keeps_self w)
+unwritten source text up sel w e = keeps_self w
 
 -- the blocks were not read
 blocks_fail : (s b : List ℕ) (up : Up) (sel : Selection) (e : EngineFault) → KeysSaid offset_keys s → BlocksReadFails [] b e → SlopesFail (listed s) b up sel e
 blocks_fail s b up sel (engine.Blocks q) keys h = (keys, h)
 blocks_fail s b up sel engine.Memory keys h = tt
 blocks_fail s b up sel engine.Device keys h = tt
-blocks_fail s b up sel (engine.Settings q) keys h = absurd h
-blocks_fail s b up sel (engine.Prices q) keys h = absurd h
-blocks_fail s b up sel (engine.Prec q) keys h = absurd h
-blocks_fail s b up sel (engine.Upit q) keys h = absurd h
-blocks_fail s b up sel (engine.Slope q) keys h = absurd h
-blocks_fail s b up sel (engine.Model q) keys h = absurd h
-blocks_fail s b up sel (engine.Certificate q) keys h = absurd h
-blocks_fail s b up sel (engine.Trace q) keys h = absurd h
-blocks_fail s b up sel engine.Thread keys h = absurd h
-blocks_fail s b up sel engine.Stranger keys h = absurd h
+blocks_fail s b up sel e keys h = absurd h
 
 -- the offsets make no pattern
 pattern_fails : (s b : List ℕ) (up : Up) (sel : Selection) (xs : List Offset) (m : BlocksView) (e : EngineFault) → KeysSaid offset_keys s → xs ≡ listed_offsets (settings_of s) → ReadsBlocks [] b m → PatternMakingFails (ListFails xs) e → SlopesFail (listed s) b up sel e
 pattern_fails s b up sel xs m (engine.Slope (of.Pattern f)) keys is r h = (keys, (m, r, subst (λ (l : List Offset). ListFails l f) is h))
-pattern_fails s b up sel xs m (engine.Slope (of.Pairs f)) keys is r h = absurd h
 pattern_fails s b up sel xs m engine.Memory keys is r h = tt
-pattern_fails s b up sel xs m engine.Device keys is r h = absurd h
-pattern_fails s b up sel xs m (engine.Blocks q) keys is r h = absurd h
-pattern_fails s b up sel xs m (engine.Settings q) keys is r h = absurd h
-pattern_fails s b up sel xs m (engine.Prices q) keys is r h = absurd h
-pattern_fails s b up sel xs m (engine.Prec q) keys is r h = absurd h
-pattern_fails s b up sel xs m (engine.Upit q) keys is r h = absurd h
-pattern_fails s b up sel xs m (engine.Model q) keys is r h = absurd h
-pattern_fails s b up sel xs m (engine.Certificate q) keys is r h = absurd h
-pattern_fails s b up sel xs m (engine.Trace q) keys is r h = absurd h
-pattern_fails s b up sel xs m engine.Thread keys is r h = absurd h
-pattern_fails s b up sel xs m engine.Stranger keys is r h = absurd h
+pattern_fails s b up sel xs m e keys is r h = absurd h
 
 -- the offsets give no pairs of the blocks
 pairs_fail : (s b : List ℕ) (up : Up) (sel : Selection) (offsets : List Offset) (m : BlocksView) (e : EngineFault) → KeysSaid offset_keys s → AreOffsets (Contains (listed_offsets (settings_of s))) offsets → ReadsBlocks [] b m → PairsMakingFail m offsets up sel e → SlopesFail (listed s) b up sel e
 pairs_fail s b up sel offsets m (engine.Slope (of.Pairs f)) keys are r h = (keys, (m, r, (offsets, are, h)))
-pairs_fail s b up sel offsets m (engine.Slope (of.Pattern f)) keys are r h = absurd h
 pairs_fail s b up sel offsets m engine.Memory keys are r h = tt
-pairs_fail s b up sel offsets m engine.Device keys are r h = absurd h
-pairs_fail s b up sel offsets m (engine.Blocks q) keys are r h = absurd h
-pairs_fail s b up sel offsets m (engine.Settings q) keys are r h = absurd h
-pairs_fail s b up sel offsets m (engine.Prices q) keys are r h = absurd h
-pairs_fail s b up sel offsets m (engine.Prec q) keys are r h = absurd h
-pairs_fail s b up sel offsets m (engine.Upit q) keys are r h = absurd h
-pairs_fail s b up sel offsets m (engine.Model q) keys are r h = absurd h
-pairs_fail s b up sel offsets m (engine.Certificate q) keys are r h = absurd h
-pairs_fail s b up sel offsets m (engine.Trace q) keys are r h = absurd h
-pairs_fail s b up sel offsets m engine.Thread keys are r h = absurd h
-pairs_fail s b up sel offsets m engine.Stranger keys are r h = absurd h
+pairs_fail s b up sel offsets m e keys are r h = absurd h
 
 -- where the settings were read
 module _ (o q : Option (List ℕ)) (up : Up) (sel : Selection) (said : SettingsView) (a : IfSome o (λ s. ReadsSettingsText s said)) where

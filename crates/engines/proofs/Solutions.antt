@@ -1,12 +1,9 @@
 -- From a run to what is written of it.
-use Rattle.std.proofs.Common.{◌≡◌, ℕ, ℤ, Bool, List, length, map, refl, subst, Option, Result, Ok, Err, inr, arith}
-use Rattle.std.proofs.lemmas.List.{length-map}
+use Rattle.fixed_worth.proofs.Common.{◌≡◌, ℕ, ℤ, Bool, List, length, map, refl, subst, Option, Result, Ok, Err, inr, arith, length-map, common_steps}
 use Rattle.ordered_group.specs.Amount.{Amount}
 use Rattle.ordered_group.specs.declared.groups.Group.{Group}
 use Rattle.prec_file.specs.Rests.{RestsView}
-use Rattle.closure_net.specs.Network.{NetView, net_view, IsNet, holds_of}
-use Rattle.closure_net.specs.Mine.{IsNetOf}
-use Rattle.closure_net.specs.Faults.{WorthsFaultStands}
+use Rattle.closure_net.specs.Prelude.{NetView, net_view, IsNet, holds_of, IsNetOf, WorthsFaultStands}
 use Rattle.closure_net.specs.declared.net.NetFault.{NetFault}
 use Rattle.closure_net.specs.declared.net.NetFault.TheVariants as net_fault
 use Rattle.certificate_file.specs.Pieces.{pieces_of}
@@ -15,16 +12,12 @@ use Rattle.engines.specs.declared.judgement.Verdict.{Verdict}
 use Rattle.engines.specs.declared.judgement.Verdict.TheVariants.{Done, No}
 use Rattle.mine_inputs.specs.declared.engine_fault.EngineFault.{EngineFault}
 use Rattle.mine_inputs.specs.declared.engine_fault.EngineFault.TheVariants as engine
-use Rattle.mine_inputs.specs.ReadMines.{AreRead}
-use Rattle.engines.specs.Readings.{IsGroupNamed}
-use Rattle.mine_inputs.specs.EngineFaults.{of_model}
-use Rattle.mine_inputs.specs.Mines.{MineTexts, price_wanted, mine_of}
+use Rattle.mine_inputs.specs.Prelude.{AreRead, of_model, MineTexts, price_wanted, mine_of}
+use Rattle.engines.specs.Prelude.{IsGroupNamed, IsCertificateOf, AnswersNet, SolvesNet, IsCertificate, IsNetBy, AnswersMine, Solves}
 use Rattle.engines.specs.declared.method.Method.{Method}
-use Rattle.engines.specs.Solving.{IsCertificateOf, AnswersNet, SolvesNet, IsCertificate, IsNetBy, AnswersMine, Solves}
 use Rattle.engines.proofs.Answered.{keeps_self}
 use Rattle.engines.proofs.Judged.{HasRead, reads, net_made, worths_fail}
 use Rattle.engines.proofs.Lone.{header_alone}
-use Rattle.std.proofs.lemmas.Grind.{common_steps}
 
 -- ---- the mine of the texts
 
@@ -61,19 +54,11 @@ module _ (block : ℤ → ℕ → Amount) (counts : Bool) (texts : MineTexts) (n
 
   pub solved : (old new : Option (List ℕ)) (result : Result Verdict EngineFault) → SolvesNet counts name (price_wanted texts) net method limit old new result → Solves texts name method limit old new result
   solved old new (Ok verdict) h = (h.0, answers verdict h.0 h.1, h.2)
-  solved old new (Err (engine.Upit q)) h = absurd h
-  solved old new (Err (engine.Prec q)) h = absurd h
-  solved old new (Err (engine.Model q)) h = absurd h
-  solved old new (Err (engine.Certificate q)) h = absurd h
-  solved old new (Err (engine.Trace q)) h = absurd h
-  solved old new (Err (engine.Blocks q)) h = absurd h
-  solved old new (Err (engine.Slope q)) h = absurd h
-  solved old new (Err (engine.Settings q)) h = absurd h
-  solved old new (Err (engine.Prices q)) h = absurd h
   solved old new (Err engine.Memory) h = (tt, h)
   solved old new (Err engine.Thread) h = ((length net.worths, by.mine), h)
   solved old new (Err engine.Stranger) h = ((length net.worths, by.mine), h)
   solved old new (Err engine.Device) h = (tt, inr (net, by, h.0, h.1, h.2))
+  solved old new (Err _) h = absurd h
 
 -- there is no net of the mine
 pub unmade : (block : ℤ → ℕ → Amount) (counts : Bool) (texts : MineTexts) (name : Group) (rests : RestsView) (worths : List ℤ) (method : Method) (limit : ℕ) (w : Option (List ℕ)) (fault : NetFault) → AreRead texts worths rests → IsGroupNamed name block counts → WorthsFaultStands block rests.blocks worths fault → Solves texts name method limit w w (Err (of_model fault))

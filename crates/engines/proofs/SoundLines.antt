@@ -1,52 +1,37 @@
 -- A certificate that proves its pit is refused by a stream for a sum that doesn't fit, and for nothing else.
-use Rattle.std.proofs.Common.{◌≡◌, ℕ, Bool, true, eqb, List, [], ◌∷◌, ◌++◌, length, get_or, None, Ok, inl, inr, refl, sym, ap, ◌∙◌, subst, arith}
-use Rattle.std.specs.Prelude.{◌&&◌}
-use Rattle.std.proofs.lemmas.Bool.{eq-eqb}
-use Rattle.ordered_group.specs.Amount.{Amount, zero_amount, AtMost, positive, negative}
-use Rattle.ordered_group.specs.Sums.{amount_at}
+use Rattle.fixed_worth.proofs.Common.{◌≡◌, ℕ, Bool, true, eqb, List, [], ◌∷◌, ◌++◌, length, get_or, None, Ok, inl, inr, refl, sym, ap, ◌∙◌, subst, arith, ◌&&◌, eq-eqb}
+use Rattle.ordered_group.specs.Prelude.{Amount, zero_amount, AtMost, positive, negative, amount_at}
 use Rattle.ordered_group.specs.declared.groups.Group.{Group}
-use Rattle.closure_net.specs.Network.{NetView, FlowView, holds_of}
-use Rattle.closure_net.specs.Closure.{IsClosed}
-use Rattle.closure_net.specs.Flows.{IsBalancedAt, IsFlow, IsTight}
-use Rattle.closure_net.specs.Mine.{IsNetOf}
+use Rattle.closure_net.specs.Prelude.{NetView, FlowView, holds_of, IsClosed, IsBalancedAt, IsFlow, IsTight, IsNetOf}
 use Rattle.certificate_file.specs.declared.header.Header.{Header}
 use Rattle.certificate_file.specs.declared.body_lines.LineKind.{LineKind}
-use Rattle.certificate_file.specs.declared.body_lines.LineKind.TheVariants.{Pit, Source, Rest, Sink, End}
+use Rattle.certificate_file.specs.declared.body_lines.LineKind.TheVariants.{Source, Rest, Sink}
 use Rattle.certificate_file.specs.declared.body_lines.BodyLine.{BodyLine}
 use Rattle.check_pit.specs.declared.pit_fault.PitFault.{PitFault}
 use Rattle.check_pit.specs.declared.pit_fault.PitFault.TheVariants.{WrongSize, NotClosed, Negative, OverCapacity, Unbalanced, NotTight, TooLarge}
-use Rattle.certificate_file.specs.BodyLines.{body_fault, is_of_model}
-use Rattle.certificate_file.specs.Certificate.{Denotes, amount_of, body_of, fault_behind, fault_of, gives_rest, gives_sink, gives_source, has_pair, is_rest, is_sink, is_source, lines_of_text, pit_of, wanted_for}
-use Rattle.check_pit.specs.Checks.{ProvesPit}
-use Rattle.certificate_file.specs.Header.{header_for}
-use Rattle.check_pit.specs.LineSums.{keeps_by}
-use Rattle.certificate_file.specs.Pieces.{pieces_of}
-use Rattle.check_pit.specs.Rooms.{IsNegative, IsOverLimit}
+use Rattle.certificate_file.specs.Prelude.{body_fault, is_of_model, Denotes, amount_of, body_of, fault_behind, fault_of, gives_rest, gives_sink, gives_source, is_rest, is_sink, is_source, lines_of_text, pit_of, wanted_for, header_for, pieces_of}
+use Rattle.prec_file.specs.Rests.{has_pair}
+use Rattle.check_pit.specs.Prelude.{ProvesPit, keeps_by, IsNegative, IsOverLimit}
 use Rattle.check_pit.proofs.LineFlows.{denoted}
 use Rattle.certificate_file.proofs.LineOrder.{Has, has_good, Proper, given_by, good_is_proper}
 use Rattle.certificate_file.proofs.NamedHeaders.{header_named}
 use Rattle.certificate_file.proofs.Order.{InOrder, Good, in_order_weaker, stands_in_order}
 use Rattle.certificate_file.proofs.SameLines.{pair_place, tells_rest, tells_sink, tells_source}
 use Rattle.mine_inputs.specs.Mines.{MineTexts, mine_of, price_wanted}
-use Rattle.engines.specs.Readings.{Reads, block_by, counts_by}
-use Rattle.engines.specs.Refusals.{TextBegins, SomeSumLeaves, TextRefused, flow_for, lines_for}
-use Rattle.engines.specs.Judgements.{CertificateRefused}
+use Rattle.engines.specs.Prelude.{Reads, block_by, counts_by, TextBegins, SomeSumLeaves, TextRefused, flow_for, lines_for, CertificateRefused}
 use Rattle.engines.proofs.Alone.{flows_same, nets_same, ok_same}
 
 -- a line that keeps its limits has no negative amount, and none that is too much
 not_negative : (k : LineKind) (net : NetView) (l : BodyLine) → keeps_by k net.worths l → IsNegative k (amount_of l) → ⊥
-not_negative Pit net l h i = i
 not_negative Source net l h i = i h.0
 not_negative Rest net l h i = i h
 not_negative Sink net l h i = i h.0
-not_negative End net l h i = i
+not_negative k net l h i = i
 
 not_over : (k : LineKind) (net : NetView) (l : BodyLine) → keeps_by k net.worths l → IsOverLimit k (amount_at net.worths l.block) (amount_of l) → ⊥
-not_over Pit net l h i = i
 not_over Source net l h i = i.1 h.1
-not_over Rest net l h i = i
 not_over Sink net l h i = i.1 h.1
-not_over End net l h i = i
+not_over k net l h i = i
 
 -- a line between others is among them
 among : (ls : List BodyLine) (l : BodyLine) (more : List BodyLine) → Has l ((ls ++ l ∷ []) ++ more)
@@ -58,8 +43,6 @@ module _ (net : NetView) (ls : List BodyLine) (pit : List ℕ) (flow : FlowView)
   mine = has_good (Proper (length net.worths) (has_pair net.pairs)) None ls order l h
 
   kept_by : (k : LineKind) → l.kind ≡ k → keeps_by k net.worths l
-  kept_by Pit e = tt
-  kept_by End e = tt
   kept_by Source e =
       let gives : gives_source l.block l ≡ true = ap (λ (k : LineKind). is_source k && eqb l.block l.block) e ∙ eq-eqb l.block l.block refl in
       let same : amount_at flow.source l.block ≡ amount_of l = d.source l.block mine.block ∙ given_by (Proper (length net.worths) (has_pair net.pairs)) (gives_source l.block) None ls zero_amount l (tells_source (length net.worths) (has_pair net.pairs) l.block) order h gives in
@@ -80,6 +63,7 @@ module _ (net : NetView) (ls : List BodyLine) (pit : List ℕ) (flow : FlowView)
       let gives : gives_rest pair l ≡ true = ap (λ (k : LineKind). is_rest k && (eqb pair.0 l.block && eqb pair.1 l.other)) e ∙ both in
       let same : amount_at flow.rest place.0 ≡ amount_of l = d.rest place.0 place.1 ∙ given_by (Proper (length net.worths) (has_pair net.pairs)) (gives_rest pair) None ls zero_amount l (tells_rest (length net.worths) (has_pair net.pairs) pair) order h gives in
       subst (AtMost zero_amount) same (f.rest place.0 (omega (arith, place.1, d.covers.rests)))
+  kept_by k e = tt
 
   -- each line of a flow keeps its limits
   pub line_keeps : keeps_by l.kind net.worths l

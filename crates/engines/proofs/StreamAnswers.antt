@@ -6,20 +6,15 @@ use Rattle.ordered_group.specs.declared.groups.Group.{Group}
 use Rattle.certificate_file.specs.declared.cert_fault.CertFault.{CertFault}
 use Rattle.certificate_file.specs.declared.header.Header.{Header}
 use Rattle.certificate_file.specs.declared.header.Price.{Price}
-use Rattle.certificate_file.specs.declared.header.Price.TheVariants.{Objective, Factor, Mill}
-use Rattle.certificate_file.specs.Header.{header_of}
-use Rattle.certificate_file.specs.Pieces.{pieces_of}
-use Rattle.certificate_file.specs.ReadBack.{IsPrice}
+use Rattle.certificate_file.specs.declared.header.Price.TheVariants.{Objective}
+use Rattle.certificate_file.specs.Prelude.{header_of, pieces_of, IsPrice}
 use Rattle.check_pit.specs.StreamView.{LineView}
 use Rattle.mine_inputs.specs.declared.engine_fault.EngineFault.TheVariants as engine
 use Rattle.mine_inputs.specs.declared.engine_fault.CertificateProblem.TheVariants as problem
 use Rattle.mine_inputs.specs.declared.worths.Worths.{Worths}
-use Rattle.engines.specs.Judging.{StandsBehind, factor_in, factor_named}
-use Rattle.mine_inputs.specs.Mines.{MineTexts}
-use Rattle.mine_inputs.specs.ReadMines.{AreRead, IsMineRead}
-use Rattle.mine_inputs.specs.Worths.{factor_at, nanos_at, price_at}
+use Rattle.engines.specs.Prelude.{StandsBehind, factor_in, factor_named, IsHeader}
+use Rattle.mine_inputs.specs.Prelude.{MineTexts, AreRead, IsMineRead, factor_at, nanos_at, price_at}
 use Rattle.mine_inputs.proofs.MinesRead.{read_as}
-use Rattle.engines.specs.Readings.{IsHeader}
 use Rattle.engines.proofs.Answered.{JudgedBy}
 use Rattle.engines.proofs.HeaderPrices.{header_price}
 
@@ -30,8 +25,7 @@ HasHeader remaining s h c = (header_of (pieces_of c) ≡ Ok h) × StandsBehind r
 -- the factor of a price is at most 10,000
 factor_low : (price : Price) → IsPrice price → factor_at price ≤ MOST_FACTOR
 factor_low Objective h = omega arith
-factor_low (Factor k) h = h
-factor_low (Mill k) h = h
+factor_low price h = h
 
 pub price_unjudged : {R : Type 0} (remaining : R → Option (List ℕ)) (s : LineView R) (t : Option (List ℕ)) (worths : Worths) (rests : RestsView) (h : Header) → h.blocks ≡ rests.blocks → ((k : ℕ) → k ≤ MOST_FACTOR → h.price ≢ price_at worths k) → IfSome t (HasHeader remaining s h)
     → IfSome t (JudgedBy worths rests (Err (engine.Certificate problem.WrongPrice)))

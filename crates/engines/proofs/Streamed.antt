@@ -1,42 +1,25 @@
 -- From what a stream of a certificate came to, to what is answered of its text.
-use Rattle.std.proofs.Common.{◌≡◌, ℕ, ◌+◌, ◌<◌, ℤ, Bool, List, [], ◌∷◌, ◌++◌, length, drop, Option, Some, None, Ok, refl, sym, ap, ◌∙◌, subst, arith, append-nil, append_assoc}
-use Rattle.std.specs.List.{All}
-use Rattle.std.proofs.lemmas.List.{length-append}
-use Rattle.std.specs.Io.KnownBytes.{Consumes, IsAtEnd}
+use Rattle.fixed_worth.proofs.Common.{◌≡◌, ℕ, ◌+◌, ◌<◌, ℤ, Bool, List, [], ◌∷◌, ◌++◌, length, drop, Option, Some, None, Ok, refl, sym, ap, ◌∙◌, subst, arith, append-nil, append_assoc, All, length-append, Consumes, IsAtEnd}
 use Rattle.ordered_group.specs.Amount.{Amount}
 use Rattle.ordered_group.specs.declared.groups.Group.{Group}
-use Rattle.prec_file.specs.Rests.{IsFirstNot}
-use Rattle.closure_net.specs.Network.{NetView, IsNet, IsAscending, holds_of}
-use Rattle.closure_net.specs.Flows.{IsBalancedAt, IsTight}
-use Rattle.closure_net.specs.Mine.{IsNetOf}
+use Rattle.prec_file.specs.Prelude.{IsFirstNot, has_pair}
+use Rattle.closure_net.specs.Prelude.{NetView, IsNet, IsAscending, holds_of, IsBalancedAt, IsTight, IsNetOf}
 use Rattle.certificate_file.specs.declared.cert_fault.CertFault.{CertFault}
 use Rattle.certificate_file.specs.declared.cert_fault.CertFault.TheVariants as cert
 use Rattle.certificate_file.specs.declared.header.Price.{Price}
 use Rattle.certificate_file.specs.declared.body_lines.BodyLine.{BodyLine}
 use Rattle.check_pit.specs.declared.pit_fault.PitFault.{PitFault}
-use Rattle.check_pit.specs.declared.pit_fault.PitFault.TheVariants.{WrongSize, NotClosed, Negative, OverCapacity, Unbalanced, NotTight, TooLarge}
+use Rattle.check_pit.specs.declared.pit_fault.PitFault.TheVariants.{WrongSize, NotClosed, Unbalanced, NotTight}
 use Rattle.check_pit.specs.declared.stream_fault.StreamFault.{StreamFault}
 use Rattle.check_pit.specs.declared.stream_fault.StreamFault.TheVariants as stream
-use Rattle.certificate_file.specs.Pieces.{pieces_of}
-use Rattle.certificate_file.specs.BodyLines.{body_fault, lines_of_pieces}
-use Rattle.certificate_file.specs.Certificate.{Denotes, UnlessMemory, fault_behind, fault_of, has_pair, pit_of, wanted_for}
-use Rattle.certificate_file.specs.Header.{header_for}
-use Rattle.check_pit.specs.LineSums.{flow_of}
-use Rattle.check_pit.specs.Checks.{ProvesPit}
-use Rattle.check_pit.specs.StreamView.{LineView}
-use Rattle.check_pit.specs.StreamChecks.{first_pits, ReadsOn, fault_of_body, lines_of_body, IsWholeBody, BodyRefused, BodyFails, BodyProves}
+use Rattle.certificate_file.specs.Prelude.{pieces_of, body_fault, lines_of_pieces, Denotes, UnlessMemory, fault_behind, fault_of, pit_of, wanted_for, header_for}
+use Rattle.check_pit.specs.Prelude.{flow_of, ProvesPit, LineView, first_pits, ReadsOn, fault_of_body, lines_of_body, IsWholeBody, BodyRefused, BodyFails, BodyProves}
 use Rattle.check_pit.specs.StreamChecks as checks
 use Rattle.certificate_file.proofs.NamedHeaders.{header_named}
 use Rattle.certificate_file.proofs.Order.{stands_in_order, ascending, known}
 use Rattle.certificate_file.proofs.Whole.{spelled}
-use Rattle.mine_inputs.specs.Limits.{IsWithinLimit, IsTooLong}
-use Rattle.mine_inputs.specs.Mines.{MineTexts, DenoteMine, mine_of, price_wanted}
-use Rattle.engines.specs.Readings.{IsHeader, IsGroupNamed}
-use Rattle.engines.specs.Refusals.{TextBegins, lines_for, flow_for, TextRefused}
-use Rattle.engines.specs.FaultStands.{Fails}
-use Rattle.engines.specs.Judgements.{CertificateRefused}
-use Rattle.engines.specs.Judging.{Judges, StandsBehind, of_stream}
-use Rattle.mine_inputs.specs.EngineFaults.{of_certificate}
+use Rattle.mine_inputs.specs.Prelude.{IsWithinLimit, IsTooLong, MineTexts, DenoteMine, mine_of, price_wanted, of_certificate}
+use Rattle.engines.specs.Prelude.{IsHeader, IsGroupNamed, TextBegins, lines_for, flow_for, TextRefused, Fails, CertificateRefused, Judges, StandsBehind, of_stream}
 use Rattle.engines.proofs.Judged.{HasRead, text_fails}
 use Rattle.engines.proofs.HeaderAnswers.{consumed}
 
@@ -73,8 +56,6 @@ module _ (name : Group) (counts : Bool) (net : NetView) (text body left : List �
   refusal (NotClosed b p) h =
       let pit = h.1 in
       (h.0, record { first = ap (λ (ls : List BodyLine). pit_of (first_pits ls)) text_lines ∙ pit.first left; all = λ f. ap pit_of text_lines ∙ pit.all left (sym text_fault ∙ f) }, h.2)
-  refusal Negative h = (h.0, h.1, begins (h.0 ++ h.1 ∷ []) h.2, h.3, h.4)
-  refusal (OverCapacity b) h = (h.0, h.1, begins (h.0 ++ h.1 ∷ []) h.2, h.3, h.4)
   refusal (Unbalanced b) h =
       let P : List BodyLine → Type 0 = λ ls. IsFirstNot (IsBalancedAt net (flow_of (length net.worths) net.pairs ls)) (length net.worths) b in
       ((within h.0, no_fault h.0), subst P (whole_lines h.0.ends) h.1)
@@ -82,16 +63,12 @@ module _ (name : Group) (counts : Bool) (net : NetView) (text body left : List �
       let P : List BodyLine → Type 0 = λ ls. ((b : ℕ) → b < length net.worths → IsBalancedAt net (flow_of (length net.worths) net.pairs ls) b) × ¬ (IsTight net (flow_of (length net.worths) net.pairs ls) (holds_of (pit_of ls))) in
       let told = subst P (whole_lines h.0.ends) (h.1, h.2) in
       ((within h.0, no_fault h.0), told.0, told.1)
-  refusal TooLarge h = (h.0, h.1, begins (h.0 ++ h.1 ∷ []) h.2, h.3, h.4)
+  refusal e h = (h.0, h.1, begins (h.0 ++ h.1 ∷ []) h.2, h.3, h.4)
 
   -- a fault that stands whatever follows stands in the text
   text_has : (e : CertFault) → ((future : List ℕ) → UnlessMemory e (fault_of_body counts net (body ++ future) ≡ Some e)) → UnlessMemory e (fault_of counts name (length net.worths) net.pairs text ≡ Some e)
-  text_has (cert.Text k) h = text_fault ∙ h left
-  text_has (cert.Number k) h = text_fault ∙ h left
-  text_has (cert.OutOfOrder k) h = text_fault ∙ h left
-  text_has (cert.UnknownPair k) h = text_fault ∙ h left
-  text_has cert.Truncated h = text_fault ∙ h left
   text_has cert.NoMemory h = tt
+  text_has e h = text_fault ∙ h left
 
   cut_off : IsAtEnd (Some left) → fault_of_body counts net (body ++ []) ≡ Some cert.Truncated → fault_of counts name (length net.worths) net.pairs text ≡ Some cert.Truncated
   cut_off e h = text_fault ∙ ap (λ (l : List ℕ). fault_of_body counts net (body ++ l)) e ∙ h
@@ -164,15 +141,14 @@ module _ (name : Group) (block : ℤ → ℕ → Amount) (counts : Bool) (texts 
     wrong e h = failed e (text_has name counts net text body left price taken s e h)
 
     answered : (e : StreamFault) → BodyFails (Some left) taken counts net body e → Judges texts text (of_stream e)
-    answered stream.Device h = tt
     answered stream.InputTooLong h = let all = s.size in let long : IsTooLong text = omega (arith, h, all) in (length net.worths, a.mine, long)
     answered (stream.Cert cert.Truncated) h = failed cert.Truncated (cut_off name counts net text body left price taken s h.0 h.2)
     answered (stream.Cert (cert.Text k)) h = wrong (cert.Text k) h
     answered (stream.Cert (cert.Number k)) h = wrong (cert.Number k) h
     answered (stream.Cert (cert.OutOfOrder k)) h = wrong (cert.OutOfOrder k) h
     answered (stream.Cert (cert.UnknownPair k)) h = wrong (cert.UnknownPair k) h
-    answered (stream.Cert cert.NoMemory) h = tt
     answered (stream.Pit e) h = refused e h
+    answered e h = tt
 
   split : (held old bytes left : List ℕ) (before later : ℕ) → drop 4 (pieces_of text) ≡ pieces_of (held ++ old) → before + length old ≡ length text → later ≡ before + length bytes → old ≡ bytes ++ left → IsSplit name net text (held ++ bytes) left (price_wanted texts) later
   split held old bytes left before later behind taken more is =

@@ -1,13 +1,8 @@
 -- What the amounts of a pit's blocks tell of their number and of their worth.
 use Rattle.std.proofs.Common.{◌≡◌, ℕ, ◌<◌, ℤ, List, length, All, sym, ap, ◌∙◌}
-use Rattle.ordered_group.specs.Amount.{Amount}
-use Rattle.ordered_group.specs.Sums.{where_so}
-use Rattle.ordered_group.specs.Sets.{group_sum}
-use Rattle.ordered_group.specs.Laws.{SumsTellWorth}
+use Rattle.ordered_group.specs.Prelude.{Amount, where_so, group_sum, SumsTellWorth}
 use Rattle.ordered_group.proofs.Totals.Ranges.{total-same}
-use Rattle.closure_net.specs.Network.{NetView, IsAscending, holds_of}
-use Rattle.closure_net.specs.Closure.{group_worth}
-use Rattle.closure_net.specs.Mine.{IsNetOf, worth_of, block_count_of}
+use Rattle.closure_net.specs.Prelude.{NetView, IsAscending, holds_of, group_worth, IsNetOf, worth_of, block_count_of}
 use Rattle.mine_inputs.specs.Mines.{MineTexts, mine_of}
 use Rattle.engines.proofs.Counted.{count_in-ascending}
 

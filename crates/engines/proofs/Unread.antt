@@ -1,10 +1,5 @@
 -- Where the texts are read, no fault of a text stands.
-use Rattle.std.proofs.Common.{◌≡◌, ℕ, ◌≤◌, List, length, get_or, refl, arith, sym, ap, ◌∙◌, subst, Bool, true, false, cond, Option, Some, None, unwrap_or, Result, Ok, Err, inl, inr}
-use Rattle.std.specs.Prelude.{nat_lt}
-use Rattle.std.specs.Option.{option_or}
-use Rattle.std.proofs.lemmas.Bool.Decides.{nat_tests}
-use Rattle.std.proofs.lemmas.Int.{ints}
-use Rattle.std.proofs.lemmas.List.FromFn.{length-map-range_with_len}
+use Rattle.fixed_worth.proofs.Common.{◌≡◌, ℕ, ◌≤◌, List, length, get_or, refl, arith, sym, ap, ◌∙◌, subst, Bool, true, false, cond, Option, Some, None, unwrap_or, Result, Ok, Err, inl, inr, nat_lt, option_or, nat_tests, ints, length-map-range_with_len, common_steps}
 use Rattle.fixed_worth.specs.declared.limits.TheConstants.{MOST_BLOCKS}
 use Rattle.settings_file.specs.Settings.{settings_of}
 use Rattle.blocks_file.specs.Records as blocks
@@ -14,8 +9,7 @@ use Rattle.prec_file.specs.declared.prec_fault.PrecFault.{PrecFault}
 use Rattle.prec_file.proofs.History.{or_none}
 use Rattle.upit_file.specs.Records as upit
 use Rattle.upit_file.specs.declared.upit_fault.UpitFault.{UpitFault}
-use Rattle.closure_net.specs.Network.{NetView}
-use Rattle.closure_net.specs.Mine.{IsNetOf}
+use Rattle.closure_net.specs.Prelude.{NetView, IsNetOf}
 use Rattle.closure_net.specs.declared.net.NetFault.{NetFault}
 use Rattle.certificate_file.specs.declared.header.Header.{Header}
 use Rattle.certificate_file.specs.Certificate.{fault_of}
@@ -31,14 +25,10 @@ use Rattle.shells.specs.declared.prices_fault.PricesFault.{PricesFault}
 use Rattle.mine_inputs.specs.declared.priced_inputs.ChargeColumns.{ChargeColumns}
 use Rattle.mine_inputs.specs.declared.priced_inputs.ChargeColumns.TheVariants.{Plain, Mill}
 use Rattle.shells.specs.declared.prices_fault.PricesFault.TheVariants as prices_fault
-use Rattle.mine_inputs.specs.PricedTexts.{price_keys, columns_said, price_columns, cell, costs_at, table_of, ColumnsKnown, PricesRead, SettingsFails, PricesFail}
-use Rattle.mine_inputs.specs.Mines.{MineTexts, mine_texts, priced_texts, precedence_of, ValuesRead, WorthsRead, mine_of, DenoteMine}
-use Rattle.engines.specs.Readings.{block_by, counts_by, IsHeader, Reads}
-use Rattle.mine_inputs.specs.FaultStands.{PrecFails, ValuesFail, SettingsFail, BlocksFail, TableFails}
-use Rattle.engines.specs.FaultStands.{ModelFails, HeaderFails, BodyTextFails, PriceDiffers}
+use Rattle.mine_inputs.specs.Prelude.{price_keys, columns_said, price_columns, cell, costs_at, table_of, ColumnsKnown, PricesRead, SettingsFails, PricesFail, MineTexts, mine_texts, priced_texts, precedence_of, ValuesRead, WorthsRead, mine_of, DenoteMine, PrecFails, ValuesFail, SettingsFail, BlocksFail, TableFails}
+use Rattle.engines.specs.Prelude.{block_by, counts_by, IsHeader, Reads, ModelFails, HeaderFails, BodyTextFails, PriceDiffers}
 use Rattle.engines.proofs.Alone.{ok_same, nets_same}
 use Rattle.engines.proofs.Fitting.{no_model_fails}
-use Rattle.std.proofs.lemmas.Grind.{common_steps}
 
 pub never : {F : Type 0} (o : Option F) (f : F) → o ≡ None → o ≡ Some f → ⊥
 never o f e g = let h : None ≡ Some f = sym e ∙ g in cc

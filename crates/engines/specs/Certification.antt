@@ -1,9 +1,7 @@
 -- The pit that a flow of any origin proves, and why it proves none.
 use Rattle.std.specs.Prelude.{◌≡◌, ℕ, ℤ, List, length}
 use Rattle.ordered_group.specs.Amount.{Amount}
-use Rattle.closure_net.specs.Network.{NetView, FlowView, FlowFits, IsAscending, holds_of}
-use Rattle.closure_net.specs.Closure.{IsGreatest, group_worth}
-use Rattle.closure_net.specs.Reached.{IsReached}
+use Rattle.closure_net.specs.Prelude.{NetView, FlowView, FlowFits, IsAscending, holds_of, IsGreatest, group_worth, IsReached}
 use Rattle.check_pit.specs.Checks.{IsOfNet, IsSound, PitFaultStands}
 use Rattle.check_pit.specs.declared.pit_fault.PitFault.{PitFault}
 use Rattle.engines.specs.declared.certification.Uncertified.{Uncertified}

@@ -12,8 +12,7 @@ use Rattle.engines.specs.declared.judgement.Verdict.TheVariants.{Done, No}
 use Rattle.mine_inputs.specs.declared.engine_fault.EngineFault.{EngineFault}
 use Rattle.mine_inputs.specs.declared.engine_fault.EngineFault.TheVariants as engine
 use Rattle.mine_inputs.specs.declared.engine_fault.CertificateProblem.TheVariants as certificate
-use Rattle.mine_inputs.specs.Limits.{IsTooLong}
-use Rattle.mine_inputs.specs.Mines.{MineTexts}
+use Rattle.mine_inputs.specs.Prelude.{IsTooLong, MineTexts}
 use Rattle.engines.specs.Readings.{Reads, counts_by}
 use Rattle.engines.specs.Refusals.{SomeSumLeaves}
 use Rattle.engines.specs.Judgements.{CertificateAccepted, CertificateRefused, IsJudged}

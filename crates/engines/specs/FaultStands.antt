@@ -1,24 +1,18 @@
 -- When a check answers a fault: it stands in the texts, and none before it does.
 use Rattle.std.specs.Prelude.{◌≡◌, ◌≢◌, ℕ, ℤ, ◌⊎◌, List, Some, Ok, Err}
 use Rattle.ordered_group.specs.declared.groups.Group.{Group}
-use Rattle.closure_net.specs.Faults.{WorthsFaultStands}
+use Rattle.closure_net.specs.Prelude.{WorthsFaultStands, NetView, IsNet, IsNetOf}
 use Rattle.closure_net.specs.declared.net.NetFault.{NetFault}
 use Rattle.closure_net.specs.declared.net.NetFault.TheVariants as net_fault
 use Rattle.certificate_file.specs.declared.cert_fault.CertFault.{CertFault}
 use Rattle.certificate_file.specs.declared.cert_fault.CertFault.TheVariants as certificate_fault
 use Rattle.certificate_file.specs.declared.header.Header.{Header}
-use Rattle.certificate_file.specs.Pieces.{pieces_of}
-use Rattle.certificate_file.specs.Header.{header_of}
-use Rattle.certificate_file.specs.Certificate.{fault_of}
-use Rattle.closure_net.specs.Network.{NetView, IsNet}
-use Rattle.closure_net.specs.Mine.{IsNetOf}
+use Rattle.certificate_file.specs.Prelude.{pieces_of, header_of, fault_of}
 use Rattle.mine_inputs.specs.declared.engine_fault.CertificateProblem.{CertificateProblem}
 use Rattle.mine_inputs.specs.declared.engine_fault.CertificateProblem.TheVariants as certificate_problem
 use Rattle.mine_inputs.specs.declared.engine_fault.EngineFault.{EngineFault}
 use Rattle.mine_inputs.specs.declared.engine_fault.EngineFault.TheVariants as engine
-use Rattle.mine_inputs.specs.FaultStands.{AreWorths, MineFails}
-use Rattle.mine_inputs.specs.Limits.{IsTooLong}
-use Rattle.mine_inputs.specs.Mines.{MineTexts, price_wanted, DenoteMine, mine_of}
+use Rattle.mine_inputs.specs.Prelude.{AreWorths, MineFails, IsTooLong, MineTexts, price_wanted, DenoteMine, mine_of}
 use Rattle.engines.specs.Readings.{block_by, counts_by, IsHeader}
 
 -- no net of these worths: an amount doesn't fit

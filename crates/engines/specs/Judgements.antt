@@ -1,14 +1,12 @@
 -- What a check says of the texts of a mine and of a certificate.
 use Rattle.std.specs.Prelude.{◌≡◌, ℕ, ℤ, List}
 use Rattle.ordered_group.specs.declared.groups.Group.{Group}
-use Rattle.closure_net.specs.Network.{NetView, IsNet, holds_of}
-use Rattle.closure_net.specs.Mine.{IsNetOf, worth_of, block_count_of}
+use Rattle.closure_net.specs.Prelude.{NetView, IsNet, holds_of, IsNetOf, worth_of, block_count_of}
 use Rattle.check_pit.specs.Checks.{ProvesPit}
 use Rattle.check_pit.specs.declared.pit_fault.PitFault.{PitFault}
 use Rattle.engines.specs.declared.judgement.Judgement.{Judgement}
 use Rattle.engines.specs.declared.judgement.Judgement.TheVariants.{Accepted, Refused}
-use Rattle.mine_inputs.specs.Limits.{IsWithinLimit}
-use Rattle.mine_inputs.specs.Mines.{MineTexts, DenoteMine, mine_of}
+use Rattle.mine_inputs.specs.Prelude.{IsWithinLimit, MineTexts, DenoteMine, mine_of}
 use Rattle.engines.specs.Readings.{Reads, IsProvedPit, block_by, counts_by, IsHeader}
 use Rattle.engines.specs.Refusals.{TextRefused}
 

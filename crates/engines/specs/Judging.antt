@@ -1,23 +1,19 @@
 -- What judging a certificate gives.
 use Rattle.std.specs.Prelude.{◌≡◌, ℕ, ◌+◌, false, List, [], ◌++◌, length, drop, Option, Some, None, Result, Ok, Err}
-use Rattle.certificate_file.specs.Pieces.{pieces_of}
-use Rattle.certificate_file.specs.Header.{header_of}
+use Rattle.certificate_file.specs.Prelude.{pieces_of, header_of}
 use Rattle.certificate_file.specs.declared.header.Header.{Header}
 use Rattle.certificate_file.specs.declared.cert_fault.CertFault.{CertFault}
 use Rattle.check_pit.specs.declared.stream_fault.StreamFault.{StreamFault}
 use Rattle.check_pit.specs.declared.stream_fault.StreamFault.TheVariants as stream
-use Rattle.check_pit.specs.StreamView.{LineView}
-use Rattle.check_pit.specs.CertStreams.{CertView}
+use Rattle.check_pit.specs.Prelude.{LineView, CertView}
 use Rattle.engines.specs.declared.judgement.Judgement.{Judgement}
 use Rattle.engines.specs.declared.judgement.Judgement.TheVariants.{Refused}
 use Rattle.mine_inputs.specs.declared.engine_fault.EngineFault.{EngineFault}
 use Rattle.mine_inputs.specs.declared.engine_fault.EngineFault.TheVariants as engine
 use Rattle.mine_inputs.specs.declared.engine_fault.CertificateProblem.TheVariants as problem
-use Rattle.mine_inputs.specs.EngineFaults.{of_certificate}
-use Rattle.mine_inputs.specs.Mines.{MineTexts}
+use Rattle.mine_inputs.specs.Prelude.{of_certificate, MineTexts, factor_at}
 use Rattle.engines.specs.Judgements.{IsJudged}
 use Rattle.engines.specs.FaultStands.{Fails}
-use Rattle.mine_inputs.specs.Worths.{factor_at}
 
 -- the factor that a certificate names: 0 where it names none
 abbrev pub factor_named : Result Header CertFault → ℕ

@@ -25,3 +25,5 @@ pub mod Statuses
 pub mod WholeNumbers
 pub mod OptionWords
 pub mod PatternWords
+-- the names of all of them
+pub mod Prelude

@@ -2,10 +2,8 @@
 use Rattle.std.specs.Prelude.{◌≡◌, ℕ, ◌≤◌, ℤ, List}
 use Rattle.ordered_group.specs.declared.groups.Group.{Group}
 use Rattle.prec_file.specs.Records as prec
-use Rattle.closure_net.specs.Network.{holds_of}
-use Rattle.closure_net.specs.Mine.{LiesWithin}
-use Rattle.mine_inputs.specs.PricedTexts.{table_of}
-use Rattle.mine_inputs.specs.Mines.{priced_texts, rests_by, mine_of}
+use Rattle.closure_net.specs.Prelude.{holds_of, LiesWithin}
+use Rattle.mine_inputs.specs.Prelude.{table_of, priced_texts, rests_by, mine_of}
 use Rattle.engines.specs.Readings.{TellsSizes}
 use Rattle.engines.specs.Judgements.{CertificateAccepted}
 

@@ -4,8 +4,7 @@ use Rattle.std.specs.Io.KnownBytes.{Appends, Keeps}
 use Rattle.fixed_worth.specs.Device.{ReceivedPrefix}
 use Rattle.ordered_group.specs.declared.groups.Group.{Group}
 use Rattle.closure_net.specs.Network.{NetView, FlowView}
-use Rattle.certificate_file.specs.ReadBack.{IsReadBack}
-use Rattle.certificate_file.specs.Written.{header_with, text_of}
+use Rattle.certificate_file.specs.Prelude.{IsReadBack, header_with, text_of}
 use Rattle.check_pit.specs.declared.pit_fault.PitFault.TheVariants as pit_fault
 use Rattle.certificate_file.specs.declared.header.Price.{Price}
 use Rattle.engines.specs.declared.judgement.Judgement.TheVariants.{Refused}

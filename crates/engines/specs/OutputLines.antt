@@ -2,7 +2,7 @@
 use Rattle.std.specs.Prelude.{ℕ, List, [], ◌∷◌, ◌++◌, codes, decimal}
 use Rattle.fixed_worth.specs.Printed.{amount_text}
 use Rattle.ordered_group.specs.declared.groups.Group.{Group}
-use Rattle.ordered_group.specs.declared.groups.Group.TheVariants.{Worth, Pair, Scaled}
+use Rattle.ordered_group.specs.declared.groups.Group.TheVariants.{Worth}
 use Rattle.closure_net.specs.Faults.{net_fault_text}
 use Rattle.upit_file.specs.Records.{upit_fault_text}
 use Rattle.prec_file.specs.Faults.{prec_fault_text}
@@ -20,8 +20,7 @@ use Rattle.mine_inputs.specs.EngineFaults.{problem_text, certificate_problem_tex
 -- what follows the worth on the line: something where worth alone was counted, and otherwise nothing
 abbrev pub group_mark : Group → List ℕ
 group_mark Worth = codes " GROUP WORTH"
-group_mark Pair = []
-group_mark Scaled = []
+group_mark _ = []
 
 -- the line of a judgement
 abbrev pub judgement_line : Judgement → List ℕ

@@ -1,15 +1,10 @@
 -- What the texts of a mine and of a certificate denote together.
 use Rattle.std.specs.Prelude.{◌≡◌, ℕ, ◌<◌, All, ℤ, Bool, false, true, List, None, Ok}
-use Rattle.ordered_group.specs.Amount.{Amount}
-use Rattle.ordered_group.specs.Block.{worth_block, counted_block, scaled_block}
+use Rattle.ordered_group.specs.Prelude.{Amount, worth_block, counted_block, scaled_block}
 use Rattle.ordered_group.specs.declared.groups.Group.{Group}
 use Rattle.ordered_group.specs.declared.groups.Group.TheVariants.{Worth, Pair, Scaled}
-use Rattle.closure_net.specs.Network.{NetView, FlowView, IsNet, IsAscending}
-use Rattle.closure_net.specs.Closure.{IsGreatest}
-use Rattle.closure_net.specs.Mine.{Mine, IsRichest, IsBest, IsNetOf}
-use Rattle.certificate_file.specs.Pieces.{pieces_of}
-use Rattle.certificate_file.specs.Header.{header_of}
-use Rattle.certificate_file.specs.Certificate.{fault_of, lines_of_text, Denotes}
+use Rattle.closure_net.specs.Prelude.{NetView, FlowView, IsNet, IsAscending, IsGreatest, Mine, IsRichest, IsBest, IsNetOf}
+use Rattle.certificate_file.specs.Prelude.{pieces_of, header_of, fault_of, lines_of_text, Denotes}
 use Rattle.mine_inputs.specs.Mines.{MineTexts, price_wanted, mine_of, DenoteMine}
 
 -- what one block counts as, and whether an amount has a count
@@ -19,9 +14,8 @@ block_by Pair = counted_block
 block_by Scaled = scaled_block
 
 abbrev pub counts_by : Group → Bool
-counts_by Worth = false
 counts_by Pair = true
-counts_by Scaled = false
+counts_by _ = false
 
 -- What a certificate proves: that no pit is worth more; and where sizes count too, that the pit is the best one.
 abbrev pub IsProvedPit : Group → Mine → (ℕ → Bool) → Type 0
@@ -32,8 +26,7 @@ IsProvedPit Scaled mine e = IsBest mine e
 -- what is counted tells the sizes of sets: only then is a best pit proved
 abbrev pub TellsSizes : Group → Type 0
 TellsSizes Worth = ⊥
-TellsSizes Pair = Unit {0}
-TellsSizes Scaled = Unit {0}
+TellsSizes _ = Unit {0}
 
 -- the header is one for this mine at its price
 abbrev pub IsHeader : MineTexts → List ℕ → ℕ → Group → Type 0

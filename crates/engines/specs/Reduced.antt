@@ -2,8 +2,7 @@
 use Rattle.std.specs.Prelude.{◌↔◌, ℕ, ℤ, Bool, List}
 use Rattle.blocks_file.specs.Denotes.{BlocksView}
 use Rattle.prec_file.specs.Rests.{RestsView, has_pair}
-use Rattle.slope.specs.Offsets.{Offset, IsPattern}
-use Rattle.slope.specs.Slopes.{AreSlopes}
+use Rattle.slope.specs.Prelude.{Offset, IsPattern, AreSlopes}
 use Rattle.slope.specs.declared.selection.Selection.TheVariants.{Every, Reduced}
 use Rattle.slope.specs.declared.up.Up.{Up}
 use Rattle.closure_net.specs.Mine.{Mine, IsBest}

@@ -2,16 +2,12 @@
 use Rattle.std.specs.Prelude.{◌≡◌, ℕ, ◌<◌, Bool, List, [], ◌∷◌, ◌++◌, length, None}
 use Rattle.ordered_group.specs.declared.groups.Group.{Group}
 use Rattle.prec_file.specs.Rests.{IsFirstNot}
-use Rattle.closure_net.specs.Network.{NetView, FlowView, holds_of}
-use Rattle.closure_net.specs.Flows.{IsBalancedAt, IsTight}
+use Rattle.closure_net.specs.Prelude.{NetView, FlowView, holds_of, IsBalancedAt, IsTight}
 use Rattle.certificate_file.specs.declared.body_lines.BodyLine.{BodyLine}
 use Rattle.check_pit.specs.declared.pit_fault.PitFault.{PitFault}
 use Rattle.check_pit.specs.declared.pit_fault.PitFault.TheVariants.{WrongSize, NotClosed, Negative, OverCapacity, Unbalanced, NotTight, TooLarge}
 use Rattle.certificate_file.specs.Certificate.{fault_of, lines_of_text, pit_of}
-use Rattle.check_pit.specs.Closing.{IsFirstOpen}
-use Rattle.check_pit.specs.LineSums.{KeepLimits, flow_of, SomeLineSumOverflows}
-use Rattle.check_pit.specs.Rooms.{LineRefused}
-use Rattle.check_pit.specs.StreamChecks.{first_pits}
+use Rattle.check_pit.specs.Prelude.{IsFirstOpen, KeepLimits, flow_of, SomeLineSumOverflows, LineRefused, first_pits}
 use Rattle.mine_inputs.specs.Limits.{IsWithinLimit}
 
 -- the lines of the certificate's body: after its header, before END

@@ -3,17 +3,13 @@ use Rattle.std.specs.Prelude.{ℕ, ◌≤◌, ◌⊎◌, List, [], ◌∷◌, Op
 use Rattle.std.specs.Io.KnownBytes.{Appends, Keeps}
 use Rattle.fixed_worth.specs.Device.{ReceivedPrefix}
 use Rattle.blocks_file.specs.Denotes.{BlocksView}
-use Rattle.prec_file.specs.Rests.{RestsView}
-use Rattle.prec_file.specs.Written.{prec_text}
+use Rattle.prec_file.specs.Prelude.{RestsView, prec_text}
 use Rattle.settings_file.specs.declared.keys.Key.{Key}
 use Rattle.settings_file.specs.declared.keys.Key.TheVariants.{Offsets}
 use Rattle.settings_file.specs.declared.settings_fault.SettingsFault.{SettingsFault}
 use Rattle.settings_file.specs.Settings.{SettingsView, settings_of}
 use Rattle.slope.specs.declared.pattern.TheConstants.{MOST_CONE_NUMBER, MOST_OFFSETS}
-use Rattle.slope.specs.Lists.{AreMoreThan}
-use Rattle.slope.specs.Offsets.{Offset, AreOffsets}
-use Rattle.slope.specs.Patterns.{five_offsets, nine_offsets, IsInCone, ListFaultStands}
-use Rattle.slope.specs.Slopes.{AreSlopes, SlopeFaultStands}
+use Rattle.slope.specs.Prelude.{AreMoreThan, Offset, AreOffsets, five_offsets, nine_offsets, IsInCone, ListFaultStands, AreSlopes, SlopeFaultStands}
 use Rattle.slope.specs.declared.up.Up.{Up}
 use Rattle.slope.specs.declared.selection.Selection.{Selection}
 use Rattle.slope.specs.declared.pattern_fault.PatternFault.{PatternFault}
@@ -29,8 +25,7 @@ use Rattle.mine_inputs.specs.declared.engine_fault.SlopeProblem.{SlopeProblem}
 use Rattle.mine_inputs.specs.declared.engine_fault.SlopeProblem.TheVariants as of
 use Rattle.mine_inputs.specs.declared.engine_fault.EngineFault.{EngineFault}
 use Rattle.mine_inputs.specs.declared.engine_fault.EngineFault.TheVariants as engine
-use Rattle.mine_inputs.specs.BlockTexts.{ReadsBlocks, BlocksFails}
-use Rattle.mine_inputs.specs.PricedTexts.{KeysSaid, SettingsFails}
+use Rattle.mine_inputs.specs.Prelude.{ReadsBlocks, BlocksFails, KeysSaid, SettingsFails}
 
 -- ---- which offsets are asked for
 
@@ -40,9 +35,8 @@ IsConeNumber k = (1 ≤ k) × (k ≤ MOST_CONE_NUMBER)
 
 -- the numbers of the pattern that is asked for are in their range
 abbrev pub IsChoice : PatternChoice → Type 0
-IsChoice Five = Unit {0}
-IsChoice Nine = Unit {0}
 IsChoice (Cone levels run rise) = IsConeNumber levels × IsConeNumber run × IsConeNumber rise
+IsChoice _ = Unit {0}
 
 -- the offsets of the pattern that is asked for, each once and in order
 abbrev pub IsChosen : PatternChoice → List Offset → Type 0

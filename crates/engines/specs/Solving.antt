@@ -3,9 +3,7 @@ use Rattle.std.specs.Prelude.{◌≡◌, ℕ, ◌⊎◌, Bool, true, List, lengt
 use Rattle.std.specs.Io.KnownBytes.{Appends, Keeps}
 use Rattle.fixed_worth.specs.Device.{ReceivedPrefix}
 use Rattle.ordered_group.specs.declared.groups.Group.{Group}
-use Rattle.closure_net.specs.Network.{NetView, FlowView, IsNet, holds_of}
-use Rattle.closure_net.specs.Reached.{IsReached}
-use Rattle.closure_net.specs.Mine.{IsNetOf}
+use Rattle.closure_net.specs.Prelude.{NetView, FlowView, IsNet, holds_of, IsReached, IsNetOf}
 use Rattle.workers.specs.Runs.{Settles, IsCutOff, SomeStepOverflows}
 use Rattle.workers.specs.declared.solving.SolveFault.{SolveFault}
 use Rattle.workers.specs.declared.solving.SolveFault.TheVariants as run
@@ -21,9 +19,8 @@ use Rattle.engines.specs.declared.solvers.Unsolved.{Unsolved}
 use Rattle.engines.specs.declared.solvers.Unsolved.TheVariants.{Unsettled, TooLarge, GaveUp, NoMemory, NoThread, Stranger}
 use Rattle.engines.specs.declared.method.Method.{Method}
 use Rattle.engines.specs.Methods.{ends_with_pseudoflow}
-use Rattle.mine_inputs.specs.FaultStands.{MineFails}
+use Rattle.mine_inputs.specs.Prelude.{MineFails, MineTexts, price_wanted, mine_of, DenoteMine}
 use Rattle.engines.specs.FaultStands.{ModelFails}
-use Rattle.mine_inputs.specs.Mines.{MineTexts, price_wanted, mine_of, DenoteMine}
 use Rattle.engines.specs.NetAnswers.{certificate_text, unsettled_line, too_large_line}
 use Rattle.engines.specs.Readings.{block_by, Reads, IsProvedPit}
 

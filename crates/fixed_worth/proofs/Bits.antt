@@ -1,6 +1,5 @@
 -- What truth values come to.
-use Rattle.std.proofs.Common.{◌≡◌, Bool, true, false, not, arith}
-use Rattle.std.proofs.lemmas.Grind.{common_steps}
+use Rattle.fixed_worth.proofs.Common.{◌≡◌, Bool, true, false, not, arith, common_steps}
 
 pub not_true : (t : Bool) → not t ≡ true → t ≡ false
 not_true t e = grind (arith, common_steps)

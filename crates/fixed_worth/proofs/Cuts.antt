@@ -1,12 +1,7 @@
 -- Where a text is cut into lines, and a line into fields.
-use Rattle.std.proofs.Common.{◌≡◌, ℕ, suc, get_or, ◌+◌, ◌<◌, ◌≤◌, Bool, true, false, cond, not, eqb, List, [], ◌∷◌, length, take, drop, None, refl, arith}
-use Rattle.std.specs.Prelude.{unwrap_or, position}
-use Rattle.std.specs.List.{onto_first, position_or_len}
-use Rattle.std.proofs.lemmas.List.Sums.{prefix_len-le-length}
-use Rattle.std.proofs.lemmas.List.{drop-drop}
+use Rattle.fixed_worth.proofs.Common.{◌≡◌, ℕ, suc, get_or, ◌+◌, ◌<◌, ◌≤◌, Bool, true, false, cond, not, eqb, List, [], ◌∷◌, length, take, drop, None, refl, arith, unwrap_or, position, onto_first, position_or_len, prefix_len-le-length, drop-drop, common_steps}
 use Rattle.fixed_worth.specs.declared.limits.TheConstants.{LINE_BYTES}
 use Rattle.fixed_worth.specs.Text.{lines_of, BeginsTooLong, is_separator, WordRun, run_before, runs_from}
-use Rattle.std.proofs.lemmas.Grind.{common_steps}
 
 one-add : (n : ℕ) → 1 + n ≡ suc n
 one-add n = omega arith
@@ -40,7 +35,7 @@ begins_later p rs h = grind (arith, common_steps)
 
 begins_from : (p : ℕ) (bs : List ℕ) → BeginsFrom p (runs_from p bs)
 begins_from p [] = tt
-begins_from p (b ∷ bs) = elim (is_separator b) as (λ t. BeginsFrom p (cond t (runs_from (p + 1) bs) (run_before b p (runs_from (p + 1) bs)))) [ true ↦ begins_later p (runs_from (p + 1) bs) (begins_from (p + 1) bs) | false ↦ grind (arith, common_steps)]
+begins_from p (b ∷ bs) = elim (is_separator b) as (λ t. BeginsFrom p (cond t (runs_from (p + 1) bs) (run_before b p (runs_from (p + 1) bs)))) [ true ↦ begins_later p (runs_from (p + 1) bs) (begins_from (p + 1) bs) | false ↦ grind (arith, common_steps) ]
 
 -- A byte with a gap behind it is a run of its own.
 alone : (b p : ℕ) (rs : List WordRun) → BeginsFrom (p + 1 + 1) rs → run_before b p rs ≡ record { text = b ∷ []; place = p } ∷ rs
@@ -97,4 +92,4 @@ field_given p g w bs back text rest e f h k m n = grind (arith, common_steps, ga
 
 pub few_runs : (p : ℕ) (bs : List ℕ) → length (runs_from p bs) ≤ length bs
 few_runs p [] = omega arith
-few_runs p (b ∷ bs) = let ih = few_runs (p + 1) bs in elim (is_separator b) as (λ t. length (cond t (runs_from (p + 1) bs) (run_before b p (runs_from (p + 1) bs))) ≤ suc (length bs)) [ true ↦ omega arith | false ↦ grind (arith, common_steps)]
+few_runs p (b ∷ bs) = let ih = few_runs (p + 1) bs in elim (is_separator b) as (λ t. length (cond t (runs_from (p + 1) bs) (run_before b p (runs_from (p + 1) bs))) ≤ suc (length bs)) [ true ↦ omega arith | false ↦ grind (arith, common_steps) ]

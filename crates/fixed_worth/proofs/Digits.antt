@@ -1,12 +1,6 @@
 -- Values of digits.
-use Rattle.std.proofs.Common.{◌≡◌, ℕ, suc, ◌+◌, ◌-◌, ◌*◌, ◌^◌, ◌<◌, ◌≤◌, Bool, true, List, [], ◌∷◌, length, drop, get_or, refl, sym, ◌∙◌, subst, arith, drop-cons, lit<, ◌++◌, pow-add, length-append}
-use Rattle.std.proofs.lemmas.List.{drop_all}
-use Rattle.std.proofs.Math.Nat.{pow-succ', one-le-pow, mul-le-mul_left, pow-le-pow_right}
-use Rattle.std.specs.Prelude.{◌&&◌}
-use Rattle.std.specs.List.{list_all}
+use Rattle.fixed_worth.proofs.Common.{◌≡◌, ℕ, suc, ◌+◌, ◌-◌, ◌*◌, ◌^◌, ◌<◌, ◌≤◌, Bool, true, List, [], ◌∷◌, length, drop, get_or, refl, sym, ◌∙◌, subst, arith, drop-cons, lit<, ◌++◌, pow-add, length-append, drop_all, pow-succ', one-le-pow, mul-le-mul_left, pow-le-pow_right, ◌&&◌, list_all, common_steps, and_from}
 use Rattle.fixed_worth.specs.Numeral.{is_digit, value_of}
-use Rattle.std.proofs.lemmas.Grind.{common_steps}
-use Rattle.std.proofs.lemmas.Bool.{and_from}
 
 spread : (v d p r : ℕ) → v * (10 * p) + (d * p + r) ≡ (v * 10 + d) * p + r
 spread v d p r = omega arith

@@ -1,16 +1,8 @@
 -- The fields of a line are its longest runs of bytes that are no separators.
-use Rattle.std.proofs.Common.{◌≡◌, ℕ, suc, zero, ◌+◌, ◌-◌, ◌<◌, ◌≤◌, inl, inr, true, false, not, List, [], ◌∷◌, length, take, drop, get_or, sym, ap, ◌∙◌, subst, arith, length-drop, All}
-use Rattle.std.specs.List.{position_or_len}
-use Rattle.std.proofs.lemmas.List.{get_or-drop, drop-drop, drop_all}
-use Rattle.std.proofs.lemmas.List.Elements.{All-nil, All-cons}
-use Rattle.std.proofs.lemmas.List.Folds.{length-prefix_len}
-use Rattle.std.proofs.lemmas.List.Sums.{prefix_len_passes, prefix_len_stops}
-use Rattle.std.proofs.lemmas.Bool.{cases_lt}
-use Rattle.fixed_worth.specs.Text.{is_separator, WordRun, runs_from}
-use Rattle.fixed_worth.specs.Laws.{IsField, AreInOrder, LiesIn, AreFields}
+use Rattle.fixed_worth.proofs.Common.{◌≡◌, ℕ, suc, zero, ◌+◌, ◌-◌, ◌<◌, ◌≤◌, inl, inr, true, false, not, List, [], ◌∷◌, length, take, drop, get_or, sym, ap, ◌∙◌, subst, arith, length-drop, All, position_or_len, get_or-drop, drop-drop, drop_all, All-nil, All-cons, length-prefix_len, prefix_len_passes, prefix_len_stops, cases_lt, common_steps}
+use Rattle.fixed_worth.specs.Prelude.{is_separator, WordRun, runs_from, IsField, AreInOrder, LiesIn, AreFields}
 use Rattle.fixed_worth.proofs.Cuts.{gap, gap_skipped, gap_stops, first_run}
 use Rattle.fixed_worth.proofs.Bits.{not_true}
-use Rattle.std.proofs.lemmas.Grind.{common_steps}
 
 -- the bytes of a gap, and of a run
 gap_byte : (line : List ℕ) (p k : ℕ) → k < gap (drop p line) → is_separator (get_or line (p + k) 0) ≡ true

@@ -1,23 +1,11 @@
 -- A decimal that stands first in a line: a sign, digits, a point and digits.
-use Rattle.std.proofs.Common.{◌≡◌, ℕ, suc, ◌+◌, ◌-◌, ◌*◌, ◌^◌, ◌<◌, ◌≤◌, Bool, true, false, cond, not, eqb, List, [], ◌∷◌, ◌++◌, length, take, drop, get_or, pos, refl, sym, ap, ◌∙◌, arith, lit<, length-append, append-nil, append_assoc, pow-add}
-use Rattle.std.specs.Prelude.{ℤ, ◌||◌, nat_lt, nat_le, neg_ℤ, Ok, Some, Result}
-use Rattle.std.specs.List.{list_all, position_or_len, before_first, after_first}
-use Rattle.std.proofs.lemmas.Bool.{and_from}
-use Rattle.std.proofs.lemmas.Bool.Decides.{nat_tests}
-use Rattle.std.proofs.lemmas.List.{drop_all, take-append-drop, length-take-le}
-use Rattle.std.proofs.lemmas.List.Folds.{list_all-append}
-use Rattle.std.proofs.Math.Nat.{mul-le-mul_left, pow-le-pow_right}
-use Rattle.std.proofs.Math.Seq.{drop-append_seam, take-length}
-use Rattle.fixed_worth.specs.Numeral.{is_digit, value_of, is_minus, unsigned_of}
-use Rattle.fixed_worth.specs.Decimal.{first_decimal, is_mark, is_point, whole_part, fraction_part, exponent_of, has_mark, decimal_of, rounded_of}
-use Rattle.fixed_worth.specs.Front.{MayFollow, BeginsWithField, BeginsWithFraction}
-use Rattle.fixed_worth.specs.Text.{WordRun, is_separator}
+use Rattle.fixed_worth.proofs.Common.{◌≡◌, ℕ, suc, ◌+◌, ◌-◌, ◌*◌, ◌^◌, ◌<◌, ◌≤◌, Bool, true, false, cond, not, eqb, List, [], ◌∷◌, ◌++◌, length, take, drop, get_or, pos, refl, sym, ap, ◌∙◌, arith, lit<, length-append, append-nil, append_assoc, pow-add, ℤ, ◌||◌, nat_lt, nat_le, neg_ℤ, Ok, Some, Result, list_all, position_or_len, before_first, after_first, and_from, nat_tests, drop_all, take-append-drop, length-take-le, list_all-append, mul-le-mul_left, pow-le-pow_right, drop-append_seam, take-length, common_steps}
+use Rattle.fixed_worth.specs.Prelude.{is_digit, value_of, is_minus, unsigned_of, first_decimal, is_mark, is_point, whole_part, fraction_part, exponent_of, has_mark, decimal_of, rounded_of, MayFollow, BeginsWithField, BeginsWithFraction, WordRun, is_separator}
 use Rattle.fixed_worth.specs.declared.numerals.NumberFault.{NumberFault}
 use Rattle.fixed_worth.proofs.Digits.{value_of-append, value_below}
 use Rattle.fixed_worth.proofs.FirstNumbers.{passed, begins_with}
 use Rattle.fixed_worth.proofs.Powers.{rounds_up, ten_positive}
 use Rattle.fixed_worth.proofs.Joined.{all_pass_weaker}
-use Rattle.std.proofs.lemmas.Grind.{common_steps}
 
 -- The bytes of a decimal without an exponent.
 abbrev is_plain_byte : ℕ → Bool

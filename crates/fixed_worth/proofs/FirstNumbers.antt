@@ -1,19 +1,9 @@
 -- A number that stands first in a line, and what is left behind it.
-use Rattle.std.proofs.Common.{◌≡◌, ℕ, ◌+◌, ◌-◌, ◌*◌, ◌<◌, ◌≤◌, Bool, true, false, not, List, [], ◌∷◌, ◌++◌, length, take, drop, get_or, refl, sym, ap, ◌∙◌, arith}
-use Rattle.std.specs.Prelude.{Some, None, Result, Ok}
-use Rattle.std.specs.List.{list_all, position_or_len}
-use Rattle.std.proofs.lemmas.List.{take_more, length-drop, take-append-drop, length-take-le}
-use Rattle.std.proofs.lemmas.List.Folds.{list_all_more}
-use Rattle.std.proofs.lemmas.List.Sums.{prefix_len_stops}
-use Rattle.std.proofs.lemmas.Bool.{and_parts, and_from}
+use Rattle.fixed_worth.proofs.Common.{◌≡◌, ℕ, ◌+◌, ◌-◌, ◌*◌, ◌<◌, ◌≤◌, Bool, true, false, not, List, [], ◌∷◌, ◌++◌, length, take, drop, get_or, refl, sym, ap, ◌∙◌, arith, Some, None, Result, Ok, list_all, position_or_len, take_more, length-drop, take-append-drop, length-take-le, list_all_more, prefix_len_stops, and_parts, and_from, common_steps}
 use Rattle.fixed_worth.specs.declared.numerals.NumberFault.{NumberFault}
-use Rattle.fixed_worth.specs.Front.{BeginsWithField}
-use Rattle.fixed_worth.specs.Numeral.{is_digit, value_of, whole_of}
-use Rattle.fixed_worth.specs.Record.{first_whole, reads, is_remark}
-use Rattle.fixed_worth.specs.Text.{WordRun, is_separator, runs_from}
+use Rattle.fixed_worth.specs.Prelude.{BeginsWithField, is_digit, value_of, whole_of, first_whole, reads, is_remark, WordRun, is_separator, runs_from}
 use Rattle.fixed_worth.proofs.Cuts.{first_run}
 use Rattle.fixed_worth.proofs.Digits.{value_of-append, value_below, power_fits}
-use Rattle.std.proofs.lemmas.Grind.{common_steps}
 
 -- one more digit behind those that are read
 pub one_more : (text : List ℕ) (i : ℕ) → i < length text → value_of (take (i + 1) text) ≡ value_of (take i text) * 10 + (get_or text i 0 - 48)

@@ -1,14 +1,7 @@
 -- Lines and words that are put together are cut apart again.
-use Rattle.std.proofs.Common.{◌≡◌, ℕ, ◌+◌, Bool, true, false, not, eqb, List, [], ◌∷◌, ◌++◌, length, refl, sym, ap, ◌∙◌, subst, arith, append-nil}
-use Rattle.std.specs.Prelude.{◌&&◌, map, nat_lt}
-use Rattle.std.specs.List.{list_all, flat_map, position_or_len}
-use Rattle.std.proofs.lemmas.Bool.{not-true, and_parts, and_from}
-use Rattle.std.proofs.lemmas.List.Folds.{list_all-append}
-use Rattle.std.proofs.Math.Seq.{take-append_seam, drop-append_seam}
-use Rattle.fixed_worth.specs.Text.{lines_of, fields_of, is_separator, runs_from}
-use Rattle.fixed_worth.specs.Laws.{with_line_feeds}
+use Rattle.fixed_worth.proofs.Common.{◌≡◌, ℕ, ◌+◌, Bool, true, false, not, eqb, List, [], ◌∷◌, ◌++◌, length, refl, sym, ap, ◌∙◌, subst, arith, append-nil, ◌&&◌, map, nat_lt, list_all, flat_map, position_or_len, not-true, and_parts, and_from, list_all-append, take-append_seam, drop-append_seam, common_steps}
+use Rattle.fixed_worth.specs.Prelude.{lines_of, fields_of, is_separator, runs_from, with_line_feeds}
 use Rattle.fixed_worth.proofs.Cuts.{Runs, first_run}
-use Rattle.std.proofs.lemmas.Grind.{common_steps}
 
 -- ---- tests of all bytes
 

@@ -1,11 +1,7 @@
 -- How long a printed amount is.
-use Rattle.std.proofs.Common.{ℕ, suc, ◌+◌, ◌/◌, ◌^◌, ◌<◌, ◌≤◌, eqb, List, [], ◌∷◌, length, replicate, ℤ, arith, length-append, lit<}
-use Rattle.std.specs.Prelude.{unsigned_abs}
-use Rattle.std.proofs.lemmas.List.{length-replicate}
-use Rattle.std.proofs.lemmas.Fmt.{length-decimal-le_wide}
+use Rattle.fixed_worth.proofs.Common.{ℕ, suc, ◌+◌, ◌/◌, ◌^◌, ◌<◌, ◌≤◌, eqb, List, [], ◌∷◌, length, replicate, ℤ, arith, length-append, lit<, unsigned_abs, length-replicate, length-decimal-le_wide, common_steps}
 use Rattle.fixed_worth.specs.Printed.{digit_before, without_trailing_zeros, fraction_text, amount_text}
 use Rattle.fixed_worth.proofs.Powers.{rest_below}
-use Rattle.std.proofs.lemmas.Grind.{common_steps}
 
 before_short : (d : ℕ) (ds : List ℕ) (n : ℕ) → length ds ≤ n → length (digit_before d ds) ≤ suc n
 before_short d ds n h = grind (arith, common_steps)

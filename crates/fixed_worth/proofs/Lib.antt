@@ -1,3 +1,4 @@
+pub mod Common
 pub mod Cuts
 pub mod Searched
 pub mod Digits

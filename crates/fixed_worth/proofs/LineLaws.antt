@@ -1,10 +1,6 @@
 -- The lines of a text give it back.
-use Rattle.std.proofs.Common.{◌≡◌, ℕ, suc, ◌<◌, Bool, false, eqb, List, [], ◌∷◌, length, get_or, refl, arith, All, EachIndex}
-use Rattle.std.specs.List.{onto_first}
-use Rattle.std.proofs.lemmas.List.Elements.{All-nil, All-cons}
-use Rattle.fixed_worth.specs.Text.{lines_of}
-use Rattle.fixed_worth.specs.Laws.{with_last_line_feed, with_line_feeds, AreLines}
-use Rattle.std.proofs.lemmas.Grind.{common_steps}
+use Rattle.fixed_worth.proofs.Common.{◌≡◌, ℕ, suc, ◌<◌, Bool, false, eqb, List, [], ◌∷◌, length, get_or, refl, arith, All, EachIndex, onto_first, All-nil, All-cons, common_steps}
+use Rattle.fixed_worth.specs.Prelude.{lines_of, with_last_line_feed, with_line_feeds, AreLines}
 
 abbrev pub NoLineFeed : List ℕ → Type 0
 NoLineFeed line = EachIndex line (λ k. eqb (get_or line k 0) 10 ≡ false)

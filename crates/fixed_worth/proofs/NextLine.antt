@@ -1,10 +1,7 @@
 -- The next line of a text, and what is left behind it.
-use Rattle.std.proofs.Common.{◌≡◌, ℕ, ◌+◌, ◌≤◌, false, List, ◌∷◌, length, refl, arith}
-use Rattle.std.specs.Prelude.{nat_lt}
-use Rattle.std.proofs.lemmas.Bool.Decides.{nat_tests}
+use Rattle.fixed_worth.proofs.Common.{◌≡◌, ℕ, ◌+◌, ◌≤◌, false, List, ◌∷◌, length, refl, arith, nat_lt, nat_tests}
 use Rattle.fixed_worth.specs.declared.limits.TheConstants.{LINE_BYTES}
-use Rattle.fixed_worth.specs.Text.{Left}
-use Rattle.fixed_worth.specs.Record.{Line, numbered_lines}
+use Rattle.fixed_worth.specs.Prelude.{Left, Line, numbered_lines}
 
 abbrev pub line : ℕ → List ℕ → Line
 line k text = record { number = k; text = text }

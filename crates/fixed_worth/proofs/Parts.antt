@@ -1,15 +1,10 @@
 -- What the search of a byte cuts a text into.
-use Rattle.std.proofs.Common.{◌≡◌, ℕ, ◌<◌, eqb, List, [], ◌∷◌, length, take, drop, Some, None, sym, arith}
-use Rattle.std.specs.List.{position}
-use Rattle.std.proofs.lemmas.List.Quantifiers.{position-Some}
-use Rattle.std.proofs.lemmas.List.Sums.{fails_before_first}
-use Rattle.std.proofs.lemmas.List.Splits.{length-slice_split, slice_split_none, slice_split_first}
+use Rattle.fixed_worth.proofs.Common.{◌≡◌, ℕ, ◌<◌, eqb, List, [], ◌∷◌, length, take, drop, Some, None, sym, arith, position, position-Some, fails_before_first, length-slice_split, slice_split_none, slice_split_first, common_steps}
 use Rattle.std.proofs.Math.Seq.{drop-drop}
 use Rattle.memchr.specs.Find.{IsFirstByte, is_byte}
 use Rattle.fixed_worth.specs.Text.{parts}
 use Rattle.fixed_worth.proofs.Cuts.{position_none}
 use Rattle.fixed_worth.proofs.Searched.{first_place}
-use Rattle.std.proofs.lemmas.Grind.{common_steps}
 
 -- There is always a part.
 pub some_part : (c : ℕ) (bs : List ℕ) → 0 < length (parts c bs)

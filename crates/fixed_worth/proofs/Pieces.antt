@@ -1,11 +1,6 @@
 -- A text that is sent in pieces: what the writer received of each makes up what it received of all.
-use Rattle.std.proofs.Common.{◌≡◌, ℕ, ◌+◌, ◌≤◌, List, [], ◌++◌, length, take, drop, Option, refl, sym, subst, append_assoc, append-nil, length-append, arith}
-use Rattle.std.proofs.Math.Seq.{take-append-add, take-add}
-use Rattle.std.proofs.lemmas.List.{take-append-le, take_all}
-use Rattle.std.proofs.KnownBytes.{Appends-trans, Appends-nil, Appends-kept}
-use Rattle.std.specs.Io.KnownBytes.{Appends, Keeps}
+use Rattle.fixed_worth.proofs.Common.{◌≡◌, ℕ, ◌+◌, ◌≤◌, List, [], ◌++◌, length, take, drop, Option, refl, sym, subst, append_assoc, append-nil, length-append, arith, take-append-add, take-add, take-append-le, take_all, Appends-trans, Appends-nil, Appends-kept, Appends, Keeps, common_steps}
 use Rattle.fixed_worth.specs.Device.{ReceivedPrefix, SentOrHeld}
-use Rattle.std.proofs.lemmas.Grind.{common_steps}
 
 -- ---- all of a piece, or a prefix of it
 

@@ -1,16 +1,7 @@
 -- A plain number is what its value prints.
-use Rattle.std.proofs.Common.{◌≡◌, ℕ, zero, suc, ◌+◌, ◌-◌, ◌/◌, ◌%◌, ◌^◌, ◌<◌, ◌≤◌, Bool, true, eqb, List, [], ◌∷◌, ◌++◌, length, ℤ, pos, negsuc, neg_ℤ, refl, sym, ap, ◌∙◌, subst, arith, append_assoc, append-nil, length-append, Ok}
-use Rattle.std.specs.Prelude.{◌&&◌, nat_lt, nat_le, FitsSigned}
-use Rattle.std.specs.Int.{w128}
-use Rattle.std.specs.List.{list_all}
-use Rattle.std.specs.Fmt.{decimal, signed_decimal}
-use Rattle.std.proofs.lemmas.Fmt.{decimal_digit, decimal_step_wide, decimal_by_steps_wide, length-decimal-le_wide}
-use Rattle.std.proofs.lemmas.Bool.Decides.{nat_tests}
-use Rattle.std.proofs.lemmas.Int.{ints}
+use Rattle.fixed_worth.proofs.Common.{◌≡◌, ℕ, zero, suc, ◌+◌, ◌-◌, ◌/◌, ◌%◌, ◌^◌, ◌<◌, ◌≤◌, Bool, true, eqb, List, [], ◌∷◌, ◌++◌, length, ℤ, pos, negsuc, neg_ℤ, refl, sym, ap, ◌∙◌, subst, arith, append_assoc, append-nil, length-append, Ok, ◌&&◌, nat_lt, nat_le, FitsSigned, w128, list_all, decimal, signed_decimal, decimal_digit, decimal_step_wide, decimal_by_steps_wide, length-decimal-le_wide, nat_tests, ints, pow-le-pow_right, common_steps}
 use Rattle.fixed_worth.specs.Numeral.{is_digit, value_of, digits_of, below, signed_of, begins_above_zero, is_plain, plain_of}
-use Rattle.std.proofs.Math.Nat.{pow-le-pow_right}
 use Rattle.fixed_worth.proofs.Digits.{value_of-append}
-use Rattle.std.proofs.lemmas.Grind.{common_steps}
 
 is_digit_so : (b : ℕ) (r : Bool) → (is_digit b && r) ≡ true → (48 ≤ b) × (b ≤ 57) × (r ≡ true)
 is_digit_so b r h = grind (arith, common_steps)

@@ -1,9 +1,6 @@
 -- Powers of ten.
-use Rattle.std.proofs.Common.{◌≡◌, ℕ, suc, ◌+◌, ◌-◌, ◌*◌, ◌/◌, ◌%◌, ◌^◌, ◌<◌, ◌≤◌, arith, lit<, pow-add}
-use Rattle.std.proofs.Math.Nat.{pow-succ', one-le-pow, mul-le-mul_left, pow-le-pow_right, mul-div_cancel_left, div-div-eq-div-mul}
-use Rattle.std.proofs.lemmas.Nat.{div-mul-add}
+use Rattle.fixed_worth.proofs.Common.{◌≡◌, ℕ, suc, ◌+◌, ◌-◌, ◌*◌, ◌/◌, ◌%◌, ◌^◌, ◌<◌, ◌≤◌, arith, lit<, pow-add, pow-succ', one-le-pow, mul-le-mul_left, pow-le-pow_right, mul-div_cancel_left, div-div-eq-div-mul, div-mul-add, common_steps}
 use Rattle.fixed_worth.specs.Decimal.{rounded_of}
-use Rattle.std.proofs.lemmas.Grind.{common_steps}
 
 pub ten_positive : (k : ℕ) → 1 ≤ 10 ^ k
 ten_positive k = one-le-pow k 10 (lit< tt)

@@ -1,10 +1,6 @@
 -- Zeros, and digits without the zeros at their end, are digits.
-use Rattle.std.proofs.Common.{◌≡◌, ℕ, zero, suc, true, List, [], ◌∷◌, replicate, refl, arith}
-use Rattle.std.specs.List.{list_all}
-use Rattle.std.proofs.lemmas.Bool.{and_parts}
-use Rattle.fixed_worth.specs.Numeral.{is_digit}
-use Rattle.fixed_worth.specs.Printed.{without_trailing_zeros}
-use Rattle.std.proofs.lemmas.Grind.{common_steps}
+use Rattle.fixed_worth.proofs.Common.{◌≡◌, ℕ, zero, suc, true, List, [], ◌∷◌, replicate, refl, arith, list_all, and_parts, common_steps}
+use Rattle.fixed_worth.specs.Prelude.{is_digit, without_trailing_zeros}
 
 pub trimmed_digits : (ds : List ℕ) → list_all is_digit ds ≡ true → list_all is_digit (without_trailing_zeros ds) ≡ true
 trimmed_digits [] h = refl

@@ -1,11 +1,6 @@
 -- A search of a byte finds its first place.
-use Rattle.std.proofs.Common.{◌≡◌, ℕ, ◌==◌, List, Option, None, Some, length, get_or, arith}
-use Rattle.std.specs.Prelude.{position}
-use Rattle.std.proofs.lemmas.Bool.{false_from_ne_true}
-use Rattle.std.proofs.lemmas.Bool.Decides.{nat_tests}
-use Rattle.std.proofs.lemmas.List.Sums.{position_or_len_is}
+use Rattle.fixed_worth.proofs.Common.{◌≡◌, ℕ, ◌==◌, List, Option, None, Some, length, get_or, arith, position, false_from_ne_true, nat_tests, position_or_len_is, common_steps}
 use Rattle.memchr.specs.Find.{IsFirstByte, is_byte}
-use Rattle.std.proofs.lemmas.Grind.{common_steps}
 
 pub first_place : (a : ℕ) (xs : List ℕ) (r : Option ℕ) → IsFirstByte (is_byte a) xs r → r ≡ position (λ b. b == a) xs
 first_place a xs None h =

@@ -1,8 +1,6 @@
 -- What the pieces of a printed amount are together.
-use Rattle.std.proofs.Common.{◌≡◌, ℕ, ◌-◌, ◌^◌, ◌<◌, false, List, [], ◌∷◌, ◌++◌, length, replicate, refl, arith}
-use Rattle.std.specs.Fmt.{format_spec, styled_decimal, padded_integral, char_count}
+use Rattle.fixed_worth.proofs.Common.{◌≡◌, ℕ, ◌-◌, ◌^◌, ◌<◌, false, List, [], ◌∷◌, ◌++◌, length, replicate, refl, arith, format_spec, styled_decimal, padded_integral, char_count, common_steps}
 use Rattle.fixed_worth.specs.Printed.{fixed_width, without_trailing_zeros, fraction_text}
-use Rattle.std.proofs.lemmas.Grind.{common_steps}
 
 -- under `0` a number is printed with zeros before it
 pub zeros_before : (w : ℕ) (ds : List ℕ) → padded_integral (format_spec 32 0 4 w (2 ^ 64 - 1)) false [] ds ≡ replicate (w - length ds) 48 ++ ds

@@ -1,17 +1,8 @@
 -- A number that is written in decimal is read back.
-use Rattle.std.proofs.Common.{◌≡◌, ℕ, suc, ◌+◌, ◌/◌, ◌%◌, ◌^◌, ◌<◌, ◌≤◌, Bool, true, false, not, eqb, List, [], ◌∷◌, ◌++◌, length, Ok, refl, ap, arith}
-use Rattle.std.specs.Prelude.{map, is_ok, All}
-use Rattle.std.specs.Result.{result_unwrap_or}
-use Rattle.std.specs.List.{list_all}
-use Rattle.std.specs.Fmt.{decimal}
-use Rattle.std.proofs.lemmas.Bool.{and_from}
-use Rattle.std.proofs.lemmas.Fmt.{decimal_by_steps_wide, length-decimal-le}
-use Rattle.fixed_worth.specs.Numeral.{is_digit, value_of, whole_of}
-use Rattle.fixed_worth.specs.Record.{is_remark, reads, number_of}
-use Rattle.fixed_worth.specs.Text.{is_separator}
+use Rattle.fixed_worth.proofs.Common.{◌≡◌, ℕ, suc, ◌+◌, ◌/◌, ◌%◌, ◌^◌, ◌<◌, ◌≤◌, Bool, true, false, not, eqb, List, [], ◌∷◌, ◌++◌, length, Ok, refl, ap, arith, map, is_ok, All, result_unwrap_or, list_all, decimal, and_from, decimal_by_steps_wide, length-decimal-le, common_steps}
+use Rattle.fixed_worth.specs.Prelude.{is_digit, value_of, whole_of, is_remark, reads, number_of, is_separator}
 use Rattle.fixed_worth.proofs.Digits.{value_of-append}
 use Rattle.fixed_worth.proofs.Joined.{all_pass_weaker, is_word, is_one_line}
-use Rattle.std.proofs.lemmas.Grind.{common_steps}
 
 -- The text is digits, at least one, of this value.
 record IsWritten (n : ℕ) (text : List ℕ) : Type 0 where

@@ -13,3 +13,5 @@ pub mod Device
 pub mod FaultText
 -- for this crate alone: what stands first in a text
 pub mod Front
+-- the names of all of them
+pub mod Prelude

@@ -1,20 +1,15 @@
 -- A flow that a run leaves over a net with its negative worths cut solves the net itself.
-use Rattle.std.proofs.Common.{◌≡◌, ℕ, ◌<◌, Bool, true, false, List, length, inl, inr, refl, ap, sym, ◌∙◌, subst, arith, All}
-use Rattle.std.proofs.lemmas.Int.{ints}
-use Rattle.ordered_group.specs.Amount.{Amount, zero_amount, plus, minus, AtMost, Below, positive, negative}
-use Rattle.ordered_group.specs.Sums.{total, where_so, amount_at}
+use Rattle.fixed_worth.proofs.Common.{◌≡◌, ℕ, ◌<◌, Bool, true, false, List, length, inl, inr, refl, ap, sym, ◌∙◌, subst, arith, All, ints}
+use Rattle.ordered_group.specs.Prelude.{Amount, zero_amount, plus, minus, AtMost, Below, positive, negative, total, where_so, amount_at}
 use Rattle.ordered_group.proofs.Order.{AtMost-refl, AtMost-both, Below-most, most_or_below, positive-negative, larger_amount-right}
 use Rattle.ordered_group.proofs.Totals.{total-same, total-plus, total_mono, total_term, total_nonneg, total_none_each, where_nonneg}
 use Rattle.prec_file.specs.Rests.{IsKnown}
-use Rattle.closure_net.specs.Network.{NetView, FlowView}
-use Rattle.closure_net.specs.Flows.{residual_at, source_residual, IsFlow, IsTight}
-use Rattle.closure_net.specs.Reached.{Reaches, IsReached}
+use Rattle.closure_net.specs.Prelude.{NetView, FlowView, residual_at, source_residual, IsFlow, IsTight, Reaches, IsReached}
 use Rattle.closure_net.proofs.Duality.{PairsKnown, greatest_from_tight}
 use Rattle.machine_law.specs.Conservation.{all_given}
 use Rattle.machine_law.proofs.Numbers.{same, equal}
 use Rattle.machine_law.proofs.Quiet.{quiet_solves}
-use Rattle.word_runner.specs.CutNets.{IsCut, net_with_worths}
-use Rattle.word_runner.specs.Runs.{IsQuietRunOf}
+use Rattle.word_runner.specs.Prelude.{IsCut, net_with_worths, IsQuietRunOf}
 use Rattle.lock_free_engine.specs.Tightness.{RunsAreTight}
 
 -- ---- a block that takes all that there is

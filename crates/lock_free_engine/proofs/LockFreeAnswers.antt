@@ -1,9 +1,7 @@
 -- From a run without a lock to what is written of it.
-use Rattle.std.proofs.Common.{ℕ, List, refl, sym, subst, Option, Result, Ok, Err, inl, inr}
-use Rattle.std.specs.Prelude.{MatchResult}
+use Rattle.fixed_worth.proofs.Common.{ℕ, List, refl, sym, subst, Option, Result, Ok, Err, inl, inr, MatchResult}
 use Rattle.closure_net.specs.Network.{NetView, FlowView, IsNet}
-use Rattle.word_runner.specs.Openings.{AreNeitherOneNorTwo}
-use Rattle.word_runner.specs.Ends.{IsSolvedBy, WordSolveFaultStands}
+use Rattle.word_runner.specs.Prelude.{AreNeitherOneNorTwo, IsSolvedBy, WordSolveFaultStands}
 use Rattle.workers.specs.declared.solving.SolveFault.{SolveFault}
 use Rattle.workers.specs.declared.solving.SolveFault.TheVariants as run
 use Rattle.check_pit.specs.Checks.{IsSound}
@@ -12,15 +10,10 @@ use Rattle.certificate_file.specs.declared.header.Price.{Price}
 use Rattle.engines.specs.declared.judgement.Verdict.{Verdict}
 use Rattle.mine_inputs.specs.declared.engine_fault.EngineFault.{EngineFault}
 use Rattle.engines.specs.declared.solvers.Unsolved.{Unsolved}
-use Rattle.engines.specs.declared.solvers.Unsolved.TheVariants.{Unsettled, TooLarge, GaveUp, NoMemory, NoThread, Stranger}
-use Rattle.engines.specs.Solving.{unsolved_by}
-use Rattle.engines.specs.NetAnswers.{SendsCertificate, SendsLine, SendsNo, certificate_text, unsettled_line, too_large_line}
-use Rattle.engines.specs.Readings.{counts_by}
-use Rattle.engines.specs.Certification.{IsRefusedFlow}
+use Rattle.engines.specs.declared.solvers.Unsolved.TheVariants.{Unsettled, TooLarge, NoMemory, NoThread}
+use Rattle.engines.specs.Prelude.{unsolved_by, SendsCertificate, SendsLine, SendsNo, certificate_text, unsettled_line, too_large_line, counts_by, IsRefusedFlow}
 use Rattle.engines.proofs.RefusedRuns.{refused_for_size}
-use Rattle.lock_free_engine.specs.Tightness.{RunsAreTight}
-use Rattle.lock_free_engine.specs.LockFreeRuns.{LockFreeCheckOverflows, LockFreeStands}
-use Rattle.lock_free_engine.specs.LockFreeSolving.{IsNoWithoutLock, SolvesNetWithoutLock, lock_free_group}
+use Rattle.lock_free_engine.specs.Prelude.{RunsAreTight, LockFreeCheckOverflows, LockFreeStands, IsNoWithoutLock, SolvesNetWithoutLock, lock_free_group}
 
 -- what the source reaches in the flow of a run is refused for sums that overflow, and nothing else
 pub check_overflows : RunsAreTight → (net : NetView) (workers limit : ℕ) (flow : FlowView) (steps : ℕ) (fault : PitFault) → IsNet net → IsSolvedBy net workers limit flow steps → IsRefusedFlow net flow fault → LockFreeCheckOverflows net workers limit
@@ -34,8 +27,7 @@ fault_stands net workers limit run.BadWorkers few h = absurd (few h)
 fault_stands net workers limit run.Unsettled few h = h.1
 fault_stands net workers limit run.TooLarge few h = inl h.1
 fault_stands net workers limit run.StrangerNet few h = absurd h
-fault_stands net workers limit run.NoMemory few h = tt
-fault_stands net workers limit run.NoThread few h = tt
+fault_stands net workers limit fault few h = tt
 
 module _ (price : Price) (net : NetView) (workers limit : ℕ) (old new : Option (List ℕ)) where
   sent : (pit : List ℕ) (flow : FlowView) (r : Result Verdict EngineFault) → IsSound net flow pit → SendsCertificate (counts_by lock_free_group) lock_free_group price net pit flow old new r → SolvesNetWithoutLock price net workers limit old new r
@@ -49,10 +41,9 @@ module _ (price : Price) (net : NetView) (workers limit : ℕ) (old new : Option
   said_no : (why : Unsolved) (r : Result Verdict EngineFault) → LockFreeStands net workers limit why → SendsNo why old new r → SolvesNetWithoutLock price net workers limit old new r
   said_no Unsettled r h a = said unsettled_line r (inl (h, refl)) a
   said_no TooLarge r h a = said too_large_line r (inr (h, refl)) a
-  said_no GaveUp r h a = absurd h
-  said_no Stranger r h a = absurd h
   said_no NoMemory r h a = subst (λ (x : Result Verdict EngineFault). SolvesNetWithoutLock price net workers limit old new x) (sym a.0) a.1
   said_no NoThread r h a = subst (λ (x : Result Verdict EngineFault). SolvesNetWithoutLock price net workers limit old new x) (sym a.0) a.1
+  said_no why r h a = absurd h
 
   -- what is found, with its flow and its pit in any terms, and what is written for it
   pub answered : {A : Type 0} (flow : A → FlowView) (pit : A → List ℕ) (Is : A → Type 0) (found : Result A Unsolved) (r : Result Verdict EngineFault) → ((s : A) → Is s → IsSound net (flow s) (pit s)) → MatchResult found Is (λ why. LockFreeStands net workers limit why)

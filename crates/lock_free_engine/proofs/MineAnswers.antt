@@ -2,8 +2,7 @@
 use Rattle.std.proofs.Common.{◌≡◌, ℕ, ℤ, Bool, List, length, subst, Option, Result, Ok, Err, inl, inr}
 use Rattle.ordered_group.specs.Amount.{Amount}
 use Rattle.prec_file.specs.Rests.{RestsView}
-use Rattle.closure_net.specs.Network.{NetView}
-use Rattle.closure_net.specs.Faults.{WorthsFaultStands}
+use Rattle.closure_net.specs.Prelude.{NetView, WorthsFaultStands}
 use Rattle.closure_net.specs.declared.net.NetFault.{NetFault}
 use Rattle.closure_net.specs.declared.net.NetFault.TheVariants as net_fault
 use Rattle.engines.specs.declared.judgement.Verdict.TheVariants.{Done, No}
@@ -11,11 +10,8 @@ use Rattle.engines.specs.declared.judgement.Verdict.{Verdict}
 use Rattle.mine_inputs.specs.declared.engine_fault.EngineFault.{EngineFault}
 use Rattle.mine_inputs.specs.declared.engine_fault.EngineFault.TheVariants as engine
 use Rattle.engines.specs.declared.method.Method.TheVariants.{PushRelabel}
-use Rattle.mine_inputs.specs.FaultStands.{MineFails}
-use Rattle.mine_inputs.specs.ReadMines.{AreRead, of_model}
-use Rattle.engines.specs.Readings.{IsGroupNamed, counts_by}
-use Rattle.mine_inputs.specs.Mines.{MineTexts, price_wanted}
-use Rattle.engines.specs.Solving.{IsNetBy, SolveFails, Solves}
+use Rattle.mine_inputs.specs.Prelude.{MineFails, AreRead, of_model, MineTexts, price_wanted}
+use Rattle.engines.specs.Prelude.{IsGroupNamed, counts_by, IsNetBy, SolveFails, Solves}
 use Rattle.engines.proofs.Answered.{keeps_self}
 use Rattle.engines.proofs.Solutions.{certificate_is, unmade}
 use Rattle.lock_free_engine.specs.LockFreeSolving.{lock_free_group, FailsWithoutLock, AtFaultWithoutLock, SolvesWithoutLock, SolvesNetWithoutLock}
@@ -24,33 +20,11 @@ use Rattle.lock_free_engine.specs.LockFreeSolving.{lock_free_group, FailsWithout
 
 at_fault : (texts : MineTexts) (workers limit : ℕ) (w : Option (List ℕ)) (fault : EngineFault) → AtFaultWithoutLock texts workers limit w w fault
 at_fault texts workers limit w engine.Device = inl (keeps_self w)
-at_fault texts workers limit w engine.Memory = keeps_self w
-at_fault texts workers limit w engine.Thread = keeps_self w
-at_fault texts workers limit w engine.Stranger = keeps_self w
-at_fault texts workers limit w (engine.Upit q) = keeps_self w
-at_fault texts workers limit w (engine.Prec q) = keeps_self w
-at_fault texts workers limit w (engine.Model q) = keeps_self w
-at_fault texts workers limit w (engine.Certificate q) = keeps_self w
-at_fault texts workers limit w (engine.Trace q) = keeps_self w
-at_fault texts workers limit w (engine.Blocks q) = keeps_self w
-at_fault texts workers limit w (engine.Slope q) = keeps_self w
-at_fault texts workers limit w (engine.Settings q) = keeps_self w
-at_fault texts workers limit w (engine.Prices q) = keeps_self w
+at_fault texts workers limit w fault = keeps_self w
 
 fails : (texts : MineTexts) (fault : EngineFault) → ¬ (fault ≡ engine.Stranger) → SolveFails texts lock_free_group fault → FailsWithoutLock texts fault
 fails texts engine.Stranger n h = absurd (n (λ i. engine.Stranger))
-fails texts engine.Device n h = h
-fails texts engine.Memory n h = h
-fails texts engine.Thread n h = h
-fails texts (engine.Upit q) n h = h
-fails texts (engine.Prec q) n h = h
-fails texts (engine.Model q) n h = h
-fails texts (engine.Certificate q) n h = h
-fails texts (engine.Trace q) n h = h
-fails texts (engine.Blocks q) n h = h
-fails texts (engine.Slope q) n h = h
-fails texts (engine.Settings q) n h = h
-fails texts (engine.Prices q) n h = h
+fails texts fault n h = h
 
 -- a fault that stands for a run under a lock stands here too
 as_locked : (texts : MineTexts) (workers limit : ℕ) (w : Option (List ℕ)) (fault : EngineFault) → ¬ (fault ≡ engine.Stranger) → Solves texts lock_free_group PushRelabel limit w w (Err fault) → SolvesWithoutLock texts workers limit w w (Err fault)
@@ -58,8 +32,7 @@ as_locked texts workers limit w fault n h = (fails texts fault n h.0, at_fault t
 
 no_stranger : (fault : NetFault) → ¬ (of_model fault ≡ engine.Stranger)
 no_stranger net_fault.WrongLength e = absurd cc
-no_stranger net_fault.TooLarge e = absurd cc
-no_stranger net_fault.NoMemory e = absurd cc
+no_stranger fault e = absurd cc
 
 -- there is no net of the mine
 pub unmade_without_lock : (block : ℤ → ℕ → Amount) (counts : Bool) (texts : MineTexts) (rests : RestsView) (worths : List ℤ) (workers limit : ℕ) (w : Option (List ℕ)) (fault : NetFault) → AreRead texts worths rests → IsGroupNamed lock_free_group block counts → WorthsFaultStands block rests.blocks worths fault → SolvesWithoutLock texts workers limit w w (Err (of_model fault))
@@ -73,16 +46,7 @@ module _ (block : ℤ → ℕ → Amount) (texts : MineTexts) (net : NetView) (w
   solved_without_lock (Err engine.Memory) h = (tt, h)
   solved_without_lock (Err engine.Thread) h = ((length net.worths, by.mine), h)
   solved_without_lock (Err engine.Device) h = (tt, inr (net, by, h.0, h.1, h.2))
-  solved_without_lock (Err engine.Stranger) h = absurd h
-  solved_without_lock (Err (engine.Upit q)) h = absurd h
-  solved_without_lock (Err (engine.Prec q)) h = absurd h
-  solved_without_lock (Err (engine.Model q)) h = absurd h
-  solved_without_lock (Err (engine.Certificate q)) h = absurd h
-  solved_without_lock (Err (engine.Trace q)) h = absurd h
-  solved_without_lock (Err (engine.Blocks q)) h = absurd h
-  solved_without_lock (Err (engine.Slope q)) h = absurd h
-  solved_without_lock (Err (engine.Settings q)) h = absurd h
-  solved_without_lock (Err (engine.Prices q)) h = absurd h
+  solved_without_lock (Err _) h = absurd h
 
 -- the texts of the mine were not read
 pub unread : (texts : MineTexts) (workers limit : ℕ) (w : Option (List ℕ)) (e : EngineFault) → MineFails texts e → Solves texts lock_free_group PushRelabel limit w w (Err e) → SolvesWithoutLock texts workers limit w w (Err e)

@@ -1,15 +1,13 @@
 -- Why a run without a lock proves no pit.
 use Rattle.std.specs.Prelude.{ℕ, ◌⊎◌, List}
 use Rattle.ordered_group.specs.Amount.{AtMost}
-use Rattle.closure_net.specs.Network.{NetView, FlowView, holds_of}
-use Rattle.closure_net.specs.Reached.{IsReached}
+use Rattle.closure_net.specs.Prelude.{NetView, FlowView, holds_of, IsReached}
 use Rattle.machine_law.specs.Conservation.{all_given}
-use Rattle.word_runner.specs.Layout.{units}
-use Rattle.word_runner.specs.Ends.{IsSolvedBy, SomeCutRunIsTooLarge}
+use Rattle.word_runner.specs.Prelude.{units, IsSolvedBy, SomeCutRunIsTooLarge}
 use Rattle.check_pit.specs.Checks.{IsOfNet, PitFaultStands}
 use Rattle.check_pit.specs.declared.pit_fault.PitFault.TheVariants as pit_fault
 use Rattle.engines.specs.declared.solvers.Unsolved.{Unsolved}
-use Rattle.engines.specs.declared.solvers.Unsolved.TheVariants.{Unsettled, TooLarge, GaveUp, NoMemory, NoThread, Stranger}
+use Rattle.engines.specs.declared.solvers.Unsolved.TheVariants.{Unsettled, TooLarge, NoMemory, NoThread}
 
 -- what the source gives in all is below 2^63 units, and so the net has words
 abbrev pub HasWords : NetView → Type 0
@@ -38,7 +36,6 @@ SomeLockFreeNumberOverflows net workers limit = SomeWordOverflows net ⊎ LockFr
 abbrev pub LockFreeStands : NetView → ℕ → ℕ → Unsolved → Type 0
 LockFreeStands net workers limit Unsettled = HasWords net
 LockFreeStands net workers limit TooLarge = SomeLockFreeNumberOverflows net workers limit
-LockFreeStands net workers limit GaveUp = ⊥
 LockFreeStands net workers limit NoMemory = Unit {0}
 LockFreeStands net workers limit NoThread = Unit {0}
-LockFreeStands net workers limit Stranger = ⊥
+LockFreeStands net workers limit _ = ⊥

@@ -11,9 +11,7 @@ use Rattle.engines.specs.declared.judgement.Verdict.TheVariants.{Done, No}
 use Rattle.mine_inputs.specs.declared.engine_fault.EngineFault.{EngineFault}
 use Rattle.mine_inputs.specs.declared.engine_fault.EngineFault.TheVariants as engine
 use Rattle.mine_inputs.specs.Mines.{MineTexts, price_wanted}
-use Rattle.engines.specs.Readings.{counts_by}
-use Rattle.engines.specs.NetAnswers.{unsettled_line, too_large_line}
-use Rattle.engines.specs.Solving.{IsCertificateOf, IsTextOf, IsCertificate, IsNetBy, SolveFails}
+use Rattle.engines.specs.Prelude.{counts_by, unsettled_line, too_large_line, IsCertificateOf, IsTextOf, IsCertificate, IsNetBy, SolveFails}
 use Rattle.lock_free_engine.specs.LockFreeRuns.{HasWords, SomeLockFreeNumberOverflows}
 
 -- the amounts of a run without a lock

@@ -1,14 +1,12 @@
 -- Runs in which no ReadExcess sees zero: they go on by one step, and only a block without an operation reads its excess.
-use Rattle.std.proofs.Common.{◌≡◌, ℕ, List, [], ◌∷◌, ◌++◌, refl, subst, arith}
+use Rattle.fixed_worth.proofs.Common.{◌≡◌, ℕ, List, [], ◌∷◌, ◌++◌, refl, subst, arith, common_steps}
 use Rattle.ordered_group.specs.Amount.{Amount}
 use Rattle.closure_net.specs.Network.{NetView}
 use Rattle.machine_law.specs.declared.operations.Operation.{Operation}
 use Rattle.machine_law.specs.declared.operations.Operation.TheVariants.{Idle}
 use Rattle.machine_law.specs.declared.events.Event.{Event}
 use Rattle.machine_law.specs.declared.events.Kind.TheVariants.{ReadExcess}
-use Rattle.machine_law.specs.States.{State}
-use Rattle.machine_law.specs.Steps.{next_of, Step, Run, ReadsNoZero, ActiveRun}
-use Rattle.std.proofs.lemmas.Grind.{common_steps}
+use Rattle.machine_law.specs.Prelude.{State, next_of, Step, Run, ReadsNoZero, ActiveRun}
 
 -- ---- such a run is a run, and goes on by one step
 pub active_is_run : (allowed : State → Type 0) (net : NetView) (s : State) (es : List Event) (t : State) → ActiveRun allowed net s es t → Run net s es t

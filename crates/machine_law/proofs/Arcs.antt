@@ -1,18 +1,13 @@
 -- Sums over the backward arcs of a block.
-use Rattle.std.proofs.Common.{◌≡◌, ℕ, ◌<◌, ◌==◌, Bool, true, ◌&&◌, ◌⊎◌, inl, inr, length, refl, sym, arith}
-use Rattle.std.proofs.lemmas.Int.{ints}
-use Rattle.std.proofs.lemmas.Bool.{and_parts, and_from, cases_Bool, eqb-true, eq-eqb}
-use Rattle.ordered_group.specs.Amount.{Amount, zero_amount, plus, AtMost}
-use Rattle.ordered_group.specs.Sums.{total, where_so}
+use Rattle.fixed_worth.proofs.Common.{◌≡◌, ℕ, ◌<◌, ◌==◌, Bool, true, ◌&&◌, ◌⊎◌, inl, inr, length, refl, sym, arith, ints, and_parts, and_from, cases_Bool, eqb-true, eq-eqb, common_steps}
+use Rattle.ordered_group.specs.Prelude.{Amount, zero_amount, plus, AtMost, total, where_so}
 use Rattle.ordered_group.proofs.Order.{AtMost-refl, AtMost-same, AtMost-trans}
 use Rattle.ordered_group.proofs.Totals.{total_mono, total-none, total_term, where_so-plus, where_at, where_not, where_most, where_most_or, where_nonneg}
 use Rattle.prec_file.specs.Rests.{to_at}
 use Rattle.closure_net.specs.Network.{NetView}
-use Rattle.machine_law.specs.States.{with_value_at}
-use Rattle.machine_law.specs.Labels.{arcs}
+use Rattle.machine_law.specs.Prelude.{with_value_at, arcs}
 use Rattle.machine_law.proofs.Numbers.{Same, same, shifted}
 use Rattle.machine_law.proofs.Points.{total-with_value_at}
-use Rattle.std.proofs.lemmas.Grind.{common_steps}
 
 module _ (net : NetView) where
   -- fewer arcs, of lesser flow

@@ -1,8 +1,6 @@
 -- Each step keeps the balances.
-use Rattle.std.proofs.Common.{◌≡◌, ℕ, ◌<◌, ◌==◌, length, refl, arith}
-use Rattle.std.proofs.lemmas.Int.{ints}
-use Rattle.ordered_group.specs.Amount.{Amount, plus, minus}
-use Rattle.ordered_group.specs.Sums.{where_so}
+use Rattle.fixed_worth.proofs.Common.{◌≡◌, ℕ, ◌<◌, ◌==◌, length, refl, arith, ints, common_steps}
+use Rattle.ordered_group.specs.Prelude.{Amount, plus, minus, where_so}
 use Rattle.ordered_group.proofs.Totals.{where_so-plus, where_so-minus}
 use Rattle.closure_net.specs.Network.{NetView}
 use Rattle.closure_net.specs.declared.port.Port.{Port}
@@ -11,17 +9,12 @@ use Rattle.closure_net.specs.declared.port.PortKind.TheVariants.{Sink, Forward, 
 use Rattle.machine_law.specs.declared.operations.Best.{Best}
 use Rattle.machine_law.specs.declared.operations.Operation.{Operation}
 use Rattle.machine_law.specs.declared.operations.Operation.TheVariants.{Idle, PushDue, TakeDue, GiveDue, RaiseDue}
-use Rattle.machine_law.specs.States.{State, with_value_at}
-use Rattle.machine_law.specs.Residual.{IsEnd, IsPortOf}
-use Rattle.machine_law.specs.Steps.{with_operation, after_push, after_push_by, after_take, after_give, after_give_by, after_raise}
-use Rattle.machine_law.specs.Transit.{sum_on_way, amount_landing_by, into_sink, into_source, amount_coming_to_sink, amount_coming_to_source, amount_given_back, amount_drained}
-use Rattle.machine_law.specs.Balances.{balance, supply, IsBalanced}
+use Rattle.machine_law.specs.Prelude.{State, with_value_at, IsEnd, IsPortOf, with_operation, after_push, after_push_by, after_take, after_give, after_give_by, after_raise, sum_on_way, amount_landing_by, into_sink, into_source, amount_coming_to_sink, amount_coming_to_source, amount_given_back, amount_drained, balance, supply, IsBalanced}
 use Rattle.machine_law.proofs.Numbers.{Same, same, equal}
 use Rattle.machine_law.proofs.Points.{where-with_value_at}
 use Rattle.machine_law.proofs.Sums.{inflow-plus, outflow-plus, inflow-minus, outflow-minus, sum_on_way-with_value_at, amount_given_back-more, amount_drained-more}
 use Rattle.machine_law.proofs.PortLists.{port_with}
 use Rattle.machine_law.proofs.Supply.{IsAtRest, way_rest, supply_rest, supply_pushed, supply_taken, supply_given}
-use Rattle.std.proofs.lemmas.Grind.{common_steps}
 
 module _ (net : NetView) (s : State) (b : ℕ) (l : b < length net.worths) (k : IsBalanced net s) where
   -- ---- reads and raises

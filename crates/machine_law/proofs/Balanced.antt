@@ -1,29 +1,17 @@
 -- The balances hold at the opening, and each step keeps them.
-use Rattle.std.proofs.Common.{◌≡◌, ℕ, ◌<◌, ◌==◌, Option, Some, None, length, refl, arith}
-use Rattle.std.specs.Prelude.{slice_get}
-use Rattle.std.proofs.lemmas.Int.{ints}
-use Rattle.std.proofs.lemmas.Bool.{cond_both}
-use Rattle.ordered_group.specs.Amount.{Amount, zero_amount, positive}
-use Rattle.ordered_group.specs.Sums.{amount_at}
+use Rattle.fixed_worth.proofs.Common.{◌≡◌, ℕ, ◌<◌, ◌==◌, Option, Some, None, length, refl, arith, slice_get, ints, cond_both, common_steps}
+use Rattle.ordered_group.specs.Prelude.{Amount, zero_amount, positive, amount_at}
 use Rattle.ordered_group.proofs.Totals.{total-none, total-zero, where_so-zero}
 use Rattle.prec_file.specs.Rests.{from_at, to_at}
-use Rattle.closure_net.specs.Network.{NetView}
-use Rattle.closure_net.specs.Ports.{ports}
+use Rattle.closure_net.specs.Prelude.{NetView, ports}
 use Rattle.closure_net.specs.declared.port.Port.{Port}
 use Rattle.machine_law.specs.declared.operations.Best.{Best}
 use Rattle.machine_law.specs.declared.operations.Operation.{Operation}
 use Rattle.machine_law.specs.declared.operations.Operation.TheVariants.{Idle, Scan, PushDue, TakeDue, GiveDue, RaiseDue}
-use Rattle.machine_law.specs.States.{State, opening}
-use Rattle.machine_law.specs.Residual.{capacity}
-use Rattle.machine_law.specs.Reads.{is_positive, operation_begun_with}
-use Rattle.machine_law.specs.Steps.{after_look, after_label_at, push_amount, advance, advance_by}
-use Rattle.machine_law.specs.Transit.{sum_on_way, inflow_at, outflow_at, amount_given_back, amount_drained}
-use Rattle.machine_law.specs.Amounts.{HasAmounts, IsOperation}
-use Rattle.machine_law.specs.Balances.{IsBalanced}
+use Rattle.machine_law.specs.Prelude.{State, opening, capacity, is_positive, operation_begun_with, after_look, after_label_at, push_amount, advance, advance_by, sum_on_way, inflow_at, outflow_at, amount_given_back, amount_drained, HasAmounts, IsOperation, IsBalanced}
 use Rattle.machine_law.proofs.Numbers.{same, equal}
 use Rattle.machine_law.proofs.Supply.{IsAtRest}
 use Rattle.machine_law.proofs.Balance.{balanced_rest, balanced_raised, balanced_pushed, balanced_taken, balanced_given}
-use Rattle.std.proofs.lemmas.Grind.{common_steps}
 
 -- ---- a read leaves an operation that has pushed nothing
 

@@ -1,18 +1,12 @@
 -- What a step of another block leaves of the steep bound, and of what an operation remembers of labels.
-use Rattle.std.proofs.Common.{◌≡◌, ℕ, ◌≤◌, ◌+◌, Bool, true, not, nat_lt, ◌&&◌, Option, List, arith}
-use Rattle.std.proofs.lemmas.Int.{ints}
-use Rattle.std.proofs.lemmas.Bool.{and_parts, and_from, ltb-true, lt-ltb}
+use Rattle.fixed_worth.proofs.Common.{◌≡◌, ℕ, ◌≤◌, ◌+◌, Bool, true, not, nat_lt, ◌&&◌, Option, List, arith, ints, and_parts, and_from, ltb-true, lt-ltb, common_steps}
 use Rattle.ordered_group.specs.Amount.{Amount, plus, minus, AtMost}
 use Rattle.prec_file.specs.Rests.{from_at}
-use Rattle.closure_net.specs.Network.{NetView}
-use Rattle.closure_net.specs.Ports.{backward_port}
+use Rattle.closure_net.specs.Prelude.{NetView, backward_port}
 use Rattle.closure_net.specs.declared.port.Port.{Port}
 use Rattle.machine_law.specs.declared.operations.Best.{Best}
 use Rattle.machine_law.specs.declared.operations.Operation.{Operation}
-use Rattle.machine_law.specs.States.{State}
-use Rattle.machine_law.specs.Balances.{supply}
-use Rattle.machine_law.specs.Labels.{arcs, steep_capacity, label_seen, ports_have, is_under, IsWalk, IsLevelled}
-use Rattle.std.proofs.lemmas.Grind.{common_steps}
+use Rattle.machine_law.specs.Prelude.{State, supply, arcs, steep_capacity, label_seen, ports_have, is_under, IsWalk, IsLevelled}
 
 -- What a step from s to t leaves to x, whose label stays: labels only rise, and x's backward arcs gain at most what its supply does.
 pub record IsCalm (net : NetView) (s t : State) (x : ℕ) : Type 0 where

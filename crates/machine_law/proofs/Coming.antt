@@ -1,21 +1,13 @@
 -- What is coming to a block isn't negative, and a block with excess has ports.
-use Rattle.std.proofs.Common.{◌≡◌, ℕ, ◌<◌, ◌==◌, inl, inr, length, refl, arith}
-use Rattle.std.proofs.lemmas.Int.{ints}
-use Rattle.std.proofs.lemmas.Bool.{cases_eq, cases_lt, ne_eqb}
-use Rattle.ordered_group.specs.Amount.{zero_amount, AtMost, Below}
-use Rattle.ordered_group.specs.Sums.{where_so}
+use Rattle.fixed_worth.proofs.Common.{◌≡◌, ℕ, ◌<◌, ◌==◌, inl, inr, length, refl, arith, ints, cases_eq, cases_lt, ne_eqb, common_steps}
+use Rattle.ordered_group.specs.Prelude.{zero_amount, AtMost, Below, where_so}
 use Rattle.ordered_group.proofs.Signs.{sign_or}
 use Rattle.ordered_group.proofs.Totals.{total_nonneg, total-none, where_nonneg, where_not}
 use Rattle.prec_file.specs.Rests.{from_at, to_at}
-use Rattle.closure_net.specs.Network.{NetView}
-use Rattle.closure_net.specs.Ports.{ports, source_port, backward_port}
-use Rattle.machine_law.specs.States.{State}
-use Rattle.machine_law.specs.Transit.{amount_owed, on_way, sum_on_way, amount_landing, amount_coming, inflow_at, outflow_at}
-use Rattle.machine_law.specs.Amounts.{HasAmounts}
-use Rattle.machine_law.specs.Balances.{IsBalanced}
+use Rattle.closure_net.specs.Prelude.{NetView, ports, source_port, backward_port}
+use Rattle.machine_law.specs.Prelude.{State, amount_owed, on_way, sum_on_way, amount_landing, amount_coming, inflow_at, outflow_at, HasAmounts, IsBalanced}
 use Rattle.machine_law.proofs.Numbers.{same, Below-absurd}
 use Rattle.machine_law.proofs.PortLists.{has_backward, has_open, has_some}
-use Rattle.std.proofs.lemmas.Grind.{common_steps}
 
 pub coming_nonneg : (net : NetView) (s : State) (x : ℕ) → HasAmounts net s → AtMost zero_amount (amount_coming net s x)
 unfolding sum_on_way

@@ -1,6 +1,5 @@
 -- Nothing is lost in any step, and so in any run.
-use Rattle.std.proofs.Common.{◌≡◌, ℕ, ◌<◌, Some, None, List, [], ◌∷◌, length, All, refl, ap, sym, subst, arith}
-use Rattle.std.proofs.lemmas.Int.{ints}
+use Rattle.fixed_worth.proofs.Common.{◌≡◌, ℕ, ◌<◌, Some, None, List, [], ◌∷◌, length, All, refl, ap, sym, subst, arith, ints, common_steps}
 use Rattle.ordered_group.specs.Amount.{Amount, zero_amount, plus, minus, AtMost}
 use Rattle.ordered_group.proofs.Order.{AtMost-both}
 use Rattle.ordered_group.proofs.Totals.{total-none, total-zero, total_nonneg, total_term, total_none_each}
@@ -12,20 +11,13 @@ use Rattle.closure_net.specs.declared.port.PortKind.TheVariants.{Sink, Forward, 
 use Rattle.machine_law.specs.declared.events.Event.{Event}
 use Rattle.machine_law.specs.declared.operations.Operation.{Operation}
 use Rattle.machine_law.specs.declared.operations.Operation.TheVariants.{Idle, Scan, PushDue, TakeDue, GiveDue, RaiseDue}
-use Rattle.machine_law.specs.States.{State, with_value_at, opening, IsQuiet}
-use Rattle.machine_law.specs.Residual.{IsEnd}
-use Rattle.machine_law.specs.Reads.{operation_begun_with}
-use Rattle.machine_law.specs.Steps.{after_take, after_give_by, advance_by, Run}
-use Rattle.machine_law.specs.Amounts.{HasAmounts, IsOperation}
-use Rattle.machine_law.specs.Law.{IsLawful}
-use Rattle.machine_law.specs.Conservation.{all_given, standing_excess, amount_carried, amount_aloft, IsConserved, IsWhole, RunsConserve}
+use Rattle.machine_law.specs.Prelude.{State, with_value_at, opening, IsQuiet, IsEnd, operation_begun_with, after_take, after_give_by, advance_by, Run, HasAmounts, IsOperation, IsLawful, all_given, standing_excess, amount_carried, amount_aloft, IsConserved, IsWhole, RunsConserve}
 use Rattle.machine_law.proofs.Numbers.{Same, same, equal}
 use Rattle.machine_law.proofs.Points.{total-with_value_at}
 use Rattle.machine_law.proofs.PortLists.{port_with}
 use Rattle.machine_law.proofs.Supply.{IsAtRest}
 use Rattle.machine_law.proofs.Balanced.{rest_begun, rest_looked, rest_weighed}
 use Rattle.machine_law.proofs.Law.{steps_keep_law, lawful_opening}
-use Rattle.std.proofs.lemmas.Grind.{common_steps}
 
 -- ---- the sums after one change
 standing_excess-with_value_at : (net : NetView) (f : ℕ → Amount) (k : ℕ) (v : Amount) → k < length net.worths → Same (plus (standing_excess net (with_value_at f k v)) (f k)) (plus (standing_excess net f) v)

@@ -1,34 +1,21 @@
 -- Each step keeps what holds of the amounts.
-use Rattle.std.proofs.Common.{◌≡◌, ℕ, ◌<◌, Option, Some, None, length, refl, ap, sym, ◌∙◌, subst, arith}
-use Rattle.std.specs.Prelude.{slice_get}
-use Rattle.std.proofs.lemmas.Int.{ints}
-use Rattle.std.proofs.lemmas.Bool.{cond_both}
-use Rattle.std.proofs.lemmas.Option.{slice_get_within}
-use Rattle.ordered_group.specs.Amount.{Amount, zero_amount, plus, minus, AtMost, Below, positive, negative}
-use Rattle.ordered_group.specs.Sums.{amount_at}
+use Rattle.fixed_worth.proofs.Common.{◌≡◌, ℕ, ◌<◌, Option, Some, None, length, refl, ap, sym, ◌∙◌, subst, arith, slice_get, ints, cond_both, slice_get_within, common_steps}
+use Rattle.ordered_group.specs.Prelude.{Amount, zero_amount, plus, minus, AtMost, Below, positive, negative, amount_at}
 use Rattle.ordered_group.proofs.Order.{AtMost-refl, AtMost-trans, Below-most, lesser_amount-right}
 use Rattle.ordered_group.proofs.Signs.{NonNeg-plus, AtMost-plus}
 use Rattle.prec_file.specs.Rests.{to_at}
-use Rattle.closure_net.specs.Network.{NetView}
-use Rattle.closure_net.specs.Ports.{ports}
+use Rattle.closure_net.specs.Prelude.{NetView, ports}
 use Rattle.closure_net.specs.declared.port.Port.{Port}
 use Rattle.closure_net.specs.declared.port.PortKind.{PortKind}
 use Rattle.closure_net.specs.declared.port.PortKind.TheVariants.{Sink, Forward, Backward, Source}
 use Rattle.machine_law.specs.declared.operations.Best.{Best}
 use Rattle.machine_law.specs.declared.operations.Operation.{Operation}
 use Rattle.machine_law.specs.declared.operations.Operation.TheVariants.{Idle, Scan, PushDue, TakeDue, GiveDue, RaiseDue}
-use Rattle.machine_law.specs.States.{State, with_value_at, opening}
-use Rattle.machine_law.specs.Residual.{capacity, capacity_by, end_label, IsEnd, IsPortOf}
-use Rattle.machine_law.specs.Reads.{is_positive, operation_begun_with, after_port, after_capacity, after_label}
-use Rattle.machine_law.specs.Steps.{with_operation, after_look, after_look_by, push_amount, after_push_by, after_take, after_give_by, after_raise, advance, advance_by}
-use Rattle.machine_law.specs.Transit.{amount_owed}
-use Rattle.machine_law.specs.Amounts.{HasAmounts, IsWithin, IsWithinBy, IsBestIfAny, IsReadCapacity, IsHeld, IsOperation}
-use Rattle.machine_law.specs.Balances.{IsBalanced}
+use Rattle.machine_law.specs.Prelude.{State, with_value_at, opening, capacity, capacity_by, end_label, IsEnd, IsPortOf, is_positive, operation_begun_with, after_port, after_capacity, after_label, with_operation, after_look, after_look_by, push_amount, after_push_by, after_take, after_give_by, after_raise, advance, advance_by, amount_owed, HasAmounts, IsWithin, IsWithinBy, IsBestIfAny, IsReadCapacity, IsHeld, IsOperation, IsBalanced}
 use Rattle.machine_law.proofs.Numbers.{shifted, joined, positive-yes}
 use Rattle.machine_law.proofs.Points.{with_value_at-other, with_value_at-each}
 use Rattle.machine_law.proofs.PortLists.{port_with, port-at}
 use Rattle.machine_law.proofs.Coming.{has_port}
-use Rattle.std.proofs.lemmas.Grind.{common_steps}
 
 -- ---- what a step of another block leaves to x: all that its operation may rely on
 pub record IsMore (net : NetView) (s t : State) (x : ℕ) : Type 0 where

@@ -1,14 +1,8 @@
 -- The law on one step, and over whole runs.
-use Rattle.std.proofs.Common.{◌≡◌, ℕ, ◌<◌, ◌+◌, inl, Option, Some, None, nat_lt, List, [], ◌∷◌, drop, length, refl, sym, subst, arith, drop-cons, add-one}
-use Rattle.std.specs.Prelude.{slice_get}
-use Rattle.std.proofs.lemmas.Int.{ints}
-use Rattle.std.proofs.lemmas.Bool.{cond_both, ltb-true}
-use Rattle.std.proofs.lemmas.Option.{get_or_from_slice_get, slice_get_within}
-use Rattle.ordered_group.specs.Amount.{Amount, zero_amount, plus, minus, AtMost, positive}
-use Rattle.ordered_group.specs.Sums.{amount_at}
+use Rattle.fixed_worth.proofs.Common.{◌≡◌, ℕ, ◌<◌, ◌+◌, inl, Option, Some, None, nat_lt, List, [], ◌∷◌, drop, length, refl, sym, subst, arith, drop-cons, add-one, slice_get, ints, cond_both, ltb-true, get_or_from_slice_get, slice_get_within, common_steps}
+use Rattle.ordered_group.specs.Prelude.{Amount, zero_amount, plus, minus, AtMost, positive, amount_at}
 use Rattle.ordered_group.proofs.Signs.{NonNeg-plus}
-use Rattle.closure_net.specs.Network.{NetView}
-use Rattle.closure_net.specs.Ports.{ports}
+use Rattle.closure_net.specs.Prelude.{NetView, ports}
 use Rattle.closure_net.specs.declared.port.Port.{Port}
 use Rattle.closure_net.specs.declared.port.PortKind.{PortKind}
 use Rattle.closure_net.specs.declared.port.PortKind.TheVariants.{Sink, Forward, Backward, Source}
@@ -16,14 +10,7 @@ use Rattle.machine_law.specs.declared.events.Event.{Event}
 use Rattle.machine_law.specs.declared.operations.Best.{Best}
 use Rattle.machine_law.specs.declared.operations.Operation.{Operation}
 use Rattle.machine_law.specs.declared.operations.Operation.TheVariants.{Idle, Scan}
-use Rattle.machine_law.specs.States.{State, opening}
-use Rattle.machine_law.specs.Residual.{capacity, end_label}
-use Rattle.machine_law.specs.Reads.{is_positive, operation_begun_with, after_port, after_capacity, after_label}
-use Rattle.machine_law.specs.Steps.{after_look, after_look_by, after_label_at, advance, advance_by, Run}
-use Rattle.machine_law.specs.Transit.{amount_owed, amount_coming}
-use Rattle.machine_law.specs.Amounts.{HasAmounts, IsOperation, IsWithinBy, IsReadCapacity}
-use Rattle.machine_law.specs.Labels.{steep_capacity, IsWalk, IsLevelled, HasLabels}
-use Rattle.machine_law.specs.Law.{IsLawful, StepsKeepLaw, RunsKeepLaw}
+use Rattle.machine_law.specs.Prelude.{State, opening, capacity, end_label, is_positive, operation_begun_with, after_port, after_capacity, after_label, after_look, after_look_by, after_label_at, advance, advance_by, Run, amount_owed, amount_coming, HasAmounts, IsOperation, IsWithinBy, IsReadCapacity, steep_capacity, IsWalk, IsLevelled, HasLabels, IsLawful, StepsKeepLaw, RunsKeepLaw}
 use Rattle.machine_law.proofs.Numbers.{same, shifted, Below-more}
 use Rattle.machine_law.proofs.Arcs.{arcs-none}
 use Rattle.machine_law.proofs.PortLists.{port_with, port-at}
@@ -34,7 +21,6 @@ use Rattle.machine_law.proofs.Walks.{IsLimited, IsReady, walk_begun, walk_pass, 
 use Rattle.machine_law.proofs.Staying.{labels_rest, labels_taken, labels_given}
 use Rattle.machine_law.proofs.Raising.{labels_raised}
 use Rattle.machine_law.proofs.Pushing.{labels_pushed}
-use Rattle.std.proofs.lemmas.Grind.{common_steps}
 
 -- ---- the ports that are left
 rest_at : {X : Type 0} (xs : List X) (i : ℕ) (x : X) → slice_get xs i ≡ Some x → drop i xs ≡ x ∷ drop (i + 1) xs

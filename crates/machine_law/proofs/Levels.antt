@@ -1,6 +1,5 @@
 -- Of more levels than blocks, one has no block.
-use Rattle.std.proofs.Common.{◌≡◌, ◌≢◌, ℕ, zero, suc, ◌+◌, ◌<◌, ◌≤◌, ◌⊎◌, inl, inr, ap, sym, ◌∙◌, arith}
-use Rattle.std.proofs.lemmas.Bool.{cases_eq}
+use Rattle.fixed_worth.proofs.Common.{◌≡◌, ◌≢◌, ℕ, zero, suc, ◌+◌, ◌<◌, ◌≤◌, ◌⊎◌, inl, inr, ap, sym, ◌∙◌, arith, cases_eq}
 use Rattle.machine_law.specs.States.{with_value_at}
 use Rattle.machine_law.proofs.Points.{with_value_at-same, with_value_at-other}
 

@@ -1,9 +1,7 @@
 -- Amounts by their two numbers: equations and the order, as linear arithmetic sees them.
-use Rattle.std.proofs.Common.{◌≡◌, true, false, ap, arith}
-use Rattle.std.proofs.lemmas.Int.{ints}
+use Rattle.fixed_worth.proofs.Common.{◌≡◌, true, false, ap, arith, ints, common_steps}
 use Rattle.ordered_group.specs.Amount.{Amount, zero_amount, plus, minus, AtMost, Below, Amount_eq}
 use Rattle.machine_law.specs.Reads.{is_positive}
-use Rattle.std.proofs.lemmas.Grind.{common_steps}
 
 -- the two numbers are the same
 pub record Same (x y : Amount) : Type 0 where

@@ -1,12 +1,9 @@
 -- A function after one of its values is changed.
-use Rattle.std.proofs.Common.{◌≡◌, ◌≢◌, ℕ, ◌<◌, ◌==◌, arith, refl, ap, ◌∙◌}
-use Rattle.std.proofs.lemmas.Bool.{cases_eq, eq-eqb, ne_eqb}
-use Rattle.ordered_group.specs.Amount.{Amount, plus}
-use Rattle.ordered_group.specs.Sums.{total, where_so}
+use Rattle.fixed_worth.proofs.Common.{◌≡◌, ◌≢◌, ℕ, ◌<◌, ◌==◌, arith, refl, ap, ◌∙◌, cases_eq, eq-eqb, ne_eqb, common_steps}
+use Rattle.ordered_group.specs.Prelude.{Amount, plus, total, where_so}
 use Rattle.ordered_group.proofs.Totals.{total_changed}
 use Rattle.machine_law.specs.States.{with_value_at}
 use Rattle.machine_law.proofs.Numbers.{Same, same}
-use Rattle.std.proofs.lemmas.Grind.{common_steps}
 
 pub with_value_at-same : {X : Type 0} (f : ℕ → X) (k : ℕ) (v : X) → with_value_at f k v k ≡ v
 unfolding with_value_at

@@ -1,25 +1,13 @@
 -- Each port in a block's list is a port of the block, and each of its ports that has capacity stands in the list.
-use Rattle.std.proofs.Common.{◌≡◌, ℕ, ◌<◌, ◌==◌, Bool, true, cond, Some, List, [], ◌∷◌, ◌++◌, All, length, get_or, map, refl, ap, sym, ◌∙◌, subst, arith}
-use Rattle.std.specs.Prelude.{slice_get}
-use Rattle.std.proofs.lemmas.Bool.{cond_both, eq-eqb, eqb-true}
-use Rattle.std.proofs.lemmas.List.{get_or-map, length-map}
-use Rattle.std.proofs.lemmas.List.Elements.{All-append, All-nil, All-cons}
-use Rattle.std.proofs.lemmas.List.Folds.{list_any_at}
-use Rattle.std.proofs.lemmas.Option.{get_or_from_slice_get, slice_get_within}
-use Rattle.ordered_group.specs.Amount.{zero_amount}
-use Rattle.ordered_group.specs.Sums.{amount_at}
+use Rattle.fixed_worth.proofs.Common.{◌≡◌, ℕ, ◌<◌, ◌==◌, Bool, true, cond, Some, List, [], ◌∷◌, ◌++◌, All, length, get_or, map, refl, ap, sym, ◌∙◌, subst, arith, slice_get, cond_both, eq-eqb, eqb-true, get_or-map, length-map, All-append, All-nil, All-cons, list_any_at, get_or_from_slice_get, slice_get_within, common_steps}
+use Rattle.ordered_group.specs.Prelude.{zero_amount, amount_at}
 use Rattle.prec_file.specs.Rests.{from_at, to_at, numbers}
 use Rattle.prec_file.proofs.Passing.{passing_after, passing_here, passing_at}
-use Rattle.closure_net.specs.Network.{NetView}
-use Rattle.closure_net.specs.Ports.{is_below, ports, port_list, forward_ports, backward_ports, forward_port, backward_port, sink_port, source_port}
+use Rattle.closure_net.specs.Prelude.{NetView, is_below, ports, port_list, forward_ports, backward_ports, forward_port, backward_port, sink_port, source_port}
 use Rattle.closure_net.specs.declared.port.Port.{Port}
 use Rattle.closure_net.specs.declared.port.PortKind.{PortKind}
-use Rattle.closure_net.specs.declared.port.PortKind.TheVariants.{Sink, Forward, Backward, Source}
-use Rattle.machine_law.specs.States.{State}
-use Rattle.machine_law.specs.Residual.{IsEnd, IsPortOf}
-use Rattle.machine_law.specs.Amounts.{HasAmounts}
-use Rattle.machine_law.specs.Labels.{same_port, ports_have, IsOpenBy}
-use Rattle.std.proofs.lemmas.Grind.{common_steps}
+use Rattle.closure_net.specs.declared.port.PortKind.TheVariants.{Forward, Backward}
+use Rattle.machine_law.specs.Prelude.{State, IsEnd, IsPortOf, HasAmounts, same_port, ports_have, IsOpenBy}
 
 -- the port with these parts
 abbrev pub port_with : PortKind → ℕ → ℕ → Port
@@ -83,10 +71,9 @@ has_backward net b k l e = grind (arith, common_steps, (backward_port (from_at n
 
 has_by : (net : NetView) (s : State) (b : ℕ) (kind : PortKind) (other slot : ℕ) → HasAmounts net s → IsEnd net b kind other slot → IsOpenBy net s b kind → ports_have (ports net b) (port_with kind other slot) ≡ true
 unfolding port_list
-has_by net s b Sink other slot k q o = grind (arith, common_steps)
 has_by net s b Forward other slot k q o = grind (arith, common_steps, (port_with Forward other slot), (has_pair (from_at net.pairs) (forward_port (to_at net.pairs)) b (length net.pairs) slot (port_with Forward other slot) q.0 q.1 (eq-eqb slot slot refl)), (eq-eqb slot slot refl))
 has_by net s b Backward other slot k q o = absurd o
-has_by net s b Source other slot k q o = grind (arith, common_steps)
+has_by net s b kind other slot k q o = grind (arith, common_steps)
 
 pub has_open : (net : NetView) (s : State) (b : ℕ) (p : Port) → HasAmounts net s → IsPortOf net b p → IsOpenBy net s b p.kind → ports_have (ports net b) p ≡ true
 has_open net s b p k q o = has_by net s b p.kind p.other p.slot k q o

@@ -1,9 +1,6 @@
 -- The capacity step keeps what holds of the labels.
-use Rattle.std.proofs.Common.{◌≡◌, ◌≢◌, ℕ, ◌+◌, ◌<◌, ◌≤◌, ◌⊎◌, ◌==◌, inl, inr, Bool, true, false, not, nat_lt, ◌&&◌, Some, [], length, refl, ap, sym, subst, arith}
-use Rattle.std.proofs.lemmas.Int.{ints}
-use Rattle.std.proofs.lemmas.Bool.{cases_eq, cases_lt, lt-ltb, eq-eqb, ne_eqb, and_from}
-use Rattle.ordered_group.specs.Amount.{Amount, zero_amount, plus, minus, AtMost, Below, positive, negative}
-use Rattle.ordered_group.specs.Sums.{where_so, amount_at}
+use Rattle.fixed_worth.proofs.Common.{◌≡◌, ◌≢◌, ℕ, ◌+◌, ◌<◌, ◌≤◌, ◌⊎◌, ◌==◌, inl, inr, Bool, true, false, not, nat_lt, ◌&&◌, Some, [], length, refl, ap, sym, subst, arith, ints, cases_eq, cases_lt, lt-ltb, eq-eqb, ne_eqb, and_from, common_steps}
+use Rattle.ordered_group.specs.Prelude.{Amount, zero_amount, plus, minus, AtMost, Below, positive, negative, where_so, amount_at}
 use Rattle.ordered_group.proofs.Order.{AtMost-refl, AtMost-trans, Below-most}
 use Rattle.ordered_group.proofs.Signs.{AtMost-minus}
 use Rattle.ordered_group.proofs.Totals.{where_at, where_not, where_nonneg}
@@ -14,13 +11,7 @@ use Rattle.closure_net.specs.declared.port.PortKind.TheVariants.{Sink, Forward, 
 use Rattle.machine_law.specs.declared.operations.Best.{Best}
 use Rattle.machine_law.specs.declared.operations.Operation.{Operation}
 use Rattle.machine_law.specs.declared.operations.Operation.TheVariants.{PushDue, TakeDue}
-use Rattle.machine_law.specs.States.{State, with_value_at}
-use Rattle.machine_law.specs.Residual.{room, IsEnd, IsPortOf}
-use Rattle.machine_law.specs.Steps.{after_push, after_push_by, push_amount}
-use Rattle.machine_law.specs.Transit.{amount_landing_by}
-use Rattle.machine_law.specs.Amounts.{HasAmounts, IsWithin, IsWithinBy}
-use Rattle.machine_law.specs.Balances.{supply}
-use Rattle.machine_law.specs.Labels.{arcs, steep_capacity, label_seen, IsWalk, IsLevelled, HasLabels}
+use Rattle.machine_law.specs.Prelude.{State, with_value_at, room, IsEnd, IsPortOf, after_push, after_push_by, push_amount, amount_landing_by, HasAmounts, IsWithin, IsWithinBy, supply, arcs, steep_capacity, label_seen, IsWalk, IsLevelled, HasLabels}
 use Rattle.machine_law.proofs.Numbers.{Same, same, shifted, joined, Below-more}
 use Rattle.machine_law.proofs.Points.{with_value_at-other, with_value_at-each}
 use Rattle.machine_law.proofs.Arcs.{arcs-most, arcs-plus, arcs-with_value_at}
@@ -29,7 +20,6 @@ use Rattle.machine_law.proofs.Supply.{supply_pushed}
 use Rattle.machine_law.proofs.Staying.{same_arcs}
 use Rattle.machine_law.proofs.PortLists.{port_with}
 use Rattle.machine_law.proofs.Keeps.{push_most, push_some}
-use Rattle.std.proofs.lemmas.Grind.{common_steps}
 
 -- a ≤ low + g, low ≤ v - have and d ≤ have, where the supply v becomes v + g - d
 room_left : (a low v v' have d g : Amount) → AtMost a (plus low g) → AtMost low (minus v have) → AtMost d have → Same v' (minus (plus v g) d) → AtMost a v'

@@ -1,31 +1,18 @@
 -- The flow of a quiet state is a greatest one, and what the source reaches in what it leaves is a greatest closed set.
-use Rattle.std.proofs.Common.{◌≡◌, ◌≢◌, ℕ, ◌+◌, ◌<◌, ◌≤◌, ◌==◌, ◌⊎◌, inl, inr, Bool, true, false, nat_lt, length, ap, sym, ◌∙◌, subst, arith}
-use Rattle.std.proofs.lemmas.Int.{ints}
-use Rattle.std.proofs.lemmas.Bool.{cases_lt, ltb-true, lt-ltb}
-use Rattle.std.proofs.lemmas.List.{get_or_default}
-use Rattle.ordered_group.specs.Amount.{Amount, zero_amount, plus, minus, AtMost, Below, positive, negative}
-use Rattle.ordered_group.specs.Sums.{where_so, at_end, amount_at}
+use Rattle.fixed_worth.proofs.Common.{◌≡◌, ◌≢◌, ℕ, ◌+◌, ◌<◌, ◌≤◌, ◌==◌, ◌⊎◌, inl, inr, Bool, true, false, nat_lt, length, ap, sym, ◌∙◌, subst, arith, ints, cases_lt, ltb-true, lt-ltb, get_or_default, common_steps}
+use Rattle.ordered_group.specs.Prelude.{Amount, zero_amount, plus, minus, AtMost, Below, positive, negative, where_so, at_end, amount_at}
 use Rattle.ordered_group.proofs.Order.{AtMost-both, AtMost-same, most_or_below}
 use Rattle.ordered_group.proofs.Signs.{sign_or}
 use Rattle.ordered_group.proofs.Totals.{total-same, total-none}
 use Rattle.prec_file.specs.Rests.{from_at, to_at}
-use Rattle.closure_net.specs.Network.{NetView, FlowView}
-use Rattle.closure_net.specs.Closure.{Stays, IsClosed}
-use Rattle.closure_net.specs.Flows.{IsFlow, IsTight}
+use Rattle.closure_net.specs.Prelude.{NetView, FlowView, Stays, IsClosed, IsFlow, IsTight, IsReached, Reaches}
 use Rattle.closure_net.proofs.Duality.{PairsKnown, closed_bound, greatest_flow_from_tight}
-use Rattle.closure_net.specs.Reached.{IsReached, Reaches}
-use Rattle.machine_law.specs.States.{State, IsQuiet}
-use Rattle.machine_law.specs.Residual.{room}
-use Rattle.machine_law.specs.Transit.{amount_owed, on_way, sum_on_way, amount_landing, amount_coming, inflow_at, outflow_at}
-use Rattle.machine_law.specs.Labels.{steep_capacity}
-use Rattle.machine_law.specs.Law.{IsLawful}
-use Rattle.machine_law.specs.Quiet.{IsFlowOf, IsSolved, QuietSolves}
+use Rattle.machine_law.specs.Prelude.{State, IsQuiet, room, amount_owed, on_way, sum_on_way, amount_landing, amount_coming, inflow_at, outflow_at, steep_capacity, IsLawful, IsFlowOf, IsSolved, QuietSolves}
 use Rattle.machine_law.proofs.Numbers.{same, equal, shifted}
 use Rattle.machine_law.proofs.Arcs.{arcs-each}
 use Rattle.machine_law.proofs.Law.{runs_keep_law}
 use Rattle.machine_law.proofs.Levels.{empty_above}
 use Rattle.machine_law.proofs.Tight.{tight_sum}
-use Rattle.std.proofs.lemmas.Grind.{common_steps}
 
 -- a set that the source's reach doesn't leave is closed
 closed_from : (net : NetView) (flow : FlowView) (e : ℕ → Bool) → Reaches net flow e → IsClosed net.pairs e

@@ -1,21 +1,12 @@
 -- RaiseLabel keeps what holds of the labels: the arcs that it makes steep were passed below the best port.
-use Rattle.std.proofs.Common.{◌≡◌, ◌≢◌, ℕ, ◌+◌, ◌<◌, ◌≤◌, ◌⊎◌, inl, inr, Bool, false, not, nat_lt, ◌&&◌, Some, [], length, refl, sym, subst, arith}
-use Rattle.std.proofs.lemmas.Int.{ints}
-use Rattle.std.proofs.lemmas.Bool.{cases_eq, ltb-true, lt-ltb}
-use Rattle.ordered_group.specs.Amount.{Amount, zero_amount, minus, AtMost, Below, positive}
-use Rattle.ordered_group.specs.Sums.{amount_at}
+use Rattle.fixed_worth.proofs.Common.{◌≡◌, ◌≢◌, ℕ, ◌+◌, ◌<◌, ◌≤◌, ◌⊎◌, inl, inr, Bool, false, not, nat_lt, ◌&&◌, Some, [], length, refl, sym, subst, arith, ints, cases_eq, ltb-true, lt-ltb}
+use Rattle.ordered_group.specs.Prelude.{Amount, zero_amount, minus, AtMost, Below, positive, amount_at}
 use Rattle.ordered_group.proofs.Order.{AtMost-refl}
 use Rattle.prec_file.specs.Rests.{from_at, to_at}
-use Rattle.closure_net.specs.Network.{NetView}
-use Rattle.closure_net.specs.Ports.{forward_port, sink_port, source_port}
+use Rattle.closure_net.specs.Prelude.{NetView, forward_port, sink_port, source_port}
 use Rattle.machine_law.specs.declared.operations.Best.{Best}
 use Rattle.machine_law.specs.declared.operations.Operation.TheVariants.{Idle, RaiseDue}
-use Rattle.machine_law.specs.States.{State}
-use Rattle.machine_law.specs.Residual.{room}
-use Rattle.machine_law.specs.Steps.{after_raise}
-use Rattle.machine_law.specs.Amounts.{HasAmounts}
-use Rattle.machine_law.specs.Balances.{supply}
-use Rattle.machine_law.specs.Labels.{arcs, steep_capacity, IsWalk, IsLevelled, HasLabels}
+use Rattle.machine_law.specs.Prelude.{State, room, after_raise, HasAmounts, supply, arcs, steep_capacity, IsWalk, IsLevelled, HasLabels}
 use Rattle.machine_law.proofs.Points.{with_value_at-same, with_value_at-other, with_value_at-each}
 use Rattle.machine_law.proofs.Arcs.{arcs-most}
 use Rattle.machine_law.proofs.Calm.{IsCalm, operation_calm, steep_calm}

@@ -1,20 +1,13 @@
 -- The step that is computed from a block's operation is the row of the table that asks for that operation.
-use Rattle.std.proofs.Common.{◌≡◌, ℕ, ◌<◌, Option, Some, None, length, get_or, arith}
-use Rattle.std.specs.Prelude.{slice_get}
-use Rattle.std.proofs.lemmas.Option.{slice_get-get_or}
+use Rattle.fixed_worth.proofs.Common.{◌≡◌, ℕ, ◌<◌, Option, Some, None, length, get_or, arith, slice_get, slice_get-get_or, common_steps}
 use Rattle.ordered_group.specs.Amount.{Amount}
-use Rattle.closure_net.specs.Network.{NetView}
-use Rattle.closure_net.specs.Ports.{ports, sink_port}
+use Rattle.closure_net.specs.Prelude.{NetView, ports, sink_port}
 use Rattle.closure_net.specs.declared.port.PortKind.{PortKind}
 use Rattle.machine_law.specs.declared.operations.Best.{Best}
 use Rattle.machine_law.specs.declared.operations.Operation.{Operation}
 use Rattle.machine_law.specs.declared.operations.Operation.TheVariants.{Scan}
-use Rattle.machine_law.specs.States.{State}
-use Rattle.machine_law.specs.Steps.{next_of, read_kind, with_operation, after_look_by, advance_by}
-use Rattle.machine_law.specs.Amounts.{IsOperation}
-use Rattle.machine_law.specs.Table.{Makes, StepsAreRows}
+use Rattle.machine_law.specs.Prelude.{State, next_of, read_kind, with_operation, after_look_by, advance_by, IsOperation, Makes, StepsAreRows}
 use Rattle.machine_law.proofs.PortLists.{port_with}
-use Rattle.std.proofs.lemmas.Grind.{common_steps}
 
 module _ (net : NetView) (s : State) (b : ℕ) where
   -- ---- the row of the kind that is next leaves what is computed
@@ -27,7 +20,6 @@ module _ (net : NetView) (s : State) (b : ℕ) where
 
   row_by : (o : Operation Amount) (t : State) → s.operation b ≡ o → IsOperation net s b o → t ≡ advance_by net s b o → Makes net s b (next_of net b o) t
   row_by o t e i after = grind (arith, common_steps, port_here, row_looked)
-
   -- ---- a row is the step that is next
 
 pub steps_are_rows : StepsAreRows

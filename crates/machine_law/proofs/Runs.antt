@@ -1,10 +1,8 @@
 -- Runs step by step: a step leads to one state only and adds one to their number, and a run goes on by one step, or by another run.
-use Rattle.std.proofs.Common.{◌≡◌, ◌+◌, List, [], ◌∷◌, ◌++◌, length, refl, ap, sym, ◌∙◌, subst, arith}
+use Rattle.fixed_worth.proofs.Common.{◌≡◌, ◌+◌, List, [], ◌∷◌, ◌++◌, length, refl, ap, sym, ◌∙◌, subst, arith, common_steps}
 use Rattle.closure_net.specs.Network.{NetView}
 use Rattle.machine_law.specs.declared.events.Event.{Event}
-use Rattle.machine_law.specs.States.{State}
-use Rattle.machine_law.specs.Steps.{Step, Run}
-use Rattle.std.proofs.lemmas.Grind.{common_steps}
+use Rattle.machine_law.specs.Prelude.{State, Step, Run}
 
 -- a step leads to one state only
 pub step_unique : (net : NetView) (s : State) (e : Event) (t u : State) → Step net s e t → Step net s e u → t ≡ u

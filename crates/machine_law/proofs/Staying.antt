@@ -1,8 +1,6 @@
 -- Steps that change no label, no flow and no supply keep what holds of the labels: reads, TakeExcess and GiveExcess.
-use Rattle.std.proofs.Common.{◌≡◌, ℕ, ◌<◌, Bool, true, length, refl, ap, sym, subst, arith}
-use Rattle.std.proofs.lemmas.Int.{ints}
-use Rattle.ordered_group.specs.Amount.{Amount, zero_amount, plus, minus, AtMost, Below, negative}
-use Rattle.ordered_group.specs.Sums.{amount_at}
+use Rattle.fixed_worth.proofs.Common.{◌≡◌, ℕ, ◌<◌, Bool, true, length, refl, ap, sym, subst, arith, ints}
+use Rattle.ordered_group.specs.Prelude.{Amount, zero_amount, plus, minus, AtMost, Below, negative, amount_at}
 use Rattle.ordered_group.proofs.Order.{AtMost-refl}
 use Rattle.closure_net.specs.Network.{NetView}
 use Rattle.closure_net.specs.declared.port.Port.{Port}
@@ -10,11 +8,7 @@ use Rattle.closure_net.specs.declared.port.PortKind.{PortKind}
 use Rattle.closure_net.specs.declared.port.PortKind.TheVariants.{Sink, Forward, Backward, Source}
 use Rattle.machine_law.specs.declared.operations.Operation.{Operation}
 use Rattle.machine_law.specs.declared.operations.Operation.TheVariants.{Idle, TakeDue, GiveDue}
-use Rattle.machine_law.specs.States.{State, with_value_at}
-use Rattle.machine_law.specs.Steps.{with_operation, after_take, after_give, after_give_by}
-use Rattle.machine_law.specs.Amounts.{HasAmounts}
-use Rattle.machine_law.specs.Balances.{supply}
-use Rattle.machine_law.specs.Labels.{arcs, IsLevelled, HasLabels}
+use Rattle.machine_law.specs.Prelude.{State, with_value_at, with_operation, after_take, after_give, after_give_by, HasAmounts, supply, arcs, IsLevelled, HasLabels}
 use Rattle.machine_law.proofs.Numbers.{Same, shifted}
 use Rattle.machine_law.proofs.Points.{with_value_at-each}
 use Rattle.machine_law.proofs.Arcs.{arcs-most}

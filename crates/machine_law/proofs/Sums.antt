@@ -1,15 +1,12 @@
 -- The sums of a state after one change.
-use Rattle.std.proofs.Common.{◌≡◌, ℕ, ◌<◌, ◌==◌, length, arith}
-use Rattle.std.proofs.lemmas.Int.{ints}
-use Rattle.ordered_group.specs.Amount.{Amount, plus, minus, positive}
-use Rattle.ordered_group.specs.Sums.{where_so, amount_at}
+use Rattle.fixed_worth.proofs.Common.{◌≡◌, ℕ, ◌<◌, ◌==◌, length, arith, ints}
+use Rattle.ordered_group.specs.Prelude.{Amount, plus, minus, positive, where_so, amount_at}
 use Rattle.ordered_group.proofs.Totals.{where_so-plus, where_so-minus}
 use Rattle.prec_file.specs.Rests.{from_at, to_at}
 use Rattle.closure_net.specs.Network.{NetView}
 use Rattle.closure_net.specs.declared.port.Port.{Port}
 use Rattle.machine_law.specs.declared.operations.Operation.{Operation}
-use Rattle.machine_law.specs.States.{with_value_at}
-use Rattle.machine_law.specs.Transit.{on_way, sum_on_way, inflow_at, outflow_at, amount_given_back, amount_drained}
+use Rattle.machine_law.specs.Prelude.{with_value_at, on_way, sum_on_way, inflow_at, outflow_at, amount_given_back, amount_drained}
 use Rattle.machine_law.proofs.Numbers.{Same, same}
 use Rattle.machine_law.proofs.Points.{total-with_value_at}
 

@@ -1,24 +1,18 @@
 -- What a block will have once all that is on its way has arrived, after each step: a push moves it, and nothing else does.
-use Rattle.std.proofs.Common.{◌≡◌, ℕ, ◌<◌, ◌==◌, Bool, length, refl, arith}
-use Rattle.std.proofs.lemmas.Int.{ints}
-use Rattle.ordered_group.specs.Amount.{Amount, zero_amount, plus, minus}
-use Rattle.ordered_group.specs.Sums.{where_so}
+use Rattle.fixed_worth.proofs.Common.{◌≡◌, ℕ, ◌<◌, ◌==◌, Bool, length, refl, arith, ints, common_steps}
+use Rattle.ordered_group.specs.Prelude.{Amount, zero_amount, plus, minus, where_so}
 use Rattle.ordered_group.proofs.Totals.{where_so-zero, where_so-plus, where_so-minus}
 use Rattle.closure_net.specs.Network.{NetView}
 use Rattle.closure_net.specs.declared.port.Port.{Port}
 use Rattle.closure_net.specs.declared.port.PortKind.{PortKind}
-use Rattle.closure_net.specs.declared.port.PortKind.TheVariants.{Sink, Forward, Backward, Source}
+use Rattle.closure_net.specs.declared.port.PortKind.TheVariants.{Sink, Forward, Backward}
 use Rattle.machine_law.specs.declared.operations.Best.{Best}
 use Rattle.machine_law.specs.declared.operations.Operation.{Operation}
-use Rattle.machine_law.specs.declared.operations.Operation.TheVariants.{Idle, Scan, PushDue, TakeDue, GiveDue, RaiseDue}
-use Rattle.machine_law.specs.States.{State, with_value_at}
-use Rattle.machine_law.specs.Steps.{with_operation, after_push_by, after_take, after_give, after_give_by, after_raise}
-use Rattle.machine_law.specs.Transit.{amount_owed, on_way, sum_on_way, amount_landing}
-use Rattle.machine_law.specs.Balances.{supply}
+use Rattle.machine_law.specs.declared.operations.Operation.TheVariants.{Idle, PushDue, TakeDue, GiveDue, RaiseDue}
+use Rattle.machine_law.specs.Prelude.{State, with_value_at, with_operation, after_push_by, after_take, after_give, after_give_by, after_raise, amount_owed, on_way, sum_on_way, amount_landing, supply}
 use Rattle.machine_law.proofs.Numbers.{Same, same}
 use Rattle.machine_law.proofs.Points.{where-with_value_at}
 use Rattle.machine_law.proofs.Sums.{sum_on_way-with_value_at}
-use Rattle.std.proofs.lemmas.Grind.{common_steps}
 
 -- an operation that has pushed nothing yet
 abbrev pub IsAtRest : Operation Amount → Type 0

@@ -1,12 +1,9 @@
 -- A closed set that nothing enters, that gives the sink all it may, and beyond which the source has given all it may, is tight.
-use Rattle.std.proofs.Common.{◌≡◌, ℕ, ◌<◌, Bool, true, false, refl, arith}
-use Rattle.std.proofs.lemmas.Int.{ints}
-use Rattle.ordered_group.specs.Amount.{Amount, zero_amount, plus, minus, positive, negative}
-use Rattle.ordered_group.specs.Sums.{total, where_so, at_end}
+use Rattle.fixed_worth.proofs.Common.{◌≡◌, ℕ, ◌<◌, Bool, true, false, refl, arith, ints, common_steps}
+use Rattle.ordered_group.specs.Prelude.{Amount, zero_amount, plus, minus, positive, negative, total, where_so, at_end}
 use Rattle.ordered_group.proofs.Order.{positive-negative}
 use Rattle.ordered_group.proofs.Totals.{total-same, total-plus, route}
 use Rattle.machine_law.proofs.Numbers.{same, equal}
-use Rattle.std.proofs.lemmas.Grind.{common_steps}
 
 module _ (n m : ℕ) (from to : ℕ → ℕ) (w s t f : ℕ → Amount) (e : ℕ → Bool)
     (from_below : (k : ℕ) → k < m → from k < n)

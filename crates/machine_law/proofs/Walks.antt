@@ -1,28 +1,18 @@
 -- What an operation remembers of labels, over its reads: how far it has looked.
-use Rattle.std.proofs.Common.{◌≡◌, ℕ, ◌≤◌, ◌+◌, inl, inr, Bool, true, false, not, nat_lt, ◌&&◌, Option, Some, None, List, ◌∷◌, refl, sym, ◌∙◌, arith}
-use Rattle.std.proofs.lemmas.Int.{ints}
-use Rattle.std.proofs.lemmas.Bool.{and_parts, and_from, cases_Bool, ltb-true, or_from, not-true, not_from_false, true≢false}
+use Rattle.fixed_worth.proofs.Common.{◌≡◌, ℕ, ◌≤◌, ◌+◌, inl, inr, Bool, true, false, not, nat_lt, ◌&&◌, Option, Some, None, List, ◌∷◌, refl, sym, ◌∙◌, arith, ints, and_parts, and_from, cases_Bool, ltb-true, or_from, not-true, not_from_false, true≢false, common_steps}
 use Rattle.ordered_group.specs.Amount.{Amount, zero_amount, minus, AtMost, Below}
 use Rattle.ordered_group.proofs.Order.{AtMost-refl, AtMost-trans}
 use Rattle.prec_file.specs.Rests.{from_at}
-use Rattle.closure_net.specs.Network.{NetView}
-use Rattle.closure_net.specs.Ports.{ports, backward_port}
+use Rattle.closure_net.specs.Prelude.{NetView, ports, backward_port}
 use Rattle.closure_net.specs.declared.port.Port.{Port}
 use Rattle.closure_net.specs.declared.port.PortKind.{PortKind}
 use Rattle.closure_net.specs.declared.port.PortKind.TheVariants.{Sink, Forward, Backward, Source}
 use Rattle.machine_law.specs.declared.operations.Best.{Best}
-use Rattle.machine_law.specs.States.{State}
-use Rattle.machine_law.specs.Residual.{room, capacity, capacity_by, end_label, label_beyond, IsEnd, IsPortOf}
-use Rattle.machine_law.specs.Reads.{is_positive, better_of}
-use Rattle.machine_law.specs.Transit.{amount_owed}
-use Rattle.machine_law.specs.Amounts.{HasAmounts}
-use Rattle.machine_law.specs.Balances.{supply}
-use Rattle.machine_law.specs.Labels.{arcs, steep_capacity, high_capacity, label_by, same_by, same_port, ports_have, is_under, IsOpenBy, IsWalk, HasLabels}
+use Rattle.machine_law.specs.Prelude.{State, room, capacity, capacity_by, end_label, label_beyond, IsEnd, IsPortOf, is_positive, better_of, amount_owed, HasAmounts, supply, arcs, steep_capacity, high_capacity, label_by, same_by, same_port, ports_have, is_under, IsOpenBy, IsWalk, HasLabels}
 use Rattle.machine_law.proofs.Numbers.{same, shifted, positive-no, Below-absurd}
 use Rattle.machine_law.proofs.Arcs.{arcs-most, arcs-most_or, arcs-none}
 use Rattle.machine_law.proofs.PortLists.{has_backward, has_open}
 use Rattle.machine_law.proofs.Coming.{coming_nonneg}
-use Rattle.std.proofs.lemmas.Grind.{common_steps}
 
 -- not forward
 abbrev pub IsLimited : PortKind → Type 0

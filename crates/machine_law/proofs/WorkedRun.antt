@@ -3,15 +3,11 @@
 -- two with the same label. The file stands by its last lines: what is seen after each row of a run is what the row says.
 use Rattle.std.proofs.Common.{◌≡◌, ℕ, ℤ, pos, negsuc, true, false, ◌==◌, ◌&&◌, nat_lt, Option, Some, None, List, [], ◌∷◌, map, length, refl}
 use Rattle.ordered_group.specs.Amount.{Amount}
-use Rattle.closure_net.specs.Network.{NetView}
-use Rattle.closure_net.specs.Ports.{port_list}
+use Rattle.closure_net.specs.Prelude.{NetView, port_list}
 use Rattle.machine_law.specs.declared.events.Event.{Event}
 use Rattle.machine_law.specs.declared.events.Kind.{Kind}
 use Rattle.machine_law.specs.declared.events.Kind.TheVariants.{ReadExcess, ReadCapacity, ReadLabel, TakeCapacity, GiveCapacity, TakeExcess, GiveExcess, RaiseLabel}
-use Rattle.machine_law.specs.States.{State, with_value_at, opening}
-use Rattle.machine_law.specs.Steps.{next_kind, advance}
-use Rattle.machine_law.specs.Transit.{amount_owed, amount_coming, sum_on_way}
-use Rattle.machine_law.specs.Labels.{arcs, steep_capacity}
+use Rattle.machine_law.specs.Prelude.{State, with_value_at, opening, next_kind, advance, amount_owed, amount_coming, sum_on_way, arcs, steep_capacity}
 
 abbrev number : Kind → ℕ
 number ReadExcess = 0

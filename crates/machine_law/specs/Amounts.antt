@@ -1,9 +1,7 @@
 -- What holds of the amounts of a state, and of what the operations remember of them.
 use Rattle.std.specs.Prelude.{ℕ, ◌<◌, Option, Some, None, length, slice_get}
-use Rattle.ordered_group.specs.Amount.{Amount, zero_amount, AtMost, Below, positive, negative}
-use Rattle.ordered_group.specs.Sums.{amount_at}
-use Rattle.closure_net.specs.Network.{NetView}
-use Rattle.closure_net.specs.Ports.{ports}
+use Rattle.ordered_group.specs.Prelude.{Amount, zero_amount, AtMost, Below, positive, negative, amount_at}
+use Rattle.closure_net.specs.Prelude.{NetView, ports}
 use Rattle.closure_net.specs.declared.port.Port.{Port}
 use Rattle.closure_net.specs.declared.port.PortKind.{PortKind}
 use Rattle.closure_net.specs.declared.port.PortKind.TheVariants.{Sink, Forward, Backward, Source}

@@ -1,12 +1,11 @@
 -- Nothing is lost: all that the source gave at the opening stands as excess, is carried by a push, or has arrived.
 use Rattle.std.specs.Prelude.{◌≡◌, ◌↔◌, ℕ, ◌<◌, List, length, All}
-use Rattle.ordered_group.specs.Amount.{Amount, zero_amount, plus, AtMost, positive}
-use Rattle.ordered_group.specs.Sums.{total, amount_at}
+use Rattle.ordered_group.specs.Prelude.{Amount, zero_amount, plus, AtMost, positive, total, amount_at}
 use Rattle.prec_file.specs.Rests.{IsKnown}
 use Rattle.closure_net.specs.Network.{NetView}
 use Rattle.machine_law.specs.declared.events.Event.{Event}
 use Rattle.machine_law.specs.declared.operations.Operation.{Operation}
-use Rattle.machine_law.specs.declared.operations.Operation.TheVariants.{Idle, Scan, PushDue, TakeDue, GiveDue, RaiseDue}
+use Rattle.machine_law.specs.declared.operations.Operation.TheVariants.{GiveDue}
 use Rattle.machine_law.specs.States.{State, opening, IsQuiet}
 use Rattle.machine_law.specs.Steps.{Run}
 

@@ -1,17 +1,15 @@
 -- What holds of the labels: no arc with capacity is steep, but for backward arcs whose capacity the block can spare.
 use Rattle.std.specs.Prelude.{◌≡◌, ℕ, ◌+◌, ◌<◌, ◌≤◌, ◌⊎◌, ◌==◌, nat_lt, Bool, true, false, not, ◌&&◌, if◌then◌else◌, Option, Some, None, List, [], drop, length}
 use Rattle.std.specs.List.{list_any}
-use Rattle.ordered_group.specs.Amount.{Amount, zero_amount, minus, AtMost, Below, positive}
-use Rattle.ordered_group.specs.Sums.{total, where_so, amount_at}
+use Rattle.ordered_group.specs.Prelude.{Amount, zero_amount, minus, AtMost, Below, positive, total, where_so, amount_at}
 use Rattle.prec_file.specs.Rests.{from_at, to_at}
-use Rattle.closure_net.specs.Network.{NetView}
-use Rattle.closure_net.specs.Ports.{ports, backward_port}
+use Rattle.closure_net.specs.Prelude.{NetView, ports, backward_port}
 use Rattle.closure_net.specs.declared.port.Port.{Port}
 use Rattle.closure_net.specs.declared.port.PortKind.{PortKind}
 use Rattle.closure_net.specs.declared.port.PortKind.TheVariants.{Sink, Forward, Backward, Source}
 use Rattle.machine_law.specs.declared.operations.Best.{Best}
 use Rattle.machine_law.specs.declared.operations.Operation.{Operation}
-use Rattle.machine_law.specs.declared.operations.Operation.TheVariants.{Idle, Scan, PushDue, TakeDue, GiveDue, RaiseDue}
+use Rattle.machine_law.specs.declared.operations.Operation.TheVariants.{Scan, PushDue, RaiseDue}
 use Rattle.machine_law.specs.States.{State}
 use Rattle.machine_law.specs.Residual.{room, end_label, IsPortOf}
 use Rattle.machine_law.specs.Balances.{supply}

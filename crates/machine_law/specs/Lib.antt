@@ -17,3 +17,5 @@ pub mod Conservation
 pub mod Quiet
 -- how kinds of step print
 pub mod KindText
+-- the names of all of them
+pub mod Prelude

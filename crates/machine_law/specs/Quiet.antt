@@ -2,10 +2,7 @@
 use Rattle.std.specs.Prelude.{◌≡◌, ℕ, ◌<◌, Bool, List, length, All}
 use Rattle.ordered_group.specs.Sums.{amount_at}
 use Rattle.prec_file.specs.Rests.{IsKnown}
-use Rattle.closure_net.specs.Network.{NetView, FlowView, FlowFits}
-use Rattle.closure_net.specs.Closure.{IsClosed, IsGreatest}
-use Rattle.closure_net.specs.Flows.{IsTight, IsGreatestFlow}
-use Rattle.closure_net.specs.Reached.{IsReached}
+use Rattle.closure_net.specs.Prelude.{NetView, FlowView, FlowFits, IsClosed, IsGreatest, IsTight, IsGreatestFlow, IsReached}
 use Rattle.machine_law.specs.declared.events.Event.{Event}
 use Rattle.machine_law.specs.States.{State, opening, IsQuiet}
 use Rattle.machine_law.specs.Steps.{Run}

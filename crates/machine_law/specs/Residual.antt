@@ -1,7 +1,6 @@
 -- What is left of the network: the capacity of a port, and the label at its other end.
 use Rattle.std.specs.Prelude.{◌≡◌, ℕ, ◌+◌, ◌<◌, length}
-use Rattle.ordered_group.specs.Amount.{Amount, zero_amount, minus, negative}
-use Rattle.ordered_group.specs.Sums.{amount_at}
+use Rattle.ordered_group.specs.Prelude.{Amount, zero_amount, minus, negative, amount_at}
 use Rattle.prec_file.specs.Rests.{from_at, to_at}
 use Rattle.closure_net.specs.Network.{NetView}
 use Rattle.closure_net.specs.declared.port.Port.{Port}

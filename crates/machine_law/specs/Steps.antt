@@ -1,8 +1,7 @@
 -- The steps of the machine (Hong 2008) as what a block's operation leads to, and runs. `Table` has the same by the kind of step.
 use Rattle.std.specs.Prelude.{◌≡◌, ℕ, ◌+◌, ◌<◌, Option, Some, None, List, [], ◌∷◌, length, slice_get}
 use Rattle.ordered_group.specs.Amount.{Amount, zero_amount, plus, minus, lesser_amount}
-use Rattle.closure_net.specs.Network.{NetView}
-use Rattle.closure_net.specs.Ports.{ports}
+use Rattle.closure_net.specs.Prelude.{NetView, ports}
 use Rattle.closure_net.specs.declared.port.Port.{Port}
 use Rattle.closure_net.specs.declared.port.PortKind.{PortKind}
 use Rattle.closure_net.specs.declared.port.PortKind.TheVariants.{Sink, Forward, Backward, Source}

@@ -1,8 +1,7 @@
 -- The steps of the machine as a table: for each kind of step when a block makes it, and what it leaves.
 use Rattle.std.specs.Prelude.{◌≡◌, ◌≢◌, ◌↔◌, ℕ, ◌<◌, ◌⊎◌, Option, Some, None, length, slice_get}
 use Rattle.ordered_group.specs.Amount.{Amount, zero_amount, lesser_amount}
-use Rattle.closure_net.specs.Network.{NetView}
-use Rattle.closure_net.specs.Ports.{ports}
+use Rattle.closure_net.specs.Prelude.{NetView, ports}
 use Rattle.closure_net.specs.declared.port.Port.{Port}
 use Rattle.closure_net.specs.declared.port.PortKind.TheVariants.{Forward}
 use Rattle.machine_law.specs.declared.events.Event.{Event}

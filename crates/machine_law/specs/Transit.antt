@@ -1,14 +1,13 @@
 -- What is on its way between blocks: it is stored nowhere, but is a sum over the operations.
 use Rattle.std.specs.Prelude.{ℕ, ◌==◌, length}
-use Rattle.ordered_group.specs.Amount.{Amount, zero_amount, minus, positive}
-use Rattle.ordered_group.specs.Sums.{total, where_so, at_end, amount_at}
+use Rattle.ordered_group.specs.Prelude.{Amount, zero_amount, minus, positive, total, where_so, at_end, amount_at}
 use Rattle.prec_file.specs.Rests.{from_at, to_at}
 use Rattle.closure_net.specs.Network.{NetView}
 use Rattle.closure_net.specs.declared.port.Port.{Port}
 use Rattle.closure_net.specs.declared.port.PortKind.{PortKind}
-use Rattle.closure_net.specs.declared.port.PortKind.TheVariants.{Sink, Forward, Backward, Source}
+use Rattle.closure_net.specs.declared.port.PortKind.TheVariants.{Sink, Source}
 use Rattle.machine_law.specs.declared.operations.Operation.{Operation}
-use Rattle.machine_law.specs.declared.operations.Operation.TheVariants.{Idle, Scan, PushDue, TakeDue, GiveDue, RaiseDue}
+use Rattle.machine_law.specs.declared.operations.Operation.TheVariants.{TakeDue, GiveDue}
 use Rattle.machine_law.specs.States.{State}
 
 -- what a block's own push has yet to take out of its excess

@@ -3,8 +3,7 @@ use Rattle.std.proofs.Common.{◌≡◌, ℕ, ◌+◌, List, refl, arith, Option
 use Rattle.mine_inputs.specs.declared.mines.WorthInputs.{WorthInputs}
 use Rattle.mine_inputs.specs.declared.mines.WorthInputs.TheVariants.{Values, Prices}
 use Rattle.mine_inputs.specs.declared.mines.MineInputs.{MineInputs}
-use Rattle.mine_inputs.specs.MineInputs.{ForWorths, ForTexts, worths_failures, is_priced, NoWorthsFailed, NoneFailed, OneFailed}
-use Rattle.mine_inputs.specs.Mines.{MineTexts, mine_texts, priced_texts, precedence_of}
+use Rattle.mine_inputs.specs.Prelude.{ForWorths, ForTexts, worths_failures, is_priced, NoWorthsFailed, NoneFailed, OneFailed, MineTexts, mine_texts, priced_texts, precedence_of}
 
 -- ---- texts
 

@@ -1,6 +1,5 @@
 -- From what is read of the inputs of a mine to the mine of its texts.
-use Rattle.std.proofs.Common.{◌≡◌, ℕ, ℤ, pos, List, refl, sym, ap, ◌∙◌, subst, arith, Option, Some, None, IfSome}
-use Rattle.std.proofs.lemmas.List.FromFn.{length-map-range_with_len, get_or-map-range_with_len}
+use Rattle.fixed_worth.proofs.Common.{◌≡◌, ℕ, ℤ, pos, List, refl, sym, ap, ◌∙◌, subst, arith, Option, Some, None, IfSome, length-map-range_with_len, get_or-map-range_with_len, common_steps}
 use Rattle.prec_file.specs.Rests.{RestsView}
 use Rattle.prec_file.specs.Records as prec
 use Rattle.upit_file.specs.Records as upit
@@ -13,17 +12,10 @@ use Rattle.mine_inputs.specs.declared.mines.MineInputs.{MineInputs}
 use Rattle.mine_inputs.specs.declared.priced_inputs.PriceColumns.{PriceColumns}
 use Rattle.mine_inputs.specs.declared.worths.Worths.{Worths}
 use Rattle.mine_inputs.specs.declared.worths.Worths.TheVariants.{Values, Prices}
-use Rattle.mine_inputs.specs.FaultStands.{MineFails, PrecFails}
-use Rattle.mine_inputs.specs.Inputs.{ReadsUpit, ReadsSettingsText, SettingsReadFails, IsMissing, ReadsPrices, PricesReadFail, ReadsPrec, PrecReadFails, PricedMineFails}
-use Rattle.mine_inputs.specs.MineInputs.{ForWorths, ForTexts}
-use Rattle.mine_inputs.specs.Mines.{MineTexts, mine_texts, priced_texts, precedence_of, price_wanted, WorthsRead}
-use Rattle.mine_inputs.specs.PricedTexts.{price_keys, columns_said, table_by, table_of}
-use Rattle.mine_inputs.specs.ReadMines.{AreRead, AreWorthsOf, IsMineRead}
-use Rattle.mine_inputs.specs.Worths.{blocks_valued, nanos_at, price_at}
+use Rattle.mine_inputs.specs.Prelude.{MineFails, PrecFails, ReadsUpit, ReadsSettingsText, SettingsReadFails, IsMissing, ReadsPrices, PricesReadFail, ReadsPrec, PrecReadFails, PricedMineFails, ForWorths, ForTexts, MineTexts, mine_texts, priced_texts, precedence_of, price_wanted, WorthsRead, price_keys, columns_said, table_by, table_of, AreRead, AreWorthsOf, IsMineRead, blocks_valued, nanos_at, price_at}
 use Rattle.settings_file.proofs.Known.{settings_are}
 use Rattle.mine_inputs.proofs.MineDevices.{always, under, under2, all_texts, for_worths, for_texts}
 use Rattle.mine_inputs.proofs.PricedAnswers.{settings_answer, missing_answer, prices_unsaid, prices_answer, prices_said, priced}
-use Rattle.std.proofs.lemmas.Grind.{common_steps}
 
 -- ---- values
 

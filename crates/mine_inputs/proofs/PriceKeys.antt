@@ -1,11 +1,10 @@
 -- The keys of prices, and others that are needed with them.
-use Rattle.std.proofs.Common.{◌≡◌, Bool, true, false, List, [], ◌∷◌, ◌∙◌, None, arith}
+use Rattle.fixed_worth.proofs.Common.{◌≡◌, Bool, true, false, List, [], ◌∷◌, ◌∙◌, None, arith, common_steps}
 use Rattle.settings_file.specs.declared.keys.Key.{Key}
 use Rattle.settings_file.specs.declared.keys.Key.TheVariants.{Revenue, Cost}
 use Rattle.settings_file.specs.Settings.{SettingsView, first_missing}
 use Rattle.settings_file.proofs.MissingKeys.{none_missing, first_missing-append}
 use Rattle.mine_inputs.specs.PricedTexts.{keys_by}
-use Rattle.std.proofs.lemmas.Grind.{common_steps}
 
 -- where none is missing, none of the prices' is, nor of the others
 pub prices_and_others : (s : SettingsView) (mill : Bool) (others : List Key) → first_missing (keys_by mill others) s ≡ None → (first_missing (keys_by mill []) s ≡ None) × (first_missing others s ≡ None)

@@ -1,7 +1,5 @@
 -- From prices that were read to the worths of the mine at a factor.
-use Rattle.std.proofs.Common.{◌≡◌, ℕ, ◌<◌, pos, List, [], ◌∷◌, ◌++◌, length, get_or, refl, sym, ap, ◌∙◌, subst, arith, Option, Some, None, unwrap_or, Result, Ok, Err, IfSome, MatchResult}
-use Rattle.std.proofs.lemmas.List.{append-nil}
-use Rattle.std.proofs.lemmas.List.FromFn.{length-map-range_with_len, get_or-map-range_with_len}
+use Rattle.fixed_worth.proofs.Common.{◌≡◌, ℕ, ◌<◌, pos, List, [], ◌∷◌, ◌++◌, length, get_or, refl, sym, ap, ◌∙◌, subst, arith, Option, Some, None, unwrap_or, Result, Ok, Err, IfSome, MatchResult, append-nil, length-map-range_with_len, get_or-map-range_with_len}
 use Rattle.blocks_file.specs.Records as blocks
 use Rattle.blocks_file.specs.Denotes.{BlocksView, Denotes}
 use Rattle.prec_file.specs.Rests.{RestsView}
@@ -12,18 +10,12 @@ use Rattle.settings_file.specs.Settings.{SettingsView, ReadsSettings, first_miss
 use Rattle.settings_file.proofs.Known.{settings_are, settings_read}
 use Rattle.prec_file.specs.Records as prec
 use Rattle.shells.specs.Prices.{PricesView, plain_costs, mill_costs, NoRevenueNegative, PricesFaultStands, priced_count, worth_at, worths_at}
-use Rattle.mine_inputs.specs.Mines.{priced_texts}
+use Rattle.mine_inputs.specs.Prelude.{priced_texts, ReadsBlocks, ReadsSettingsText, SettingsReadFails, ReadsPrices, ReadsPrec, PricesReadFail, ModelPricesFail, cell, cells, values_of, charge_list, column_list, columns_said, costs_at, first_charges, first_columns, table_at, table_by, table_of, price_keys, price_columns, ColumnsKnown, IsWithinLimit, AreRead, ArePricesRead, of_settings}
 use Rattle.mine_inputs.specs.declared.engine_fault.EngineFault.{EngineFault}
 use Rattle.mine_inputs.specs.declared.engine_fault.EngineFault.TheVariants as engine
-use Rattle.mine_inputs.specs.BlockTexts.{ReadsBlocks}
-use Rattle.mine_inputs.specs.Inputs.{ReadsSettingsText, SettingsReadFails, ReadsPrices, ReadsPrec, PricesReadFail, ModelPricesFail}
-use Rattle.mine_inputs.specs.PricedTexts.{cell, cells, values_of, charge_list, column_list, columns_said, costs_at, first_charges, first_columns, table_at, table_by, table_of, price_keys, price_columns, ColumnsKnown}
 use Rattle.mine_inputs.specs.declared.priced_inputs.ChargeColumns.{ChargeColumns}
 use Rattle.mine_inputs.specs.declared.priced_inputs.ChargeColumns.TheVariants.{Plain, Mill}
 use Rattle.mine_inputs.specs.declared.priced_inputs.PriceColumns.{PriceColumns}
-use Rattle.mine_inputs.specs.Limits.{IsWithinLimit}
-use Rattle.mine_inputs.specs.ReadMines.{AreRead, ArePricesRead}
-use Rattle.mine_inputs.specs.EngineFaults.{of_settings}
 
 -- the worths at a factor are those of the mine
 pub worths_priced : (settings text precedence : List ℕ) (table : PricesView) (rests : RestsView) (k : ℕ) → ArePricesRead settings text precedence table rests → AreRead (priced_texts settings text precedence k) (worths_at table k) rests

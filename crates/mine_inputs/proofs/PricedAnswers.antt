@@ -1,6 +1,5 @@
 -- From the parts of the reading of a mine of prices to what was read, where the readers tell their bytes.
-use Rattle.std.proofs.Common.{◌≡◌, ℕ, List, sym, ap, ◌∙◌, subst, Option, Some, None, IfSome, unwrap_or}
-use Rattle.std.proofs.lemmas.List.FromFn.{length-map-range_with_len}
+use Rattle.fixed_worth.proofs.Common.{◌≡◌, ℕ, List, sym, ap, ◌∙◌, subst, Option, Some, None, IfSome, unwrap_or, length-map-range_with_len}
 use Rattle.blocks_file.specs.Records as blocks
 use Rattle.prec_file.specs.Rests.{RestsView}
 use Rattle.settings_file.specs.declared.keys.Key.{Key}
@@ -12,10 +11,7 @@ use Rattle.mine_inputs.specs.declared.engine_fault.EngineFault.{EngineFault}
 use Rattle.mine_inputs.specs.declared.engine_fault.EngineFault.TheVariants as engine
 use Rattle.mine_inputs.specs.declared.engine_fault.Problem.TheVariants as problem
 use Rattle.mine_inputs.specs.declared.priced_inputs.PriceColumns.{PriceColumns}
-use Rattle.mine_inputs.specs.BlockTexts.{BlocksFails}
-use Rattle.mine_inputs.specs.PricedTexts.{price_keys, columns_said, price_columns, cell, table_by, table_of, KeysSaid, ColumnsKnown, PricesRead, SettingsFails}
-use Rattle.mine_inputs.specs.Inputs.{ReadsSettingsText, SettingsReadFails, IsMissing, ReadsPrices, PricesReadFail, ReadsPrec, PrecReadFails, PricedMineFails}
-use Rattle.mine_inputs.specs.ReadMines.{ArePricesRead}
+use Rattle.mine_inputs.specs.Prelude.{BlocksFails, price_keys, columns_said, price_columns, cell, table_by, table_of, KeysSaid, ColumnsKnown, PricesRead, SettingsFails, ReadsSettingsText, SettingsReadFails, IsMissing, ReadsPrices, PricesReadFail, ReadsPrec, PrecReadFails, PricedMineFails, ArePricesRead}
 use Rattle.mine_inputs.proofs.Priced.{all_read}
 
 -- ---- readers that tell their bytes

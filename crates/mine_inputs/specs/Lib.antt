@@ -11,3 +11,5 @@ pub mod Worths
 pub mod Inputs
 pub mod FaultStands
 pub mod EngineFaults
+-- the names of all of them
+pub mod Prelude

@@ -1,7 +1,6 @@
 use Rattle.std.proofs.Common.{◌⊎◌, inl, inr, arith}
 use Rattle.std.proofs.lemmas.Int.{ints}
-use Rattle.ordered_group.specs.Amount.{Amount, AtMost, Amount_eq}
-use Rattle.ordered_group.specs.Laws.{IsOrderedGroup}
+use Rattle.ordered_group.specs.Prelude.{Amount, AtMost, Amount_eq, IsOrderedGroup}
 use Rattle.ordered_group.proofs.Order.{larger_is}
 
 either_first : (x y : Amount) → AtMost x y ⊎ AtMost y x

@@ -2,12 +2,8 @@
 use Rattle.std.proofs.Common.{◌≡◌, ℕ, zero, suc, ◌<◌, ◌≤◌, Bool, true, false, cond, ◌==◌, refl, sym, ap, ap₂, ◌∙◌, arith, ℤ, pos, ◌+ℤ◌, ◌≤ℤ◌, inl, inr}
 use Rattle.std.proofs.lemmas.Int.{ints}
 use Rattle.std.proofs.lemmas.Bool.{cases_eq, eq-eqb, ne_eqb}
-use Rattle.ordered_group.specs.Amount.{Amount}
-use Rattle.ordered_group.specs.Sets.{worth_in, count_in}
-use Rattle.ordered_group.specs.Block.{worth_block}
-use Rattle.ordered_group.specs.LawProofs.{worth_told}
+use Rattle.ordered_group.specs.Prelude.{Amount, worth_in, count_in, worth_block, worth_told, SumsTellWorth, BlocksTellWorth}
 pub use Rattle.ordered_group.specs.ScaledProofs.{count_in-most}
-use Rattle.ordered_group.specs.Laws.{SumsTellWorth, BlocksTellWorth}
 use Rattle.ordered_group.proofs.Totals.Sets.{union, intersection, total-one, two_sets}
 use Rattle.std.proofs.lemmas.Grind.{common_steps}
 

@@ -1,8 +1,7 @@
 -- Lists of values, and of the amounts that they stand for.
 use Rattle.std.proofs.Common.{◌≡◌, ℕ, ◌<◌, List, length, get_or, map, sym, ap, subst, ◌∙◌}
 use Rattle.std.proofs.lemmas.List.{get_or-map}
-use Rattle.ordered_group.specs.Amount.{Amount, zero_amount}
-use Rattle.ordered_group.specs.Sums.{amount_at}
+use Rattle.ordered_group.specs.Prelude.{Amount, zero_amount, amount_at}
 
 -- the amount at i is that of the value that was read there
 pub at_map : {X : Type 0} (f : X → Amount) (xs : List X) (i : ℕ) (x : X) → i < length xs → x ≡ get_or xs i x → amount_at (map f xs) i ≡ f x

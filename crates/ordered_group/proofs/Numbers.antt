@@ -2,8 +2,7 @@
 use Rattle.std.proofs.Common.{◌≡◌, ℕ, zero, suc, ◌<◌, ◌≤◌, Bool, true, false, cond, ◌==◌, List, [], ◌∷◌, ◌++◌, length, get_or, inl, inr, sym, refl, ap, ◌∙◌, arith}
 use Rattle.std.proofs.lemmas.List.{get_or_append_left, length-append}
 use Rattle.std.proofs.lemmas.Bool.{cases_eq}
-use Rattle.ordered_group.specs.Amount.{Amount, plus}
-use Rattle.ordered_group.specs.Sums.{total, where_so, at_end}
+use Rattle.ordered_group.specs.Prelude.{Amount, plus, total, where_so, at_end}
 use Rattle.ordered_group.proofs.Totals.Ranges.{total-same, plus-zero_right}
 use Rattle.std.proofs.lemmas.Grind.{common_steps}
 

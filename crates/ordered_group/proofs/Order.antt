@@ -7,11 +7,9 @@ use Rattle.std.proofs.lemmas.Int.{ints}
 use Rattle.ordered_group.specs.Amount.{Amount, zero_amount, plus, minus, AtMost, Below, Amount_eq, amount_cmp, larger_amount, larger_of, lesser_amount, lesser_of, positive, negative}
 
 then_ranks : (x y : Amount) (o p : Ordering) → MatchOrdering o (x.w <ℤ y.w) (x.w ≡ y.w) (y.w <ℤ x.w) → MatchOrdering p (x.c <ℤ y.c) (x.c ≡ y.c) (y.c <ℤ x.c) → MatchOrdering (ordering_then o p) (Below x y) (x ≡ y) (Below y x)
-then_ranks x y Less p h k = record { worths = omega (arith, ints); counts = λ e. omega (arith, ints) }
-then_ranks x y Equal Less h k = record { worths = omega (arith, ints); counts = λ e. k }
 then_ranks x y Equal Equal h k = Amount_eq x y h k
-then_ranks x y Equal Greater h k = record { worths = omega (arith, ints); counts = λ e. k }
-then_ranks x y Greater p h k = record { worths = omega (arith, ints); counts = λ e. omega (arith, ints) }
+then_ranks x y Equal p h k = record { worths = omega (arith, ints); counts = λ e. k }
+then_ranks x y o p h k = record { worths = omega (arith, ints); counts = λ e. omega (arith, ints) }
 
 -- what `amount_cmp` answers
 pub amount_ranks : (x y : Amount) → MatchOrdering (amount_cmp x y) (Below x y) (x ≡ y) (Below y x)
@@ -36,9 +34,8 @@ pub positive-negative : (x : Amount) → x ≡ minus (positive x) (negative x)
 positive-negative x = parts x (positive x) (negative x) (larger_is x zero_amount) (larger_is (minus zero_amount x) zero_amount)
 
 ranked_eq : (x y : Amount) (o : Ordering) → MatchOrdering o (Below x y) (x ≡ y) (Below y x) → (is_eq o ≡ true) ↔ (x ≡ y)
-ranked_eq x y Less h = (λ e. absurd cc, λ k. absurd (omega (arith, ints, h, ap (λ a. a.w) k, ap (λ a. a.c) k)))
 ranked_eq x y Equal h = (λ e. h, λ k. refl)
-ranked_eq x y Greater h = (λ e. absurd cc, λ k. absurd (omega (arith, ints, h, ap (λ a. a.w) k, ap (λ a. a.c) k)))
+ranked_eq x y o h = (λ e. absurd cc, λ k. absurd (omega (arith, ints, h, ap (λ a. a.w) k, ap (λ a. a.c) k)))
 
 pub is_eq_tells : (x y : Amount) → (is_eq (amount_cmp x y) ≡ true) ↔ (x ≡ y)
 is_eq_tells x y = ranked_eq x y (amount_cmp x y) (amount_ranks x y)

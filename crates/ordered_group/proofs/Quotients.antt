@@ -4,8 +4,7 @@ use Rattle.std.specs.Int.{w128, int_div_euclid, int_rem_euclid}
 use Rattle.std.specs.Option.{SomeIff}
 use Rattle.std.proofs.lemmas.Int.{ints, to_z-of_z}
 use Rattle.std.proofs.lemmas.Nat.{div-mul-add, div-add-mod', mod_below}
-use Rattle.ordered_group.specs.Block.{TellsWorth}
-use Rattle.ordered_group.specs.ScaledProofs.{sum_times}
+use Rattle.ordered_group.specs.Prelude.{TellsWorth, sum_times}
 use Rattle.std.proofs.lemmas.Grind.{common_steps}
 
 -- q times m, and less than m more

@@ -1,7 +1,6 @@
 -- One step of a loop that sums amounts, and what fits on the way.
 use Rattle.std.proofs.Common.{◌≡◌, ℕ, ◌+◌, Bool, true, false, sym, refl, ap, subst, ◌∙◌, add-one}
-use Rattle.ordered_group.specs.Amount.{Amount, zero_amount, plus, FitsPair}
-use Rattle.ordered_group.specs.Sums.{total, where_so, SumFits}
+use Rattle.ordered_group.specs.Prelude.{Amount, zero_amount, plus, FitsPair, total, where_so, SumFits}
 use Rattle.ordered_group.proofs.Totals.Ranges.{plus-zero_right}
 use Rattle.ordered_group.proofs.Totals.Sets.{where_at, where_not}
 use Rattle.std.proofs.Common.{below_more}

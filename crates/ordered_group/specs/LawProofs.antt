@@ -56,8 +56,7 @@ counted_orders v e c n = below_by_ranks _ _ _ _ _ _ (counted_told v e n) (counte
 -- equal counts decide nothing
 pub then_equal : (o : Ordering) → o ≡ ordering_then o Equal
 then_equal Less = refl
-then_equal Equal = refl
-then_equal Greater = refl
+then_equal o = refl
 
 -- a kind with counts isn't one without
 pub true_not_false : {P : Type 0} → true ≡ false → P

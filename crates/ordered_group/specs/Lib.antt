@@ -10,3 +10,5 @@ pub mod Group
 -- proofs that implementations cite as their laws
 pub mod LawProofs
 pub mod ScaledProofs
+-- the names of all of them
+pub mod Prelude

@@ -1,16 +1,8 @@
 -- Finding a pair among those of its block.
-use Rattle.std.proofs.Common.{◌≡◌, ◌≢◌, ℕ, ◌+◌, ◌<◌, ◌≤◌, ◌==◌, inl, inr, List, length, get_or, Some, None, Result, Ok, Err, sym, ap, subst, ◌∙◌, arith}
-use Rattle.std.specs.List.{Contains}
-use Rattle.std.specs.List.Sorted.{IsBinarySearchResult}
-use Rattle.std.specs.Ordering.{nat_cmp}
-use Rattle.std.specs.Result.{result_ok}
-use Rattle.std.proofs.lemmas.List.Sorted.{searched}
-use Rattle.std.proofs.lemmas.Bool.{cases_eq, cases_lt, eq-eqb, eqb-true}
-use Rattle.std.proofs.lemmas.List.{length-map, get_or-map, get_or_default}
+use Rattle.fixed_worth.proofs.Common.{◌≡◌, ◌≢◌, ℕ, ◌+◌, ◌<◌, ◌≤◌, ◌==◌, inl, inr, List, length, get_or, Some, None, Result, Ok, Err, sym, ap, subst, ◌∙◌, arith, Contains, IsBinarySearchResult, nat_cmp, result_ok, searched, cases_eq, cases_lt, eq-eqb, eqb-true, length-map, get_or-map, get_or_default, common_steps}
 use Rattle.prec_file.specs.Rests.{numbers, from_at, to_at, first_of, above_of, IsRising}
 use Rattle.prec_file.proofs.Passing.{passing_at, passing_here, passing_after}
 use Rattle.prec_file.proofs.Order.{own_at}
-use Rattle.std.proofs.lemmas.Grind.{common_steps}
 
 -- b has as many predecessors as pairs
 pub above_length : (ps : List (ℕ × ℕ)) (b : ℕ) → length (above_of ps b) ≡ length (numbers (from_at ps) b (length ps))

@@ -1,12 +1,9 @@
 -- The number of each block's first pair, of pairs in order.
-use Rattle.std.proofs.Common.{◌≡◌, ℕ, ◌+◌, ◌<◌, ◌≤◌, nat_lt, inl, inr, List, length, get_or, sym, subst, ◌∙◌, arith}
-use Rattle.std.proofs.lemmas.Bool.{cases_eq, cases_lt}
-use Rattle.prec_file.specs.Rests.{count_ending_below, from_at, IsRising}
-use Rattle.prec_file.specs.Indexes.{IsStarts}
+use Rattle.fixed_worth.proofs.Common.{◌≡◌, ℕ, ◌+◌, ◌<◌, ◌≤◌, nat_lt, inl, inr, List, length, get_or, sym, subst, ◌∙◌, arith, cases_eq, cases_lt, common_steps}
+use Rattle.prec_file.specs.Prelude.{count_ending_below, from_at, IsRising, IsStarts}
 use Rattle.prec_file.proofs.Passing.{passing_between}
 use Rattle.prec_file.proofs.Slots.{ending_all}
 use Rattle.prec_file.proofs.Order.{up_from, lt_false}
-use Rattle.std.proofs.lemmas.Grind.{common_steps}
 
 -- the first numbers, where those below k are of the blocks that have one
 pub record FirstsSoFar (ps : List (ℕ × ℕ)) (n k : ℕ) (firsts : List ℕ) : Type 0 where

@@ -1,17 +1,11 @@
 -- What is wrong with a record, given the records before it.
-use Rattle.std.proofs.Common.{◌≡◌, ℕ, ◌+◌, ◌<◌, ◌≤◌, ◌≢◌, Bool, true, false, cond, not, List, length, Option, Some, None, refl, ap, arith}
-use Rattle.std.specs.Prelude.{nat_le, nat_lt}
-use Rattle.std.specs.List.{list_all, list_any}
-use Rattle.std.proofs.lemmas.List.{length-map}
-use Rattle.std.specs.Option.{option_or}
+use Rattle.fixed_worth.proofs.Common.{◌≡◌, ℕ, ◌+◌, ◌<◌, ◌≤◌, ◌≢◌, Bool, true, false, cond, not, List, length, Option, Some, None, refl, ap, arith, nat_le, nat_lt, list_all, list_any, length-map, option_or, common_steps}
 use Rattle.prec_file.specs.declared.limits.TheConstants.{MOST_PAIRS}
 use Rattle.prec_file.specs.declared.prec_fault.PrecFault.{PrecFault}
 use Rattle.prec_file.specs.declared.prec_fault.PrecFault.TheVariants.{Text, Number, UnknownBlock, Repeated, WrongCount, TooMany, NoMemory}
-use Rattle.fixed_worth.specs.Record.{reads, is_skipped}
-use Rattle.prec_file.specs.Records.{block_of, predecessor_count_of, predecessors_of, pairs_in, shape_fault, history_fault, record_fault}
-use Rattle.prec_file.specs.Indexes.{TellsFault}
+use Rattle.fixed_worth.specs.Prelude.{reads, is_skipped, block_of}
+use Rattle.prec_file.specs.Prelude.{predecessor_count_of, predecessors_of, pairs_in, shape_fault, history_fault, record_fault, TellsFault}
 use Rattle.prec_file.proofs.Shapes.{known}
-use Rattle.std.proofs.lemmas.Grind.{common_steps}
 
 -- A record with no fault of its own has a known block.
 pub third : (a b c : Bool) (x y z : PrecFault) → cond a (Some x) (cond b (Some y) (cond c (Some z) None)) ≡ None → c ≡ false

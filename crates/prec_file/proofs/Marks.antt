@@ -1,9 +1,7 @@
 -- A block is marked where it had a record.
-use Rattle.std.proofs.Common.{◌≡◌, ℕ, ◌<◌, Bool, true, false, cond, List, [], ◌∷◌, ◌++◌, length, get_or, set, replicate, refl, arith}
-use Rattle.fixed_worth.specs.Record.{is_skipped}
-use Rattle.prec_file.specs.Records.{block_of, has}
+use Rattle.fixed_worth.proofs.Common.{◌≡◌, ℕ, ◌<◌, Bool, true, false, cond, List, [], ◌∷◌, ◌++◌, length, get_or, set, replicate, refl, arith, common_steps}
+use Rattle.fixed_worth.specs.Prelude.{is_skipped, block_of, has}
 use Rattle.prec_file.specs.Indexes.{marks_after}
-use Rattle.std.proofs.lemmas.Grind.{common_steps}
 
 -- After a line that is skipped the marks stay as they are, and after a record of b it is marked, too.
 pub mark : (s : Bool) (n : ℕ) (seen : List Bool) (bs : List ℕ) (b : ℕ) → length seen ≡ n → (s ≡ false → b < n) → ((k : ℕ) → k < n → get_or seen k false ≡ has bs k)

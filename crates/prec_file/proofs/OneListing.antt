@@ -1,9 +1,6 @@
 -- Pairs in order are determined by what they contain.
-use Rattle.std.proofs.Common.{◌≡◌, ℕ, suc, ◌⊎◌, inl, inr, List, [], ◌∷◌, refl, sym, ap, subst, ◌∙◌, arith}
-use Rattle.std.specs.List.{Contains}
-use Rattle.std.proofs.lemmas.List.{get_or_default}
+use Rattle.fixed_worth.proofs.Common.{◌≡◌, ℕ, suc, ◌⊎◌, inl, inr, List, [], ◌∷◌, refl, sym, ap, subst, ◌∙◌, arith, Contains, get_or_default, common_steps}
 use Rattle.prec_file.specs.Rests.{Before, IsRising, ArePairsOf}
-use Rattle.std.proofs.lemmas.Grind.{common_steps}
 
 no_way_back : (x y : ℕ × ℕ) → Before x y → Before y x → ⊥
 no_way_back x y h k = grind (arith, common_steps)

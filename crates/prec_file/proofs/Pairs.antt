@@ -1,10 +1,5 @@
 -- Telling one pair from all others, and whether it is listed, as a test says it and as a member of the list.
-use Rattle.std.proofs.Common.{◌≡◌, ℕ, Bool, true, ◌&&◌, ◌==◌, ap, arith, IsTrue, List, refl}
-use Rattle.std.proofs.lemmas.Bool.{and_from, eq-eqb, eqb-true, and_parts}
-use Rattle.std.proofs.lemmas.Grind.{common_steps}
-use Rattle.std.specs.Prelude.{◌==◌, ◌&&◌}
-use Rattle.std.specs.List.{Contains}
-use Rattle.std.proofs.lemmas.List.Folds.{Any-from_list_any, list_any-from_Any}
+use Rattle.fixed_worth.proofs.Common.{◌≡◌, ℕ, Bool, true, ◌&&◌, ◌==◌, ap, arith, IsTrue, List, refl, and_from, eq-eqb, eqb-true, and_parts, common_steps, Contains, Any-from_list_any, list_any-from_Any}
 use Rattle.prec_file.specs.Rests.{has_pair}
 
 abbrev pub is_pair : ℕ → ℕ → ℕ × ℕ → Bool

@@ -1,14 +1,10 @@
 -- Reading line after line.
-use Rattle.std.proofs.Common.{◌≡◌, ℕ, ◌+◌, ◌<◌, ◌≤◌, Bool, false, List, [], ◌∷◌, ◌++◌, length, get_or, Some, None, refl, arith, append_assoc, append-nil}
-use Rattle.fixed_worth.specs.Text.{Left, fields_of}
-use Rattle.std.specs.Option.{option_or}
+use Rattle.fixed_worth.proofs.Common.{◌≡◌, ℕ, ◌+◌, ◌<◌, ◌≤◌, Bool, false, List, [], ◌∷◌, ◌++◌, length, get_or, Some, None, refl, arith, append_assoc, append-nil, option_or, common_steps}
+use Rattle.fixed_worth.specs.Prelude.{Left, fields_of, Line, numbered_lines, has}
 use Rattle.fixed_worth.specs.declared.limits.TheConstants.{LINE_BYTES}
 use Rattle.prec_file.specs.declared.prec_fault.PrecFault.{PrecFault}
-use Rattle.fixed_worth.specs.Record.{Line, numbered_lines}
-use Rattle.prec_file.specs.Records.{pairs_in, blocks_of_fields, record_fault, fault_behind, has, blocks_of, pairs_of, first_fault, fault_of, pairs_of_text}
-use Rattle.prec_file.specs.Indexes.{marks_after}
+use Rattle.prec_file.specs.Prelude.{pairs_in, blocks_of_fields, record_fault, fault_behind, blocks_of, pairs_of, first_fault, fault_of, pairs_of_text, marks_after}
 use Rattle.prec_file.proofs.History.{record_same, record_block}
-use Rattle.std.proofs.lemmas.Grind.{common_steps}
 
 -- What has been read, and what is left.
 pub record ReadSoFar (n : ℕ) (text : List ℕ) (seen : List Bool) (pairs : List (ℕ × ℕ)) (left : Left) : Type 0 where

@@ -1,17 +1,13 @@
 -- Reading line after line, where the blocks of the records rise.
-use Rattle.std.proofs.Common.{◌≡◌, ℕ, ◌+◌, ◌≤◌, Bool, false, List, [], ◌∷◌, ◌++◌, length, get_or, replicate, Some, None, sym, refl, ap, ◌∙◌, arith, length-append}
-use Rattle.std.proofs.lemmas.List.{length-replicate}
+use Rattle.fixed_worth.proofs.Common.{◌≡◌, ℕ, ◌+◌, ◌≤◌, Bool, false, List, [], ◌∷◌, ◌++◌, length, get_or, replicate, Some, None, sym, refl, ap, ◌∙◌, arith, length-append, length-replicate, common_steps}
 use Rattle.fixed_worth.specs.Text.{Left, fields_of, lines_of}
 use Rattle.fixed_worth.specs.declared.limits.TheConstants.{LINE_BYTES}
 use Rattle.prec_file.specs.declared.limits.TheConstants.{MOST_PAIRS}
 use Rattle.prec_file.specs.declared.prec_fault.PrecFault.{PrecFault}
-use Rattle.prec_file.specs.Rests.{RowsView, ArePairsOf}
-use Rattle.prec_file.specs.Records.{pairs_in, record_fault, fault_of, UnlessMemory}
-use Rattle.prec_file.specs.Indexes.{AreNew, IsLineRead, TellsFault, marks_after}
+use Rattle.prec_file.specs.Prelude.{RowsView, ArePairsOf, pairs_in, record_fault, fault_of, UnlessMemory, AreNew, IsLineRead, TellsFault, marks_after}
 use Rattle.prec_file.proofs.Shapes.{unless_told}
 use Rattle.prec_file.proofs.Progress.{ReadSoFar, step_on, step_wrong}
 use Rattle.prec_file.proofs.Marks.{none_marked}
-use Rattle.std.proofs.lemmas.Grind.{common_steps}
 
 -- What has been read, and what is left: the rows have the pairs that were listed.
 pub record RisingSoFar (n : ℕ) (text : List ℕ) (rows : RowsView) (count : ℕ) (left : Left) : Type 0 where

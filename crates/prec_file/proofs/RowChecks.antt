@@ -1,13 +1,8 @@
 -- Predecessors of a block that rise, and the rows of blocks without pairs.
-use Rattle.std.proofs.Common.{◌≡◌, ℕ, ◌+◌, ◌<◌, ◌≤◌, inl, inr, List, [], ◌∷◌, length, get_or, map, sym, ◌∙◌, refl, arith, All}
-use Rattle.std.proofs.lemmas.Bool.{cases_lt}
-use Rattle.std.proofs.lemmas.List.{get_or-map, length-map, get_or_default}
-use Rattle.std.proofs.lemmas.List.Elements.{All-map, All-contains, All-weaker}
-use Rattle.prec_file.specs.Rests.{from_at, IsRising, AreApart, IsOfBlock}
-use Rattle.prec_file.specs.Indexes.{AreRows, pairs_by}
+use Rattle.fixed_worth.proofs.Common.{◌≡◌, ℕ, ◌+◌, ◌<◌, ◌≤◌, inl, inr, List, [], ◌∷◌, length, get_or, map, sym, ◌∙◌, refl, arith, All, cases_lt, get_or-map, length-map, get_or_default, All-map, All-contains, All-weaker, common_steps}
+use Rattle.prec_file.specs.Prelude.{from_at, IsRising, AreApart, IsOfBlock, AreRows, pairs_by}
 use Rattle.prec_file.proofs.Slots.{ending_all}
 use Rattle.prec_file.proofs.RowSteps.{rows_told, rows_length}
-use Rattle.std.proofs.lemmas.Grind.{common_steps}
 
 -- the first k of them rise, are below the least that comes next, and the block isn't among them
 pub record RowSoFar (row : List ℕ) (b k least : ℕ) : Type 0 where

@@ -1,14 +1,9 @@
 -- Reading the records of a text whose blocks rise into rows.
-use Rattle.std.proofs.Common.{◌≡◌, ℕ, ◌+◌, ◌<◌, ◌≤◌, Bool, false, inl, inr, List, ◌++◌, length, get_or, map, None, sym, ap, subst, ◌∙◌, arith, All, length-append}
-use Rattle.std.specs.List.{Contains}
-use Rattle.std.proofs.lemmas.List.Elements.{Contains-append_cases, Contains-append_left, Contains-append_right}
-use Rattle.fixed_worth.specs.Record.{is_skipped}
+use Rattle.fixed_worth.proofs.Common.{◌≡◌, ℕ, ◌+◌, ◌<◌, ◌≤◌, Bool, false, inl, inr, List, ◌++◌, length, get_or, map, None, sym, ap, subst, ◌∙◌, arith, All, length-append, Contains, Contains-append_cases, Contains-append_left, Contains-append_right, common_steps}
+use Rattle.fixed_worth.specs.Prelude.{is_skipped, block_of}
 use Rattle.prec_file.specs.declared.limits.TheConstants.{MOST_PAIRS}
-use Rattle.prec_file.specs.Rests.{RowsView, ArePairsOf, IsRowAdded}
-use Rattle.prec_file.specs.Records.{block_of, predecessors_of, pairs_in, shape_fault, record_fault}
-use Rattle.prec_file.specs.Indexes.{IsRecordOf, AreNew, IsLineRead, marks_after}
+use Rattle.prec_file.specs.Prelude.{RowsView, ArePairsOf, IsRowAdded, predecessors_of, pairs_in, shape_fault, record_fault, IsRecordOf, AreNew, IsLineRead, marks_after}
 use Rattle.prec_file.proofs.History.{pairs_length}
-use Rattle.std.proofs.lemmas.Grind.{common_steps}
 
 -- the predecessors of a record are known
 pub predecessors_known : (n line b claimed k : ℕ) (fs : List (List ℕ)) → IsRecordOf n line fs b claimed k → All (λ p. p < n) (predecessors_of fs)
@@ -35,7 +30,6 @@ rows_joined listed row added old new h a = record {
 
 module _ (n line b claimed k before : ℕ) (fs : List (List ℕ)) (row : List ℕ) (old mid new : RowsView) (added : List (ℕ × ℕ)) (r : IsRecordOf n line fs b claimed k) (e : row ≡ predecessors_of fs)
     (behind : old.next ≤ b) (skipped : mid ≡ record { blocks = old.blocks; next = b; pairs = old.pairs }) (a : IsRowAdded mid new (map (λ p. (mid.next, p)) row) added) where
-
   is_next : mid.next ≡ b
   is_next = ap (λ (v : RowsView). v.next) skipped
 

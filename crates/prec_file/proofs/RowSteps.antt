@@ -1,17 +1,12 @@
 -- The next block's pairs behind those of the blocks before it.
-use Rattle.std.proofs.Common.{◌≡◌, ℕ, zero, suc, ◌+◌, ◌-◌, ◌<◌, ◌≤◌, Bool, nat_lt, inl, inr, List, [], ◌∷◌, ◌++◌, length, get_or, map, sym, refl, ap, subst, ◌∙◌, arith, length-append, All, Contains}
-use Rattle.std.proofs.lemmas.Bool.{cases_lt}
-use Rattle.std.proofs.lemmas.List.{get_or_append_left, get_or-append_right, get_or_push, length-map, map-append}
-use Rattle.std.proofs.lemmas.List.Elements.{All-append, All-weaker, All-contains, All-contains_itself, Contains-append_cases}
+use Rattle.fixed_worth.proofs.Common.{◌≡◌, ℕ, zero, suc, ◌+◌, ◌-◌, ◌<◌, ◌≤◌, Bool, nat_lt, inl, inr, List, [], ◌∷◌, ◌++◌, length, get_or, map, sym, refl, ap, subst, ◌∙◌, arith, length-append, All, Contains, cases_lt, get_or_append_left, get_or-append_right, get_or_push, length-map, map-append, All-append, All-weaker, All-contains, All-contains_itself, Contains-append_cases, common_steps}
 use Rattle.prec_file.specs.declared.limits.TheConstants.{MOST_PAIRS}
 use Rattle.fixed_worth.specs.declared.limits.TheConstants.{MOST_BLOCKS}
-use Rattle.prec_file.specs.Rests.{numbers_passing, count_ending_below, from_at, Before, IsRising, AreApart, IsKnown, IsOfBlock, IsRests, ArePairsOf}
-use Rattle.prec_file.specs.Indexes.{IsStarts, AreRows, pairs_by}
+use Rattle.prec_file.specs.Prelude.{numbers_passing, count_ending_below, from_at, Before, IsRising, AreApart, IsKnown, IsOfBlock, IsRests, ArePairsOf, IsStarts, AreRows, pairs_by}
 use Rattle.prec_file.proofs.Passing.{passing_between}
 use Rattle.prec_file.proofs.Slots.{ending_all}
 use Rattle.prec_file.proofs.Rows.{pairs_are}
 use Rattle.prec_file.proofs.Order.{lt_false}
-use Rattle.std.proofs.lemmas.Grind.{common_steps}
 
 passing_same : (test other : ℕ → Bool) (m : ℕ) → ((k : ℕ) → k < m → test k ≡ other k) → numbers_passing test m ≡ numbers_passing other m
 passing_same test other zero h = refl

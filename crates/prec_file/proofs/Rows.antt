@@ -1,17 +1,11 @@
 -- Pairs in order are told by the numbers of the blocks' first pairs, and by their predecessors.
-use Rattle.std.proofs.Common.{◌≡◌, ℕ, suc, ◌+◌, ◌-◌, ◌<◌, ◌≤◌, Bool, true, false, nat_lt, List, [], ◌∷◌, ◌++◌, length, get_or, take, map, All, add-one, sym, refl, ap, ◌∙◌, arith}
-use Rattle.std.specs.Prelude.{nat_le}
-use Rattle.std.proofs.lemmas.Bool.Decides.{nat_tests}
-use Rattle.std.proofs.lemmas.List.{take_more}
-use Rattle.std.proofs.Math.Seq.{take-length}
-use Rattle.prec_file.specs.Rests.{numbers_passing, from_at, first_of, above_of, IsKnown, IsRising}
-use Rattle.prec_file.specs.Indexes.{IsStarts, AreAbove, block_at, rows_from, pairs_by}
+use Rattle.fixed_worth.proofs.Common.{◌≡◌, ℕ, suc, ◌+◌, ◌-◌, ◌<◌, ◌≤◌, Bool, true, false, nat_lt, List, [], ◌∷◌, ◌++◌, length, get_or, take, map, All, add-one, sym, refl, ap, ◌∙◌, arith, nat_le, nat_tests, take_more, take-length, common_steps}
+use Rattle.prec_file.specs.Prelude.{numbers_passing, from_at, first_of, above_of, IsKnown, IsRising, IsStarts, AreAbove, block_at, rows_from, pairs_by}
 use Rattle.prec_file.proofs.Passing.{passing_all, passing_between, passing_most, passing_grows}
 use Rattle.prec_file.proofs.Slots.{ending_all, ending_next, ending_none}
 use Rattle.prec_file.proofs.Finding.{above_length, found_pair}
 use Rattle.prec_file.proofs.Firsts.{later}
 use Rattle.prec_file.proofs.Order.{lt_false}
-use Rattle.std.proofs.lemmas.Grind.{common_steps}
 
 le_true : (x y : ℕ) → x ≤ y → nat_le x y ≡ true
 le_true x y h = grind (arith, nat_tests)

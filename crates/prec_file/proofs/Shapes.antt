@@ -1,20 +1,11 @@
 -- What is wrong with a record by itself.
-use Rattle.std.proofs.Common.{◌≡◌, ℕ, suc, ◌<◌, ◌≤◌, Bool, true, false, ltb, List, [], ◌∷◌, length, map, take, drop, Option, Some, None, Result, Ok, Err, refl, sym, ap, arith}
-use Rattle.std.specs.Prelude.{◌||◌, nat_le, is_ok}
-use Rattle.std.specs.List.{list_all, list_any}
-use Rattle.std.specs.Result.{result_unwrap_or}
-use Rattle.std.proofs.lemmas.Bool.Decides.{nat_tests}
-use Rattle.std.proofs.lemmas.List.{length-map}
-use Rattle.fixed_worth.specs.Text.{WordRun}
+use Rattle.fixed_worth.proofs.Common.{◌≡◌, ℕ, suc, ◌<◌, ◌≤◌, Bool, true, false, ltb, List, [], ◌∷◌, length, map, take, drop, Option, Some, None, Result, Ok, Err, refl, sym, ap, arith, ◌||◌, nat_le, is_ok, list_all, list_any, result_unwrap_or, nat_tests, length-map, common_steps}
+use Rattle.fixed_worth.specs.Prelude.{WordRun, whole_of, first_whole, reads, number_of, is_remark, is_skipped}
 use Rattle.fixed_worth.specs.declared.numerals.NumberFault.{NumberFault}
-use Rattle.fixed_worth.specs.Numeral.{whole_of}
 use Rattle.prec_file.specs.declared.prec_fault.PrecFault.{PrecFault}
 use Rattle.prec_file.specs.declared.prec_fault.PrecFault.TheVariants.{Text, Number, UnknownBlock}
-use Rattle.fixed_worth.specs.Record.{first_whole, reads, number_of, is_remark, is_skipped}
 use Rattle.fixed_worth.proofs.FirstNumbers.{first_is, no_field, number_no_remark}
-use Rattle.prec_file.specs.Records.{pairs_in, shape_fault, UnlessMemory}
-use Rattle.prec_file.specs.Indexes.{TellsFault}
-use Rattle.std.proofs.lemmas.Grind.{common_steps}
+use Rattle.prec_file.specs.Prelude.{pairs_in, shape_fault, UnlessMemory, TellsFault}
 
 -- what is known of a fault that was told
 pub unless_told : (e : PrecFault) (o : Option PrecFault) {Q : Type 0} → (o ≡ Some e → Q) → TellsFault e o → UnlessMemory e Q

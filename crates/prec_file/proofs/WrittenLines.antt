@@ -1,23 +1,12 @@
 -- The lines of a written file, and their fields.
-use Rattle.std.proofs.Common.{◌≡◌, ℕ, zero, suc, ◌+◌, ◌*◌, ◌<◌, ◌≤◌, ◌^◌, Bool, true, List, [], ◌∷◌, ◌++◌, length, refl, ap, ◌∙◌, arith, append_assoc, length-append, All}
-use Rattle.std.specs.Prelude.{map}
-use Rattle.std.specs.List.{list_all}
-use Rattle.std.specs.Fmt.{decimal}
-use Rattle.std.proofs.lemmas.Bool.{and_from}
-use Rattle.std.proofs.lemmas.Fmt.{length-decimal-le}
-use Rattle.std.proofs.lemmas.List.{get_or_default}
-use Rattle.std.proofs.lemmas.List.Elements.{All-weaker}
-use Rattle.std.proofs.lemmas.List.Folds.{flat_map-map, list_all-append}
+use Rattle.fixed_worth.proofs.Common.{◌≡◌, ℕ, zero, suc, ◌+◌, ◌*◌, ◌<◌, ◌≤◌, ◌^◌, Bool, true, List, [], ◌∷◌, ◌++◌, length, refl, ap, ◌∙◌, arith, append_assoc, length-append, All, map, list_all, decimal, and_from, length-decimal-le, get_or_default, All-weaker, flat_map-map, list_all-append, common_steps}
 use Rattle.fixed_worth.specs.declared.limits.TheConstants.{MOST_BLOCKS, LINE_BYTES}
 use Rattle.prec_file.specs.declared.limits.TheConstants.{MOST_PAIRS}
-use Rattle.fixed_worth.specs.Text.{lines_of, fields_of}
-use Rattle.fixed_worth.specs.Laws.{with_line_feeds}
+use Rattle.fixed_worth.specs.Prelude.{lines_of, fields_of, with_line_feeds}
 use Rattle.fixed_worth.proofs.Joined.{is_one_line, is_word, behind_spaces, lines_cut, with_line_feeds-append, fields_cut, joined_is_one_line}
 use Rattle.fixed_worth.proofs.WrittenNumbers.{decimal_is_word, decimal_is_one_line, decimals_pass}
-use Rattle.prec_file.specs.Rests.{IsKnown, IsRising, above_of}
-use Rattle.prec_file.specs.Written.{lines_below, AreNarrow}
+use Rattle.prec_file.specs.Prelude.{IsKnown, IsRising, above_of, lines_below, AreNarrow}
 use Rattle.prec_file.proofs.Finding.{above_at}
-use Rattle.std.proofs.lemmas.Grind.{common_steps}
 
 -- What is known of a value whose blocks are narrow.
 pub record IsWritable (n : ℕ) (ps : List (ℕ × ℕ)) : Type 0 where

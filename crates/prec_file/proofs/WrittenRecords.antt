@@ -1,28 +1,16 @@
 -- A written file has no fault, and its pairs are those that were written.
-use Rattle.std.proofs.Common.{◌≡◌, ℕ, zero, suc, ◌+◌, ◌<◌, ◌≤◌, ◌^◌, inl, inr, Bool, false, List, [], ◌∷◌, ◌++◌, length, get_or, None, refl, sym, ap, ◌∙◌, subst, arith, append_assoc, append-nil, length-append, All}
-use Rattle.std.specs.Prelude.{map, nat_le, nat_lt}
-use Rattle.std.specs.List.{list_any, Contains}
-use Rattle.std.specs.Fmt.{decimal}
-use Rattle.std.proofs.lemmas.Bool.{cases_eq}
-use Rattle.std.proofs.lemmas.Bool.Decides.{nat_tests}
-use Rattle.std.proofs.lemmas.List.{length-map, get_or-map, get_or_default}
-use Rattle.std.proofs.lemmas.List.Elements.{Contains-append_left, Contains-append_right, Contains-append_cases}
-use Rattle.fixed_worth.specs.Text.{lines_of, fields_of}
-use Rattle.fixed_worth.specs.Record.{Line, numbered_lines, reads, number_of, is_skipped}
+use Rattle.fixed_worth.proofs.Common.{◌≡◌, ℕ, zero, suc, ◌+◌, ◌<◌, ◌≤◌, ◌^◌, inl, inr, Bool, false, List, [], ◌∷◌, ◌++◌, length, get_or, None, refl, sym, ap, ◌∙◌, subst, arith, append_assoc, append-nil, length-append, All, map, nat_le, nat_lt, list_any, Contains, decimal, cases_eq, nat_tests, length-map, get_or-map, get_or_default, Contains-append_left, Contains-append_right, Contains-append_cases, option_or, common_steps}
+use Rattle.fixed_worth.specs.Prelude.{lines_of, fields_of, Line, numbered_lines, reads, number_of, is_skipped, has}
 use Rattle.fixed_worth.proofs.WrittenNumbers.{decimal_is_no_remark, decimal_reads, number_of-decimal, decimals_pass, numbers_of-decimals}
-use Rattle.std.specs.Option.{option_or}
 use Rattle.fixed_worth.specs.declared.limits.TheConstants.{LINE_BYTES}
 use Rattle.prec_file.specs.declared.limits.TheConstants.{MOST_PAIRS}
-use Rattle.prec_file.specs.Rests.{RestsView, IsRests, ArePairsOf, from_at, to_at, numbers, above_of, first_of}
-use Rattle.prec_file.specs.Records.{pairs_in, blocks_of_fields, shape_fault, record_fault, fault_behind, has, blocks_of, pairs_of, first_fault, pairs_of_text}
-use Rattle.prec_file.specs.Written.{prec_text, AreNarrow, ReadsBack}
+use Rattle.prec_file.specs.Prelude.{RestsView, IsRests, ArePairsOf, from_at, to_at, numbers, above_of, first_of, pairs_in, blocks_of_fields, shape_fault, record_fault, fault_behind, blocks_of, pairs_of, first_fault, pairs_of_text, prec_text, AreNarrow, ReadsBack}
 use Rattle.prec_file.proofs.Shapes.{sound, pairs_at}
 use Rattle.prec_file.proofs.History.{no_fault}
 use Rattle.prec_file.proofs.Slots.{ending_next, ending_none, ending_most}
 use Rattle.prec_file.proofs.OneListing.{one_listing}
 use Rattle.prec_file.proofs.Finding.{above_length, found_pair, above_has}
 use Rattle.prec_file.proofs.WrittenLines.{IsWritable, above_known, words_at, row, rows, text_lines, row_fields, row_short, small_blocks}
-use Rattle.std.proofs.lemmas.Grind.{common_steps}
 
 -- ---- one record
 

@@ -7,3 +7,5 @@ pub mod Written
 pub mod Faults
 -- for this crate alone: the indexes as they are built
 pub mod Indexes
+-- the names of all of them
+pub mod Prelude

@@ -1,15 +1,12 @@
 -- The steps of a run that fits are all made again, and lead to the same flow.
-use Rattle.std.proofs.Common.{◌≡◌, ℕ, zero, suc, ◌+◌, ◌<◌, ◌≤◌, List, [], ◌∷◌, length, take, Some, sym, ap, ◌∙◌, subst, arith}
-use Rattle.std.specs.Prelude.{slice_get}
+use Rattle.fixed_worth.proofs.Common.{◌≡◌, ℕ, zero, suc, ◌+◌, ◌<◌, ◌≤◌, List, [], ◌∷◌, length, take, Some, sym, ap, ◌∙◌, subst, arith, slice_get, common_steps}
 use Rattle.ordered_group.specs.Amount.{zero_amount}
 use Rattle.ordered_group.specs.declared.groups.Group.{Group}
 use Rattle.closure_net.specs.Network.{NetView, FlowView}
 use Rattle.closure_net.proofs.Views.{same_at_default}
 use Rattle.machine_law.specs.declared.events.Event.{Event}
 use Rattle.machine_law.specs.declared.events.TheConstants.{MOST_EVENTS}
-use Rattle.machine_law.specs.States.{State, opening, IsQuiet}
-use Rattle.machine_law.specs.Steps.{Run, ActiveRun}
-use Rattle.machine_law.specs.Quiet.{IsFlowOf}
+use Rattle.machine_law.specs.Prelude.{State, opening, IsQuiet, Run, ActiveRun, IsFlowOf}
 use Rattle.machine_law.proofs.Runs.{step_unique, step_counts, run_unique}
 use Rattle.machine_law.proofs.ActiveRuns.{active_is_run}
 use Rattle.async_step.specs.declared.limits.TheConstants.{MOST_STEPS}
@@ -20,9 +17,7 @@ use Rattle.boards.specs.Runs.{AreTurnsTo}
 use Rattle.mine_inputs.specs.Mines.{MineTexts}
 use Rattle.replay_engines.specs.declared.outcome.Outcome.{Outcome}
 use Rattle.replay_engines.specs.declared.outcome.Outcome.TheVariants.{Quiet, Open, Refused}
-use Rattle.replay_engines.specs.Outcomes.{IsFlowJudged, IsOutcome}
-use Rattle.replay_engines.specs.Histories.{TellsFlow, HistoriesAreReplayed}
-use Rattle.std.proofs.lemmas.Grind.{common_steps}
+use Rattle.replay_engines.specs.Prelude.{IsFlowJudged, IsOutcome, TellsFlow, HistoriesAreReplayed}
 
 -- so no event of such a run is
 none_refused : (net : NetView) (s : State) (es : List Event) (t : State) → ActiveRun (Fits net) net s es t → s.steps + length es < MOST_STEPS → (before : ℕ) (u : State) → Run net s (take before es) u → (e : Event) → slice_get es before ≡ Some e → (refusal : StepRefusal) → ¬ (RefusalStands net u e refusal)

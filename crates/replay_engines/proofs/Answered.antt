@@ -8,39 +8,20 @@ use Rattle.engines.specs.declared.judgement.Verdict.{Verdict}
 use Rattle.mine_inputs.specs.declared.engine_fault.EngineFault.{EngineFault}
 use Rattle.mine_inputs.specs.declared.engine_fault.EngineFault.TheVariants as engine
 use Rattle.mine_inputs.specs.declared.mines.MineInputs.{MineInputs}
-use Rattle.mine_inputs.specs.FaultStands.{MineFails}
-use Rattle.mine_inputs.specs.MineInputs.{ForTexts}
-use Rattle.mine_inputs.specs.Mines.{MineTexts, price_wanted, DenoteMine}
-use Rattle.mine_inputs.specs.ReadMines.{AreRead}
+use Rattle.mine_inputs.specs.Prelude.{MineFails, ForTexts, MineTexts, price_wanted, DenoteMine, AreRead}
 use Rattle.engines.proofs.Answered.{keeps_self}
 use Rattle.mine_inputs.proofs.MineDevices.{always, under, for_texts}
-use Rattle.replay_engines.specs.TraceTexts.{ReadsTrace, TraceReadFails}
-use Rattle.replay_engines.specs.Replays.{Replays}
+use Rattle.replay_engines.specs.Prelude.{ReadsTrace, TraceReadFails, Replays}
 
 -- the trace was not read
 untraced : (texts : MineTexts) (n : ℕ) (name : Group) (trace : List ℕ) (w : Option (List ℕ)) (e : EngineFault) → DenoteMine texts n → TraceReadFails trace e → Replays texts name trace w w (Err e)
 untraced texts n name trace w (engine.Trace q) mine h = ((n, mine, h), keeps_self w)
 untraced texts n name trace w engine.Memory mine h = (tt, keeps_self w)
 untraced texts n name trace w engine.Device mine h = (tt, inl (keeps_self w))
-untraced texts n name trace w (engine.Upit q) mine h = absurd h
-untraced texts n name trace w (engine.Prec q) mine h = absurd h
-untraced texts n name trace w (engine.Model q) mine h = absurd h
-untraced texts n name trace w (engine.Certificate q) mine h = absurd h
-untraced texts n name trace w (engine.Blocks q) mine h = absurd h
-untraced texts n name trace w (engine.Slope q) mine h = absurd h
-untraced texts n name trace w (engine.Settings q) mine h = absurd h
-untraced texts n name trace w (engine.Prices q) mine h = absurd h
-untraced texts n name trace w engine.Thread mine h = absurd h
-untraced texts n name trace w engine.Stranger mine h = absurd h
+untraced texts n name trace w e mine h = absurd h
 
 -- a fault of the texts of the mine is one of a replay over it
 unread_at : (texts : MineTexts) (name : Group) (t : List ℕ) (w : Option (List ℕ)) (e : EngineFault) → MineFails texts e → Replays texts name t w w (Err e)
-unread_at texts name t w (engine.Upit q) h = (h, keeps_self w)
-unread_at texts name t w (engine.Settings q) h = (h, keeps_self w)
-unread_at texts name t w (engine.Blocks q) h = (h, keeps_self w)
-unread_at texts name t w (engine.Prices q) h = (h, keeps_self w)
-unread_at texts name t w (engine.Prec q) h = (h, keeps_self w)
-unread_at texts name t w engine.Memory h = (h, keeps_self w)
 unread_at texts name t w engine.Device h = (h, inl (keeps_self w))
 unread_at texts name t w (engine.Model q) h = absurd h
 unread_at texts name t w (engine.Certificate q) h = absurd h
@@ -48,6 +29,7 @@ unread_at texts name t w (engine.Trace q) h = absurd h
 unread_at texts name t w (engine.Slope q) h = absurd h
 unread_at texts name t w engine.Thread h = absurd h
 unread_at texts name t w engine.Stranger h = absurd h
+unread_at texts name t w e h = (h, keeps_self w)
 
 module _ {D : Type 0} (inputs : MineInputs D) (remaining : D → Option (List ℕ)) (factor : ℕ) (x : Option (List ℕ)) (name : Group) where
   pub unread : (w : Option (List ℕ)) (e : EngineFault) → ForTexts inputs remaining factor (λ texts. MineFails texts e) → IfSome x (λ t. ForTexts inputs remaining factor (λ texts. Replays texts name t w w (Err e)))

@@ -9,16 +9,11 @@ use Rattle.closure_net.specs.declared.net.NetFault.TheVariants as net_fault
 use Rattle.machine_law.specs.declared.events.Event.{Event}
 use Rattle.mine_inputs.specs.declared.engine_fault.EngineFault.{EngineFault}
 use Rattle.mine_inputs.specs.declared.engine_fault.EngineFault.TheVariants as engine
-use Rattle.engines.specs.Checking.{LineFails}
-use Rattle.mine_inputs.specs.Mines.{MineTexts}
-use Rattle.mine_inputs.specs.ReadMines.{AreRead}
-use Rattle.engines.specs.Readings.{IsGroupNamed}
-use Rattle.mine_inputs.specs.EngineFaults.{of_model}
+use Rattle.engines.specs.Prelude.{LineFails, IsGroupNamed}
+use Rattle.mine_inputs.specs.Prelude.{MineTexts, AreRead, of_model}
 use Rattle.engines.proofs.Judged.{worths_fail}
 use Rattle.replay_engines.specs.declared.outcome.Outcome.{Outcome}
-use Rattle.replay_engines.specs.TraceTexts.{ReadsTrace}
-use Rattle.replay_engines.specs.Outcomes.{outcome_text}
-use Rattle.replay_engines.specs.Replays.{ComesOf, IsReplay, NothingComes, Replays}
+use Rattle.replay_engines.specs.Prelude.{ReadsTrace, outcome_text, ComesOf, IsReplay, NothingComes, Replays}
 
 -- there is no net of the mine
 pub no_net : (block : ℤ → ℕ → Amount) (counts : Bool) (texts : MineTexts) (name : Group) (rests : RestsView) (worths : List ℤ) (fault : NetFault) → AreRead texts worths rests → IsGroupNamed name block counts → WorthsFaultStands block rests.blocks worths fault → NothingComes texts name (of_model fault)
@@ -32,16 +27,6 @@ replayed texts name trace events outcome h r = record { read = r.0; comes = subs
 
 -- the lines could not be written
 pub lines_failed : (texts : MineTexts) (name : Group) (trace : List ℕ) (outcome : Outcome) (old new : Option (List ℕ)) (e : EngineFault) → IsReplay texts name trace outcome → LineFails old new (outcome_text outcome) e → Replays texts name trace old new (Err e)
-lines_failed texts name trace outcome old new (engine.Upit q) h k = absurd k
-lines_failed texts name trace outcome old new (engine.Prec q) h k = absurd k
-lines_failed texts name trace outcome old new (engine.Model q) h k = absurd k
-lines_failed texts name trace outcome old new (engine.Certificate q) h k = absurd k
-lines_failed texts name trace outcome old new (engine.Trace q) h k = absurd k
-lines_failed texts name trace outcome old new (engine.Blocks q) h k = absurd k
-lines_failed texts name trace outcome old new (engine.Slope q) h k = absurd k
-lines_failed texts name trace outcome old new (engine.Settings q) h k = absurd k
-lines_failed texts name trace outcome old new (engine.Prices q) h k = absurd k
 lines_failed texts name trace outcome old new engine.Memory h k = (tt, k)
-lines_failed texts name trace outcome old new engine.Thread h k = absurd k
-lines_failed texts name trace outcome old new engine.Stranger h k = absurd k
 lines_failed texts name trace outcome old new engine.Device h k = (tt, inr (outcome, h, k))
+lines_failed texts name trace outcome old new e h k = absurd k

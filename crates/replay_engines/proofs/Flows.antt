@@ -1,20 +1,15 @@
 -- What a check says of the flow of a quiet state.
-use Rattle.std.proofs.Common.{◌≡◌, ℕ, ℤ, Bool, List, length, sym, ◌∙◌, subst, arith}
-use Rattle.ordered_group.specs.Amount.{Amount}
-use Rattle.ordered_group.specs.Laws.{SumsTellWorth}
+use Rattle.fixed_worth.proofs.Common.{◌≡◌, ℕ, ℤ, Bool, List, length, sym, ◌∙◌, subst, arith, common_steps}
+use Rattle.ordered_group.specs.Prelude.{Amount, SumsTellWorth}
 use Rattle.ordered_group.specs.declared.groups.Group.{Group}
-use Rattle.closure_net.specs.Network.{NetView, FlowView, holds_of}
-use Rattle.closure_net.specs.Mine.{IsNetOf}
+use Rattle.closure_net.specs.Prelude.{NetView, FlowView, holds_of, IsNetOf}
 use Rattle.machine_law.specs.Quiet.{IsSolved}
 use Rattle.check_pit.specs.declared.pit_fault.PitFault.{PitFault}
-use Rattle.engines.specs.Certification.{IsSolution, IsRefusedFlow}
+use Rattle.engines.specs.Prelude.{IsSolution, IsRefusedFlow, IsGroupNamed, IsNetBy}
 use Rattle.engines.specs.declared.judgement.Judgement.TheVariants.{Accepted}
 use Rattle.mine_inputs.specs.Mines.{MineTexts, mine_of}
-use Rattle.engines.specs.Readings.{IsGroupNamed}
-use Rattle.engines.specs.Solving.{IsNetBy}
 use Rattle.engines.proofs.Told.{size_told, worth_told}
 use Rattle.replay_engines.specs.Outcomes.{IsFlowJudged, IsFlowRefused}
-use Rattle.std.proofs.lemmas.Grind.{common_steps}
 
 -- the check accepted the flow, with the pit of the blocks that the source reaches in it
 pub flow_accepted : (block : ℤ → ℕ → Amount) (counts : Bool) (texts : MineTexts) (name : Group) (net : NetView) (flow : FlowView) (pit : List ℕ) → IsNetBy texts name net → IsGroupNamed name block counts

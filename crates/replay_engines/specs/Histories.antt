@@ -3,10 +3,8 @@ use Rattle.std.specs.Prelude.{◌≡◌, ℕ, List, length}
 use Rattle.ordered_group.specs.declared.groups.Group.{Group}
 use Rattle.closure_net.specs.Network.{NetView, FlowView}
 use Rattle.machine_law.specs.declared.events.Event.{Event}
-use Rattle.machine_law.specs.States.{State, IsQuiet}
-use Rattle.machine_law.specs.Quiet.{IsFlowOf}
-use Rattle.trace_file.specs.Faults.{events_of}
-use Rattle.trace_file.specs.ReadBack.{IsReadBack}
+use Rattle.machine_law.specs.Prelude.{State, IsQuiet, IsFlowOf}
+use Rattle.trace_file.specs.Prelude.{events_of, IsReadBack}
 use Rattle.boards.specs.Runs.{AreTurnsTo}
 use Rattle.mine_inputs.specs.Mines.{MineTexts}
 use Rattle.engines.specs.declared.judgement.Judgement.{Judgement}

@@ -1,15 +1,10 @@
 -- What comes of the steps of a trace over a mine, and the lines that tell it.
 use Rattle.std.specs.Prelude.{◌≡◌, ℕ, ℤ, List, [], ◌∷◌, ◌++◌, codes, decimal, length}
 use Rattle.ordered_group.specs.declared.groups.Group.{Group}
-use Rattle.closure_net.specs.Network.{NetView, FlowView, holds_of}
-use Rattle.closure_net.specs.Reached.{IsReached}
-use Rattle.closure_net.specs.Mine.{worth_of, block_count_of}
+use Rattle.closure_net.specs.Prelude.{NetView, FlowView, holds_of, IsReached, worth_of, block_count_of}
 use Rattle.machine_law.specs.declared.events.Event.{Event}
-use Rattle.machine_law.specs.States.{State, opening, IsQuiet}
-use Rattle.machine_law.specs.Steps.{Run}
-use Rattle.machine_law.specs.Quiet.{IsFlowOf}
-use Rattle.async_step.specs.Answers.{IsRefusedAt}
-use Rattle.async_step.specs.FaultText.{step_refusal_text}
+use Rattle.machine_law.specs.Prelude.{State, opening, IsQuiet, Run, IsFlowOf}
+use Rattle.async_step.specs.Prelude.{IsRefusedAt, step_refusal_text}
 use Rattle.check_pit.specs.Checks.{IsOfNet, IsSound, PitFaultStands}
 use Rattle.check_pit.specs.declared.pit_fault.PitFault.{PitFault}
 use Rattle.check_pit.specs.declared.pit_fault.PitFault.TheVariants as pit_fault
@@ -18,9 +13,7 @@ use Rattle.engines.specs.declared.judgement.Judgement.TheVariants as judged
 use Rattle.engines.specs.declared.judgement.Verdict.{Verdict}
 use Rattle.engines.specs.declared.judgement.Verdict.TheVariants.{No}
 use Rattle.mine_inputs.specs.Mines.{MineTexts, mine_of}
-use Rattle.engines.specs.Readings.{IsProvedPit}
-use Rattle.engines.specs.OutputLines.{judgement_line}
-use Rattle.engines.specs.Verdicts.{verdict_of}
+use Rattle.engines.specs.Prelude.{IsProvedPit, judgement_line, verdict_of}
 use Rattle.replay_engines.specs.declared.outcome.Outcome.{Outcome}
 use Rattle.replay_engines.specs.declared.outcome.Outcome.TheVariants.{Quiet, Open, Refused}
 

@@ -9,10 +9,8 @@ use Rattle.trace_file.specs.Faults.{events_of}
 use Rattle.engines.specs.declared.judgement.Verdict.{Verdict}
 use Rattle.mine_inputs.specs.declared.engine_fault.EngineFault.{EngineFault}
 use Rattle.mine_inputs.specs.declared.engine_fault.EngineFault.TheVariants as engine
-use Rattle.mine_inputs.specs.FaultStands.{MineFails}
-use Rattle.engines.specs.FaultStands.{ModelFails}
-use Rattle.mine_inputs.specs.Mines.{MineTexts, DenoteMine}
-use Rattle.engines.specs.Solving.{IsNetBy}
+use Rattle.mine_inputs.specs.Prelude.{MineFails, MineTexts, DenoteMine}
+use Rattle.engines.specs.Prelude.{ModelFails, IsNetBy}
 use Rattle.replay_engines.specs.declared.outcome.Outcome.{Outcome}
 use Rattle.replay_engines.specs.TraceTexts.{IsTrace, TraceFails}
 use Rattle.replay_engines.specs.Outcomes.{IsOutcome, outcome_text, outcome_verdict}

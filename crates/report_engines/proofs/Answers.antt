@@ -4,8 +4,7 @@ use Rattle.mine_inputs.specs.declared.engine_fault.EngineFault.{EngineFault}
 use Rattle.engines.specs.declared.effort.Effort.{Effort}
 use Rattle.shell_engines.specs.Shells.{DenoteSeries, NoNetAt}
 use Rattle.shell_engines.proofs.Answering.{texts_unread}
-use Rattle.report_engines.specs.ReportTexts.{ReportBlocksRead, ReportMineFails}
-use Rattle.report_engines.specs.Reports.{AnswersReport, Reports}
+use Rattle.report_engines.specs.Prelude.{ReportBlocksRead, ReportMineFails, AnswersReport, Reports}
 
 -- the texts were not read
 pub mine_unread : (o q r v w : Option (List ℕ)) (effort : Effort) (asked : Bool) (e : EngineFault) → IfSome o (λ s. IfSome q (λ b. IfSome r (λ p. ReportMineFails s b p e))) → IfSome o (λ s. IfSome q (λ b. IfSome r (λ p. Reports s b p effort asked v v w w (Err e))))

@@ -1,12 +1,9 @@
 -- A text of blocks without a fault has none where fewer of the columns are chosen.
-use Rattle.std.proofs.Common.{◌≡◌, ℕ, Bool, true, false, cond, not, ◌||◌, ◌&&◌, nat_lt, List, [], ◌∷◌, ◌++◌, length, refl, Option, Some, None}
-use Rattle.std.specs.Option.{option_or}
-use Rattle.std.specs.List.{list_any}
-use Rattle.fixed_worth.specs.Text.{fields_of}
-use Rattle.fixed_worth.specs.Record.{Line, is_skipped}
+use Rattle.fixed_worth.proofs.Common.{◌≡◌, ℕ, Bool, true, false, cond, not, ◌||◌, ◌&&◌, nat_lt, List, [], ◌∷◌, ◌++◌, length, refl, Option, Some, None, option_or, list_any}
+use Rattle.fixed_worth.specs.Prelude.{fields_of, Line, is_skipped, block_of, lines_in}
 use Rattle.blocks_file.specs.declared.blocks_fault.BlocksFault.{BlocksFault}
 use Rattle.blocks_file.specs.declared.blocks_fault.BlocksFault.TheVariants.{Number, NoColumn}
-use Rattle.blocks_file.specs.Records.{head_reads, is_bad, are_there, shape_fault, block_fault, block_of, record_fault, has_record, first_fault, early_fault, lines_in, record_count_of, fault_of}
+use Rattle.blocks_file.specs.Records.{head_reads, is_bad, are_there, shape_fault, block_fault, record_fault, has_record, first_fault, early_fault, record_count_of, fault_of}
 use Rattle.upit_file.proofs.Names.{none_parts}
 
 -- columns are as good as others, of which they are some: none of them is bad, and all are there, where so it is of the others
@@ -20,9 +17,7 @@ none_of (Some x) b h k = absurd cc
 
 shape_step : (line : ℕ) (heads bad there bad' there' : Bool) → (bad ≡ false → bad' ≡ false) → (there ≡ true → there' ≡ true) → cond (not heads || bad) (Some (Number line)) (cond (not there) (Some (NoColumn line)) None) ≡ None → cond (not heads || bad') (Some (Number line)) (cond (not there') (Some (NoColumn line)) None) ≡ None
 shape_step line true false true bad' there' f g h = rw (f refl, g refl) refl
-shape_step line true false false bad' there' f g h = absurd cc
-shape_step line true true there bad' there' f g h = absurd cc
-shape_step line false bad there bad' there' f g h = absurd cc
+shape_step line heads bad there bad' there' f g h = absurd cc
 
 record_step : (skipped : Bool) (a b c : Option BlocksFault) → (a ≡ None → b ≡ None) → cond skipped None (option_or a c) ≡ None → cond skipped None (option_or b c) ≡ None
 record_step true a b c f h = refl

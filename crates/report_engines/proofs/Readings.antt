@@ -12,15 +12,12 @@ use Rattle.shells.specs.Prices.{PricesView, PricesFaultStands, NoRevenueNegative
 use Rattle.mine_inputs.specs.declared.engine_fault.EngineFault.{EngineFault}
 use Rattle.mine_inputs.specs.declared.engine_fault.EngineFault.TheVariants as engine
 use Rattle.mine_inputs.specs.declared.engine_fault.Problem.TheVariants as problem
-use Rattle.mine_inputs.specs.PricedTexts.{price_keys, columns_said, price_columns, first_columns, table_at, table_of}
-use Rattle.mine_inputs.specs.BlockTexts.{ReadsBlocks, BlocksFails, BlocksReadFails}
-use Rattle.mine_inputs.specs.Inputs.{ReadsSettingsText, SettingsReadFails, IsMissing, ReadsPrices, ReadsPrec, PrecReadFails, ModelPricesFail}
+use Rattle.mine_inputs.specs.Prelude.{price_keys, columns_said, price_columns, first_columns, table_at, table_of, ReadsBlocks, BlocksFails, BlocksReadFails, ReadsSettingsText, SettingsReadFails, IsMissing, ReadsPrices, ReadsPrec, PrecReadFails, ModelPricesFail}
 use Rattle.mine_inputs.proofs.Priced.{first_columns_are, all_read}
 use Rattle.mine_inputs.proofs.PriceKeys.{prices_and_others, prices_with_others}
 use Rattle.mine_inputs.proofs.PricedAnswers.{key_missing, keys_said, prec_answer}
 use Rattle.shell_engines.specs.SeriesTexts.{series_keys}
-use Rattle.report_engines.specs.ReportTexts.{report_keys, report_columns, ReportBlocksRead, factor_by, ReportMineFails}
-use Rattle.report_engines.specs.ReportParts.{columns_by, report_list, IsSaid, SaidFails, PricedModelFails, IsPricedModel, IsReportRead}
+use Rattle.report_engines.specs.Prelude.{report_keys, report_columns, ReportBlocksRead, factor_by, ReportMineFails, columns_by, report_list, IsSaid, SaidFails, PricedModelFails, IsPricedModel, IsReportRead}
 use Rattle.report_engines.specs.declared.report_inputs.ReportColumns.{ReportColumns}
 use Rattle.report_engines.proofs.Columns.{unfaulted, front_of}
 use Rattle.engines.proofs.Unread.{never}
@@ -28,24 +25,11 @@ use Rattle.engines.proofs.Unread.{never}
 -- ---- settings
 
 settings_fail_at : (s : List ℕ) (e : EngineFault) → SettingsReadFails s e → SaidFails s e
-settings_fail_at s (engine.Settings problem.InputTooLong) h = h
-settings_fail_at s (engine.Settings (problem.Fault settings_fault.NotToml)) h = h
-settings_fail_at s (engine.Settings (problem.Fault settings_fault.UnknownKey)) h = h
-settings_fail_at s (engine.Settings (problem.Fault (settings_fault.BadValue key))) h = h
 settings_fail_at s (engine.Settings (problem.Fault (settings_fault.Missing key))) h = absurd (let z : None ≡ Some key = h.1.1 in cc)
-settings_fail_at s (engine.Settings (problem.Fault settings_fault.NoMemory)) h = h
 settings_fail_at s engine.Memory h = tt
 settings_fail_at s engine.Device h = tt
-settings_fail_at s (engine.Blocks q) h = absurd h
-settings_fail_at s (engine.Prices q) h = absurd h
-settings_fail_at s (engine.Upit q) h = absurd h
-settings_fail_at s (engine.Prec q) h = absurd h
-settings_fail_at s (engine.Slope q) h = absurd h
-settings_fail_at s (engine.Model q) h = absurd h
-settings_fail_at s (engine.Certificate q) h = absurd h
-settings_fail_at s (engine.Trace q) h = absurd h
-settings_fail_at s engine.Thread h = absurd h
-settings_fail_at s engine.Stranger h = absurd h
+settings_fail_at s (engine.Settings _) h = h
+settings_fail_at s e h = absurd h
 
 pub settings_fail : (o : Option (List ℕ)) (e : EngineFault) → IfSome o (λ s. SettingsReadFails s e) → IfSome o (λ s. SaidFails s e)
 settings_fail None e h = tt
@@ -91,16 +75,7 @@ blocks_fail_at : (columns : ReportColumns) (text : List ℕ) (e : EngineFault) �
 blocks_fail_at columns text (engine.Blocks q) h = h
 blocks_fail_at columns text engine.Memory h = tt
 blocks_fail_at columns text engine.Device h = tt
-blocks_fail_at columns text (engine.Settings q) h = absurd h
-blocks_fail_at columns text (engine.Prices q) h = absurd h
-blocks_fail_at columns text (engine.Upit q) h = absurd h
-blocks_fail_at columns text (engine.Prec q) h = absurd h
-blocks_fail_at columns text (engine.Slope q) h = absurd h
-blocks_fail_at columns text (engine.Model q) h = absurd h
-blocks_fail_at columns text (engine.Certificate q) h = absurd h
-blocks_fail_at columns text (engine.Trace q) h = absurd h
-blocks_fail_at columns text engine.Thread h = absurd h
-blocks_fail_at columns text engine.Stranger h = absurd h
+blocks_fail_at columns text e h = absurd h
 
 pub blocks_fail : (o : Option (List ℕ)) (columns : ReportColumns) (e : EngineFault) → IfSome o (λ text. BlocksReadFails (report_list columns) text e) → IfSome o (λ text. PricedModelFails columns text e)
 blocks_fail None columns e h = tt
@@ -110,16 +85,7 @@ prices_fail_at : (columns : ReportColumns) (text : List ℕ) (m : BlocksView) (e
 prices_fail_at columns text m (engine.Prices fault) r h = (m, r, h)
 prices_fail_at columns text m engine.Memory r h = tt
 prices_fail_at columns text m engine.Device r h = tt
-prices_fail_at columns text m (engine.Blocks q) r h = absurd h
-prices_fail_at columns text m (engine.Settings q) r h = absurd h
-prices_fail_at columns text m (engine.Upit q) r h = absurd h
-prices_fail_at columns text m (engine.Prec q) r h = absurd h
-prices_fail_at columns text m (engine.Slope q) r h = absurd h
-prices_fail_at columns text m (engine.Model q) r h = absurd h
-prices_fail_at columns text m (engine.Certificate q) r h = absurd h
-prices_fail_at columns text m (engine.Trace q) r h = absurd h
-prices_fail_at columns text m engine.Thread r h = absurd h
-prices_fail_at columns text m engine.Stranger r h = absurd h
+prices_fail_at columns text m e r h = absurd h
 
 pub prices_fail : (o : Option (List ℕ)) (columns : ReportColumns) (m : BlocksView) (e : EngineFault) → IfSome o (λ text. ReadsBlocks (report_list columns) text m) → ModelPricesFail columns.prices.charges m e → IfSome o (λ text. PricedModelFails columns text e)
 prices_fail None columns m e r h = tt
@@ -143,15 +109,7 @@ module _ (s t : List ℕ) (columns : ReportColumns) (factors : List ℕ) (factor
   model_fails p (engine.Prices fault) h = (blocks_read h.0 h.1, subst (λ (table : PricesView). PricesFaultStands table fault) (columns_price h.0 h.1) h.2)
   model_fails p engine.Memory h = tt
   model_fails p engine.Device h = tt
-  model_fails p (engine.Settings q) h = absurd h
-  model_fails p (engine.Upit q) h = absurd h
-  model_fails p (engine.Prec q) h = absurd h
-  model_fails p (engine.Slope q) h = absurd h
-  model_fails p (engine.Model q) h = absurd h
-  model_fails p (engine.Certificate q) h = absurd h
-  model_fails p (engine.Trace q) h = absurd h
-  model_fails p engine.Thread h = absurd h
-  model_fails p engine.Stranger h = absurd h
+  model_fails p e h = absurd h
 
   settings_told : ReadsSettingsText s (settings_of s)
   settings_told = (said.keys.within, said.keys.read)
@@ -171,16 +129,7 @@ module _ (s t : List ℕ) (columns : ReportColumns) (factors : List ℕ) (factor
     prec_fails p n (engine.Prec q) size positive h = (blocks_read m r, prec_answer (Some s) (Some t) (Some p) (settings_of s) prices n (engine.Prec q) size positive columns_known settings_told prices_read h)
     prec_fails p n engine.Memory size positive h = tt
     prec_fails p n engine.Device size positive h = tt
-    prec_fails p n (engine.Blocks q) size positive h = absurd h
-    prec_fails p n (engine.Settings q) size positive h = absurd h
-    prec_fails p n (engine.Prices q) size positive h = absurd h
-    prec_fails p n (engine.Upit q) size positive h = absurd h
-    prec_fails p n (engine.Slope q) size positive h = absurd h
-    prec_fails p n (engine.Model q) size positive h = absurd h
-    prec_fails p n (engine.Certificate q) size positive h = absurd h
-    prec_fails p n (engine.Trace q) size positive h = absurd h
-    prec_fails p n engine.Thread size positive h = absurd h
-    prec_fails p n engine.Stranger size positive h = absurd h
+    prec_fails p n e size positive h = absurd h
 
     mine_read : (p : List ℕ) (n : ℕ) (rests : RestsView) → n ≡ priced_count prices → NoRevenueNegative prices → ReadsPrec n p rests → IsReportRead s t p prices rests factors m columns.prices.charges factor
     mine_read p n rests size positive h = record {
@@ -201,39 +150,22 @@ said_fails_at : (s t p : List ℕ) (e : EngineFault) → SaidFails s e → Repor
 said_fails_at s t p (engine.Settings q) h = h
 said_fails_at s t p engine.Memory h = tt
 said_fails_at s t p engine.Device h = tt
-said_fails_at s t p (engine.Blocks q) h = absurd h
-said_fails_at s t p (engine.Prices q) h = absurd h
-said_fails_at s t p (engine.Upit q) h = absurd h
-said_fails_at s t p (engine.Prec q) h = absurd h
-said_fails_at s t p (engine.Slope q) h = absurd h
-said_fails_at s t p (engine.Model q) h = absurd h
-said_fails_at s t p (engine.Certificate q) h = absurd h
-said_fails_at s t p (engine.Trace q) h = absurd h
-said_fails_at s t p engine.Thread h = absurd h
-said_fails_at s t p engine.Stranger h = absurd h
+said_fails_at s t p e h = absurd h
 
 pub said_fails : (o q r : Option (List ℕ)) (e : EngineFault) → IfSome o (λ s. SaidFails s e) → IfSome o (λ s. IfSome q (λ b. IfSome r (λ p. ReportMineFails s b p e)))
-said_fails None q r e h = tt
-said_fails (Some s) None r e h = tt
-said_fails (Some s) (Some b) None e h = tt
 said_fails (Some s) (Some b) (Some p) e h = said_fails_at s b p e h
+said_fails o q r e h = tt
 
 pub model_unread : (o q r : Option (List ℕ)) (columns : ReportColumns) (factors : List ℕ) (factor : ℕ) (e : EngineFault) → IfSome o (λ s. IsSaid s columns factors factor) → IfSome q (λ b. PricedModelFails columns b e) → IfSome o (λ s. IfSome q (λ b. IfSome r (λ p. ReportMineFails s b p e)))
-model_unread None q r columns factors factor e a h = tt
-model_unread (Some s) None r columns factors factor e a h = tt
-model_unread (Some s) (Some b) None columns factors factor e a h = tt
 model_unread (Some s) (Some b) (Some p) columns factors factor e a h = model_fails s b columns factors factor a p e h
+model_unread o q r columns factors factor e a h = tt
 
 pub prec_unread : (o q r : Option (List ℕ)) (columns : ReportColumns) (factors : List ℕ) (factor : ℕ) (m : BlocksView) (prices : PricesView) (n : ℕ) (e : EngineFault) → n ≡ priced_count prices → NoRevenueNegative prices → IsPricedModel columns.prices.charges m prices
     → IfSome o (λ s. IsSaid s columns factors factor) → IfSome q (λ b. ReadsBlocks (report_list columns) b m) → IfSome r (λ p. PrecReadFails n p e) → IfSome o (λ s. IfSome q (λ b. IfSome r (λ p. ReportMineFails s b p e)))
-prec_unread None q r columns factors factor m prices n e size positive priced a b h = tt
-prec_unread (Some s) None r columns factors factor m prices n e size positive priced a b h = tt
-prec_unread (Some s) (Some t) None columns factors factor m prices n e size positive priced a b h = tt
 prec_unread (Some s) (Some t) (Some p) columns factors factor m prices n e size positive priced a b h = prec_fails s t columns factors factor a m prices b priced p n e size positive h
+prec_unread o q r columns factors factor m prices n e size positive priced a b h = tt
 
 pub all_are_read : (o q r : Option (List ℕ)) (columns : ReportColumns) (factors : List ℕ) (factor : ℕ) (m : BlocksView) (prices : PricesView) (n : ℕ) (rests : RestsView) → n ≡ priced_count prices → NoRevenueNegative prices → IsPricedModel columns.prices.charges m prices
     → IfSome o (λ s. IsSaid s columns factors factor) → IfSome q (λ b. ReadsBlocks (report_list columns) b m) → IfSome r (λ p. ReadsPrec n p rests) → IfSome o (λ s. IfSome q (λ b. IfSome r (λ p. IsReportRead s b p prices rests factors m columns.prices.charges factor)))
-all_are_read None q r columns factors factor m prices n rests size positive priced a b h = tt
-all_are_read (Some s) None r columns factors factor m prices n rests size positive priced a b h = tt
-all_are_read (Some s) (Some t) None columns factors factor m prices n rests size positive priced a b h = tt
 all_are_read (Some s) (Some t) (Some p) columns factors factor m prices n rests size positive priced a b h = mine_read s t columns factors factor a m prices b priced p n rests size positive h
+all_are_read o q r columns factors factor m prices n rests size positive priced a b h = tt

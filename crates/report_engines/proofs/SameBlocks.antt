@@ -1,7 +1,5 @@
 -- The bench table says nothing of numbers that are no blocks.
-use Rattle.std.proofs.Common.{◌≡◌, ℕ, ◌<◌, ℤ, List, map, refl, sym, ap, ◌∙◌, subst, arith}
-use Rattle.std.specs.List.{Contains}
-use Rattle.std.proofs.lemmas.List.Elements.{All-weaker}
+use Rattle.fixed_worth.proofs.Common.{◌≡◌, ℕ, ◌<◌, ℤ, List, map, refl, sym, ap, ◌∙◌, subst, arith, Contains, All-weaker}
 use Rattle.ordered_group.specs.Sets.{worth_in, count_in}
 use Rattle.ordered_group.proofs.BlockSets.{count_in-same, worth_in-agrees}
 use Rattle.bench_report.specs.declared.bench_row.BenchRow.{BenchRow}

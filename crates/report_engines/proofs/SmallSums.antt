@@ -1,21 +1,14 @@
 -- Sums of tonnes and of worths don't overflow 128 bits.
-use Rattle.std.proofs.Common.{◌≡◌, ℕ, zero, suc, ◌*◌, ◌^◌, ◌<◌, ◌≤◌, ℤ, pos, ◌-ℤ◌, ◌*ℤ◌, Bool, [], get_or, sym, ap, ◌∙◌, subst, arith, unsigned_abs, FitsSigned}
-use Rattle.std.specs.Int.{w128, int_max}
-use Rattle.std.proofs.lemmas.Int.{ints, clamps, fits_signed_from_abs, unsigned_abs-mul}
-use Rattle.std.proofs.lemmas.Nat.{mul-le}
-use Rattle.std.proofs.lemmas.List.FromFn.{get_or-map-range_with_len, length-map-range_with_len}
+use Rattle.fixed_worth.proofs.Common.{◌≡◌, ℕ, zero, suc, ◌*◌, ◌^◌, ◌<◌, ◌≤◌, ℤ, pos, ◌-ℤ◌, ◌*ℤ◌, Bool, [], get_or, sym, ap, ◌∙◌, subst, arith, unsigned_abs, FitsSigned, w128, int_max, ints, clamps, fits_signed_from_abs, unsigned_abs-mul, mul-le, get_or-map-range_with_len, length-map-range_with_len, common_steps}
 use Rattle.blocks_file.specs.Denotes.{BlocksView, IsSmall}
 use Rattle.fixed_worth.specs.declared.limits.TheConstants.{MOST_BLOCKS, MOST_FACTOR}
 use Rattle.ordered_group.specs.Sets.{worth_in}
-use Rattle.shells.specs.Prices.{PricesView, priced_count, number_at, worth_after, worth_at, worths_at}
-use Rattle.shells.specs.Series.{SeriesView}
+use Rattle.shells.specs.Prelude.{PricesView, priced_count, number_at, worth_after, worth_at, worths_at, SeriesView}
 use Rattle.mine_inputs.specs.declared.priced_inputs.ChargeColumns.{ChargeColumns}
 use Rattle.mine_inputs.specs.declared.priced_inputs.ChargeColumns.TheVariants.{Plain, Mill}
 use Rattle.mine_inputs.specs.PricedTexts.{place_beside, values_of, first_charges}
-use Rattle.bench_report.specs.Benches.{reported_blocks, blocks_at}
-use Rattle.bench_report.specs.Faults.{SameLengths, AllSumsFit, SomeBenchSumOverflows}
+use Rattle.bench_report.specs.Prelude.{reported_blocks, blocks_at, SameLengths, AllSumsFit, SomeBenchSumOverflows}
 use Rattle.report_engines.specs.ReportParts.{IsPricedModel}
-use Rattle.std.proofs.lemmas.Grind.{common_steps}
 
 -- the most that an amount of a block can be, either way
 abbrev most : ℕ

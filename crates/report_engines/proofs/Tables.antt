@@ -1,6 +1,5 @@
 -- The bench table of a series is that of the texts.
-use Rattle.std.proofs.Common.{◌≡◌, ℕ, pos, ◌<◌, List, [], ◌∷◌, ◌++◌, length, get_or, Bool, refl, sym, ap, ◌∙◌, subst, arith, Result, unwrap_or, MatchResult}
-use Rattle.std.proofs.lemmas.List.FromFn.{length-map-range_with_len, get_or-map-range_with_len}
+use Rattle.fixed_worth.proofs.Common.{◌≡◌, ℕ, pos, ◌<◌, List, [], ◌∷◌, ◌++◌, length, get_or, Bool, refl, sym, ap, ◌∙◌, subst, arith, Result, unwrap_or, MatchResult, length-map-range_with_len, get_or-map-range_with_len}
 use Rattle.ordered_group.specs.Block.{scaled_block}
 use Rattle.blocks_file.specs.Records as blocks
 use Rattle.blocks_file.specs.declared.place.Place.{Place}
@@ -9,30 +8,22 @@ use Rattle.prec_file.specs.Rests.{RestsView}
 use Rattle.settings_file.specs.Settings.{settings_of}
 use Rattle.closure_net.specs.declared.net.NetFault.{NetFault}
 use Rattle.closure_net.specs.declared.net.NetFault.TheVariants as net_fault
-use Rattle.shells.specs.Prices.{PricesView, priced_count, worth_at, worths_at}
-use Rattle.shells.specs.Series.{SeriesView, upto, IsSeries}
-use Rattle.shells.specs.Nesting.{BestPitsAreNested}
+use Rattle.shells.specs.Prelude.{PricesView, priced_count, worth_at, worths_at, SeriesView, upto, IsSeries, BestPitsAreNested}
 use Rattle.bench_report.specs.declared.bench_row.BenchRow.{BenchRow}
-use Rattle.bench_report.specs.Benches.{reported_blocks, IsBenchTable}
-use Rattle.bench_report.specs.Written.{table_text}
+use Rattle.bench_report.specs.Prelude.{reported_blocks, IsBenchTable, table_text}
 use Rattle.engines.specs.declared.judgement.Verdict.TheVariants.{No}
 use Rattle.engines.specs.declared.effort.Effort.{Effort}
 use Rattle.mine_inputs.specs.declared.engine_fault.EngineFault.{EngineFault}
 use Rattle.mine_inputs.specs.declared.priced_inputs.ChargeColumns.{ChargeColumns}
 use Rattle.mine_inputs.specs.declared.priced_inputs.ChargeColumns.TheVariants.{Plain, Mill}
-use Rattle.mine_inputs.specs.PricedTexts.{columns_said, charge_list, place_beside, cell, table_of}
-use Rattle.mine_inputs.specs.EngineFaults.{of_model}
+use Rattle.mine_inputs.specs.Prelude.{columns_said, charge_list, place_beside, cell, table_of, of_model}
 use Rattle.shell_engines.specs.declared.shell_rows.ShellRow.{ShellRow}
 use Rattle.shell_engines.specs.declared.no_series.NoSeries.{NoSeries}
-use Rattle.shell_engines.specs.SettledSeries.{IsSettled, NoSeriesStands}
+use Rattle.shell_engines.specs.Prelude.{IsSettled, NoSeriesStands, TellsWhy, IsFaultOf, DenoteSeries, ShellsFail}
 use Rattle.shell_engines.specs.declared.series_outputs.Answer.{Answer}
-use Rattle.shell_engines.specs.PitsAtFactors.{TellsWhy, IsFaultOf}
-use Rattle.shell_engines.specs.Shells.{DenoteSeries, ShellsFail}
 use Rattle.shell_engines.proofs.Lifted.{nested, denoted, no_series_answer}
 use Rattle.shell_engines.proofs.BlockTables.{first_shell, best_is}
-use Rattle.report_engines.specs.ReportTexts.{ReportBlocksRead, report_factor, report_blocks}
-use Rattle.report_engines.specs.Reports.{IsReport, AnswersReport, ReportFails}
-use Rattle.report_engines.specs.ReportParts.{IsReportRead}
+use Rattle.report_engines.specs.Prelude.{ReportBlocksRead, report_factor, report_blocks, IsReport, AnswersReport, ReportFails, IsReportRead}
 use Rattle.report_engines.proofs.SameBlocks.{AreAlike, table_same}
 
 -- the tonnes stand behind the columns of prices
@@ -96,9 +87,8 @@ module _ (s t p : List ℕ) (prices : PricesView) (rests : RestsView) (factors :
   both = (blocks_read, denoted s t p prices rests factors read.series)
 
   net_fails : (fault : NetFault) → ShellsFail s t p (of_model fault) → ReportFails s t p (of_model fault)
-  net_fails net_fault.WrongLength h = (blocks_read, h)
-  net_fails net_fault.TooLarge h = (blocks_read, h)
   net_fails net_fault.NoMemory h = tt
+  net_fails fault h = (blocks_read, h)
 
   -- what comes of a mine that has no series
   pub no_report_answer : (effort : Effort) (asked : Bool) (x : NoSeries) (answer : Result Answer EngineFault) → NoSeriesStands scaled_block rests prices factors effort x → MatchResult answer (λ a. (a.verdict ≡ No) × (a.table.items ≡ []) × TellsWhy x a.text.items) (IsFaultOf x)

@@ -7,8 +7,7 @@ use Rattle.shells.specs.Prices.{PricesView, PricesFaultStands}
 use Rattle.mine_inputs.specs.declared.engine_fault.EngineFault.{EngineFault}
 use Rattle.mine_inputs.specs.declared.engine_fault.EngineFault.TheVariants as engine
 use Rattle.mine_inputs.specs.declared.priced_inputs.ChargeColumns.{ChargeColumns}
-use Rattle.mine_inputs.specs.PricedTexts.{columns_said, column_list, place_beside, first_columns, SettingsFails}
-use Rattle.mine_inputs.specs.BlockTexts.{ReadsBlocks, BlocksFails}
+use Rattle.mine_inputs.specs.Prelude.{columns_said, column_list, place_beside, first_columns, SettingsFails, ReadsBlocks, BlocksFails}
 use Rattle.shell_engines.specs.SeriesTexts.{factors_said, IsSeriesRead}
 use Rattle.report_engines.specs.declared.report_inputs.ReportColumns.{ReportColumns}
 use Rattle.report_engines.specs.ReportTexts.{report_keys, ReportKeysKnown, report_columns, report_factor}

@@ -9,11 +9,7 @@ use Rattle.shells.specs.Prices.{PricesFaultStands}
 use Rattle.bench_report.specs.Benches.{ReportedBlocks}
 use Rattle.mine_inputs.specs.declared.engine_fault.EngineFault.{EngineFault}
 use Rattle.mine_inputs.specs.declared.engine_fault.EngineFault.TheVariants as engine
-use Rattle.mine_inputs.specs.Limits.{IsWithinLimit}
-use Rattle.mine_inputs.specs.BlockTexts.{BlocksFails}
-use Rattle.mine_inputs.specs.PricedTexts.{keys_by, price_columns, cell, table_of, KeysSaid, PricesRead, SettingsFails}
-use Rattle.mine_inputs.specs.Mines.{priced_texts, worth_by}
-use Rattle.mine_inputs.specs.FaultStands.{PrecFails}
+use Rattle.mine_inputs.specs.Prelude.{IsWithinLimit, BlocksFails, keys_by, price_columns, cell, table_of, KeysSaid, PricesRead, SettingsFails, priced_texts, worth_by, PrecFails}
 use Rattle.shell_engines.specs.SeriesTexts.{factors_said}
 
 -- the keys that a report needs

@@ -2,17 +2,13 @@
 use Rattle.std.specs.Prelude.{◌≡◌, ℕ, Bool, List, [], Contains, Option, Result}
 use Rattle.closure_net.specs.Mine.{IsBest}
 use Rattle.bench_report.specs.declared.bench_row.BenchRow.{BenchRow}
-use Rattle.bench_report.specs.Benches.{IsBenchTable}
-use Rattle.bench_report.specs.Written.{table_text}
+use Rattle.bench_report.specs.Prelude.{IsBenchTable, table_text}
 use Rattle.engines.specs.declared.judgement.Verdict.{Verdict}
 use Rattle.engines.specs.declared.judgement.Verdict.TheVariants.{Done, No}
 use Rattle.mine_inputs.specs.declared.engine_fault.EngineFault.{EngineFault}
 use Rattle.engines.specs.declared.effort.Effort.{Effort}
 use Rattle.mine_inputs.specs.Mines.{priced_texts, DenoteMine}
-use Rattle.shell_engines.specs.SeriesTexts.{factors_said}
-use Rattle.shell_engines.specs.Answering.{FailsBy, Ends}
-use Rattle.shell_engines.specs.BlockTables.{mine_at_factor, IsTableIfAsked}
-use Rattle.shell_engines.specs.Shells.{AreNested, DenoteSeries, IsNoTable, NoNetAt}
+use Rattle.shell_engines.specs.Prelude.{factors_said, FailsBy, Ends, mine_at_factor, IsTableIfAsked, AreNested, DenoteSeries, IsNoTable, NoNetAt}
 use Rattle.report_engines.specs.ReportTexts.{ReportBlocksRead, report_blocks, ReportMineFails}
 
 -- The texts denote a mine at each factor, the pits at the factors of the settings are the best ones, each of them lies

@@ -1,11 +1,9 @@
 -- A text has one meaning as settings, or one fault.
-use Rattle.std.proofs.Common.{◌≡◌, ℕ, List, Some, None, Result, Ok, Err, MatchResult, IfErr, refl, sym, ap, ◌∙◌, subst, arith}
+use Rattle.fixed_worth.proofs.Common.{◌≡◌, ℕ, List, Some, None, Result, Ok, Err, MatchResult, IfErr, refl, sym, ap, ◌∙◌, subst, arith, common_steps}
 use Rattle.toml.specs.Data.{Members}
 use Rattle.settings_file.specs.declared.settings_fault.SettingsFault.{SettingsFault}
 use Rattle.settings_file.specs.declared.settings_fault.SettingsFault.TheVariants.{NotToml, UnknownKey, BadValue, Missing, NoMemory}
-use Rattle.settings_file.specs.GoodTables.{IsOfTable}
-use Rattle.settings_file.specs.Settings.{SettingsView, settings_in, settings_by, said_or_nothing, settings_of, IsDocument, Says, ReadsSettings, AreSettings}
-use Rattle.std.proofs.lemmas.Grind.{common_steps}
+use Rattle.settings_file.specs.Prelude.{IsOfTable, SettingsView, settings_in, settings_by, said_or_nothing, settings_of, IsDocument, Says, ReadsSettings, AreSettings}
 
 -- what was read is what the text says
 pub settings_are : (text : List ℕ) (s : SettingsView) → ReadsSettings text (Ok s) → settings_of text ≡ s

@@ -1,16 +1,10 @@
 -- Arrays of values, read one after another.
-use Rattle.std.proofs.Common.{◌≡◌, ◌≢◌, ℕ, ◌<◌, ◌+◌, List, [], ◌∷◌, ◌++◌, length, drop, get_or, Option, Some, None, refl, ap, ◌∙◌, sym, append_assoc, arith, ◌≤◌, ◌&&◌, true, false, nat_lt, Bool, String, Global, string_bytes}
-use Rattle.std.specs.Map.{keys_of}
-use Rattle.std.specs.List.{slice_get}
-use Rattle.std.proofs.lemmas.Option.{same_Some}
-use Rattle.std.proofs.lemmas.Bool.{lt-ltb, le-ltb}
-use Rattle.std.proofs.lemmas.List.{append-nil}
+use Rattle.fixed_worth.proofs.Common.{◌≡◌, ◌≢◌, ℕ, ◌<◌, ◌+◌, List, [], ◌∷◌, ◌++◌, length, drop, get_or, Option, Some, None, refl, ap, ◌∙◌, sym, append_assoc, arith, ◌≤◌, ◌&&◌, true, false, nat_lt, Bool, String, Global, string_bytes, keys_of, slice_get, same_Some, lt-ltb, le-ltb, append-nil}
 use Rattle.toml.specs.Data.{Data}
 use Rattle.toml.specs.View.{view, items_view, members_view}
 use Rattle.toml.specs.declared.value.Value.{Value}
 use Rattle.toml.proofs.Views.{items_view-drop}
-use Rattle.settings_file.specs.Values.{put_first, all_read, offset_of_items, is_below_first, are_ascending}
-use Rattle.settings_file.specs.Keys.{is_known, all_known}
+use Rattle.settings_file.specs.Prelude.{put_first, all_read, offset_of_items, is_below_first, are_ascending, is_known, all_known}
 
 -- what follows those already read
 abbrev pub after : {V : Type 0} → List V → Option (List V) → Option (List V)

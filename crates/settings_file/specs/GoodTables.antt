@@ -4,7 +4,7 @@ use Rattle.std.specs.Prelude.{◌≡◌, true, IsOk}
 use Rattle.toml.specs.Data.{Members}
 use Rattle.settings_file.specs.declared.keys.Key.TheVariants.{Revenue, Tonnes}
 use Rattle.settings_file.specs.declared.settings_fault.SettingsFault.{SettingsFault}
-use Rattle.settings_file.specs.declared.settings_fault.SettingsFault.TheVariants.{NotToml, UnknownKey, BadValue, Missing, NoMemory}
+use Rattle.settings_file.specs.declared.settings_fault.SettingsFault.TheVariants.{NotToml, Missing}
 use Rattle.settings_file.specs.Keys.{all_known}
 use Rattle.settings_file.specs.Values.{whole_value_within}
 use Rattle.settings_file.specs.Settings.{said_at, cost_in}

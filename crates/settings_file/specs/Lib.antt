@@ -4,3 +4,5 @@ pub mod Keys
 pub mod Values
 -- for this crate alone: what is wrong with a table
 pub mod GoodTables
+-- the names of all of them
+pub mod Prelude

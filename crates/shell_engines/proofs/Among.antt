@@ -1,23 +1,15 @@
 -- The net of some blocks alone, what a pit of them is worth, and what parts give.
-use Rattle.std.proofs.Common.{◌≡◌, ℕ, zero, suc, ◌+ℤ◌, ℤ, pos, ◌<◌, Bool, true, false, All, List, [], ◌∷◌, ◌++◌, nat_lt, cond, length, map, get_or, refl, sym, subst, ap, ◌∙◌, arith}
-use Rattle.std.proofs.lemmas.List.{length-map, get_or-map}
-use Rattle.ordered_group.specs.Amount.{Amount, zero_amount}
-use Rattle.ordered_group.specs.Sets.{worth_in}
-use Rattle.closure_net.specs.Network.{NetView, net_view, holds_of, IsAscending}
-use Rattle.closure_net.specs.Mine.{IsBest}
-use Rattle.shells.specs.Prices.{PricesView, priced_count, worth_at}
-use Rattle.shells.specs.Series.{mine_at}
+use Rattle.fixed_worth.proofs.Common.{◌≡◌, ℕ, zero, suc, ◌+ℤ◌, ℤ, pos, ◌<◌, Bool, true, false, All, List, [], ◌∷◌, ◌++◌, nat_lt, cond, length, map, get_or, refl, sym, subst, ap, ◌∙◌, arith, length-map, get_or-map, ltb-true, All-append}
+use Rattle.ordered_group.specs.Prelude.{Amount, zero_amount, worth_in}
+use Rattle.closure_net.specs.Prelude.{NetView, net_view, holds_of, IsAscending, IsBest}
+use Rattle.shells.specs.Prelude.{PricesView, priced_count, worth_at, mine_at}
 use Rattle.engines.proofs.Counted.{count_in-ascending}
-use Rattle.sub_mines.specs.Parts.{every_block}
-use Rattle.sub_mines.specs.Renumbered.{number_in, IsPartPairs}
+use Rattle.sub_mines.specs.Prelude.{every_block, number_in, IsPartPairs}
 use Rattle.sub_mines.proofs.Kept.{listed}
 use Rattle.sub_mines.proofs.Renumbering.{worth_listed}
 use Rattle.shell_engines.specs.declared.mine_parts.Part.{Part}
-use Rattle.shell_engines.specs.ShellTable.{IsRowOf}
-use Rattle.shell_engines.specs.Parting.{IsNetAmong}
+use Rattle.shell_engines.specs.Prelude.{IsRowOf, IsNetAmong}
 use Rattle.shell_engines.proofs.Parting.{own_list}
-use Rattle.std.proofs.lemmas.Bool.{ltb-true}
-use Rattle.std.proofs.lemmas.List.Elements.{All-append}
 use Rattle.shell_engines.proofs.Proving.{all_one}
 use Rattle.prec_file.proofs.Pairs.{rests_of_pair, pair_of_rests}
 

@@ -1,6 +1,5 @@
 -- From the parts of an engine over the factors of settings to its answer, where the readers tell their bytes.
-use Rattle.std.proofs.Common.{◌≡◌, ℕ, List, Option, Result, Ok, Err, inl, inr, IfSome, IfOk, IfErr, sym, subst}
-use Rattle.std.specs.Io.KnownBytes.{Appends}
+use Rattle.fixed_worth.proofs.Common.{◌≡◌, ℕ, List, Option, Result, Ok, Err, inl, inr, IfSome, IfOk, IfErr, sym, subst, Appends}
 use Rattle.closure_net.specs.declared.net.NetFault.{NetFault}
 use Rattle.mine_inputs.specs.declared.engine_fault.EngineFault.{EngineFault}
 use Rattle.mine_inputs.specs.declared.engine_fault.EngineFault.TheVariants as engine
@@ -11,36 +10,16 @@ use Rattle.shell_engines.specs.Answering.{FailsBy, IsCutShort, WritesBothAtFault
 
 -- nothing was written
 unwritten : (Answers : Verdict → List ℕ → List ℕ → Type 0) (v w : Option (List ℕ)) (e : EngineFault) → WritesBothAtFault Answers v v w w e
-unwritten Answers v w (engine.Settings q) = (keeps_self v, keeps_self w)
-unwritten Answers v w (engine.Blocks q) = (keeps_self v, keeps_self w)
-unwritten Answers v w (engine.Prices q) = (keeps_self v, keeps_self w)
-unwritten Answers v w (engine.Prec q) = (keeps_self v, keeps_self w)
-unwritten Answers v w (engine.Upit q) = (keeps_self v, keeps_self w)
-unwritten Answers v w (engine.Slope q) = (keeps_self v, keeps_self w)
-unwritten Answers v w (engine.Model q) = (keeps_self v, keeps_self w)
-unwritten Answers v w (engine.Certificate q) = (keeps_self v, keeps_self w)
-unwritten Answers v w (engine.Trace q) = (keeps_self v, keeps_self w)
-unwritten Answers v w engine.Memory = (keeps_self v, keeps_self w)
-unwritten Answers v w engine.Thread = (keeps_self v, keeps_self w)
-unwritten Answers v w engine.Stranger = (keeps_self v, keeps_self w)
 unwritten Answers v w engine.Device = inl (keeps_self v, keeps_self w)
+unwritten Answers v w e = (keeps_self v, keeps_self w)
 
 -- a fault of the reading is one of the engine: it names no thread and no board
 unread : (Unread : EngineFault → Type 0) (Denoted : Type 0) (NoNet : NetFault → Type 0) → ((q : NetFault) → Unread (engine.Model q) → NoNet q) → (Unread engine.Thread → Denoted) → (Unread engine.Stranger → Denoted)
     → (e : EngineFault) → Unread e → FailsBy Unread Denoted NoNet e
-unread Unread Denoted NoNet none thread stranger (engine.Settings q) h = h
-unread Unread Denoted NoNet none thread stranger (engine.Blocks q) h = h
-unread Unread Denoted NoNet none thread stranger (engine.Prices q) h = h
-unread Unread Denoted NoNet none thread stranger (engine.Prec q) h = h
-unread Unread Denoted NoNet none thread stranger (engine.Upit q) h = h
-unread Unread Denoted NoNet none thread stranger (engine.Slope q) h = h
 unread Unread Denoted NoNet none thread stranger (engine.Model q) h = none q h
-unread Unread Denoted NoNet none thread stranger (engine.Certificate q) h = h
-unread Unread Denoted NoNet none thread stranger (engine.Trace q) h = h
-unread Unread Denoted NoNet none thread stranger engine.Memory h = h
 unread Unread Denoted NoNet none thread stranger engine.Thread h = thread h
 unread Unread Denoted NoNet none thread stranger engine.Stranger h = stranger h
-unread Unread Denoted NoNet none thread stranger engine.Device h = h
+unread Unread Denoted NoNet none thread stranger e h = h
 
 module _ (o q r : Option (List ℕ)) (Answers : List ℕ → List ℕ → List ℕ → Verdict → List ℕ → List ℕ → Type 0) where
   -- the texts were not read

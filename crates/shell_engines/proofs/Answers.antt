@@ -2,8 +2,7 @@
 use Rattle.std.proofs.Common.{ℕ, Bool, List, Option, Err, IfSome}
 use Rattle.mine_inputs.specs.declared.engine_fault.EngineFault.{EngineFault}
 use Rattle.engines.specs.declared.effort.Effort.{Effort}
-use Rattle.shell_engines.specs.SeriesTexts.{SeriesMineFails}
-use Rattle.shell_engines.specs.Shells.{AnswersShells, DenoteSeries, NoNetAt, Shells}
+use Rattle.shell_engines.specs.Prelude.{SeriesMineFails, AnswersShells, DenoteSeries, NoNetAt, Shells}
 use Rattle.shell_engines.proofs.Answering.{texts_unread}
 
 -- the texts were not read

@@ -1,17 +1,11 @@
 -- The shells of a series are those of its texts: the table of blocks.
-use Rattle.std.proofs.Common.{◌≡◌, ℕ, Bool, true, false, List, sym, ap, ◌∙◌, subst}
-use Rattle.std.specs.Prelude.{Contains}
-use Rattle.std.specs.List.{find}
+use Rattle.fixed_worth.proofs.Common.{◌≡◌, ℕ, Bool, true, false, List, sym, ap, ◌∙◌, subst, Contains, find}
 use Rattle.prec_file.specs.Rests.{RestsView}
 use Rattle.closure_net.specs.Mine.{Mine, IsBest}
-use Rattle.shells.specs.Prices.{PricesView, priced_count}
-use Rattle.shells.specs.Series.{SeriesView, mine_at, shell_at, upto, IsSeries}
+use Rattle.shells.specs.Prelude.{PricesView, priced_count, SeriesView, mine_at, shell_at, upto, IsSeries}
 use Rattle.bench_report.specs.BlockShells.{block_table_text}
 use Rattle.shell_engines.specs.declared.shell_rows.ShellRow.{ShellRow}
-use Rattle.shell_engines.specs.BlockTables.{mine_at_factor, IsBlockTable, IsTableIfAsked}
-use Rattle.shell_engines.specs.SeriesTexts.{factors_said, IsSeriesRead}
-use Rattle.shell_engines.specs.SettledSeries.{IsSettled}
-use Rattle.shell_engines.specs.PitsAtFactors.{HasTableIfAsked}
+use Rattle.shell_engines.specs.Prelude.{mine_at_factor, IsBlockTable, IsTableIfAsked, factors_said, IsSeriesRead, IsSettled, HasTableIfAsked}
 use Rattle.shell_engines.proofs.FirstShell.{first_is}
 use Rattle.shell_engines.proofs.Lifted.{mine_is}
 

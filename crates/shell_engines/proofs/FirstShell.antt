@@ -1,8 +1,5 @@
 -- The first of ascending factors whose pit holds a block is the block's shell.
-use Rattle.std.proofs.Common.{◌≡◌, ℕ, zero, suc, ◌<◌, nat_le, List, [], ◌∷◌, length, get_or, refl, ap, arith, Option, Some, None, inl, inr}
-use Rattle.std.specs.List.{find, Contains}
-use Rattle.std.proofs.lemmas.Bool.{cases_eq, le-leb, lt-leb}
-use Rattle.std.proofs.lemmas.List.{get_or_default}
+use Rattle.fixed_worth.proofs.Common.{◌≡◌, ℕ, zero, suc, ◌<◌, nat_le, List, [], ◌∷◌, length, get_or, refl, ap, arith, Option, Some, None, inl, inr, find, Contains, cases_eq, le-leb, lt-leb, get_or_default}
 use Rattle.closure_net.specs.Network.{IsAscending}
 use Rattle.closure_net.proofs.Ascending.{tail_ascends}
 use Rattle.shells.specs.Series.{is_upto}

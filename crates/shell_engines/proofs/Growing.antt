@@ -1,15 +1,9 @@
 -- A series and its rows, one factor after another.
-use Rattle.std.proofs.Common.{◌≡◌, ℕ, ◌+◌, ◌<◌, List, [], ◌∷◌, ◌++◌, map, take, length, get_or, sym, ap, ◌∙◌, subst, arith, All}
-use Rattle.std.specs.List.{Contains}
-use Rattle.std.proofs.lemmas.List.{take_more, map_push, get_or_default, get_or-take, length-take-le}
-use Rattle.std.proofs.lemmas.List.Elements.{All-append}
+use Rattle.fixed_worth.proofs.Common.{◌≡◌, ℕ, ◌+◌, ◌<◌, List, [], ◌∷◌, ◌++◌, map, take, length, get_or, sym, ap, ◌∙◌, subst, arith, All, Contains, take_more, map_push, get_or_default, get_or-take, length-take-le, All-append}
 use Rattle.closure_net.specs.Network.{IsAscending}
-use Rattle.shells.specs.Prices.{PricesView}
-use Rattle.shells.specs.Series.{SeriesView, mine_at, IsAboveAll}
+use Rattle.shells.specs.Prelude.{PricesView, SeriesView, mine_at, IsAboveAll}
 use Rattle.shell_engines.specs.declared.shell_rows.ShellRow.{ShellRow}
-use Rattle.shell_engines.specs.ShellTable.{IsRowOf}
-use Rattle.shell_engines.specs.SettledSeries.{IsSettled}
-use Rattle.shell_engines.specs.PitsAtFactors.{IsAdded}
+use Rattle.shell_engines.specs.Prelude.{IsRowOf, IsSettled, IsAdded}
 
 -- a factor of an ascending list is above those before it
 pub above_before : (factors done : List ℕ) (i k : ℕ) → IsAscending factors → i < length factors → k ≡ get_or factors i k → done ≡ take i factors → IsAboveAll done k

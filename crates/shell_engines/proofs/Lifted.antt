@@ -1,51 +1,35 @@
 -- Mines of prices and pairs that were read are those of their texts.
-use Rattle.std.proofs.Common.{◌≡◌, ℕ, Bool, true, false, List, [], length, refl, sym, ◌∙◌, subst, IsTrue, Result, Ok, Err, MatchResult, arith}
-use Rattle.std.specs.Prelude.{Contains}
+use Rattle.fixed_worth.proofs.Common.{◌≡◌, ℕ, Bool, true, false, List, [], length, refl, sym, ◌∙◌, subst, IsTrue, Result, Ok, Err, MatchResult, arith, Contains, common_steps}
 use Rattle.ordered_group.specs.Block.{scaled_block}
 use Rattle.prec_file.specs.Rests.{RestsView, ArePairsOf, has_pair}
 use Rattle.prec_file.specs.Records as prec
-use Rattle.closure_net.specs.Network.{NetView}
-use Rattle.closure_net.specs.Mine.{Mine, IsBest, LiesWithin, IsNetOf}
-use Rattle.closure_net.specs.Faults.{WorthsFaultStands}
+use Rattle.closure_net.specs.Prelude.{NetView, Mine, IsBest, LiesWithin, IsNetOf, WorthsFaultStands}
 use Rattle.closure_net.specs.declared.net.NetFault.{NetFault}
 use Rattle.closure_net.specs.declared.net.NetFault.TheVariants as net_fault
-use Rattle.shells.specs.Prices.{PricesView, NoRevenueNegative, worth_at, worths_at}
-use Rattle.shells.specs.Series.{mine_at}
-use Rattle.shells.specs.Nesting.{BestPitsAreNested}
+use Rattle.shells.specs.Prelude.{PricesView, NoRevenueNegative, worth_at, worths_at, mine_at, BestPitsAreNested}
 use Rattle.shells.proofs.Shells.{net_of_over}
 use Rattle.engines.specs.declared.effort.Effort.{Effort}
 use Rattle.engines.specs.declared.solvers.Unsolved.{Unsolved}
-use Rattle.engines.specs.declared.solvers.Unsolved.TheVariants.{Unsettled, TooLarge, GaveUp, NoMemory, NoThread, Stranger}
+use Rattle.engines.specs.declared.solvers.Unsolved.TheVariants.{TooLarge, NoMemory, NoThread, Stranger}
 use Rattle.engines.specs.declared.judgement.Verdict.{Verdict}
 use Rattle.engines.specs.declared.judgement.Verdict.TheVariants.{No}
 use Rattle.mine_inputs.specs.declared.engine_fault.EngineFault.{EngineFault}
 use Rattle.mine_inputs.specs.declared.engine_fault.EngineFault.TheVariants as engine
-use Rattle.mine_inputs.specs.Mines.{priced_texts, rests_by, mine_of, DenoteMine}
-use Rattle.mine_inputs.specs.ReadMines.{ArePricesRead, of_model}
-use Rattle.engines.specs.FaultStands.{NetFails, ModelFails}
-use Rattle.engines.specs.Solving.{IsNetBy}
+use Rattle.mine_inputs.specs.Prelude.{priced_texts, rests_by, mine_of, DenoteMine, ArePricesRead, of_model}
+use Rattle.engines.specs.Prelude.{NetFails, ModelFails, IsNetBy}
 use Rattle.engines.proofs.Listed.{is_listed, where_listed, listed_rests}
 use Rattle.mine_inputs.proofs.Priced.{worths_priced}
 use Rattle.shell_engines.specs.declared.shell_rows.ShellRow.{ShellRow}
-use Rattle.shell_engines.specs.ShellTable.{AreRowsOf, shell_table_text, IsLineOf}
-use Rattle.shell_engines.specs.SeriesTexts.{factors_said, IsSeriesRead}
-use Rattle.shell_engines.specs.SettledSeries.{IsNetAt, NotSolvedStands, NoSeriesStands}
-use Rattle.shell_engines.specs.PitsAtFactors.{IsWant, TellsWhy, IsFaultOf}
+use Rattle.shell_engines.specs.Prelude.{AreRowsOf, shell_table_text, IsLineOf, factors_said, IsSeriesRead, IsNetAt, NotSolvedStands, NoSeriesStands, IsWant, TellsWhy, IsFaultOf, mine_at_factor, shell_group, AreNested, DenoteSeries, IsShellTable, IsNoTable, NoNetAt, ShellsFail}
 use Rattle.shell_engines.specs.declared.no_series.NoSeries.{NoSeries}
 use Rattle.shell_engines.specs.declared.no_series.NoSeries.TheVariants as none
-use Rattle.shell_engines.specs.BlockTables.{mine_at_factor}
 use Rattle.shell_engines.specs.declared.series_outputs.Answer.{Answer}
-use Rattle.shell_engines.specs.Shells.{shell_group, AreNested, DenoteSeries, IsShellTable, IsNoTable, NoNetAt, ShellsFail}
-use Rattle.std.proofs.lemmas.Grind.{common_steps}
 
 -- what holds of each fault that a reason can make holds of the one that it makes
 pub of_want : (F : EngineFault → Type 0) → F engine.Memory → F engine.Thread → F engine.Stranger → (why : Unsolved) (e : EngineFault) → IsWant why e → F e
-of_want F m t s Unsettled e is = subst F (sym is) m
-of_want F m t s TooLarge e is = subst F (sym is) m
-of_want F m t s GaveUp e is = subst F (sym is) m
-of_want F m t s NoMemory e is = subst F (sym is) m
 of_want F m t s NoThread e is = subst F (sym is) t
 of_want F m t s Stranger e is = subst F (sym is) s
+of_want F m t s why e is = subst F (sym is) m
 
 -- two tests that are true together are the same
 same_test : (t u : Bool) → (IsTrue t → IsTrue u) → (IsTrue u → IsTrue t) → t ≡ u
@@ -132,7 +116,6 @@ module _ (s t p : List ℕ) (table : PricesView) (rests : RestsView) (factors : 
         → MatchResult answer (λ a. A a.verdict a.table.items a.text.items) F
     no_series_answer (none.Unsolved k why) (Ok a) h m = without a (m.0, m.1, is_no_table effort k why h.1.0 a.text.items h.0 h.1.1 h.1.2 m.2)
     no_series_answer (none.Unsolved k why) (Err e) h m = of_want F memory thread stranger why e m
-    no_series_answer (none.Model k fault) (Ok a) h m = absurd m.2
     no_series_answer (none.Model k fault) (Err e) h m = subst F (sym m) (net fault (no_net_answer k fault h))
-    no_series_answer none.Memory (Ok a) h m = absurd m.2
     no_series_answer none.Memory (Err e) h m = subst F (sym m) memory
+    no_series_answer x (Ok a) h m = absurd m.2

@@ -1,8 +1,7 @@
 -- Lists of blocks that grow by one block, and what is held by them.
-use Rattle.std.proofs.Common.{ℕ, ◌+◌, ◌<◌, All, Bool, List, [], ◌∷◌, ◌++◌, length, take, get_or, arith}
+use Rattle.fixed_worth.proofs.Common.{ℕ, ◌+◌, ◌<◌, All, Bool, List, [], ◌∷◌, ◌++◌, length, take, get_or, arith, common_steps}
 use Rattle.closure_net.specs.Network.{holds_of}
 use Rattle.shell_engines.specs.Parting.{AreJoined}
-use Rattle.std.proofs.lemmas.Grind.{common_steps}
 
 -- a block more of the list
 pub put_second : (e : ℕ → Bool) (blocks : List ℕ) (k : ℕ) (found : List ℕ) → k < length blocks → AreJoined e blocks k found → AreJoined e blocks (k + 1) (found ++ get_or blocks k 0 ∷ [])

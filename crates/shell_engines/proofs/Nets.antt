@@ -1,19 +1,12 @@
 -- The net of pairs, and of the worths by prices at a factor; and what an accepted pit of it has.
-use Rattle.std.proofs.Common.{◌≡◌, ℕ, ℤ, pos, ◌<◌, List, length, map, get_or, sym, ap, ◌∙◌, arith, All}
-use Rattle.std.proofs.lemmas.List.{length-map, get_or-map}
-use Rattle.std.proofs.lemmas.List.FromFn.{length-map-range_with_len, get_or-map-range_with_len}
-use Rattle.ordered_group.specs.Amount.{Amount, zero_amount}
-use Rattle.ordered_group.specs.Laws.{SumsTellWorth}
+use Rattle.fixed_worth.proofs.Common.{◌≡◌, ℕ, ℤ, pos, ◌<◌, List, length, map, get_or, sym, ap, ◌∙◌, arith, All, length-map, get_or-map, length-map-range_with_len, get_or-map-range_with_len, common_steps}
+use Rattle.ordered_group.specs.Prelude.{Amount, zero_amount, SumsTellWorth}
 use Rattle.ordered_group.proofs.Totals.Ranges.{total-same}
 use Rattle.prec_file.specs.Rests.{RestsView}
-use Rattle.closure_net.specs.Network.{NetView, net_view, IsAscending, holds_of}
-use Rattle.closure_net.specs.Closure.{group_worth}
-use Rattle.closure_net.specs.Mine.{Mine, IsNetOf, IsBest}
-use Rattle.shells.specs.Prices.{PricesView, priced_count, worth_at, worths_at}
-use Rattle.shells.specs.Series.{IsOver}
+use Rattle.closure_net.specs.Prelude.{NetView, net_view, IsAscending, holds_of, group_worth, Mine, IsNetOf, IsBest}
+use Rattle.shells.specs.Prelude.{PricesView, priced_count, worth_at, worths_at, IsOver}
 use Rattle.engines.proofs.Counted.{count_in-ascending}
 use Rattle.shell_engines.specs.ShellTable.{IsRowOf}
-use Rattle.std.proofs.lemmas.Grind.{common_steps}
 
 pub over_of : (block : ℤ → ℕ → Amount) (rests : RestsView) (prices : PricesView) (k : ℕ) (net : NetView) → net ≡ net_view rests.pairs (map (λ v. block v rests.blocks) (worths_at prices k)) → rests.blocks ≡ length (worths_at prices k) → IsOver block rests.pairs prices k net
 over_of block rests prices k net is l =

@@ -1,12 +1,9 @@
 -- There is one table of the blocks of the same texts.
-use Rattle.std.proofs.Common.{◌≡◌, ℕ, zero, suc, ◌<◌, Bool, List, [], ◌∷◌, ◌++◌, Option, refl, sym, ap, ◌∙◌, subst, arith}
-use Rattle.std.specs.Prelude.{Contains}
-use Rattle.std.specs.List.{find}
+use Rattle.fixed_worth.proofs.Common.{◌≡◌, ℕ, zero, suc, ◌<◌, Bool, List, [], ◌∷◌, ◌++◌, Option, refl, sym, ap, ◌∙◌, subst, arith, Contains, find}
 use Rattle.closure_net.specs.Mine.{IsBest}
 use Rattle.closure_net.proofs.BestPits.{best_is_one}
 use Rattle.bench_report.specs.BlockShells.{names_line, block_lines}
-use Rattle.shell_engines.specs.BlockTables.{mine_at_factor, IsBlockTable}
-use Rattle.shell_engines.specs.SeriesTexts.{factors_said}
+use Rattle.shell_engines.specs.Prelude.{mine_at_factor, IsBlockTable, factors_said}
 
 find_same : (p q : ℕ → Bool) (ks : List ℕ) → ((k : ℕ) → Contains ks k → p k ≡ q k) → find p ks ≡ find q ks
 find_same p q [] h = refl

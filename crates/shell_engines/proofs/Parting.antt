@@ -1,16 +1,12 @@
 -- A part is parted by the best pit at one of its factors.
-use Rattle.std.proofs.Common.{◌≡◌, ℕ, ◌+◌, ◌<◌, ◌≤◌, All, Bool, true, false, ◌&&◌, ◌||◌, not, List, [], length, map, get_or, refl, sym, subst, ap, ◌∙◌, arith}
-use Rattle.std.proofs.lemmas.List.{get_or-map, length-map}
+use Rattle.fixed_worth.proofs.Common.{◌≡◌, ℕ, ◌+◌, ◌<◌, ◌≤◌, All, Bool, true, false, ◌&&◌, ◌||◌, not, List, [], length, map, get_or, refl, sym, subst, ap, ◌∙◌, arith, get_or-map, length-map, common_steps}
 use Rattle.prec_file.specs.Rests.{has_pair, numbers_passing}
-use Rattle.closure_net.specs.Network.{holds_of, IsAscending}
-use Rattle.closure_net.specs.Mine.{IsBest, RestsWithin}
+use Rattle.closure_net.specs.Prelude.{holds_of, IsAscending, IsBest, RestsWithin}
 use Rattle.closure_net.proofs.Holding.{same_tests}
-use Rattle.shells.specs.Prices.{PricesView, priced_count}
-use Rattle.shells.specs.Series.{mine_at}
+use Rattle.shells.specs.Prelude.{PricesView, priced_count, mine_at}
 use Rattle.shells.proofs.Rising.{mines_rise}
 use Rattle.shells.proofs.Pushes.{mine_is_own}
-use Rattle.sub_mines.specs.Parts.{union_of, difference_of, every_block}
-use Rattle.sub_mines.specs.Renumbered.{IsListed, IsRenumbered, IsImage, number_in, IsKept}
+use Rattle.sub_mines.specs.Prelude.{union_of, difference_of, every_block, IsListed, IsRenumbered, IsImage, number_in, IsKept}
 use Rattle.sub_mines.proofs.Bounds.{between_by_bounds, best_is_floor, best_is_ceiling, none_is_floor, all_is_ceiling}
 use Rattle.sub_mines.proofs.Kept.{listed, list_image, same_rests, passing_is_kept}
 use Rattle.sub_mines.proofs.Together.{best_by_small_mine}
@@ -18,7 +14,6 @@ use Rattle.shell_engines.specs.declared.mine_parts.Part.{Part}
 use Rattle.shell_engines.specs.Parting.{ArePriced, LiesBetweenLists, IsPart, mine_among, IsBestAmong}
 use Rattle.prec_file.proofs.Pairs.{pair_of_rests}
 use Rattle.sub_mines.proofs.Parts.{not_beside}
-use Rattle.std.proofs.lemmas.Grind.{common_steps}
 
 -- ---- lists of kept blocks
 
@@ -66,19 +61,15 @@ lower_test true t h = absurd cc
 
 lower_within : (hi l t : Bool) → ((l || t) && not l) ≡ true → (t ≡ true → (hi && not l) ≡ true) → (hi && not l) ≡ true
 lower_within hi false true h k = k refl
-lower_within hi false false h k = absurd cc
-lower_within hi true true h k = absurd cc
-lower_within hi true false h k = absurd cc
+lower_within hi l t h k = absurd cc
 
 higher_test : (hi l t : Bool) → (hi && not l) ≡ true → (hi && not (l || t)) ≡ (true && not t)
 higher_test true false t h = refl
-higher_test true true t h = absurd cc
-higher_test false l t h = absurd cc
+higher_test hi l t h = absurd cc
 
 higher_within : (hi l t : Bool) → (hi && not (l || t)) ≡ true → (hi && not l) ≡ true
 higher_within true false t h = refl
-higher_within true true t h = absurd cc
-higher_within false l t h = absurd cc
+higher_within hi l t h = absurd cc
 
 module _ (pairs : List (ℕ × ℕ)) (prices : PricesView) (factors : List ℕ) (from to place : ℕ) (low kept s : List ℕ) (h : ArePriced pairs prices factors) (part : LiesBetweenLists pairs prices factors from to low kept) (first : from ≤ place) (last : place < to)
     (ascending : IsAscending s) (places : All (λ i. i < length kept) s) (found : IsBestAmong pairs prices kept (get_or factors place 0) s) where

@@ -1,16 +1,11 @@
 -- The best pit of a net is that of its prices.
-use Rattle.std.proofs.Common.{◌≡◌, ℕ, ℤ, List, [], ◌∷◌, ◌++◌, All, length, length-append, get_or, refl, sym, subst, arith}
-use Rattle.std.proofs.lemmas.List.{get_or_append_left}
+use Rattle.fixed_worth.proofs.Common.{◌≡◌, ℕ, ℤ, List, [], ◌∷◌, ◌++◌, All, length, length-append, get_or, refl, sym, subst, arith, get_or_append_left}
 use Rattle.ordered_group.specs.Amount.{Amount}
-use Rattle.closure_net.specs.Network.{NetView, holds_of}
-use Rattle.closure_net.specs.Mine.{IsBest}
-use Rattle.shells.specs.Prices.{PricesView}
-use Rattle.shells.specs.Series.{mine_at}
+use Rattle.closure_net.specs.Prelude.{NetView, holds_of, IsBest}
+use Rattle.shells.specs.Prelude.{PricesView, mine_at}
 use Rattle.shells.proofs.Shells.{net_of_over}
 use Rattle.shell_engines.specs.declared.best_pits.BestPit.{BestPit}
-use Rattle.shell_engines.specs.ShellTable.{IsRowOf}
-use Rattle.shell_engines.specs.SettledSeries.{IsNetAt}
-use Rattle.shell_engines.specs.PitsAtFactors.{IsBestOf, IsProved}
+use Rattle.shell_engines.specs.Prelude.{IsRowOf, IsNetAt, IsBestOf, IsProved}
 
 pub proved_by : (block : ℤ → ℕ → Amount) (pairs : List (ℕ × ℕ)) (prices : PricesView) (k : ℕ) (net : NetView) (best : BestPit) → IsNetAt block pairs prices k net → IsBestOf block net k best → IsProved pairs prices best
 proved_by block pairs prices k net best at is =

@@ -11,9 +11,7 @@ use Rattle.mine_inputs.specs.declared.engine_fault.EngineFault.{EngineFault}
 use Rattle.mine_inputs.specs.declared.engine_fault.EngineFault.TheVariants as engine
 use Rattle.mine_inputs.specs.declared.engine_fault.Problem.{Problem}
 use Rattle.mine_inputs.specs.declared.engine_fault.Problem.TheVariants as problem
-use Rattle.mine_inputs.specs.PricedTexts.{price_keys, SettingsFails}
-use Rattle.mine_inputs.specs.Inputs.{ReadsSettingsText, IsMissing, PricedMineFails}
-use Rattle.mine_inputs.specs.ReadMines.{ArePricesRead}
+use Rattle.mine_inputs.specs.Prelude.{price_keys, SettingsFails, ReadsSettingsText, IsMissing, PricedMineFails, ArePricesRead}
 use Rattle.shell_engines.specs.SeriesTexts.{series_keys, KeysKnown, IsSeriesRead, SeriesMineFails}
 use Rattle.mine_inputs.proofs.PriceKeys.{prices_and_others}
 use Rattle.mine_inputs.proofs.PricedAnswers.{key_missing, keys_said}
@@ -37,12 +35,8 @@ keys_known : (s : List ℕ) (said : SettingsView) → ReadsSettingsText s said �
 keys_known s said a whole = (keys_said series_keys s said a whole).said
 
 settings_more : (s : List ℕ) (q : Problem SettingsFault) → KeysKnown s → SettingsFails price_keys s q → SettingsFails series_keys s q
-settings_more s problem.InputTooLong keys h = h
-settings_more s (problem.Fault settings_fault.NotToml) keys h = h
-settings_more s (problem.Fault settings_fault.UnknownKey) keys h = h
-settings_more s (problem.Fault (settings_fault.BadValue key)) keys h = h
 settings_more s (problem.Fault (settings_fault.Missing key)) keys h = absurd (never _ key (prices_known (settings_of s) keys) h.1.1)
-settings_more s (problem.Fault settings_fault.NoMemory) keys h = h
+settings_more s q keys h = h
 
 -- ---- the mine
 
@@ -53,13 +47,7 @@ mine_fails_at s b p (engine.Prices q) keys h = (keys, h)
 mine_fails_at s b p (engine.Prec q) keys h = (keys, h)
 mine_fails_at s b p engine.Memory keys h = tt
 mine_fails_at s b p engine.Device keys h = tt
-mine_fails_at s b p (engine.Upit q) keys h = absurd h
-mine_fails_at s b p (engine.Slope q) keys h = absurd h
-mine_fails_at s b p (engine.Model q) keys h = absurd h
-mine_fails_at s b p (engine.Certificate q) keys h = absurd h
-mine_fails_at s b p (engine.Trace q) keys h = absurd h
-mine_fails_at s b p engine.Thread keys h = absurd h
-mine_fails_at s b p engine.Stranger keys h = absurd h
+mine_fails_at s b p e keys h = absurd h
 
 mine_read_at : (s b p : List ℕ) (said : SettingsView) (table : PricesView) (rests : RestsView) (factors : List ℕ) → ReadsSettingsText s said → KeysKnown s → factors ≡ unwrap_or said.factors [] → ArePricesRead s b p table rests → IsSeriesRead s b p table rests factors
 mine_read_at s b p said table rests factors a keys is h = record { mine = h; keys = keys; factors_are = is ∙ ap (λ (v : SettingsView). unwrap_or v.factors []) (sym (settings_are s said a.1)) }
@@ -67,27 +55,19 @@ mine_read_at s b p said table rests factors a keys is h = record { mine = h; key
 -- ---- readers that tell their bytes
 
 pub columns_missing : (o q r : Option (List ℕ)) (said : SettingsView) (e : EngineFault) → IfSome o (λ s. ReadsSettingsText s said) → IsMissing (series_keys said) said e → IfSome o (λ s. IfSome q (λ b. IfSome r (λ p. SeriesMineFails s b p e)))
-columns_missing None q r said e a m = tt
-columns_missing (Some s) None r said e a m = tt
-columns_missing (Some s) (Some b) None said e a m = tt
 columns_missing (Some s) (Some b) (Some p) said e a m = missing_at s b p said e a m
+columns_missing o q r said e a m = tt
 
 pub factors_refused : (o q r : Option (List ℕ)) (said : SettingsView) (e : EngineFault) → first_missing (series_keys said) said ≡ None → (e ≡ engine.Memory) ⊎ IsMissing (Factors ∷ []) said e → IfSome o (λ s. IfSome q (λ b. IfSome r (λ p. SeriesMineFails s b p e)))
-factors_refused None q r said e whole m = tt
-factors_refused (Some s) None r said e whole m = tt
-factors_refused (Some s) (Some b) None said e whole m = tt
 factors_refused (Some s) (Some b) (Some p) said e whole m = factors_refused_at s b p said e whole m
+factors_refused o q r said e whole m = tt
 
 pub mine_fails : (o q r : Option (List ℕ)) (said : SettingsView) (e : EngineFault) → IfSome o (λ s. ReadsSettingsText s said) → first_missing (series_keys said) said ≡ None → IfSome o (λ s. IfSome q (λ b. IfSome r (λ p. PricedMineFails s b p e)))
     → IfSome o (λ s. IfSome q (λ b. IfSome r (λ p. SeriesMineFails s b p e)))
-mine_fails None q r said e a whole h = tt
-mine_fails (Some s) None r said e a whole h = tt
-mine_fails (Some s) (Some b) None said e a whole h = tt
 mine_fails (Some s) (Some b) (Some p) said e a whole h = mine_fails_at s b p e (keys_known s said a whole) h
+mine_fails o q r said e a whole h = tt
 
 pub mine_read : (o q r : Option (List ℕ)) (said : SettingsView) (table : PricesView) (rests : RestsView) (factors : List ℕ) → IfSome o (λ s. ReadsSettingsText s said) → first_missing (series_keys said) said ≡ None → factors ≡ unwrap_or said.factors []
     → IfSome o (λ s. IfSome q (λ b. IfSome r (λ p. ArePricesRead s b p table rests))) → IfSome o (λ s. IfSome q (λ b. IfSome r (λ p. IsSeriesRead s b p table rests factors)))
-mine_read None q r said table rests factors a whole is h = tt
-mine_read (Some s) None r said table rests factors a whole is h = tt
-mine_read (Some s) (Some b) None said table rests factors a whole is h = tt
 mine_read (Some s) (Some b) (Some p) said table rests factors a whole is h = mine_read_at s b p said table rests factors a (keys_known s said a whole) is h
+mine_read o q r said table rests factors a whole is h = tt

@@ -10,3 +10,5 @@ pub mod Shells
 -- for this crate alone: the pits at the factors, and parts of the mine between two pits
 pub mod PitsAtFactors
 pub mod Parting
+-- the names of all of them
+pub mod Prelude

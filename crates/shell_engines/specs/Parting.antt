@@ -3,12 +3,9 @@ use Rattle.std.specs.Prelude.{take, ◌≡◌, ℕ, ℤ, ◌<◌, ◌≤◌, Boo
 use Rattle.fixed_worth.specs.declared.limits.TheConstants.{MOST_BLOCKS}
 use Rattle.ordered_group.specs.Amount.{Amount}
 use Rattle.prec_file.specs.Rests.{IsRests, has_pair}
-use Rattle.closure_net.specs.Network.{NetView, holds_of, IsAscending}
-use Rattle.closure_net.specs.Mine.{Mine, IsBest, IsNetOf}
-use Rattle.shells.specs.Prices.{PricesView, priced_count, worth_at, NoRevenueNegative}
-use Rattle.shells.specs.Series.{mine_at}
-use Rattle.sub_mines.specs.Parts.{union_of, difference_of, IsFloor, IsCeiling}
-use Rattle.sub_mines.specs.Renumbered.{number_in, IsKept, IsPartPairs}
+use Rattle.closure_net.specs.Prelude.{NetView, holds_of, IsAscending, Mine, IsBest, IsNetOf}
+use Rattle.shells.specs.Prelude.{PricesView, priced_count, worth_at, NoRevenueNegative, mine_at}
+use Rattle.sub_mines.specs.Prelude.{union_of, difference_of, IsFloor, IsCeiling, number_in, IsKept, IsPartPairs}
 use Rattle.shell_engines.specs.declared.mine_parts.Part.{Part}
 use Rattle.shell_engines.specs.declared.mine_parts.Halved.{Halved}
 use Rattle.shell_engines.specs.declared.mine_halves.Level.{Level}

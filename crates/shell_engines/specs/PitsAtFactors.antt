@@ -3,11 +3,9 @@ use Rattle.std.specs.Prelude.{◌≡◌, ℕ, ℤ, ◌++◌, ◌∷◌, [], Bool
 use Rattle.ordered_group.specs.Amount.{Amount}
 use Rattle.prec_file.specs.Rests.{RestsView}
 use Rattle.engines.specs.declared.effort.Effort.{Effort}
-use Rattle.shells.specs.Prices.{PricesView, priced_count}
-use Rattle.shells.specs.Series.{SeriesView, mine_at, shell_at}
+use Rattle.shells.specs.Prelude.{PricesView, priced_count, SeriesView, mine_at, shell_at}
 use Rattle.bench_report.specs.BlockShells.{block_table_text}
-use Rattle.closure_net.specs.Network.{NetView, holds_of}
-use Rattle.closure_net.specs.Mine.{Mine, IsNetOf, IsBest}
+use Rattle.closure_net.specs.Prelude.{NetView, holds_of, Mine, IsNetOf, IsBest}
 use Rattle.shell_engines.specs.declared.best_pits.BestPit.{BestPit}
 use Rattle.mine_inputs.specs.declared.engine_fault.EngineFault.{EngineFault}
 use Rattle.mine_inputs.specs.declared.engine_fault.EngineFault.TheVariants as engine

@@ -7,9 +7,7 @@ use Rattle.settings_file.specs.Settings.{SettingsView, settings_of, names_mill, 
 use Rattle.shells.specs.Prices.{PricesView}
 use Rattle.mine_inputs.specs.declared.engine_fault.EngineFault.{EngineFault}
 use Rattle.mine_inputs.specs.declared.engine_fault.EngineFault.TheVariants as engine
-use Rattle.mine_inputs.specs.PricedTexts.{keys_by, SettingsFails, PricedBlocksFail, PricesFail, PricesRead}
-use Rattle.mine_inputs.specs.FaultStands.{PrecFails}
-use Rattle.mine_inputs.specs.ReadMines.{ArePricesRead}
+use Rattle.mine_inputs.specs.Prelude.{keys_by, SettingsFails, PricedBlocksFail, PricesFail, PricesRead, PrecFails, ArePricesRead}
 
 -- the keys that a series of shells needs
 abbrev pub series_keys : SettingsView → List Key

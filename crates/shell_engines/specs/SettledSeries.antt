@@ -2,10 +2,8 @@
 use Rattle.std.specs.Prelude.{◌≡◌, ◌<◌, ◌⊎◌, ℕ, ℤ, List, Contains}
 use Rattle.ordered_group.specs.Amount.{Amount}
 use Rattle.prec_file.specs.Rests.{RestsView}
-use Rattle.closure_net.specs.Network.{NetView, IsNet}
-use Rattle.closure_net.specs.Faults.{WorthsFaultStands}
-use Rattle.shells.specs.Prices.{PricesView, worths_at}
-use Rattle.shells.specs.Series.{SeriesView, mine_at, IsOver}
+use Rattle.closure_net.specs.Prelude.{NetView, IsNet, WorthsFaultStands}
+use Rattle.shells.specs.Prelude.{PricesView, worths_at, SeriesView, mine_at, IsOver}
 use Rattle.engines.specs.declared.effort.Effort.{Effort}
 use Rattle.engines.specs.declared.solvers.Unsolved as unsolved
 use Rattle.engines.specs.declared.solvers.Unsolved.TheVariants.{Unsettled}

@@ -2,17 +2,15 @@
 use Rattle.std.specs.Prelude.{◌≡◌, ℕ, ◌≤◌, Bool, List, [], Contains, Option, Result}
 use Rattle.ordered_group.specs.declared.groups.Group.{Group}
 use Rattle.ordered_group.specs.declared.groups.Group.TheVariants.{Scaled}
-use Rattle.closure_net.specs.Network.{NetView}
+use Rattle.closure_net.specs.Prelude.{NetView, Mine, IsBest, LiesWithin}
 use Rattle.closure_net.specs.declared.net.NetFault.{NetFault}
-use Rattle.closure_net.specs.Mine.{Mine, IsBest, LiesWithin}
 use Rattle.engines.specs.declared.judgement.Verdict.{Verdict}
 use Rattle.engines.specs.declared.judgement.Verdict.TheVariants.{Done, No}
 use Rattle.mine_inputs.specs.declared.engine_fault.EngineFault.{EngineFault}
 use Rattle.engines.specs.declared.effort.Effort.{Effort}
 use Rattle.mine_inputs.specs.Mines.{priced_texts, DenoteMine}
-use Rattle.engines.specs.FaultStands.{ModelFails}
+use Rattle.engines.specs.Prelude.{ModelFails, IsNetBy}
 use Rattle.engines.specs.declared.solvers.Unsolved.{Unsolved}
-use Rattle.engines.specs.Solving.{IsNetBy}
 use Rattle.shell_engines.specs.declared.shell_rows.ShellRow.{ShellRow}
 use Rattle.shell_engines.specs.SettledSeries.{NotSolvedStands}
 use Rattle.shell_engines.specs.Answering.{FailsBy, Ends}

@@ -1,11 +1,7 @@
 -- Ascending factors, and one above them all.
-use Rattle.std.proofs.Common.{◌≡◌, ℕ, ◌-◌, ◌<◌, List, [], ◌∷◌, ◌++◌, length, length-append, get_or, inl, inr, refl, ap, ◌∙◌, arith}
-use Rattle.std.specs.List.{Contains}
-use Rattle.std.proofs.lemmas.Bool.{cases_lt}
-use Rattle.std.proofs.lemmas.List.{get_or_default, get_or_append_left}
+use Rattle.fixed_worth.proofs.Common.{◌≡◌, ℕ, ◌-◌, ◌<◌, List, [], ◌∷◌, ◌++◌, length, length-append, get_or, inl, inr, refl, ap, ◌∙◌, arith, Contains, cases_lt, get_or_default, get_or_append_left, common_steps}
 use Rattle.closure_net.specs.Network.{IsAscending}
 use Rattle.shells.specs.Series.{IsAboveAll}
-use Rattle.std.proofs.lemmas.Grind.{common_steps}
 
 last_at : (xs : List ℕ) (k : ℕ) → get_or (xs ++ k ∷ []) (length xs) 0 ≡ k
 last_at [] k = refl

@@ -1,20 +1,11 @@
 -- A push keeps a series.
-use Rattle.std.proofs.Common.{◌≡◌, ℕ, ◌<◌, ◌≤◌, Bool, true, false, IsTrue, List, [], ◌∷◌, ◌++◌, length, length-append, Option, Some, None, inl, inr, sym, subst, refl, ap, ◌∙◌, arith}
-use Rattle.std.specs.List.{Contains}
-use Rattle.std.proofs.lemmas.Bool.{le-leb, lt-leb, cases_lt, eqb-true, and_parts}
-use Rattle.std.proofs.lemmas.List.{get_or_past}
-use Rattle.std.proofs.lemmas.List.Elements.{Contains-append_left, Contains-append_right, Contains-append_cases}
-use Rattle.std.proofs.lemmas.List.Folds.{Any-from_list_any}
-use Rattle.std.proofs.lemmas.Option.{same_Some}
-use Rattle.prec_file.specs.Rests.{IsRests}
+use Rattle.fixed_worth.proofs.Common.{◌≡◌, ℕ, ◌<◌, ◌≤◌, Bool, true, false, IsTrue, List, [], ◌∷◌, ◌++◌, length, length-append, Option, Some, None, inl, inr, sym, subst, refl, ap, ◌∙◌, arith, Contains, le-leb, lt-leb, cases_lt, eqb-true, and_parts, get_or_past, Contains-append_left, Contains-append_right, Contains-append_cases, Any-from_list_any, same_Some, common_steps}
+use Rattle.prec_file.specs.Prelude.{IsRests, has_pair}
 use Rattle.closure_net.specs.Mine.{IsBest, RestsWithin}
 use Rattle.closure_net.proofs.BestPits.{best_of_same}
-use Rattle.shells.specs.Prices.{PricesView}
-use Rattle.prec_file.specs.Rests.{has_pair}
-use Rattle.shells.specs.Series.{mine_at, SeriesView, shell_at, is_upto, upto, IsSeries, IsAboveAll, with_shell, IsPushed}
+use Rattle.shells.specs.Prelude.{PricesView, mine_at, SeriesView, shell_at, is_upto, upto, IsSeries, IsAboveAll, with_shell, IsPushed}
 use Rattle.shells.proofs.Rising.{best_is_nested}
 use Rattle.shells.proofs.Factors.{one_last, rising_more}
-use Rattle.std.proofs.lemmas.Grind.{common_steps}
 
 -- ---- the best pit is one set of blocks
 
@@ -28,9 +19,8 @@ at_new None false k h = refl
 
 -- and up to an earlier factor
 at_old : (o : Option ℕ) (t : Bool) (j k : ℕ) → j < k → is_upto (with_shell o t k) j ≡ is_upto o j
-at_old (Some x) t j k l = refl
 at_old None true j k l = lt-leb k j l
-at_old None false j k l = refl
+at_old o t j k l = refl
 
 module _ (s t : SeriesView) (k : ℕ) (e : ℕ → Bool) (h : IsSeries s) (above : IsAboveAll s.factors k) (best : IsBest (mine_at s.pairs s.prices k) e)
     (own : RestsWithin (mine_at s.pairs s.prices k)) (pushed : IsPushed s t k e) where

@@ -1,12 +1,8 @@
 -- Worths rise with the factor, and the best pits with them.
-use Rattle.std.proofs.Common.{ℕ, Bool, ◌≤◌, ◌≤ℤ◌, ◌*ℤ◌, ℤ, pos, negsuc, arith}
-use Rattle.std.proofs.lemmas.Int.{ints, clamps}
+use Rattle.fixed_worth.proofs.Common.{ℕ, Bool, ◌≤◌, ◌≤ℤ◌, ◌*ℤ◌, ℤ, pos, negsuc, arith, ints, clamps, common_steps}
 use Rattle.closure_net.specs.Mine.{RisesTo}
 use Rattle.closure_net.proofs.BestPits.{best_is_within}
-use Rattle.shells.specs.Prices.{CostsView, plain_costs, mill_costs, PricesView, worth_after, NoRevenueNegative}
-use Rattle.shells.specs.Series.{mine_of_prices}
-use Rattle.shells.specs.Nesting.{BestPitsAreNested}
-use Rattle.std.proofs.lemmas.Grind.{common_steps}
+use Rattle.shells.specs.Prelude.{CostsView, plain_costs, mill_costs, PricesView, worth_after, NoRevenueNegative, mine_of_prices, BestPitsAreNested}
 
 rises_by : (j k : ℕ) (r : ℤ) → j ≤ k → pos 0 ≤ℤ r → (pos j *ℤ r) ≤ℤ (pos k *ℤ r)
 rises_by j k (pos n) le p = grind (arith, common_steps)

@@ -1,14 +1,10 @@
 -- What a shell is, and that no block has one at the opening; and that a net over pairs and prices is that of their mine.
-use Rattle.std.proofs.Common.{◌≡◌, ℕ, ◌<◌, List, length, Option, Some, None, refl, ap, ◌∙◌, arith, ℤ}
-use Rattle.std.proofs.lemmas.Bool.{le-leb, lt-leb}
+use Rattle.fixed_worth.proofs.Common.{◌≡◌, ℕ, ◌<◌, List, length, Option, Some, None, refl, ap, ◌∙◌, arith, ℤ, le-leb, lt-leb, common_steps}
 use Rattle.prec_file.specs.Rests.{IsRests}
 use Rattle.closure_net.proofs.BestPits.{best_is_one}
-use Rattle.shells.specs.Prices.{PricesView, IsTable}
-use Rattle.shells.specs.Series.{mine_at, SeriesView, shell_at, is_upto, upto, opened_series, IsSeries, IsShell, IsOver}
-use Rattle.std.proofs.lemmas.Grind.{common_steps}
+use Rattle.shells.specs.Prelude.{PricesView, IsTable, mine_at, SeriesView, shell_at, is_upto, upto, opened_series, IsSeries, IsShell, IsOver}
 use Rattle.ordered_group.specs.Amount.{Amount}
-use Rattle.closure_net.specs.Network.{NetView}
-use Rattle.closure_net.specs.Mine.{IsNetOf}
+use Rattle.closure_net.specs.Prelude.{NetView, IsNetOf}
 use Rattle.prec_file.proofs.Pairs.{rests_of_pair, pair_of_rests}
 
 shell_of_options : (s : SeriesView) (b : ℕ) (o : Option ℕ) → IsSeries s → b < length s.prices.revenue → shell_at s.shells b ≡ o → IsShell s b o

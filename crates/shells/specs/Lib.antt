@@ -4,3 +4,5 @@ pub mod Series
 pub mod Nesting
 -- how faults print
 pub mod FaultText
+-- the names of all of them
+pub mod Prelude

@@ -1,8 +1,7 @@
 -- Best pits over one table of prices, at two factors.
 use Rattle.std.specs.Prelude.{ℕ, ◌≤◌, ℤ, Bool, List}
 use Rattle.ordered_group.specs.Amount.{Amount}
-use Rattle.closure_net.specs.Mine.{IsBest, LiesWithin}
-use Rattle.closure_net.specs.Network.{holds_of}
+use Rattle.closure_net.specs.Prelude.{IsBest, LiesWithin, holds_of}
 use Rattle.check_pit.specs.Accepted.{AcceptedView, IsAccepted}
 use Rattle.shells.specs.Prices.{PricesView, NoRevenueNegative}
 use Rattle.shells.specs.Series.{mine_of_prices, mine_at, IsOver}

@@ -3,10 +3,8 @@ use Rattle.std.specs.Prelude.{◌≡◌, ◌≢◌, ℕ, ℤ, ◌<◌, ◌≤◌
 use Rattle.std.specs.List.{Contains}
 use Rattle.fixed_worth.specs.declared.limits.TheConstants.{MOST_FACTORS}
 use Rattle.prec_file.specs.Rests.{RestsView, IsRests, has_pair}
-use Rattle.ordered_group.specs.Amount.{Amount}
-use Rattle.ordered_group.specs.Sums.{amount_at}
-use Rattle.closure_net.specs.Network.{IsAscending, NetView}
-use Rattle.closure_net.specs.Mine.{Mine, IsBest}
+use Rattle.ordered_group.specs.Prelude.{Amount, amount_at}
+use Rattle.closure_net.specs.Prelude.{IsAscending, NetView, Mine, IsBest}
 use Rattle.shells.specs.declared.series_fault.SeriesFault.{SeriesFault}
 use Rattle.shells.specs.declared.series_fault.SeriesFault.TheVariants.{NotHigher, WrongModel, Full, NoMemory}
 use Rattle.shells.specs.Prices.{PricesView, priced_count, worth_at, IsTable, CostsView, plain_costs, mill_costs}
@@ -61,10 +59,9 @@ opened_series pairs table = record { pairs = pairs; prices = table; factors = []
 
 -- why there is no series of n blocks and these prices; want of memory is told only where the lengths agree
 abbrev pub OpenFaultStands : ℕ → PricesView → SeriesFault → Type 0
-OpenFaultStands n table NotHigher = ⊥
 OpenFaultStands n table WrongModel = n ≢ priced_count table
-OpenFaultStands n table Full = ⊥
 OpenFaultStands n table NoMemory = n ≡ priced_count table
+OpenFaultStands n table _ = ⊥
 
 -- k is above every factor
 abbrev pub IsAboveAll : List ℕ → ℕ → Type 0

@@ -1,16 +1,10 @@
 -- The steps in which a cone is gathered.
-use Rattle.std.proofs.Common.{◌≡◌, ℕ, ◌+◌, ◌*◌, ◌≤◌, ◌⊎◌, inl, inr, ℤ, pos, ◌+ℤ◌, ◌-ℤ◌, ◌<ℤ◌, List, [], ◌∷◌, ◌++◌, length, sym, refl, ap, subst, arith}
-use Rattle.std.proofs.lemmas.Int.{ints, by_lt_z}
+use Rattle.fixed_worth.proofs.Common.{◌≡◌, ℕ, ◌+◌, ◌*◌, ◌≤◌, ◌⊎◌, inl, inr, ℤ, pos, ◌+ℤ◌, ◌-ℤ◌, ◌<ℤ◌, List, [], ◌∷◌, ◌++◌, length, refl, ap, arith, ints, by_lt_z, common_steps}
 use Rattle.slope.specs.declared.pattern.TheConstants.{MOST_OFFSETS}
-use Rattle.slope.specs.Lists.{AreMoreThan}
-use Rattle.slope.specs.Offsets.{Offset}
-use Rattle.slope.specs.Patterns.{IsNear, IsInCone, ConeFaultStands}
-use Rattle.slope.specs.Gathering.{Collects, IsLevel, IsBelowLevel, IsBelowRow, IsBelowPoint, OffsetRefusalStands}
+use Rattle.slope.specs.Prelude.{AreMoreThan, Offset, IsNear, IsInCone, ConeFaultStands, Collects, IsLevel, IsBelowLevel, IsBelowRow, IsBelowPoint, OffsetRefusalStands}
 use Rattle.slope.specs.declared.pattern_fault.PatternFault.{PatternFault}
-use Rattle.slope.specs.declared.pattern_fault.PatternFault.TheVariants.{NotUpward, TooMany, NoMemory}
-use Rattle.slope.proofs.Gathering.{collected_same, collected_more, too_many, more_weaker}
+use Rattle.slope.proofs.Gathering.{collected_same, collected_more, too_many}
 use Rattle.slope.proofs.Distances.{near_first, near_second}
-use Rattle.std.proofs.lemmas.Grind.{common_steps}
 
 int_cases : (x y : ℤ) → x <ℤ (y +ℤ pos 1) → (x <ℤ y) ⊎ (x ≡ y)
 int_cases x y h = by_lt_z x y (λ l. inl l) (λ g. inr (omega (arith, ints, h, g)))

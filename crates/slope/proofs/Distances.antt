@@ -1,12 +1,6 @@
 -- How far the offsets of a cone's level reach.
-use Rattle.std.proofs.Common.{◌≡◌, ℕ, ◌+◌, ◌*◌, ◌/◌, ◌^◌, ◌<◌, ◌≤◌, inl, inr, pos, sym, ap, subst, ◌∙◌, arith, unsigned_abs}
-use Rattle.std.proofs.lemmas.Nat.{mul-le, mul-lt}
-use Rattle.std.proofs.lemmas.Bool.{cases_lt}
-use Rattle.std.proofs.Math.Nat.{mul_comm, mul-mul-mul_comm, mul-le-mul_left, div-lt_iff_lt-mul}
-use Rattle.slope.specs.Offsets.{Offset}
-use Rattle.slope.specs.Patterns.{IsNear, square}
-use Rattle.slope.specs.Gathering.{IsLevel}
-use Rattle.std.proofs.lemmas.Grind.{common_steps}
+use Rattle.fixed_worth.proofs.Common.{◌≡◌, ℕ, ◌+◌, ◌*◌, ◌/◌, ◌^◌, ◌<◌, ◌≤◌, inl, inr, pos, sym, ap, subst, ◌∙◌, arith, unsigned_abs, mul-le, mul-lt, cases_lt, mul_comm, mul-mul-mul_comm, mul-le-mul_left, div-lt_iff_lt-mul, common_steps}
+use Rattle.slope.specs.Prelude.{Offset, IsNear, square, IsLevel}
 
 -- what the test of a distance computes has 64 bits
 pub distance_fits : (r a b : ℕ) → r ≤ 1000 → a ≤ 1000000 → b ≤ 1000000 → r * r * (a * a + b * b) < 2 ^ 64

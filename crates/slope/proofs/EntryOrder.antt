@@ -1,17 +1,8 @@
 -- Entries in the order of their places.
-use Rattle.std.proofs.Common.{◌≡◌, ℕ, zero, suc, ◌+◌, ◌-◌, ◌<◌, ◌&&◌, ◌==◌, Bool, true, inl, inr, pos, List, [], ◌∷◌, length, get_or, sym, refl, ap, subst, ◌∙◌, arith, Ordering, Contains}
-use Rattle.std.specs.declared.cmp.Ordering.TheVariants.{Less, Equal, Greater}
-use Rattle.std.specs.Ordering.{MatchOrdering, is_eq, ordering_then, nat_cmp, eq_by_cmp}
-use Rattle.std.specs.Cmp.{IsTotalOrder, IsEquivalence}
-use Rattle.std.specs.List.Sorted.{IsStrictlySortedBy}
-use Rattle.std.proofs.lemmas.Cmp.{ranked, then_total, on_total, nat_cmp_total, eq_by_cmp_equiv}
-use Rattle.std.proofs.lemmas.Bool.{cases_lt}
-use Rattle.std.proofs.lemmas.List.Elements.{All-from_recursion}
+use Rattle.fixed_worth.proofs.Common.{◌≡◌, ℕ, zero, suc, ◌+◌, ◌-◌, ◌<◌, ◌&&◌, ◌==◌, Bool, true, inl, inr, pos, List, [], ◌∷◌, length, get_or, sym, refl, ap, subst, ◌∙◌, arith, Ordering, Contains, Less, MatchOrdering, ordering_then, nat_cmp, eq_by_cmp, IsTotalOrder, IsEquivalence, IsStrictlySortedBy, ranked, then_total, on_total, nat_cmp_total, eq_by_cmp_equiv, cases_lt, All-from_recursion, common_steps}
 use Rattle.blocks_file.specs.Denotes.{BlocksView}
-use Rattle.slope.specs.Offsets.{OffsetBefore}
-use Rattle.slope.specs.Gathering.{Entry, entry_at, entry_of, AreEntries, AreEntriesOf, AreEntriesInOrder, BeforeEntry, IsRepeatAt}
+use Rattle.slope.specs.Prelude.{OffsetBefore, Entry, entry_at, entry_of, AreEntries, AreEntriesOf, AreEntriesInOrder, BeforeEntry, IsRepeatAt}
 use Rattle.slope.proofs.OffsetSorting.{offset_cmp, offset_eq, offset_ties, offset_same, offsets_total, before, before_itself, before_trans}
-use Rattle.std.proofs.lemmas.Grind.{common_steps}
 
 abbrev pub entry_cmp : Entry → Entry → Ordering
 entry_cmp x y = ordering_then (offset_cmp x.0 y.0) (nat_cmp x.1 y.1)

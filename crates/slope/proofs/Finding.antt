@@ -1,17 +1,10 @@
 -- Finding blocks by their places.
-use Rattle.std.proofs.Common.{◌≡◌, ◌≢◌, ℕ, ◌<◌, inl, inr, ℤ, ◌+ℤ◌, ◌-ℤ◌, List, length, get_or, Err, sym, ap, subst, ◌∙◌, arith}
-use Rattle.std.proofs.lemmas.Bool.{cases_order}
-use Rattle.std.proofs.lemmas.List.{get_or_default}
-use Rattle.std.proofs.lemmas.Int.{ints}
+use Rattle.fixed_worth.proofs.Common.{◌≡◌, ◌≢◌, ℕ, ◌<◌, inl, inr, ℤ, ◌+ℤ◌, ◌-ℤ◌, List, length, get_or, Err, sym, ap, subst, ◌∙◌, arith, cases_order, get_or_default, ints, common_steps}
 use Rattle.blocks_file.specs.declared.place.Place.{Place}
 use Rattle.blocks_file.specs.Denotes.{BlocksView}
-use Rattle.slope.specs.Slopes.{place_of, AreApartBelow, upward, offset_between}
-use Rattle.slope.specs.Offsets.{Offset, OffsetBefore, AreOffsetsRising}
-use Rattle.slope.specs.Gathering.{place_key, IsIndex, IsFinding}
+use Rattle.slope.specs.Prelude.{place_of, AreApartBelow, upward, offset_between, Offset, OffsetBefore, AreOffsetsRising, place_key, IsIndex, IsFinding}
 use Rattle.slope.specs.declared.up.Up.{Up}
-use Rattle.slope.specs.declared.up.Up.TheVariants.{PlusZ, MinusZ}
 use Rattle.slope.proofs.OffsetSorting.{before_itself}
-use Rattle.std.proofs.lemmas.Grind.{common_steps}
 
 -- places of one key are one place
 pub key_same : (p q : Place) → place_key p ≡ place_key q → p ≡ q

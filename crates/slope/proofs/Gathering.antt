@@ -1,11 +1,6 @@
 -- What has a property, gathered element by element.
-use Rattle.std.proofs.Common.{◌≡◌, ◌≢◌, ℕ, ◌<◌, ◌≤◌, ◌⊎◌, inl, inr, List, [], ◌∷◌, ◌++◌, length, get_or, subst, ◌∙◌, arith, length-append}
-use Rattle.std.specs.List.{Contains}
-use Rattle.std.proofs.lemmas.List.{get_or_default}
-use Rattle.std.proofs.lemmas.List.Elements.{Contains-append_left, Contains-push, Contains-push_cases, All-contains_itself, All-weaker}
-use Rattle.std.proofs.lemmas.List.Quantifiers.{all_pairs_push}
-use Rattle.slope.specs.Lists.{AreMoreThan}
-use Rattle.slope.specs.Gathering.{Collects}
+use Rattle.fixed_worth.proofs.Common.{◌≡◌, ◌≢◌, ℕ, ◌<◌, ◌≤◌, ◌⊎◌, inl, inr, List, [], ◌∷◌, ◌++◌, length, get_or, subst, ◌∙◌, arith, length-append, Contains, get_or_default, Contains-append_left, Contains-push, Contains-push_cases, All-contains_itself, All-weaker, all_pairs_push}
+use Rattle.slope.specs.Prelude.{AreMoreThan, Collects}
 
 module _ {X : Type 0} (P Q : X → Type 0) (xs : List X) (c : Collects P xs) where
   -- a list that collects what has a property collects what has another one that holds of just the same elements

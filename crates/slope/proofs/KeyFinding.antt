@@ -1,10 +1,6 @@
 -- Finding a key among keys in order.
-use Rattle.std.proofs.Common.{◌≡◌, ℕ, ◌-◌, ◌≤◌, inl, inr, List, length, get_or, Result, Ok, Err, Contains, ap, subst, ◌∙◌, arith}
-use Rattle.std.specs.List.Sorted.{IsBinarySearchResult, IsSearchInRange}
-use Rattle.std.specs.Ordering.{is_eq}
-use Rattle.std.proofs.lemmas.Bool.{cases_lt}
-use Rattle.slope.specs.Offsets.{Offset, OffsetBefore, AreOffsetsRising}
-use Rattle.slope.specs.Gathering.{IsEndOrBelow, IsStartOrAbove, IsFinding}
+use Rattle.fixed_worth.proofs.Common.{◌≡◌, ℕ, ◌-◌, ◌≤◌, inl, inr, List, length, get_or, Result, Ok, Err, Contains, ap, subst, ◌∙◌, arith, IsBinarySearchResult, IsSearchInRange, is_eq, cases_lt}
+use Rattle.slope.specs.Prelude.{Offset, OffsetBefore, AreOffsetsRising, IsEndOrBelow, IsStartOrAbove, IsFinding}
 use Rattle.slope.proofs.OffsetSorting.{offset_cmp, offset_ties, offset_same, before_itself, before_trans}
 use Rattle.slope.proofs.OffsetFinding.{offset_found}
 

@@ -1,16 +1,7 @@
 -- Finding an offset among those of a pattern.
-use Rattle.std.proofs.Common.{◌≡◌, ◌↔◌, Bool, IsTrue, ℕ, ◌≤◌, ◌<ℤ◌, inl, inr, List, length, get_or, Result, Ok, Err, MatchResult, Contains, sym, refl, ap, ◌∙◌, arith, Ordering}
-use Rattle.std.specs.declared.cmp.Ordering.TheVariants.{Less, Equal, Greater}
-use Rattle.std.specs.Ordering.{MatchOrdering, ordering_then, ordering_reverse, ordering_index, int_cmp, is_eq}
-use Rattle.std.specs.Result.{is_ok}
-use Rattle.std.specs.List.Sorted.{IsBinarySearchResult, IsNonDecreasingBy, IsSearchInRange}
-use Rattle.std.proofs.lemmas.Cmp.{int_ranked}
-use Rattle.std.proofs.lemmas.Int.{ints}
-use Rattle.std.proofs.lemmas.Bool.{cases_lt}
-use Rattle.std.proofs.lemmas.List.Sorted.{IsNonDecreasingBy-from_default}
+use Rattle.fixed_worth.proofs.Common.{◌≡◌, ◌↔◌, Bool, IsTrue, ℕ, ◌≤◌, ◌<ℤ◌, inl, inr, List, length, get_or, Result, Ok, Err, MatchResult, Contains, sym, refl, ap, ◌∙◌, arith, Ordering, Less, Greater, MatchOrdering, ordering_then, ordering_reverse, ordering_index, int_cmp, is_eq, is_ok, IsBinarySearchResult, IsNonDecreasingBy, IsSearchInRange, int_ranked, cases_lt, IsNonDecreasingBy-from_default, common_steps}
 use Rattle.slope.specs.Offsets.{Offset, OffsetBefore, AreOffsetsRising}
 use Rattle.slope.proofs.OffsetSorting.{offset_cmp, offset_ties, offset_same, offsets_total, not_both}
-use Rattle.std.proofs.lemmas.Grind.{common_steps}
 
 -- the order of two offsets by that of their numbers
 less_from : (x y : Offset) (o p q : Ordering) → MatchOrdering o (x.0 <ℤ y.0) (x.0 ≡ y.0) (y.0 <ℤ x.0) → MatchOrdering p (x.1 <ℤ y.1) (x.1 ≡ y.1) (y.1 <ℤ x.1) → MatchOrdering q (x.2 <ℤ y.2) (x.2 ≡ y.2) (y.2 <ℤ x.2) → OffsetBefore x y → ordering_then (ordering_then o p) q ≡ Less

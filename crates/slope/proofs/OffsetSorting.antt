@@ -1,14 +1,6 @@
 -- Sorting offsets, and dropping repeats.
-use Rattle.std.proofs.Common.{◌≡◌, ℕ, zero, suc, ◌<◌, ℤ, ◌<ℤ◌, ◌&&◌, Bool, true, false, inl, inr, List, [], ◌∷◌, length, get_or, sym, refl, subst, ◌∙◌, arith, Ordering}
-use Rattle.std.specs.declared.cmp.Ordering.TheVariants.{Less, Equal, Greater}
-use Rattle.std.specs.Ordering.{MatchOrdering, ordering_then, int_cmp, int_eq, eq_by_cmp}
-use Rattle.std.specs.Cmp.{IsTotalOrder, IsEquivalence}
-use Rattle.std.specs.List.Sorted.{IsStrictlySortedBy}
-use Rattle.std.proofs.lemmas.Cmp.{int_ranked, then_total, on_total, int_cmp_total, eq_by_cmp_equiv}
-use Rattle.std.proofs.lemmas.Int.{ints}
-use Rattle.std.proofs.lemmas.List.Elements.{All-from_recursion}
+use Rattle.fixed_worth.proofs.Common.{◌≡◌, ℕ, zero, suc, ◌<◌, ◌<ℤ◌, ◌&&◌, Bool, true, false, List, [], ◌∷◌, length, get_or, sym, refl, subst, arith, Ordering, Less, MatchOrdering, ordering_then, int_cmp, int_eq, eq_by_cmp, IsTotalOrder, IsEquivalence, IsStrictlySortedBy, int_ranked, then_total, on_total, int_cmp_total, eq_by_cmp_equiv, All-from_recursion, common_steps}
 use Rattle.slope.specs.Offsets.{Offset, AreOffsetsRising, OffsetBefore}
-use Rattle.std.proofs.lemmas.Grind.{common_steps}
 
 abbrev pub offset_cmp : Offset → Offset → Ordering
 offset_cmp x y = ordering_then (ordering_then (int_cmp x.0 y.0) (int_cmp x.1 y.1)) (int_cmp x.2 y.2)

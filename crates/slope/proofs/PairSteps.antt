@@ -1,28 +1,17 @@
 -- The steps in which slope pairs are gathered.
-use Rattle.std.proofs.Common.{◌≡◌, ◌≢◌, ℕ, ◌+◌, ◌<◌, ◌⊎◌, inl, inr, ℤ, pos, ◌-ℤ◌, List, [], ◌∷◌, ◌++◌, length, get_or, take, sym, refl, ap, subst, ◌∙◌, arith, Contains}
-use Rattle.std.proofs.lemmas.Int.{ints}
-use Rattle.std.proofs.lemmas.Bool.{cases_lt, cases_order}
-use Rattle.std.proofs.lemmas.List.{take_more, get_or_default, get_or-take, length-take-le}
-use Rattle.std.proofs.Math.Seq.{take-length}
-use Rattle.std.proofs.lemmas.List.Elements.{Contains-append_left, Contains-push, Contains-push_cases, All-contains}
+use Rattle.fixed_worth.proofs.Common.{◌≡◌, ◌≢◌, ℕ, ◌+◌, ◌<◌, ◌⊎◌, inl, inr, ℤ, pos, ◌-ℤ◌, List, [], ◌∷◌, ◌++◌, length, get_or, take, sym, refl, ap, subst, ◌∙◌, arith, Contains, cases_lt, take_more, get_or_default, get_or-take, length-take-le, take-length, Contains-append_left, Contains-push, Contains-push_cases, All-contains, common_steps}
 use Rattle.prec_file.specs.declared.limits.TheConstants.{MOST_PAIRS}
-use Rattle.blocks_file.specs.declared.place.Place.{Place}
 use Rattle.blocks_file.specs.Denotes.{BlocksView}
-use Rattle.prec_file.specs.Rests.{RestsView}
-use Rattle.prec_file.specs.Rests.{IsRising as IsPairRising}
-use Rattle.slope.specs.Offsets.{Offset, IsPattern, AreOffsetsRising, OffsetBefore}
-use Rattle.slope.specs.Slopes.{place_of, AreApartBelow, upward, offset_between, IsSlopePair, IsSelected, AreSlopes, SlopeFaultStands}
+use Rattle.prec_file.specs.Prelude.{RestsView, IsRising as IsPairRising}
+use Rattle.slope.specs.Prelude.{Offset, IsPattern, AreOffsetsRising, OffsetBefore, place_of, AreApartBelow, upward, offset_between, IsSlopePair, IsSelected, AreSlopes, SlopeFaultStands, SurroundingsView, ArePlacesOf, StandsAtOffset, StandsNone, offset_at, Collects, IsPairBelow, IsPairUpTo, PairFaultStands, PairRefusalStands}
 use Rattle.slope.specs.declared.selection.Selection.{Selection}
-use Rattle.slope.specs.declared.selection.Selection.TheVariants.{Every, Reduced}
-use Rattle.slope.specs.Gathering.{SurroundingsView, ArePlacesOf, StandsAtOffset, StandsNone, offset_at, Collects, IsPairBelow, IsPairUpTo, PairFaultStands, PairRefusalStands}
+use Rattle.slope.specs.declared.selection.Selection.TheVariants.{Every}
 use Rattle.slope.specs.declared.up.Up.{Up}
-use Rattle.slope.specs.declared.up.Up.TheVariants.{PlusZ, MinusZ}
 use Rattle.slope.specs.declared.slope_fault.SlopeFault.{SlopeFault}
 use Rattle.slope.specs.declared.slope_fault.SlopeFault.TheVariants.{SamePlace, TooMany, NoMemory}
 use Rattle.slope.proofs.Gathering.{collected_same, collected_more, too_many}
 use Rattle.slope.proofs.OffsetSorting.{before_itself}
 use Rattle.slope.proofs.Finding.{one_place}
-use Rattle.std.proofs.lemmas.Grind.{common_steps}
 
 -- an offset is none of those in front of it
 fresh : (os : List Offset) → AreOffsetsRising os → (i : ℕ) (d : Offset) → i < length os → Contains (take i os) (get_or os i d) → ⊥

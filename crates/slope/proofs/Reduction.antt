@@ -1,17 +1,11 @@
 -- The pairs that lead over no third block make the same closed sets as every pair.
-use Rattle.std.proofs.Common.{◌≡◌, ◌↔◌, ℕ, zero, suc, ℤ, pos, negsuc, ◌+ℤ◌, ◌-ℤ◌, ◌≤ℤ◌, ◌<ℤ◌, Bool, true, false, IsTrue, List, Contains, refl, arith}
-use Rattle.std.proofs.lemmas.Int.{ints}
-use Rattle.std.proofs.lemmas.List.Elements.{All-contains}
-use Rattle.std.proofs.lemmas.Bool.{true_from_ne_false}
+use Rattle.fixed_worth.proofs.Common.{◌↔◌, ℕ, zero, suc, ℤ, pos, negsuc, ◌+ℤ◌, ◌-ℤ◌, ◌≤ℤ◌, ◌<ℤ◌, Bool, IsTrue, List, Contains, arith, ints, All-contains, true_from_ne_false, common_steps}
 use Rattle.blocks_file.specs.Denotes.{BlocksView}
 use Rattle.prec_file.specs.Rests.{RestsView}
-use Rattle.slope.specs.Offsets.{Offset, IsUpward, IsPattern}
-use Rattle.slope.specs.Slopes.{place_of, IsClosedBy, upward, offset_between, IsSlopePair, LeadsOver, AreSlopes}
+use Rattle.slope.specs.Prelude.{Offset, IsUpward, IsPattern, place_of, IsClosedBy, upward, offset_between, IsSlopePair, LeadsOver, AreSlopes}
 use Rattle.slope.specs.declared.selection.Selection.TheVariants.{Reduced}
 use Rattle.slope.specs.declared.up.Up.{Up}
-use Rattle.slope.specs.declared.up.Up.TheVariants.{PlusZ, MinusZ}
 use Rattle.slope.proofs.OffsetSorting.{not_both}
-use Rattle.std.proofs.lemmas.Grind.{common_steps}
 
 -- some natural number is no less
 above : ℤ → ℕ

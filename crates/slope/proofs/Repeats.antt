@@ -1,15 +1,10 @@
 -- Places that come twice, and the index of places that don't.
-use Rattle.std.proofs.Common.{◌≡◌, ℕ, ◌+◌, ◌-◌, ◌<◌, ◌≤◌, inl, inr, pos, List, length, get_or, map, Option, Some, None, MatchOption, sym, ap, subst, ◌∙◌, arith}
-use Rattle.std.proofs.lemmas.Bool.{cases_lt, cases_order}
-use Rattle.std.proofs.lemmas.List.{get_or_default, get_or-map, length-map}
+use Rattle.fixed_worth.proofs.Common.{◌≡◌, ℕ, ◌+◌, ◌-◌, ◌<◌, ◌≤◌, inl, inr, pos, List, length, get_or, map, Option, Some, None, MatchOption, sym, ap, subst, ◌∙◌, arith, cases_order, get_or_default, get_or-map, length-map, common_steps}
 use Rattle.blocks_file.specs.Denotes.{BlocksView}
-use Rattle.slope.specs.Offsets.{Offset, OffsetBefore}
-use Rattle.slope.specs.Slopes.{place_of, IsFirstRepeat}
-use Rattle.slope.specs.Gathering.{Entry, entry_at, entry_of, place_key, AreEntriesOf, AreEntriesInOrder, IsRepeatAt, HaveNoRepeat, IsEarliestAmong, IsEarliestRepeat, IsEarlierRepeat, IsIndex}
+use Rattle.slope.specs.Prelude.{Offset, OffsetBefore, place_of, IsFirstRepeat, Entry, entry_at, entry_of, place_key, AreEntriesOf, AreEntriesInOrder, IsRepeatAt, HaveNoRepeat, IsEarliestAmong, IsEarliestRepeat, IsEarlierRepeat, IsIndex}
 use Rattle.slope.proofs.OffsetSorting.{before_itself}
 use Rattle.slope.proofs.EntryOrder.{neighbours}
 use Rattle.slope.proofs.Finding.{key_same}
-use Rattle.std.proofs.lemmas.Grind.{common_steps}
 
 -- no neighbours among the first c have one key, or these are the earliest of them
 abbrev pub SoFar : List Entry → ℕ → Option (ℕ × ℕ) → Type 0

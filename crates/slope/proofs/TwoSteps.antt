@@ -1,22 +1,14 @@
 -- Pairs that lead over a third block, and the steps of a pattern that add up to another.
-use Rattle.std.proofs.Common.{◌≡◌, ◌≢◌, ◌⊎◌, ℕ, ◌<◌, ℤ, ◌-ℤ◌, ◌+◌, List, [], ◌∷◌, ◌++◌, length, length-append, get_or, Contains, All, sym, ap, subst, ◌∙◌, arith, inl, inr}
-use Rattle.std.proofs.lemmas.Int.{ints}
-use Rattle.std.proofs.lemmas.Bool.{cases_lt}
-use Rattle.std.proofs.lemmas.List.Elements.{Contains-append_left, Contains-push, Contains-push_cases}
-use Rattle.std.proofs.lemmas.List.{get_or_default, get_or_append_left}
-use Rattle.std.proofs.Math.Seq.{get_or-append_seam}
+use Rattle.fixed_worth.proofs.Common.{◌≡◌, ◌≢◌, ◌⊎◌, ℕ, ◌<◌, ℤ, ◌-ℤ◌, ◌+◌, List, [], ◌∷◌, ◌++◌, length, length-append, get_or, Contains, All, sym, ap, subst, ◌∙◌, arith, inl, inr, ints, cases_lt, Contains-append_left, Contains-push, Contains-push_cases, get_or_default, get_or_append_left, get_or-append_seam, common_steps}
 use Rattle.std.specs.Global.{Vec}
 use Rattle.blocks_file.specs.declared.place.Place.{Place}
 use Rattle.blocks_file.specs.Denotes.{BlocksView}
-use Rattle.slope.specs.Offsets.{Offset}
-use Rattle.slope.specs.Slopes.{place_of, upward, offset_between, IsSelected, LeadsOver}
+use Rattle.slope.specs.Prelude.{Offset, place_of, upward, offset_between, IsSelected, LeadsOver, offset_at, rest_after, IsFirstStep, AreFirstSteps, AreStepsTo, AreStepsOfEach, SurroundingsView, ArePlacesOf, StandsAtOffset, StandsNone, StandsAtSome, StandsAtNone}
 use Rattle.slope.specs.declared.selection.Selection.{Selection}
 use Rattle.slope.specs.declared.selection.Selection.TheVariants.{Every, Reduced}
-use Rattle.slope.specs.Gathering.{offset_at, rest_after, IsFirstStep, AreFirstSteps, AreStepsTo, AreStepsOfEach, SurroundingsView, ArePlacesOf, StandsAtOffset, StandsNone, StandsAtSome, StandsAtNone}
 use Rattle.slope.specs.declared.up.Up.{Up}
 use Rattle.slope.specs.declared.up.Up.TheVariants.{PlusZ, MinusZ}
 use Rattle.slope.proofs.PairSteps.{slope_at, every_at, every_passed}
-use Rattle.std.proofs.lemmas.Grind.{common_steps}
 
 rest_of_height : (up : Up) (x y z : ℤ) → upward up (z -ℤ y) ≡ upward up (z -ℤ x) -ℤ upward up (y -ℤ x)
 rest_of_height PlusZ x y z = omega (arith, ints)

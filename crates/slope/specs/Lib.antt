@@ -8,3 +8,5 @@ pub mod FaultText
 -- for this crate alone: lists as they are gathered
 pub mod Lists
 pub mod Gathering
+-- the names of all of them
+pub mod Prelude

@@ -1,7 +1,5 @@
 -- What bounds the best pit of a mine: a pit known beforehand, and the best pits of mines that are worth less and more.
-use Rattle.std.proofs.Common.{◌≡◌, ℕ, Bool, true, false, ◌&&◌, ◌||◌, sym, refl, ap, ◌∙◌, arith, zero, suc, ◌+◌, cond}
-use Rattle.std.proofs.lemmas.Int.{ints}
-use Rattle.std.proofs.lemmas.Bool.{and_from, or_left}
+use Rattle.fixed_worth.proofs.Common.{◌≡◌, ℕ, Bool, true, false, ◌&&◌, ◌||◌, sym, refl, ap, ◌∙◌, arith, zero, suc, ◌+◌, cond, ints, and_from, or_left, common_steps}
 use Rattle.ordered_group.specs.Sets.{worth_in, count_in}
 use Rattle.ordered_group.proofs.BlockSets.{worth_in-same, count_in-same, count_in-within, worth_of_two, lead_rises}
 use Rattle.closure_net.specs.Mine.{Mine, IsPit, worth_of, block_count_of, AreSame, IsBest, LiesWithin, RisesTo}
@@ -9,7 +7,6 @@ use Rattle.closure_net.proofs.BestPits.{union_is_pit, intersection_is_pit, pit_o
 use Rattle.ordered_group.proofs.Totals.{within_first, within_second}
 use Rattle.sub_mines.specs.Parts.{union_of, intersection_of, no_block, every_block, IsAsGood, LiesBetween, IsFloor, IsCeiling}
 use Rattle.sub_mines.proofs.Parts.{fewest_of}
-use Rattle.std.proofs.lemmas.Grind.{common_steps}
 
 two_counts : (s t : Bool) → cond (s || t) 1 0 + cond (s && t) 1 0 ≡ cond s 1 0 + cond t 1 0
 two_counts true true = refl

@@ -1,6 +1,5 @@
 -- The blocks of a set as a list, their pairs, and lists of them.
-use Rattle.std.proofs.Common.{◌≡◌, ℕ, ◌<◌, All, Bool, true, List, length, map, get_or, refl, sym, subst, ap, ◌∙◌, arith}
-use Rattle.std.proofs.lemmas.List.{get_or-map, length-map}
+use Rattle.fixed_worth.proofs.Common.{◌≡◌, ℕ, ◌<◌, All, Bool, true, List, length, map, get_or, refl, sym, subst, ap, ◌∙◌, arith, get_or-map, length-map, common_steps}
 use Rattle.closure_net.specs.Network.{holds_of, IsAscending}
 use Rattle.closure_net.proofs.Holding.{holds_at, place_of, same_tests}
 use Rattle.prec_file.specs.Rests.{has_pair, numbers_passing}
@@ -8,7 +7,6 @@ use Rattle.prec_file.proofs.Passing.{passing_at, passing_here, passing_after}
 use Rattle.closure_net.proofs.Reach.{ascends, passing_known}
 use Rattle.sub_mines.specs.Renumbered.{IsListed, IsImage, number_in, IsKept, IsPartPairs}
 use Rattle.prec_file.proofs.Pairs.{rests_of_pair, pair_of_rests}
-use Rattle.std.proofs.lemmas.Grind.{common_steps}
 
 -- ---- the list
 

@@ -1,13 +1,10 @@
 -- The best pit of a mine, from that of a part of it.
-use Rattle.std.proofs.Common.{◌≡◌, ℕ, zero, suc, ◌+◌, ◌<◌, ◌≤◌, ℤ, pos, ◌+ℤ◌, Bool, true, false, cond, not, ◌&&◌, ◌||◌, refl, ◌∙◌, arith}
-use Rattle.std.proofs.lemmas.Int.{ints}
-use Rattle.std.proofs.lemmas.Bool.{and_parts, cases_lt}
+use Rattle.fixed_worth.proofs.Common.{◌≡◌, ℕ, zero, suc, ◌+◌, ◌<◌, ◌≤◌, ℤ, pos, ◌+ℤ◌, Bool, true, false, cond, not, ◌&&◌, ◌||◌, refl, ◌∙◌, arith, ints, and_parts, cases_lt, common_steps}
 use Rattle.ordered_group.specs.Sets.{worth_in, count_in}
 use Rattle.ordered_group.proofs.BlockSets.{count_in-same, count_in-within}
 use Rattle.closure_net.specs.Mine.{Mine, IsPit, worth_of, block_count_of, IsBest, LiesWithin, RestsWithin}
 use Rattle.closure_net.proofs.BestPits.{best_from_fewest, agree, best_of_same}
 use Rattle.sub_mines.specs.Parts.{union_of, intersection_of, difference_of, part, LiesBetween}
-use Rattle.std.proofs.lemmas.Grind.{common_steps}
 
 -- ---- of best pits
 

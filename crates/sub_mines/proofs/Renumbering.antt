@@ -1,16 +1,12 @@
 -- The best pit of a mine whose blocks have numbers of their own.
-use Rattle.std.proofs.Common.{◌≡◌, ◌≢◌, ℕ, zero, suc, ◌+◌, ◌<◌, ℤ, pos, ◌+ℤ◌, Bool, true, false, cond, not, ◌&&◌, ◌||◌, IsTrue, inl, inr, sym, refl, ap, ◌∙◌, arith}
-use Rattle.std.proofs.lemmas.Int.{ints}
-use Rattle.std.proofs.lemmas.Bool.{cases_lt, cases_Bool, or_left}
+use Rattle.fixed_worth.proofs.Common.{◌≡◌, ◌≢◌, ℕ, zero, suc, ◌+◌, ◌<◌, ℤ, pos, ◌+ℤ◌, Bool, true, false, cond, not, ◌&&◌, ◌||◌, IsTrue, inl, inr, sym, refl, ap, ◌∙◌, arith, ints, cases_lt, cases_Bool, or_left, common_steps}
 use Rattle.ordered_group.specs.Sets.{worth_in, count_in}
 use Rattle.ordered_group.proofs.BlockSets.{worth_in-same, count_in-same, count_in-within}
 use Rattle.closure_net.specs.Mine.{Mine, IsPit, worth_of, block_count_of, IsBest, RestsWithin}
 use Rattle.closure_net.proofs.BestPits.{best_from_fewest}
 use Rattle.ordered_group.proofs.Totals.{within_first}
-use Rattle.sub_mines.specs.Parts.{union_of, intersection_of, difference_of, part}
-use Rattle.sub_mines.specs.Renumbered.{IsListed, IsRenumbered, IsImage}
+use Rattle.sub_mines.specs.Prelude.{union_of, intersection_of, difference_of, part, IsListed, IsRenumbered, IsImage}
 use Rattle.sub_mines.proofs.Parts.{fewest_of, not_beside, count_cuts}
-use Rattle.std.proofs.lemmas.Grind.{common_steps}
 
 -- ---- sums over a list of numbers
 

@@ -1,15 +1,9 @@
 -- The steps in which the pairs among some blocks are gathered.
-use Rattle.std.proofs.Common.{◌≡◌, ◌≢◌, ℕ, zero, suc, ◌+◌, ◌-◌, ◌<◌, ◌≤◌, All, List, [], ◌∷◌, ◌++◌, length, get_or, inl, inr, sym, subst, ap, ◌∙◌, arith}
-use Rattle.std.specs.List.{Contains}
-use Rattle.std.proofs.lemmas.Bool.{cases_lt}
-use Rattle.std.proofs.lemmas.List.{get_or_default}
-use Rattle.std.proofs.lemmas.List.Elements.{Contains-append_left, Contains-push, Contains-push_cases, All-contains_itself, All-weaker}
+use Rattle.fixed_worth.proofs.Common.{◌≡◌, ◌≢◌, ℕ, zero, suc, ◌+◌, ◌-◌, ◌<◌, ◌≤◌, All, List, [], ◌∷◌, ◌++◌, length, get_or, inl, inr, sym, subst, ap, ◌∙◌, arith, Contains, cases_lt, get_or_default, Contains-append_left, Contains-push, Contains-push_cases, All-contains_itself, All-weaker, common_steps}
 use Rattle.prec_file.specs.Rests.{above_of, from_at, to_at, first_of, numbers, IsRising, IsRests, RestsView, ArePairsOf, AreApart, IsKnown}
 use Rattle.prec_file.proofs.Finding.{above_at, above_has}
 use Rattle.closure_net.specs.Network.{IsAscending}
-use Rattle.sub_mines.specs.Renumbered.{IsPartPairs}
-use Rattle.sub_mines.specs.Among.{ArePlacesAmong, IsAmong, AreRowsAmong, AreRowsAnd}
-use Rattle.std.proofs.lemmas.Grind.{common_steps}
+use Rattle.sub_mines.specs.Prelude.{IsPartPairs, ArePlacesAmong, IsAmong, AreRowsAmong, AreRowsAnd}
 
 -- ---- places
 

@@ -1,12 +1,10 @@
 -- The laws, one of another.
-use Rattle.std.proofs.Common.{◌≡◌, ℕ, Bool, true, ◌&&◌, sym, subst, arith}
+use Rattle.fixed_worth.proofs.Common.{◌≡◌, ℕ, Bool, true, ◌&&◌, sym, subst, arith, common_steps}
 use Rattle.closure_net.specs.Mine.{Mine, IsBest}
-use Rattle.sub_mines.specs.Parts.{difference_of, no_block, every_block, part}
-use Rattle.sub_mines.specs.Laws.{PartOfBest, BestWithin, BestOfRest, BestBetween, BestBySmallMine}
+use Rattle.sub_mines.specs.Prelude.{difference_of, no_block, every_block, part, PartOfBest, BestWithin, BestOfRest, BestBetween, BestBySmallMine}
 use Rattle.sub_mines.proofs.Parts.{best_by_part, best_between, best_cuts}
 use Rattle.sub_mines.proofs.Bounds.{between_by_bounds, best_is_floor, best_is_ceiling}
 use Rattle.sub_mines.proofs.Renumbering.{best_image}
-use Rattle.std.proofs.lemmas.Grind.{common_steps}
 
 pub part_of_best : PartOfBest
 part_of_best mine low high e own known h = grind (arith, common_steps, (best_between mine low high own known e h), (best_cuts mine low high own known e h))

@@ -1,7 +1,6 @@
 -- The laws of best pits that are found in parts of a mine.
 use Rattle.std.specs.Prelude.{◌≡◌, ◌↔◌, ℕ, ◌+◌, ◌+ℤ◌, Bool, List, All, ◌<◌, length, map}
-use Rattle.closure_net.specs.Network.{holds_of, IsAscending}
-use Rattle.closure_net.specs.Mine.{Mine, IsPit, worth_of, block_count_of, IsBest, LiesWithin, RisesTo, RestsWithin}
+use Rattle.closure_net.specs.Prelude.{holds_of, IsAscending, Mine, IsPit, worth_of, block_count_of, IsBest, LiesWithin, RisesTo, RestsWithin}
 use Rattle.sub_mines.specs.Parts.{union_of, difference_of, no_block, every_block, part, LiesBetween, IsFloor, IsCeiling}
 use Rattle.prec_file.specs.Rests.{numbers_passing}
 use Rattle.sub_mines.specs.Renumbered.{IsKept, IsListed, IsRenumbered, IsImage, number_in}

@@ -6,3 +6,5 @@ pub mod Renumbered
 pub mod Laws
 -- for this crate alone: pairs as they are gathered
 pub mod Among
+-- the names of all of them
+pub mod Prelude

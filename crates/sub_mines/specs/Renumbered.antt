@@ -1,7 +1,6 @@
 -- Some of a mine's blocks with numbers of their own.
 use Rattle.std.specs.Prelude.{◌≡◌, ℕ, ◌<◌, Bool, List, IsTrue, slice_index_or, ◌↔◌, All, length, Contains}
-use Rattle.closure_net.specs.Mine.{Mine, RestsWithin}
-use Rattle.closure_net.specs.Network.{holds_of, IsAscending}
+use Rattle.closure_net.specs.Prelude.{Mine, RestsWithin, holds_of, IsAscending}
 
 -- The numbers at 0, at 1 and so on to at (m - 1) are those below n that are in the set, ascending.
 pub record IsListed (set : ℕ → Bool) (n m : ℕ) (at : ℕ → ℕ) : Type 0 where

@@ -1,27 +1,15 @@
 -- The line of an event is read as that event, and no other line is.
-use Rattle.std.proofs.Common.{◌≡◌, ℕ, ◌<◌, ◌^◌, Bool, true, false, cond, ltb, ℤ, pos, negsuc, List, [], ◌∷◌, ◌++◌, Option, Some, None, Result, Ok, Err, refl, sym, ap, ◌∙◌, arith}
-use Rattle.std.specs.Prelude.{FitsSigned, codes, unwrap_or}
-use Rattle.std.specs.Int.{w128}
-use Rattle.std.specs.List.{join_with_byte}
-use Rattle.std.specs.Str.{bytes_eq}
-use Rattle.std.specs.Fmt.{decimal}
-use Rattle.std.proofs.lemmas.Int.{ints}
-use Rattle.std.proofs.lemmas.Bool.Decides.{nat_tests}
-use Rattle.std.proofs.lemmas.Slice.Eq.{bytes_eq-Decides}
-use Rattle.std.proofs.lemmas.List.Splits.{join_with_byte-slice_split}
+use Rattle.fixed_worth.proofs.Common.{◌≡◌, ℕ, ◌<◌, ◌^◌, Bool, true, false, cond, ltb, ℤ, pos, List, [], ◌∷◌, ◌++◌, Option, Some, None, Result, Ok, refl, sym, ap, ◌∙◌, arith, FitsSigned, codes, unwrap_or, w128, join_with_byte, bytes_eq, decimal, ints, nat_tests, bytes_eq-Decides, join_with_byte-slice_split, common_steps}
 use Rattle.fixed_worth.specs.declared.numerals.NumberFault.{NumberFault}
-use Rattle.fixed_worth.specs.Numeral.{plain_of}
+use Rattle.fixed_worth.specs.Prelude.{plain_of, parts}
 use Rattle.fixed_worth.proofs.Joined.{is_one_line}
 use Rattle.fixed_worth.proofs.PlainNumbers.{one_spelling, printed_is_plain}
 use Rattle.fixed_worth.proofs.WrittenNumbers.{decimal_digits, decimal_is_one_line}
 use Rattle.machine_law.specs.declared.events.Kind.{Kind}
 use Rattle.machine_law.specs.declared.events.Kind.TheVariants.{ReadExcess, ReadCapacity, ReadLabel, TakeCapacity, GiveCapacity, TakeExcess, GiveExcess, RaiseLabel}
 use Rattle.machine_law.specs.declared.events.Event.{Event}
-use Rattle.fixed_worth.specs.Text.{parts}
-use Rattle.trace_file.specs.Lines.{kind_of_word, block_within, block_of_word, event_with, event_of_words, event_of}
-use Rattle.trace_file.specs.Written.{kind_word, event_line}
+use Rattle.trace_file.specs.Prelude.{kind_of_word, block_within, block_of_word, event_with, event_of_words, event_of, kind_word, event_line}
 use Rattle.trace_file.proofs.Parts.{digits_alone}
-use Rattle.std.proofs.lemmas.Grind.{common_steps}
 
 -- ---- what is written is read
 

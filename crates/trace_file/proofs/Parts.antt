@@ -1,17 +1,10 @@
 -- A text is cut at its line feeds, and a line at its spaces.
-use Rattle.std.proofs.Common.{◌≡◌, ℕ, ◌<◌, Bool, true, false, cond, not, eqb, List, [], ◌∷◌, ◌++◌, length, Some, None, refl, ap, ◌∙◌, arith}
-use Rattle.std.specs.List.{list_all, onto_first}
-use Rattle.std.proofs.lemmas.Bool.{not-true, and_parts}
-use Rattle.std.proofs.lemmas.Bool.Decides.{nat_tests}
-use Rattle.fixed_worth.specs.Numeral.{is_digit}
-use Rattle.fixed_worth.specs.Text.{parts}
-use Rattle.fixed_worth.specs.Laws.{with_line_feeds}
+use Rattle.fixed_worth.proofs.Common.{◌≡◌, ℕ, ◌<◌, Bool, true, false, cond, not, eqb, List, [], ◌∷◌, ◌++◌, length, Some, None, refl, ap, ◌∙◌, arith, list_all, onto_first, not-true, and_parts, nat_tests, common_steps}
+use Rattle.fixed_worth.specs.Prelude.{is_digit, parts, with_line_feeds}
 use Rattle.fixed_worth.proofs.Joined.{is_one_line}
 use Rattle.fixed_worth.proofs.Parts.{some_part}
 use Rattle.trace_file.specs.declared.trace_fault.TraceFault.TheVariants.{Text}
-use Rattle.trace_file.specs.Lines.{event_of_words}
-use Rattle.trace_file.specs.Faults.{end_fault}
-use Rattle.std.proofs.lemmas.Grind.{common_steps}
+use Rattle.trace_file.specs.Prelude.{event_of_words, end_fault}
 
 -- A line, its line feed, and what follows.
 pub line_cut : (line rest : List ℕ) → is_one_line line ≡ true → parts 10 (line ++ (10 ∷ rest)) ≡ line ∷ parts 10 rest

@@ -1,11 +1,6 @@
 -- The text of a trace, put line by line.
-use Rattle.std.proofs.Common.{◌≡◌, ℕ, ◌+◌, ◌<◌, ◌≤◌, List, [], ◌∷◌, ◌++◌, length, get_or, take, drop, Option, sym, ap, ◌∙◌, subst, append_assoc, add-one}
-use Rattle.std.specs.Prelude.{All, map, codes}
-use Rattle.std.proofs.Math.Seq.{take-suc}
-use Rattle.std.proofs.lemmas.List.Elements.{All-push}
-use Rattle.std.proofs.lemmas.List.{map-append, take-append-drop, take_all}
-use Rattle.fixed_worth.specs.Laws.{with_line_feeds}
-use Rattle.fixed_worth.specs.Device.{SentOrHeld, ReceivedPrefix}
+use Rattle.fixed_worth.proofs.Common.{◌≡◌, ℕ, ◌+◌, ◌<◌, ◌≤◌, List, [], ◌∷◌, ◌++◌, length, get_or, take, drop, Option, sym, ap, ◌∙◌, subst, append_assoc, add-one, All, map, codes, take-suc, All-push, map-append, take-append-drop, take_all}
+use Rattle.fixed_worth.specs.Prelude.{with_line_feeds, SentOrHeld, ReceivedPrefix}
 use Rattle.fixed_worth.proofs.Joined.{with_line_feeds-append}
 use Rattle.fixed_worth.proofs.Pieces.{held_more, held_more_prefix, prefix_of_part, held_both, prefix_in_first, prefix_in_second}
 use Rattle.machine_law.specs.declared.events.Event.{Event}

@@ -1,27 +1,14 @@
 -- What is written is read back, and what is read was written so.
-use Rattle.std.proofs.Common.{◌≡◌, ℕ, ◌+◌, ◌<◌, ◌≤◌, ◌^◌, Bool, true, false, cond, ltb, List, [], ◌∷◌, ◌++◌, length, Option, Some, None, refl, sym, ap, ◌∙◌, subst, arith, append_assoc, length-append}
-use Rattle.std.specs.Prelude.{All, map, codes}
-use Rattle.std.specs.List.{list_all, filter_map, join_with_byte}
-use Rattle.std.specs.Str.{bytes_eq}
-use Rattle.std.proofs.lemmas.Bool.{and_from}
-use Rattle.std.proofs.lemmas.Bool.Decides.{nat_tests}
-use Rattle.std.proofs.lemmas.Slice.Eq.{bytes_eq-Decides}
-use Rattle.std.proofs.lemmas.List.Elements.{All-head, All-tail, All-nil, All-cons}
-use Rattle.std.proofs.lemmas.List.Splits.{join_with_byte-slice_split}
-use Rattle.fixed_worth.specs.Laws.{with_line_feeds}
+use Rattle.fixed_worth.proofs.Common.{◌≡◌, ℕ, ◌+◌, ◌<◌, ◌≤◌, ◌^◌, Bool, true, false, cond, ltb, List, [], ◌∷◌, ◌++◌, length, Option, Some, None, refl, sym, ap, ◌∙◌, subst, arith, append_assoc, length-append, All, map, codes, list_all, filter_map, join_with_byte, bytes_eq, and_from, nat_tests, bytes_eq-Decides, All-head, All-tail, All-nil, All-cons, join_with_byte-slice_split, common_steps}
+use Rattle.fixed_worth.specs.Prelude.{with_line_feeds, parts}
 use Rattle.fixed_worth.proofs.Joined.{is_one_line}
 use Rattle.machine_law.specs.declared.events.Event.{Event}
 use Rattle.machine_law.specs.declared.events.TheConstants.{MOST_EVENTS}
 use Rattle.trace_file.specs.declared.trace_fault.TraceFault.{TraceFault}
 use Rattle.trace_file.specs.declared.trace_fault.TraceFault.TheVariants.{Text, TooMany}
-use Rattle.fixed_worth.specs.Text.{parts}
-use Rattle.trace_file.specs.Lines.{event_of}
-use Rattle.trace_file.specs.Written.{event_line, trace_text}
-use Rattle.trace_file.specs.Faults.{events_of, end_fault, event_fault, line_fault, fault_behind, fault_in, fault_of}
-use Rattle.trace_file.specs.ReadBack.{IsReadBack, IsWritten}
+use Rattle.trace_file.specs.Prelude.{event_of, event_line, trace_text, events_of, end_fault, event_fault, line_fault, fault_behind, fault_in, fault_of, IsReadBack, IsWritten}
 use Rattle.trace_file.proofs.Parts.{lines_cut}
 use Rattle.trace_file.proofs.EventLines.{event_read, event_is_one_line, event_is_no_end, event_spelled}
-use Rattle.std.proofs.lemmas.Grind.{common_steps}
 
 abbrev pub Fits : Event → Type 0
 Fits e = e.block < 2 ^ 32

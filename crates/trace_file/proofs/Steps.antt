@@ -1,21 +1,13 @@
 -- The steps of reading a trace, line by line.
-use Rattle.std.proofs.Common.{◌≡◌, ℕ, ◌+◌, ◌<◌, ◌≤◌, Bool, true, false, cond, ltb, List, [], ◌∷◌, ◌++◌, length, Option, Some, None, refl, sym, ap, ◌∙◌, arith, append_assoc, append-nil, length-append}
-use Rattle.std.specs.Prelude.{codes}
-use Rattle.std.specs.List.{filter_map, cons_option}
-use Rattle.std.specs.Str.{bytes_eq}
-use Rattle.std.proofs.lemmas.Bool.Decides.{nat_tests}
-use Rattle.std.proofs.lemmas.Slice.Eq.{bytes_eq-Decides}
+use Rattle.fixed_worth.proofs.Common.{◌≡◌, ℕ, ◌+◌, ◌<◌, ◌≤◌, Bool, true, false, cond, ltb, List, [], ◌∷◌, ◌++◌, length, Option, Some, None, refl, sym, ap, ◌∙◌, arith, append_assoc, append-nil, length-append, codes, filter_map, cons_option, bytes_eq, nat_tests, bytes_eq-Decides, common_steps}
 use Rattle.machine_law.specs.declared.events.Event.{Event}
 use Rattle.machine_law.specs.declared.events.TheConstants.{MOST_EVENTS}
 use Rattle.trace_file.specs.declared.trace_fault.TraceFault.{TraceFault}
-use Rattle.trace_file.specs.declared.trace_fault.TraceFault.TheVariants.{Text, Truncated, TooMany, NoMemory}
+use Rattle.trace_file.specs.declared.trace_fault.TraceFault.TheVariants.{Text, TooMany, NoMemory}
 use Rattle.fixed_worth.specs.Text.{parts}
-use Rattle.trace_file.specs.Lines.{event_of}
-use Rattle.trace_file.specs.Faults.{UnlessMemory, events_of, end_fault, event_fault, line_fault, fault_behind, fault_in, fault_of}
-use Rattle.trace_file.specs.ReadBack.{IsWritten}
+use Rattle.trace_file.specs.Prelude.{event_of, UnlessMemory, events_of, end_fault, event_fault, line_fault, fault_behind, fault_in, fault_of, IsWritten}
 use Rattle.fixed_worth.proofs.Parts.{some_part}
 use Rattle.trace_file.proofs.RoundTrip.{behind_line, read_is_written}
-use Rattle.std.proofs.lemmas.Grind.{common_steps}
 
 -- ---- the first line
 

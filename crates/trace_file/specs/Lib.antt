@@ -4,3 +4,5 @@ pub mod Written
 pub mod ReadBack
 -- what is wrong with a text, and how that prints
 pub mod Faults
+-- the names of all of them
+pub mod Prelude

@@ -1,9 +1,8 @@
 -- What a line of a trace says.
-use Rattle.std.specs.Prelude.{ℕ, ℤ, pos, negsuc, ◌^◌, cond, List, [], ◌∷◌, nat_lt, codes, Option, Some, None, Result, Ok, Err}
+use Rattle.std.specs.Prelude.{ℕ, ℤ, pos, ◌^◌, cond, List, [], ◌∷◌, nat_lt, codes, Option, Some, None, Result, Ok}
 use Rattle.std.specs.Str.{bytes_eq}
 use Rattle.fixed_worth.specs.declared.numerals.NumberFault.{NumberFault}
-use Rattle.fixed_worth.specs.Numeral.{plain_of}
-use Rattle.fixed_worth.specs.Text.{parts}
+use Rattle.fixed_worth.specs.Prelude.{plain_of, parts}
 use Rattle.machine_law.specs.declared.events.Kind.{Kind}
 use Rattle.machine_law.specs.declared.events.Kind.TheVariants.{ReadExcess, ReadCapacity, ReadLabel, TakeCapacity, GiveCapacity, TakeExcess, GiveExcess, RaiseLabel}
 use Rattle.machine_law.specs.declared.events.Event.{Event}

@@ -1,27 +1,14 @@
 -- The lines of blocks are read back.
-use Rattle.std.proofs.Common.{◌≡◌, ℕ, ℤ, pos, zero, suc, ◌+◌, ◌^◌, ◌<◌, ◌≤◌, Bool, true, false, eqb, List, [], ◌∷◌, ◌++◌, length, get_or, None, refl, ap, ◌∙◌, arith, All, length-append, append-nil}
-use Rattle.std.specs.Prelude.{◌||◌, unsigned_abs, codes}
-use Rattle.std.specs.Option.{option_or}
-use Rattle.std.specs.List.{list_all}
-use Rattle.std.specs.Fmt.{decimal}
-use Rattle.std.proofs.lemmas.Bool.{and_from}
-use Rattle.std.proofs.lemmas.Bool.Decides.{nat_tests}
-use Rattle.std.proofs.lemmas.Fmt.{length-decimal-le_wide}
-use Rattle.std.proofs.lemmas.List.Folds.{list_all-append}
+use Rattle.fixed_worth.proofs.Common.{◌≡◌, ℕ, ℤ, pos, zero, suc, ◌+◌, ◌^◌, ◌<◌, ◌≤◌, Bool, true, false, eqb, List, [], ◌∷◌, ◌++◌, length, get_or, None, refl, ap, ◌∙◌, arith, All, length-append, append-nil, ◌||◌, unsigned_abs, codes, option_or, list_all, decimal, and_from, nat_tests, length-decimal-le_wide, list_all-append, common_steps}
 use Rattle.fixed_worth.specs.declared.limits.TheConstants.{MOST_BLOCKS, LINE_BYTES}
-use Rattle.fixed_worth.specs.Printed.{amount_text}
-use Rattle.fixed_worth.specs.Record.{Line, numbered_lines, is_skipped}
-use Rattle.fixed_worth.specs.Text.{is_separator, fields_of}
+use Rattle.fixed_worth.specs.Prelude.{amount_text, Line, numbered_lines, is_skipped, is_separator, fields_of, block_of, is_record_of}
 use Rattle.fixed_worth.proofs.Lengths.{printed_micros_short}
-use Rattle.upit_file.specs.Header.{is_long, fields_in, is_eof}
-use Rattle.upit_file.specs.Body.{block_of, value_of_record, shape_fault, line_fault, is_record_of, has_record, value_among, first_fault, before_end}
-use Rattle.upit_file.specs.Writing.{record_line, record_lines}
+use Rattle.upit_file.specs.Prelude.{is_long, fields_in, is_eof, value_of_record, shape_fault, line_fault, has_record, value_among, first_fault, before_end, record_line, record_lines}
 use Rattle.fixed_worth.proofs.Joined.{is_one_line, is_word, fields_cut}
 use Rattle.fixed_worth.proofs.NextLine.{line, short}
 use Rattle.fixed_worth.proofs.WrittenNumbers.{whole_of-decimal, digit_separates_not, digit_is_one_line, decimal_is_word, decimal_is_one_line, decimal_is_no_remark}
 use Rattle.upit_file.proofs.BodyLines.{has-push}
 use Rattle.upit_file.proofs.ReadBack.{printed_read, printed_all, printed_some}
-use Rattle.std.proofs.lemmas.Grind.{common_steps}
 
 abbrev pub Sizes : List ℤ → Type 0
 Sizes [] = Unit {0}

@@ -1,18 +1,10 @@
 -- Reading the records line after line.
-use Rattle.std.proofs.Common.{◌≡◌, ℕ, ◌<◌, Bool, true, false, cond, eqb, List, [], ◌∷◌, ◌++◌, length, get_or, set, Some, None, ℤ, pos, refl, sym, ap, ◌∙◌, arith, get_or-set_same, get_or-set_other}
-use Rattle.std.specs.Prelude.{◌||◌, nat_le}
-use Rattle.std.proofs.lemmas.Bool.{or_parts}
-use Rattle.std.proofs.lemmas.Bool.Decides.{nat_tests}
-use Rattle.std.proofs.lemmas.List.Folds.{list_any-append}
-use Rattle.std.proofs.Math.Bool.{or-false}
+use Rattle.fixed_worth.proofs.Common.{◌≡◌, ℕ, ◌<◌, Bool, true, false, cond, eqb, List, [], ◌∷◌, ◌++◌, length, get_or, set, Some, None, ℤ, pos, refl, sym, ap, ◌∙◌, arith, get_or-set_same, get_or-set_other, ◌||◌, nat_le, or_parts, nat_tests, list_any-append, or-false, common_steps}
 use Rattle.std.proofs.Math.ListN.{length-set}
-use Rattle.fixed_worth.specs.Text.{Left, fields_of}
-use Rattle.fixed_worth.specs.Record.{Line, numbered_lines, is_skipped}
+use Rattle.fixed_worth.specs.Prelude.{Left, fields_of, Line, numbered_lines, is_skipped, block_of, is_record_of}
 use Rattle.upit_file.specs.declared.upit_fault.UpitFault.TheVariants.{UnknownBlock, Repeated}
-use Rattle.upit_file.specs.Header.{is_eof, fields_in}
-use Rattle.upit_file.specs.Body.{block_of, value_of_record, shape_fault, block_fault, record_fault, is_record_of, has_record, value_among, first_fault, before_end}
+use Rattle.upit_file.specs.Prelude.{is_eof, fields_in, value_of_record, shape_fault, block_fault, record_fault, has_record, value_among, first_fault, before_end}
 use Rattle.fixed_worth.proofs.NextLine.{line, short, Next}
-use Rattle.std.proofs.lemmas.Grind.{common_steps}
 
 -- What has been read, and what is left.
 pub record Kept (n : ℕ) (all : List Line) (seen : List Bool) (values : List ℤ) (left : Left) : Type 0 where

@@ -1,25 +1,16 @@
 -- The header's lines are read back.
-use Rattle.std.proofs.Common.{◌≡◌, ℕ, ◌+◌, ◌^◌, ◌<◌, ◌≤◌, true, false, cond, eqb, List, [], ◌∷◌, ◌++◌, length, take, drop, get_or, Some, None, refl, sym, ap, ◌∙◌, arith, length-append}
-use Rattle.std.specs.Prelude.{codes, map}
-use Rattle.std.specs.List.{list_any, position_or_len}
-use Rattle.std.specs.Fmt.{decimal}
-use Rattle.std.proofs.lemmas.Bool.{not-true, and_parts}
-use Rattle.std.proofs.lemmas.Fmt.{length-decimal-le_wide}
-use Rattle.std.proofs.lemmas.List.{take_all}
+use Rattle.fixed_worth.proofs.Common.{◌≡◌, ℕ, ◌+◌, ◌^◌, ◌<◌, ◌≤◌, true, false, cond, eqb, List, [], ◌∷◌, ◌++◌, length, take, drop, get_or, Some, None, refl, sym, ap, ◌∙◌, arith, length-append, codes, map, list_any, position_or_len, decimal, not-true, and_parts, length-decimal-le_wide, take_all, common_steps}
 use Rattle.fixed_worth.specs.declared.limits.TheConstants.{MOST_BLOCKS}
 use Rattle.upit_file.specs.declared.limits.TheConstants.{NAME_BYTES}
-use Rattle.fixed_worth.specs.Record.{Line}
-use Rattle.fixed_worth.specs.Text.{WordRun, is_separator, runs_from}
+use Rattle.fixed_worth.specs.Prelude.{Line, WordRun, is_separator, runs_from}
 use Rattle.fixed_worth.proofs.Cuts.{first_run}
 use Rattle.upit_file.specs.declared.key.Key.{Key}
 use Rattle.upit_file.specs.declared.key.Key.TheVariants.{Name, FileType, Blocks, Objective}
 use Rattle.upit_file.specs.declared.upit_fault.UpitFault.TheVariants.{Text}
-use Rattle.upit_file.specs.Header.{is_long, fields_in, key_in, header, after_header, count_fault, key_fault, last_end, from_second, name_in, last_name, header_line_fault, header_fault}
-use Rattle.upit_file.specs.Records.{is_name}
+use Rattle.upit_file.specs.Prelude.{is_long, fields_in, key_in, header, after_header, count_fault, key_fault, last_end, from_second, name_in, last_name, header_line_fault, header_fault, is_name}
 use Rattle.fixed_worth.proofs.Joined.{word_run, gap_run, word_alone}
 use Rattle.fixed_worth.proofs.NextLine.{line, short}
 use Rattle.fixed_worth.proofs.WrittenNumbers.{whole_of-decimal, decimal_is_word}
-use Rattle.std.proofs.lemmas.Grind.{common_steps}
 
 -- ---- the name
 
@@ -119,7 +110,7 @@ count_sound n h =
     let s = short (codes "NBLOCKS: " ++ decimal n) (omega (arith, length-append (codes "NBLOCKS: ") (decimal n))) in
     let f : fields_in (line 3 (codes "NBLOCKS: " ++ decimal n)) ≡ codes "NBLOCKS" ∷ decimal n ∷ [] = rw s (ap texts (count_runs n (omega arith))) in
     let k : key_in (fields_in l) ≡ Blocks = ap key_in f in
-    record { key = k; sound = fault_by_key n l Blocks s k ∙ ap (count_fault n 3) f ∙ (grind (arith, common_steps, eqb, whole_of-decimal))}
+    record { key = k; sound = fault_by_key n l Blocks s k ∙ ap (count_fault n 3) f ∙ (grind (arith, common_steps, eqb, whole_of-decimal)) }
 
 -- ---- the four lines together
 

@@ -1,13 +1,8 @@
 -- Reading the header line after line.
-use Rattle.std.proofs.Common.{◌≡◌, ℕ, ◌+◌, suc, Bool, List, [], ◌∷◌, length, Option, None, refl, ap, arith}
-use Rattle.std.specs.Prelude.{◌||◌, is_some, unwrap_or}
-use Rattle.std.specs.Option.{option_or}
-use Rattle.fixed_worth.specs.Text.{Left}
-use Rattle.fixed_worth.specs.Record.{Line, numbered_lines}
+use Rattle.fixed_worth.proofs.Common.{◌≡◌, ℕ, ◌+◌, suc, Bool, List, [], ◌∷◌, length, Option, None, refl, ap, arith, ◌||◌, is_some, unwrap_or, option_or, common_steps}
+use Rattle.fixed_worth.specs.Prelude.{Left, Line, numbered_lines}
 use Rattle.upit_file.specs.declared.upit_fault.UpitFault.{UpitFault}
-use Rattle.upit_file.specs.Header.{header, last_name, after_header, first_count, header_lines_fault, end_fault, header_fault}
-use Rattle.upit_file.specs.Records.{blocks_declared}
-use Rattle.std.proofs.lemmas.Grind.{common_steps}
+use Rattle.upit_file.specs.Prelude.{header, last_name, after_header, first_count, header_lines_fault, end_fault, header_fault, blocks_declared}
 
 -- The first fault from here on, where an NBLOCKS record came before or not.
 abbrev pub fault_from : ℕ → Bool → ℕ → List Line → Option UpitFault

@@ -1,13 +1,9 @@
 -- Lines in a row, and the lines of blocks.
-use Rattle.std.proofs.Common.{◌≡◌, ℕ, ℤ, pos, suc, ◌+◌, ◌<◌, List, [], ◌∷◌, ◌++◌, length, get_or, take, drop, refl, sym, ap, ◌∙◌, arith, append_assoc, add-one, Option, subst}
-use Rattle.std.proofs.Math.Seq.{take-suc}
-use Rattle.std.proofs.lemmas.List.{take-append-drop, length-take-le}
-use Rattle.fixed_worth.specs.Laws.{with_line_feeds}
-use Rattle.fixed_worth.specs.Device.{SentOrHeld, ReceivedPrefix}
+use Rattle.fixed_worth.proofs.Common.{◌≡◌, ℕ, ℤ, pos, suc, ◌+◌, ◌<◌, List, [], ◌∷◌, ◌++◌, length, get_or, take, drop, refl, sym, ap, ◌∙◌, arith, append_assoc, add-one, Option, subst, take-suc, take-append-drop, length-take-le, common_steps}
+use Rattle.fixed_worth.specs.Prelude.{with_line_feeds, SentOrHeld, ReceivedPrefix}
 use Rattle.fixed_worth.proofs.Joined.{with_line_feeds-append}
 use Rattle.fixed_worth.proofs.Pieces.{held_both, prefix_in_first, prefix_in_second}
 use Rattle.upit_file.specs.Writing.{record_line, record_lines}
-use Rattle.std.proofs.lemmas.Grind.{common_steps}
 
 pub record_lines-append : (b : ℕ) (xs ys : List ℤ) → record_lines b (xs ++ ys) ≡ record_lines b xs ++ record_lines (b + length xs) ys
 record_lines-append b [] ys = let e : b + 0 ≡ b = omega arith in rw e refl

@@ -1,22 +1,13 @@
 -- Where a name lies in its line, and what its bytes are.
-use Rattle.std.proofs.Common.{◌≡◌, ℕ, ℤ, suc, ◌+◌, ◌-◌, ◌<◌, ◌≤◌, true, false, cond, eqb, List, [], ◌∷◌, length, take, drop, get_or, Option, None, refl, sym, ap, ◌∙◌, subst, arith, All, EachIndex, length-drop}
-use Rattle.std.specs.Prelude.{nat_le}
-use Rattle.std.specs.Option.{option_or}
-use Rattle.std.specs.List.{list_any}
-use Rattle.std.proofs.lemmas.Bool.Decides.{nat_tests}
-use Rattle.std.proofs.lemmas.List.{get_or-drop, get_or-take, length-take}
+use Rattle.fixed_worth.proofs.Common.{◌≡◌, ℕ, ℤ, suc, ◌+◌, ◌-◌, ◌<◌, ◌≤◌, true, false, cond, eqb, List, [], ◌∷◌, length, take, drop, get_or, Option, None, refl, sym, ap, ◌∙◌, subst, arith, All, length-drop, nat_le, option_or, list_any, nat_tests, get_or-drop, get_or-take, length-take, common_steps}
 use Rattle.fixed_worth.specs.declared.limits.TheConstants.{MOST_BLOCKS}
 use Rattle.upit_file.specs.declared.limits.TheConstants.{NAME_BYTES}
-use Rattle.fixed_worth.specs.Text.{is_separator, WordRun, runs_from, lines_of}
-use Rattle.fixed_worth.specs.Record.{Line, numbered_lines}
-use Rattle.fixed_worth.specs.Laws.{IsField, AreInOrder}
+use Rattle.fixed_worth.specs.Prelude.{is_separator, WordRun, runs_from, lines_of, Line, numbered_lines, IsField, AreInOrder}
 use Rattle.fixed_worth.proofs.FieldLaws.{fields_are}
 use Rattle.fixed_worth.proofs.LineLaws.{lines_are, NoLineFeed}
 use Rattle.upit_file.specs.declared.key.Key.{Key}
-use Rattle.upit_file.specs.declared.key.Key.TheVariants.{Name, FileType, Blocks, Objective, End, Other}
-use Rattle.upit_file.specs.Header.{fields_in, key_in, ends_header, header, last_end, from_second, name_behind, last_name, header_line_fault, header_lines_fault, header_fault}
-use Rattle.upit_file.specs.Records.{is_name, is_upit}
-use Rattle.std.proofs.lemmas.Grind.{common_steps}
+use Rattle.upit_file.specs.declared.key.Key.TheVariants.{Name}
+use Rattle.upit_file.specs.Prelude.{fields_in, key_in, ends_header, header, last_end, from_second, name_behind, last_name, header_line_fault, header_lines_fault, header_fault, is_name, is_upit}
 
 rest : (line : List ℕ) (r : WordRun) (rs : List WordRun) → All (IsField line) (r ∷ rs) → All (IsField line) rs
 rest line r rs a = λ k d h. a (suc k) d (omega arith)
@@ -95,11 +86,7 @@ none_parts a b h = grind (arith, common_steps)
 
 named_behind : (n : ℕ) (name : List ℕ) (l : Line) → is_name name ≡ true → NoLineFeed l.text → header_line_fault n l ≡ None → (k : Key) → key_in (fields_in l) ≡ k → is_name (name_behind name k l.text) ≡ true
 named_behind n name l h w f Name e = from_second_is_name l.text (runs_from 0 l.text) refl w (grind (arith, common_steps))
-named_behind n name l h w f FileType e = h
-named_behind n name l h w f Blocks e = h
-named_behind n name l h w f Objective e = h
-named_behind n name l h w f End e = h
-named_behind n name l h w f Other e = h
+named_behind n name l h w f k e = h
 
 named : (n : ℕ) (name : List ℕ) (ls : List Line) → is_name name ≡ true → Whole ls → header_lines_fault n ls ≡ None → is_name (last_name name ls) ≡ true
 named n name [] h w f = h

@@ -1,27 +1,14 @@
 -- A printed value is read back.
-use Rattle.std.proofs.Common.{◌≡◌, ℕ, ℤ, pos, neg_ℤ, zero, suc, ◌+◌, ◌-◌, ◌*◌, ◌/◌, ◌%◌, ◌^◌, ◌<◌, ◌≤◌, Bool, true, false, cond, not, eqb, List, [], ◌∷◌, ◌++◌, length, take, drop, replicate, Result, Ok, Err, refl, sym, ap, ◌∙◌, subst, arith, append-nil, length-append, pow-add}
-use Rattle.std.specs.Prelude.{◌&&◌, ◌||◌, nat_lt, unsigned_abs}
-use Rattle.std.specs.Int.{is_negative}
-use Rattle.std.specs.Fmt.{decimal, sign_text}
-use Rattle.std.specs.List.{list_all, position_or_len, before_first, after_first}
-use Rattle.std.proofs.Math.Seq.{take-append_seam, take-length, drop-append-add}
-use Rattle.std.proofs.lemmas.Bool.{and_parts}
-use Rattle.std.proofs.lemmas.Bool.Decides.{nat_tests}
-use Rattle.std.proofs.lemmas.List.{length-replicate, drop_all}
-use Rattle.std.proofs.lemmas.List.Folds.{list_all-append}
-use Rattle.std.proofs.lemmas.Fmt.{length-decimal-le_wide, decimal_nonempty}
+use Rattle.fixed_worth.proofs.Common.{◌≡◌, ℕ, ℤ, pos, neg_ℤ, zero, suc, ◌+◌, ◌-◌, ◌*◌, ◌/◌, ◌%◌, ◌^◌, ◌<◌, ◌≤◌, Bool, true, false, cond, not, eqb, List, [], ◌∷◌, ◌++◌, length, take, drop, replicate, Result, Ok, Err, refl, sym, ap, ◌∙◌, subst, arith, append-nil, length-append, pow-add, ◌&&◌, ◌||◌, nat_lt, unsigned_abs, is_negative, decimal, sign_text, list_all, position_or_len, before_first, after_first, take-append_seam, take-length, drop-append-add, and_parts, nat_tests, length-replicate, drop_all, list_all-append, length-decimal-le_wide, decimal_nonempty, common_steps}
 use Rattle.fixed_worth.specs.declared.numerals.NumberFault.{NumberFault}
 use Rattle.fixed_worth.specs.declared.numerals.NumberFault.TheVariants.{NotANumber, TooLong}
-use Rattle.fixed_worth.specs.Numeral.{is_digit, is_number, value_of, is_minus, unsigned_of, with_sign}
-use Rattle.fixed_worth.specs.Decimal.{is_mark, is_point, mantissa_of, whole_part, fraction_part, exponent_of, has_mark, most, decimal_of, rounded_of}
-use Rattle.fixed_worth.specs.Printed.{fixed_width, digit_before, without_trailing_zeros, fraction_text, amount_text}
+use Rattle.fixed_worth.specs.Prelude.{is_digit, is_number, value_of, is_minus, unsigned_of, with_sign, is_mark, is_point, mantissa_of, whole_part, fraction_part, exponent_of, has_mark, most, decimal_of, rounded_of, fixed_width, digit_before, without_trailing_zeros, fraction_text, amount_text}
 use Rattle.fixed_worth.proofs.Digits.{value_of-append}
 use Rattle.fixed_worth.proofs.Powers.{rounds_up}
 use Rattle.fixed_worth.proofs.Joined.{all_pass_weaker, Breaks, place_of_break}
 use Rattle.fixed_worth.proofs.PrintedDigits.{trimmed_digits, zeros_digits}
 use Rattle.fixed_worth.proofs.WrittenNumbers.{decimal_digits, value_of-decimal}
 use Rattle.fixed_worth.proofs.FirstAmounts.{no_point, passed_all}
-use Rattle.std.proofs.lemmas.Grind.{common_steps}
 
 -- ---- a fraction
 

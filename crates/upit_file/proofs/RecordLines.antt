@@ -1,13 +1,8 @@
 -- The line of a block, by its pieces.
-use Rattle.std.proofs.Common.{◌≡◌, ℕ, ℤ, pos, ◌<ℤ◌, ◌≤ℤ◌, true, false, ◌-◌, ◌/◌, ◌%◌, ◌^◌, ◌≤◌, List, [], ◌∷◌, ◌++◌, length, take, replicate, sym, ap, ◌∙◌, arith, append_assoc, append-nil}
-use Rattle.std.specs.Prelude.{unsigned_abs}
-use Rattle.std.specs.Int.{is_negative}
-use Rattle.std.specs.Fmt.{decimal, sign_text}
-use Rattle.std.proofs.lemmas.List.{take-replicate}
+use Rattle.fixed_worth.proofs.Common.{◌≡◌, ℕ, ℤ, pos, ◌<ℤ◌, ◌≤ℤ◌, true, false, ◌-◌, ◌/◌, ◌%◌, ◌^◌, ◌≤◌, List, [], ◌∷◌, ◌++◌, length, take, replicate, sym, ap, ◌∙◌, arith, append_assoc, append-nil, unsigned_abs, is_negative, decimal, sign_text, take-replicate, common_steps}
 use Rattle.fixed_worth.specs.Printed.{fixed_width, without_trailing_zeros, fraction_text, amount_text}
 use Rattle.fixed_worth.proofs.Shown.{no_fraction, point_and_digits}
 use Rattle.upit_file.specs.Writing.{record_line}
-use Rattle.std.proofs.lemmas.Grind.{common_steps}
 
 pub no_fraction_pushed : (n : ℕ) (old : List ℕ) → n ≡ 0 → old ≡ old ++ fraction_text 6 n
 no_fraction_pushed n old e = sym (append-nil old) ∙ ap (λ t. old ++ t) (no_fraction 6 n e)

@@ -4,8 +4,7 @@ use Rattle.std.specs.Option.{option_or}
 use Rattle.std.specs.Str.{bytes_eq}
 use Rattle.fixed_worth.specs.declared.limits.TheConstants.{MOST_BLOCKS, LINE_BYTES}
 use Rattle.upit_file.specs.declared.limits.TheConstants.{NAME_BYTES}
-use Rattle.fixed_worth.specs.Text.{WordRun, fields_of, runs_from}
-use Rattle.fixed_worth.specs.Record.{Line, reads, number_of}
+use Rattle.fixed_worth.specs.Prelude.{WordRun, fields_of, runs_from, Line, reads, number_of}
 use Rattle.upit_file.specs.declared.key.Key.{Key}
 use Rattle.upit_file.specs.declared.key.Key.TheVariants.{Name, FileType, Blocks, Objective, End, Other}
 use Rattle.upit_file.specs.declared.upit_fault.UpitFault.{UpitFault}

@@ -4,3 +4,5 @@ pub mod Header
 pub mod Body
 -- how it is written, and that it reads back
 pub mod Writing
+-- the names of all of them
+pub mod Prelude

@@ -1,8 +1,7 @@
 -- The one text of a name and values.
 use Rattle.std.specs.Prelude.{ℕ, ℤ, ◌+◌, List, [], ◌∷◌, ◌++◌, length, codes, ◌≡◌, None}
 use Rattle.std.specs.Fmt.{decimal}
-use Rattle.fixed_worth.specs.Laws.{with_line_feeds}
-use Rattle.fixed_worth.specs.Printed.{amount_text}
+use Rattle.fixed_worth.specs.Prelude.{with_line_feeds, amount_text}
 use Rattle.upit_file.specs.Records.{UpitView, fault_of, Denotes}
 
 -- The lines of the header for n blocks.

@@ -1,8 +1,5 @@
 -- Making the table, and one seat and two.
-use Rattle.std.proofs.Common.{◌≡◌, ◌≢◌, ℕ, zero, suc, ◌+◌, ◌%◌, ◌<◌, ◌==◌, ◌⊎◌, inl, inr, Bool, true, false, nat_eq, if◌then◌else◌, List, [], ◌∷◌, ◌++◌, length, replicate, get_or, set, sym, refl, ap, ◌∙◌, subst, arith, length-set, true≢false, ⊎_elim, append-nil}
-use Rattle.std.proofs.lemmas.Bool.{eq-eqb, ne_eqb}
-use Rattle.std.proofs.lemmas.List.{get_or-append-add, get_or_append_left, get_or-replicate, length-replicate}
-use Rattle.std.proofs.lemmas.List.Elements.{filter-append}
+use Rattle.fixed_worth.proofs.Common.{◌≡◌, ◌≢◌, ℕ, zero, suc, ◌+◌, ◌%◌, ◌<◌, ◌==◌, ◌⊎◌, inl, inr, Bool, true, false, nat_eq, if◌then◌else◌, List, [], ◌∷◌, ◌++◌, length, replicate, get_or, set, sym, refl, ap, ◌∙◌, subst, arith, length-set, true≢false, ⊎_elim, append-nil, eq-eqb, ne_eqb, get_or-append-add, get_or_append_left, get_or-replicate, length-replicate, filter-append, common_steps}
 use Rattle.machine_law.specs.declared.events.Event.{Event}
 use mathlib.Core.Logic.{dite}
 use native.Mathlib.Decide.{ℕ_discrete}
@@ -16,12 +13,9 @@ use Rattle.machine_law.specs.declared.operations.Operation.TheVariants.{Idle}
 use Rattle.machine_law.specs.Operations.{operation_as}
 use Rattle.machine_law.specs.States as law
 use Rattle.word_runner.specs.declared.view.View.{View}
-use Rattle.word_runner.specs.Layout.{count, units, Cells, excess_at, label_at, source_at, room_at, flow_at}
-use Rattle.word_runner.specs.Views.{of_block, IsRuled, Sees, IsSeatsOwn, first_view, start_words, IsStart, IsMadeBy}
-use Rattle.word_runner.specs.Halves.{IsSole, IsHalf, half, left_half, right_half, joined_view, spent_view}
+use Rattle.word_runner.specs.Prelude.{count, units, Cells, excess_at, label_at, source_at, room_at, flow_at, of_block, IsRuled, Sees, IsSeatsOwn, first_view, start_words, IsStart, IsMadeBy, IsSole, IsHalf, half, left_half, right_half, joined_view, spent_view}
 use Rattle.word_runner.proofs.SeatViews.{free_operation, seats_set}
 use Rattle.word_runner.proofs.Units.{units_same, by_one}
-use Rattle.std.proofs.lemmas.Grind.{common_steps}
 
 past : (xs ys : List ℕ) (n i x : ℕ) → length xs ≡ n → i ≡ n + x → get_or (xs ++ ys) i 0 ≡ get_or ys x 0
 past xs ys n i x l e = let e' : i ≡ length xs + x = omega arith in ap (λ (k : ℕ). get_or (xs ++ ys) k 0) e' ∙ get_or-append-add xs ys x 0

@@ -1,18 +1,13 @@
 -- What the four operations write is what the step writes.
-use Rattle.std.proofs.Common.{◌≡◌, ℕ, ◌+◌, ◌-◌, ◌%◌, ◌<◌, ◌^◌, get_or, ap, sym, ◌∙◌, subst, arith}
+use Rattle.fixed_worth.proofs.Common.{◌≡◌, ℕ, ◌+◌, ◌-◌, ◌%◌, ◌<◌, ◌^◌, get_or, ap, sym, ◌∙◌, subst, arith, common_steps}
 use mathlib.Core.Option.{none}
 use Rattle.atomic_table.specs.Table.{Allows, step}
 use Rattle.closure_net.specs.Network.{NetView}
 use Rattle.machine_law.specs.declared.operations.Operation.{Operation}
 use Rattle.word_runner.specs.declared.view.View.{View}
-use Rattle.word_runner.specs.Layout.{width}
-use Rattle.word_runner.specs.StepWords.{word_after}
-use Rattle.word_runner.specs.Views.{IsRuled}
-use Rattle.word_runner.specs.Turns.{Sat, view_after_turn, TurnsSeat, block_of_view}
-use Rattle.word_runner.specs.Seats.{IsNextAt, StepReads, StepAdds, Subtracts, Stores}
+use Rattle.word_runner.specs.Prelude.{width, word_after, IsRuled, Sat, view_after_turn, TurnsSeat, block_of_view, IsNextAt, StepReads, StepAdds, Subtracts, Stores}
 use Rattle.word_runner.proofs.Writes.{Fits}
 use Rattle.word_runner.proofs.KeepsRule.{turns}
-use Rattle.std.proofs.lemmas.Grind.{common_steps}
 
 reads : (o : Operation ℕ) (x : ℕ) → StepReads o → x ≡ word_after o x
 reads o x h = grind (arith, common_steps)

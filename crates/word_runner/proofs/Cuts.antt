@@ -1,17 +1,13 @@
 -- A worth that is cut.
-use Rattle.std.proofs.Common.{inl, inr, ◌≡◌, ℕ, ◌+◌, ◌<◌, ◌^◌, List, [], ◌∷◌, ◌++◌, map, length, ap, ap₂, sym, ◌∙◌, subst, arith, ⊎_elim}
-use Rattle.ordered_group.specs.Amount.{Amount, zero_amount, plus, minus, positive, FitsPair}
-use Rattle.ordered_group.specs.Sums.{amount_at, total, SumFits}
+use Rattle.fixed_worth.proofs.Common.{inl, inr, ◌≡◌, ℕ, ◌+◌, ◌<◌, ◌^◌, List, [], ◌∷◌, ◌++◌, map, length, ap, ap₂, sym, ◌∙◌, subst, arith, ⊎_elim, common_steps}
+use Rattle.ordered_group.specs.Prelude.{Amount, zero_amount, plus, minus, positive, FitsPair, amount_at, total, SumFits}
 use Rattle.ordered_group.specs.declared.scaled.Scaled.{Scaled}
-use Rattle.closure_net.specs.Network.{NetView, IsNet}
-use Rattle.closure_net.specs.Faults.{NetFaultStands, OppositeOverflows, PositivesOverflow}
+use Rattle.closure_net.specs.Prelude.{NetView, IsNet, NetFaultStands, OppositeOverflows, PositivesOverflow}
 use Rattle.closure_net.specs.declared.net.NetFault.{NetFault}
 use Rattle.closure_net.specs.declared.net.NetFault.TheVariants.{WrongLength, TooLarge, NoMemory}
 use Rattle.ordered_group.proofs.Totals.{total-same}
 use Rattle.machine_law.specs.Conservation.{all_given}
-use Rattle.word_runner.specs.Layout.{units}
-use Rattle.word_runner.specs.CutNets.{scaled_parts, IsCut, AreCut, AreWithin, AreGains, IsCutNet, net_with_worths}
-use Rattle.std.proofs.lemmas.Grind.{common_steps}
+use Rattle.word_runner.specs.Prelude.{units, scaled_parts, IsCut, AreCut, AreWithin, AreGains, IsCutNet, net_with_worths}
 
 pub pushed_all : (P : ℕ → Amount → Type 0) (xs ys : List Scaled) (x : Scaled) (n : ℕ) → ys ≡ xs ++ x ∷ [] → length xs ≡ n → ((j : ℕ) → j < n → P j (amount_at (map scaled_parts xs) j)) → P n (scaled_parts x) → (j : ℕ) → j < n + 1 → P j (amount_at (map scaled_parts ys) j)
 pushed_all P xs ys x n is size old new j l = grind (arith, common_steps)

@@ -1,22 +1,13 @@
 -- How runs by seats end.
-use Rattle.std.proofs.Common.{inl, inr, ◌⊎◌, ◌≡◌, ℕ, ◌<◌, ◌≤◌, List, [], ◌∷◌, ◌++◌, length, refl, ap, sym, ◌∙◌, subst, arith}
-use Rattle.std.specs.Prelude.{Result, MatchResult}
-use Rattle.std.proofs.lemmas.List.{append-nil}
+use Rattle.fixed_worth.proofs.Common.{inl, inr, ◌⊎◌, ◌≡◌, ℕ, ◌<◌, ◌≤◌, List, [], ◌∷◌, ◌++◌, length, refl, ap, sym, ◌∙◌, subst, arith, Result, MatchResult, append-nil, common_steps}
 use Rattle.ordered_group.specs.Amount.{AtMost}
 use Rattle.closure_net.specs.Network.{NetView, FlowView, IsNet}
 use Rattle.machine_law.specs.Conservation.{all_given}
 use Rattle.machine_law.specs.declared.events.Event.{Event}
 use Rattle.machine_law.specs.declared.operations.Operation.TheVariants.{Idle}
 use Rattle.workers.specs.declared.solving.SolveFault.{SolveFault}
-use Rattle.workers.specs.declared.solving.SolveFault.TheVariants as solve
 use Rattle.word_runner.specs.declared.settle_fault.SettleFault.{SettleFault}
-use Rattle.word_runner.specs.Layout.{units}
-use Rattle.word_runner.specs.Seats.{Own, WordsView}
-use Rattle.word_runner.specs.CutNets.{IsCutNet}
-use Rattle.word_runner.specs.Openings.{AreNeitherOneNorTwo}
-use Rattle.word_runner.specs.Runs.{steps_made_by, SomeIsBusy, IsQuietRunOf, IsRunSettled, SettleFaultStands}
-use Rattle.word_runner.specs.Ends.{IsQuietEnd, EndFaultStands, WordRunFaultStands, WordSolveFaultStands, IsSolvedBy}
-use Rattle.std.proofs.lemmas.Grind.{common_steps}
+use Rattle.word_runner.specs.Prelude.{units, Own, WordsView, IsCutNet, AreNeitherOneNorTwo, steps_made_by, SomeIsBusy, IsQuietRunOf, IsRunSettled, SettleFaultStands, IsQuietEnd, EndFaultStands, WordRunFaultStands, WordSolveFaultStands, IsSolvedBy}
 
 -- what follows on either side of a result
 pub on_sides : {A B : Type 0} (P R : A → Type 0) (Q S : B → Type 0) (r : Result A B) → ((a : A) → P a → R a) → ((b : B) → Q b → S b) → MatchResult r P Q → MatchResult r R S

@@ -1,17 +1,14 @@
 -- Positive worths in units, and their sum.
-use Rattle.std.proofs.Common.{inl, inr, ◌⊎◌, ◌≡◌, ℕ, pos, ◌<ℤ◌, ◌≤ℤ◌, ◌+◌, ◌<◌, ◌≤◌, ◌^◌, List, length, get_or, ap, ap₂, sym, ◌∙◌, arith}
-use Rattle.std.proofs.lemmas.Int.{ints}
+use Rattle.fixed_worth.proofs.Common.{inl, inr, ◌⊎◌, ◌≡◌, ℕ, pos, ◌<ℤ◌, ◌≤ℤ◌, ◌+◌, ◌<◌, ◌≤◌, ◌^◌, List, length, get_or, ap, ap₂, sym, ◌∙◌, arith, ints}
 use Rattle.ordered_group.specs.declared.scaled.Scaled.{Scaled}
-use Rattle.ordered_group.specs.Amount.{Amount, AtMost, plus, positive}
-use Rattle.ordered_group.specs.Sums.{amount_at, total}
+use Rattle.ordered_group.specs.Prelude.{Amount, AtMost, plus, positive, amount_at, total}
 use Rattle.ordered_group.proofs.Order.{AtMost-trans}
 use Rattle.ordered_group.proofs.Signs.{NonNeg-positive}
 use Rattle.ordered_group.proofs.Totals.{total_next, total_term, total_first}
 use Rattle.closure_net.specs.Network.{NetView}
 use Rattle.machine_law.specs.Conservation.{all_given}
 use Rattle.machine_law.proofs.Numbers.{same}
-use Rattle.word_runner.specs.Layout.{units, count}
-use Rattle.word_runner.specs.CutNets.{scaled_parts, AreGains}
+use Rattle.word_runner.specs.Prelude.{units, count, scaled_parts, AreGains}
 
 -- one worth is 2^63 units or more
 pub too_much_at : (net : NetView) (b : ℕ) → b < count net → (x : Scaled) → scaled_parts x ≡ positive (amount_at net.worths b) → (x.units <ℤ pos 0) ⊎ (pos 9223372036854775808 ≤ℤ x.units) → AtMost (units 9223372036854775808) (all_given net)

@@ -1,6 +1,5 @@
 -- A turn keeps the rule: one operation on one word is the step of the machine that is next for the block.
-use Rattle.std.proofs.Common.{inl, inr, ◌≡◌, ◌≢◌, ℕ, ◌+◌, ◌<◌, ◌^◌, true, List, [], ◌∷◌, ◌++◌, All, length, get_or, set, get_or-set_same, refl, ap, sym, ◌∙◌, subst, arith}
-use Rattle.std.proofs.lemmas.Bool.{cases_eq, ltb-true}
+use Rattle.fixed_worth.proofs.Common.{inl, inr, ◌≡◌, ◌≢◌, ℕ, ◌+◌, ◌<◌, ◌^◌, true, List, [], ◌∷◌, ◌++◌, All, length, get_or, set, get_or-set_same, refl, ap, sym, ◌∙◌, subst, arith, cases_eq, ltb-true, common_steps}
 use mathlib.Core.Option.{none, some}
 use lib.ListN.{get_elem?}
 use Rattle.atomic_table.specs.Table.{State, step, Allows}
@@ -8,30 +7,22 @@ use Rattle.prec_file.specs.Rests.{IsKnown, from_at}
 use Rattle.closure_net.specs.Network.{NetView}
 use Rattle.machine_law.specs.declared.events.Event.{Event}
 use Rattle.machine_law.specs.declared.operations.Operation.{Operation}
-use Rattle.machine_law.specs.declared.operations.Operation.TheVariants.{Idle, Scan, PushDue, TakeDue, GiveDue, RaiseDue}
+use Rattle.machine_law.specs.declared.operations.Operation.TheVariants.{PushDue}
 use Rattle.closure_net.specs.declared.port.Port.{Port}
 use Rattle.closure_net.specs.declared.port.PortKind.{PortKind}
-use Rattle.closure_net.specs.declared.port.PortKind.TheVariants.{Sink, Forward, Backward, Source}
-use Rattle.machine_law.specs.Residual.{IsEnd}
-use Rattle.machine_law.specs.Operations.{operation_as}
+use Rattle.closure_net.specs.declared.port.PortKind.TheVariants.{Forward}
+use Rattle.machine_law.specs.Prelude.{IsEnd, operation_as, with_value_at, opening, Step, Run, advance_by, next_of, IsOperation}
 use Rattle.machine_law.specs.States as law
-use Rattle.machine_law.specs.States.{with_value_at, opening}
-use Rattle.machine_law.specs.Steps.{Step, Run, advance_by, next_of}
-use Rattle.machine_law.specs.Amounts.{IsOperation}
 use Rattle.machine_law.proofs.Points.{with_value_at-same, with_value_at-other}
 use Rattle.machine_law.proofs.Law.{runs_keep_law}
 use Rattle.machine_law.proofs.Runs.{run_more}
 use Rattle.machine_law.proofs.Conserved.{runs_conserve}
 use Rattle.word_runner.specs.declared.view.View.{View}
-use Rattle.word_runner.specs.Layout.{units, count, Cells, flow_at}
-use Rattle.word_runner.specs.StepWords.{word_of, word_after, after, capacity_word, push_units, word_after_push}
-use Rattle.word_runner.specs.Views.{IsRuled, Sees, IsSeatsOwn}
-use Rattle.word_runner.specs.Turns.{Sat, stopped_after, event_of_operation, view_after_turn, TurnsSeat, IsPlaced, CanTurn, is_word_overfull, RaisesTooFar, SomeFlowIsTooLarge, SomeLabelIsTooLarge, IsLargeBy}
+use Rattle.word_runner.specs.Prelude.{units, count, Cells, flow_at, word_of, word_after, after, capacity_word, push_units, word_after_push, IsRuled, Sees, IsSeatsOwn, Sat, stopped_after, event_of_operation, view_after_turn, TurnsSeat, IsPlaced, CanTurn, is_word_overfull, RaisesTooFar, SomeFlowIsTooLarge, SomeLabelIsTooLarge, IsLargeBy}
 use Rattle.word_runner.proofs.Units.{units_above}
 use Rattle.word_runner.proofs.Shows.{operation_shown, labels_shown, labels_else}
 use Rattle.word_runner.proofs.Writes.{Fits, fits, placed, cells_shown, flow_shown}
 use Rattle.word_runner.proofs.SeatViews.{seats_set, operation_here, operation_else, shown_here, shown_else, block_is, made_more}
-use Rattle.std.proofs.lemmas.Grind.{common_steps}
 
 module _ (s : State (Unit {0}) View) (id b : ℕ) (v : View) (q : CanTurn v b) (r : IsRuled v.net s) (at : get_elem? s.views id ≡ some v) where
   abbrev net : NetView
@@ -128,19 +119,13 @@ module _ (s : State (Unit {0}) View) (id b : ℕ) (v : View) (q : CanTurn v b) (
   -- the state after the step, where its numbers are too large
   pushed_far : (have : ℕ) (p : Port) (kind : PortKind) (k : ℕ) → IsEnd net b kind p.other p.slot → is_word_overfull kind have (get_or s.words (capacity_word net b kind p.slot) 0) ≡ true → (v' : law.State) → Run net (opening net) (r.events ++ e ∷ []) v'
       → Cells net v' (set s.words (capacity_word net b kind p.slot) (word_after_push kind (push_units have kind k) (get_or s.words (capacity_word net b kind p.slot) 0))) → SomeFlowIsTooLarge net
-  pushed_far have p Sink k h f v' run c = absurd cc
   pushed_far have p Forward k h f v' run c = grind (arith, common_steps, (flow_at net p.slot), r.cells.wide, h.0, (get_or s.words (flow_at net p.slot) 0 + have), (ltb-true 9223372036854775807 (get_or s.words (flow_at net p.slot) 0 + have) f), (c.flow p.slot h.0 ∙ ap units (get_or-set_same s.words (flow_at net p.slot) (get_or s.words (flow_at net p.slot) 0 + have) 0 (omega (arith, (r.cells.wide), (h.0))))), (get_or-set_same s.words (flow_at net p.slot) (get_or s.words (flow_at net p.slot) 0 + have) 0 (omega (arith, (r.cells.wide), (h.0)))), (units_above 9223372036854775808 (get_or s.words (flow_at net p.slot) 0 + have) (omega (arith, (ltb-true 9223372036854775807 (get_or s.words (flow_at net p.slot) 0 + have) f)))))
-  pushed_far have p Backward k h f v' run c = absurd cc
-  pushed_far have p Source k h f v' run c = absurd cc
+  pushed_far have p kind k h f v' run c = absurd cc
 
   flow_far : (z : Operation ℕ) → o ≡ z → IsPlaced net b z → stopped_after z (get_or s.words (word_of net b z) 0) ≡ true → SomeFlowIsTooLarge net
-  flow_far Idle is h f = absurd cc
-  flow_far (Scan have place read best) is h f = absurd cc
   flow_far (PushDue have best) is h f =
       pushed_far have best.port best.port.kind best.capacity h f u runs (subst (λ (z : Operation ℕ). Cells net u (set s.words (word_of net b z) (word_after z (get_or s.words (word_of net b z) 0)))) is (cells_shown net known t s.words r.cells b q.block o (placed net t b o lawful) fit))
-  flow_far (TakeDue d p) is h f = absurd cc
-  flow_far (GiveDue d p) is h f = absurd cc
-  flow_far (RaiseDue have best) is h f = absurd cc
+  flow_far z is h f = absurd cc
 
   label_far : (z : Operation ℕ) → u.operation b ≡ operation_as units z → RaisesTooFar z → SomeLabelIsTooLarge net
   label_far z is h = grind (arith, common_steps, runs, known)

@@ -1,5 +1,5 @@
 -- A load of an arrival keeps the rule, and tells a number below 2^63.
-use Rattle.std.proofs.Common.{◌≡◌, ℕ, List, [], ◌∷◌, ◌++◌, get_or, set, sym, refl, subst, arith}
+use Rattle.fixed_worth.proofs.Common.{◌≡◌, ℕ, List, [], ◌∷◌, ◌++◌, get_or, set, sym, refl, subst, arith, common_steps}
 use mathlib.Core.Option.{none, some}
 use lib.ListN.{get_elem?}
 use lib.Seq.{set-get_or}
@@ -7,12 +7,9 @@ use Rattle.atomic_table.specs.Table.{State, step, keeps, Allows}
 use Rattle.closure_net.specs.Network.{NetView}
 use Rattle.machine_law.proofs.Conserved.{runs_conserve}
 use Rattle.word_runner.specs.declared.view.View.{View}
-use Rattle.word_runner.specs.Views.{IsRuled, Sees, IsSeatsOwn, IsMadeBy}
-use Rattle.word_runner.specs.Turns.{Sat}
-use Rattle.word_runner.specs.Halves.{LooksUp}
+use Rattle.word_runner.specs.Prelude.{IsRuled, Sees, IsSeatsOwn, IsMadeBy, Sat, LooksUp}
 use Rattle.word_runner.proofs.SeatViews.{seats_set}
 use Rattle.word_runner.proofs.Units.{fits_in}
-use Rattle.std.proofs.lemmas.Grind.{common_steps}
 
 -- a view that differs in what was loaded alone
 loaded_more : (net : NetView) (s : State (Unit {0}) View) (id : ℕ) (v : View) (l : List (ℕ × ℕ)) → IsRuled net s → get_elem? s.views id ≡ some v → IsRuled net (record { words = s.words; homes = s.homes; views = set s.views id (record v { loaded = l }) })

@@ -1,9 +1,7 @@
 -- One or two seats in a list.
 use Rattle.std.proofs.Common.{◌≡◌, ℕ, List, [], ◌∷◌, length, ap, sym, ◌∙◌, subst}
 use lib.ListN.{get_elem?}
-use Rattle.word_runner.specs.Seats.{Own, WordsView, IsServed, IsWorker}
-use Rattle.word_runner.specs.Openings.{IsFirst, AreFirst}
-use Rattle.word_runner.specs.Runs.{AreSeats}
+use Rattle.word_runner.specs.Prelude.{Own, WordsView, IsServed, IsWorker, IsFirst, AreFirst, AreSeats}
 
 pub served_one : (w : WordsView) (xs : List Own) (s : Own) → xs ≡ s ∷ [] → AreSeats w xs → IsServed w.shared 0 1 s
 served_one w xs s e a =

@@ -1,7 +1,5 @@
 -- The views of the seats, where one of them changes.
-use Rattle.std.proofs.Common.{inl, inr, ◌⊎◌, ◌≡◌, ◌≢◌, ◌↔◌, ℕ, ◌-◌, ◌<◌, ◌==◌, Bool, cond, List, [], ◌∷◌, ◌++◌, set, sym, ap, ◌∙◌, subst, arith, ⊎_elim, append-nil}
-use Rattle.std.proofs.lemmas.Bool.{eq-eqb, ne_eqb}
-use Rattle.std.proofs.lemmas.List.Elements.{filter-append}
+use Rattle.fixed_worth.proofs.Common.{inl, inr, ◌⊎◌, ◌≡◌, ◌≢◌, ◌↔◌, ℕ, ◌-◌, ◌<◌, ◌==◌, Bool, cond, List, [], ◌∷◌, ◌++◌, set, sym, ap, ◌∙◌, subst, arith, ⊎_elim, append-nil, eq-eqb, ne_eqb, filter-append, common_steps}
 use mathlib.Core.Option.{some}
 use lib.ListN.{get_elem?}
 use Rattle.atomic_table.proofs.Lists.{at_set}
@@ -9,11 +7,7 @@ use Rattle.closure_net.specs.Network.{NetView}
 use Rattle.machine_law.specs.declared.events.Event.{Event}
 use Rattle.machine_law.specs.declared.operations.Operation.TheVariants.{Idle}
 use Rattle.word_runner.specs.declared.view.View.{View}
-use Rattle.word_runner.specs.Layout.{count}
-use Rattle.word_runner.specs.StepWords.{word_of}
-use Rattle.word_runner.specs.Views.{IsSeatsOwn, of_block, IsMade, IsMadeBy, operation_in_view}
-use Rattle.word_runner.specs.Turns.{block_of_view, CanTurn}
-use Rattle.std.proofs.lemmas.Grind.{common_steps}
+use Rattle.word_runner.specs.Prelude.{count, word_of, IsSeatsOwn, of_block, IsMade, IsMadeBy, operation_in_view, block_of_view, CanTurn}
 
 pub seats_set : (P : ℕ → View → Type 0) (vs : List View) (me : ℕ) (w : View) → P me w → ((j : ℕ) (v : View) → j ≢ me → get_elem? vs j ≡ some v → P j v)
     → (j : ℕ) (v : View) → get_elem? (set vs me w) j ≡ some v → P j v

@@ -1,17 +1,12 @@
 -- Where the arrivals sum to what is given in all, the words have a greatest flow.
-use Rattle.std.proofs.Common.{◌≡◌, ℕ, pos, ◌-ℤ◌, ◌≤ℤ◌, ◌+◌, ◌%◌, ◌<◌, List, [], ◌∷◌, zero, suc, get_or, refl, ap, ap₂, sym, ◌∙◌, subst, arith}
-use Rattle.std.proofs.lemmas.Int.{ints}
+use Rattle.fixed_worth.proofs.Common.{◌≡◌, ℕ, pos, ◌-ℤ◌, ◌≤ℤ◌, ◌+◌, ◌%◌, ◌<◌, List, [], ◌∷◌, zero, suc, get_or, refl, ap, ap₂, sym, ◌∙◌, subst, arith, ints}
 use mathlib.Core.Option.{some, some-injective, some-ne-none}
 use lib.ListN.{get_elem?}
 use Rattle.atomic_table.specs.Table.{State, Seen, Final}
-use Rattle.ordered_group.specs.Amount.{Amount, AtMost, plus, minus, negative}
-use Rattle.ordered_group.specs.Sums.{amount_at}
-use Rattle.closure_net.specs.Network.{NetView, FlowView}
-use Rattle.closure_net.specs.Flows.{IsGreatestFlow}
+use Rattle.ordered_group.specs.Prelude.{Amount, AtMost, plus, minus, negative, amount_at}
+use Rattle.closure_net.specs.Prelude.{NetView, FlowView, IsGreatestFlow}
 use Rattle.machine_law.specs.States as law
-use Rattle.machine_law.specs.States.{IsQuiet}
-use Rattle.machine_law.specs.Conservation.{all_given, IsWhole}
-use Rattle.machine_law.specs.Quiet.{IsFlowOf}
+use Rattle.machine_law.specs.Prelude.{IsQuiet, all_given, IsWhole, IsFlowOf}
 use Rattle.machine_law.proofs.Law.{runs_keep_law}
 use Rattle.ordered_group.proofs.Signs.{AtMost-minus}
 use Rattle.ordered_group.specs.declared.scaled.Scaled.{Scaled}
@@ -20,12 +15,7 @@ use Rattle.machine_law.proofs.Numbers.{same, equal}
 use Rattle.machine_law.proofs.Conserved.{runs_conserve}
 use Rattle.machine_law.proofs.Quiet.{quiet_solves}
 use Rattle.word_runner.specs.declared.view.View.{View}
-use Rattle.word_runner.specs.Layout.{units, count, room_at}
-use Rattle.word_runner.specs.Views.{IsRuled}
-use Rattle.word_runner.specs.Seats.{IsFlowOfWords, IsWorker}
-use Rattle.word_runner.specs.CutNets.{scaled_parts, AreRooms}
-use Rattle.word_runner.specs.Runs.{IsRunOf, IsOpenRunOf}
-use Rattle.word_runner.specs.Ends.{IsQuietEnd}
+use Rattle.word_runner.specs.Prelude.{units, count, room_at, IsRuled, IsFlowOfWords, IsWorker, scaled_parts, AreRooms, IsRunOf, IsOpenRunOf, IsQuietEnd}
 use Rattle.word_runner.proofs.Units.{units_same, by_one}
 
 turned_round : (n s r : Amount) → minus n s ≡ r → s ≡ minus n r

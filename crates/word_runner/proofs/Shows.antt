@@ -1,30 +1,19 @@
 -- The step of the machine that is next for a block, as its word shows it: what the block's operation and the labels become.
-use Rattle.std.proofs.Common.{◌≡◌, ◌≢◌, ℕ, ◌+◌, ◌<◌, Option, Some, None, List, All, length, get_or, refl, ap, sym, ◌∙◌, arith, get_or-set_other, get_or-set_same}
-use Rattle.std.proofs.lemmas.Bool.{cases_eq}
-use Rattle.std.specs.Prelude.{slice_get}
-use Rattle.std.specs.Option.{option_map}
+use Rattle.fixed_worth.proofs.Common.{◌≡◌, ◌≢◌, ℕ, ◌+◌, ◌<◌, Option, Some, None, List, All, length, get_or, refl, ap, sym, ◌∙◌, arith, get_or-set_other, get_or-set_same, cases_eq, slice_get, option_map, common_steps}
 use Rattle.ordered_group.specs.Amount.{Amount}
 use Rattle.prec_file.specs.Rests.{IsKnown}
-use Rattle.closure_net.specs.Network.{NetView}
-use Rattle.closure_net.specs.Ports.{ports}
+use Rattle.closure_net.specs.Prelude.{NetView, ports}
 use Rattle.closure_net.specs.declared.port.Port.{Port}
 use Rattle.closure_net.specs.declared.port.PortKind.{PortKind}
 use Rattle.machine_law.specs.declared.operations.Best.{Best}
 use Rattle.machine_law.specs.declared.operations.Operation.{Operation}
 use Rattle.machine_law.specs.declared.operations.Operation.TheVariants.{Idle, Scan, PushDue, TakeDue, GiveDue, RaiseDue}
-use Rattle.machine_law.specs.Operations.{best_as, operation_as}
+use Rattle.machine_law.specs.Prelude.{best_as, operation_as, with_value_at, IsEnd, label_beyond, operation_begun_with, after_label, after_look, after_look_by, after_label_at, push_amount, after_push_by, after_give_by, advance_by}
 use Rattle.machine_law.specs.States as law
-use Rattle.machine_law.specs.States.{with_value_at}
-use Rattle.machine_law.specs.Residual.{IsEnd, label_beyond}
-use Rattle.machine_law.specs.Reads.{operation_begun_with, after_label}
-use Rattle.machine_law.specs.Steps.{after_look, after_look_by, after_label_at, push_amount, after_push_by, after_give_by, advance_by}
 use Rattle.machine_law.proofs.Points.{with_value_at-same, with_value_at-other}
 use Rattle.machine_law.proofs.Naturality.{after_label-as}
 use Rattle.machine_law.proofs.PortLists.{port_with, port-at}
-use Rattle.word_runner.specs.Layout.{units, count, Cells}
-use Rattle.word_runner.specs.StepWords.{look_word, look_word_at, label_word_at, word_of, operation_begun_by_word, after_look_word, after_look_word_if, after_label_word_if, after, push_units}
-use Rattle.word_runner.specs.Turns.{labels_after}
-use Rattle.std.proofs.lemmas.Grind.{common_steps}
+use Rattle.word_runner.specs.Prelude.{units, count, Cells, look_word, look_word_at, label_word_at, word_of, operation_begun_by_word, after_look_word, after_look_word_if, after_label_word_if, after, push_units, labels_after}
 
 -- ---- reads over units
 begun_units : (x : ℕ) → operation_begun_with (units x) ≡ operation_as units (operation_begun_by_word x)

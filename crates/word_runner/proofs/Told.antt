@@ -1,16 +1,10 @@
 -- What a seat's own numbers are after a turn.
-use Rattle.std.proofs.Common.{◌≡◌, ℕ, [], replicate, Bool, false, List, get_or, arith}
+use Rattle.fixed_worth.proofs.Common.{◌≡◌, ℕ, [], replicate, Bool, false, List, get_or, arith, common_steps}
 use Rattle.atomic_table.specs.declared.shared.Seat.{Seat}
 use Rattle.machine_law.specs.declared.operations.Operation.{Operation}
 use Rattle.machine_law.specs.declared.operations.Operation.TheVariants.{Idle}
 use Rattle.word_runner.specs.declared.view.View.{View}
-use Rattle.word_runner.specs.Layout.{count, width}
-use Rattle.word_runner.specs.StepWords.{after}
-use Rattle.word_runner.specs.Views.{first_view}
-use Rattle.word_runner.specs.Turns.{labels_after, stopped_after}
-use Rattle.word_runner.specs.Seats.{Own, WordsView, HasTurned, IsSame, IsTold}
-use Rattle.word_runner.specs.Openings.{IsFirst}
-use Rattle.std.proofs.lemmas.Grind.{common_steps}
+use Rattle.word_runner.specs.Prelude.{count, width, after, first_view, labels_after, stopped_after, Own, WordsView, HasTurned, IsSame, IsTold, IsFirst}
 
 pub told_next : (s s' : Seat (Unit {0}) View) (labels labels' : List ℕ) (block b : ℕ) (o o' : Operation ℕ) (stopped stopped' : Bool) (x : ℕ) → IsTold s labels block o stopped → HasTurned b s.me.0 x s'.me.0 → IsSame s s'
     → labels' ≡ labels_after labels b o → o' ≡ after s.me.0.net b (get_or labels b 0) o x → stopped' ≡ stopped_after o x → IsTold s' labels' b o' stopped'

@@ -1,6 +1,5 @@
 -- Amounts of units, and numbers.
-use Rattle.std.proofs.Common.{◌≡◌, ℕ, ◌+◌, ◌-◌, ◌%◌, ◌≤◌, ap, arith}
-use Rattle.std.proofs.lemmas.Int.{ints}
+use Rattle.fixed_worth.proofs.Common.{◌≡◌, ℕ, ◌+◌, ◌-◌, ◌%◌, ◌≤◌, ap, arith, ints}
 use Rattle.ordered_group.specs.Amount.{Amount, plus, minus, AtMost}
 use Rattle.ordered_group.proofs.Order.{AtMost-trans}
 use Rattle.machine_law.proofs.Numbers.{same, equal}

@@ -1,50 +1,33 @@
 -- The step that is next for a block, as its word shows it: that the word doesn't wrap, and what the words show after.
-use Rattle.std.proofs.Common.{◌⊎◌, ◌≡◌, ◌≢◌, ℕ, ◌+◌, ◌<◌, ◌≤◌, ◌^◌, Bool, false, Some, None, List, All, length, get_or, set, refl, sym, subst, arith, get_or-set_other}
-use Rattle.std.specs.Prelude.{slice_get}
-use Rattle.std.specs.Option.{option_map}
+use Rattle.fixed_worth.proofs.Common.{◌⊎◌, ◌≡◌, ◌≢◌, ℕ, ◌+◌, ◌<◌, ◌≤◌, ◌^◌, Bool, false, Some, None, List, All, length, get_or, set, refl, sym, subst, arith, get_or-set_other, slice_get, option_map, common_steps}
 use lib.Seq.{set-get_or}
-use Rattle.ordered_group.specs.Amount.{Amount, plus, minus, negative, AtMost}
-use Rattle.ordered_group.specs.Sums.{amount_at}
+use Rattle.ordered_group.specs.Prelude.{Amount, plus, minus, negative, AtMost, amount_at}
 use Rattle.ordered_group.proofs.Order.{AtMost-trans}
 use Rattle.prec_file.specs.Rests.{IsKnown, from_at}
-use Rattle.closure_net.specs.Network.{NetView}
-use Rattle.closure_net.specs.Ports.{ports}
+use Rattle.closure_net.specs.Prelude.{NetView, ports}
 use Rattle.closure_net.specs.declared.port.Port.{Port}
 use Rattle.closure_net.specs.declared.port.PortKind.{PortKind}
 use Rattle.closure_net.specs.declared.port.PortKind.TheVariants.{Sink, Forward, Backward, Source}
 use Rattle.machine_law.specs.declared.operations.Operation.{Operation}
 use Rattle.machine_law.specs.declared.operations.Operation.TheVariants.{Idle, Scan, PushDue, TakeDue, GiveDue, RaiseDue}
-use Rattle.machine_law.specs.Operations.{best_as, operation_as}
+use Rattle.machine_law.specs.Prelude.{best_as, operation_as, with_value_at, IsEnd, IsOperation, after_look, after_label_at, after_push_by, after_give_by, advance_by, operation_begun_with, all_given, IsWhole}
 use Rattle.machine_law.specs.States as law
-use Rattle.machine_law.specs.States.{with_value_at}
-use Rattle.machine_law.specs.Residual.{IsEnd}
-use Rattle.machine_law.specs.Amounts.{IsOperation}
-use Rattle.machine_law.specs.Steps.{after_look, after_label_at, after_push_by, after_give_by, advance_by}
-use Rattle.machine_law.specs.Reads.{operation_begun_with}
-use Rattle.machine_law.specs.Conservation.{all_given, IsWhole}
 use Rattle.machine_law.proofs.Points.{with_value_at-same}
-use Rattle.word_runner.specs.Layout.{units, count, Cells, excess_at, flow_at}
-use Rattle.word_runner.specs.StepWords.{capacity_word, landing_word, word_of, word_after, push_units, word_after_push}
-use Rattle.word_runner.specs.Turns.{stopped_after, IsPlaced}
+use Rattle.word_runner.specs.Prelude.{units, count, Cells, excess_at, flow_at, capacity_word, landing_word, word_of, word_after, push_units, word_after_push, stopped_after, IsPlaced}
 use Rattle.word_runner.proofs.Units.{units_most, units_minus, units_plus, less_room, fits_in}
 use Rattle.word_runner.proofs.Cells.{cells_op, cells_excess, cells_flow, cells_label, cells_source, cells_room, cells_at_source, cells_at_sink}
 use Rattle.word_runner.proofs.Shows.{push_of_units, other_within}
-use Rattle.std.proofs.lemmas.Grind.{common_steps}
 
 -- ---- the word of a step takes what is written into it
 abbrev pub push_fits : PortKind → ℕ → ℕ → Type 0
-push_fits Sink d x = d ≤ x
 push_fits Forward d x = x + d < 2 ^ 64
-push_fits Backward d x = d ≤ x
-push_fits Source d x = d ≤ x
+push_fits _ d x = d ≤ x
 
 abbrev pub Fits : Operation ℕ → ℕ → Type 0
-Fits Idle x = Unit {0}
-Fits (Scan have place read best) x = Unit {0}
 Fits (PushDue have best) x = push_fits best.port.kind (push_units have best.port.kind best.capacity) x
 Fits (TakeDue d port) x = d ≤ x
 Fits (GiveDue d port) x = x + d < 2 ^ 63
-Fits (RaiseDue have best) x = Unit {0}
+Fits _ x = Unit {0}
 
 pub placed : (net : NetView) (t : law.State) (b : ℕ) (o : Operation ℕ) → IsOperation net t b (operation_as units o) → IsPlaced net b o
 placed net t b o h = grind (arith, common_steps)

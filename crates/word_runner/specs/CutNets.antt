@@ -1,8 +1,7 @@
 -- What the net's worths are in units, and the net whose most negative worths are cut.
 use Rattle.std.specs.Prelude.{pos, ◌-ℤ◌, ◌≡◌, ℕ, ◌+◌, ◌<◌, ◌⊎◌, ◌^◌, List, length, slice_index}
 use Rattle.ordered_group.specs.declared.scaled.Scaled.{Scaled}
-use Rattle.ordered_group.specs.Amount.{Amount, AtMost, minus, positive, negative}
-use Rattle.ordered_group.specs.Sums.{amount_at}
+use Rattle.ordered_group.specs.Prelude.{Amount, AtMost, minus, positive, negative, amount_at}
 use Rattle.closure_net.specs.Network.{NetView}
 use Rattle.machine_law.specs.Conservation.{all_given}
 use Rattle.word_runner.specs.Layout.{units, room_at, count}

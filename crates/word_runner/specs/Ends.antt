@@ -1,7 +1,7 @@
 -- How a whole run ends: with a greatest flow, or for which reason with none.
 use Rattle.std.specs.Prelude.{◌≡◌, ℕ, ◌≤◌, ◌⊎◌, List, length}
 use Rattle.ordered_group.specs.Amount.{AtMost}
-use Rattle.closure_net.specs.Network.{NetView, FlowView}
+use Rattle.closure_net.specs.Prelude.{NetView, FlowView, IsGreatestFlow}
 use Rattle.machine_law.specs.Conservation.{all_given}
 use Rattle.word_runner.specs.declared.turns.WordTurn.TheVariants.{TooLarge}
 use Rattle.word_runner.specs.declared.words_fault.WordsFault.{WordsFault}
@@ -10,7 +10,6 @@ use Rattle.word_runner.specs.declared.settle_fault.SettleFault.{SettleFault}
 use Rattle.word_runner.specs.declared.settle_fault.SettleFault.TheVariants as unsettled
 use Rattle.workers.specs.declared.solving.SolveFault.{SolveFault}
 use Rattle.workers.specs.declared.solving.SolveFault.TheVariants as solve
-use Rattle.closure_net.specs.Flows.{IsGreatestFlow}
 use Rattle.machine_law.specs.declared.events.Event.{Event}
 use Rattle.word_runner.specs.Layout.{units}
 use Rattle.word_runner.specs.Turns.{SomeFlowIsTooLarge, SomeLabelIsTooLarge}
@@ -39,12 +38,10 @@ SomeRunIsTooLarge cut = SomeFlowIsTooLarge cut ⊎ SomeLabelIsTooLarge cut
 
 -- why turns over this net left no flow; nothing is said of what is unsettled, since no proof speaks of how far a worker came
 abbrev pub WordRunFaultStands : NetView → SolveFault → Type 0
-WordRunFaultStands cut solve.BadWorkers = ⊥
 WordRunFaultStands cut solve.Unsettled = Unit {0}
 WordRunFaultStands cut solve.TooLarge = SomeRunIsTooLarge cut
-WordRunFaultStands cut solve.StrangerNet = ⊥
 WordRunFaultStands cut solve.NoMemory = Unit {0}
-WordRunFaultStands cut solve.NoThread = ⊥
+WordRunFaultStands cut _ = ⊥
 
 -- One or two workers made so many steps over the net cut at its total, at most the limit. They left it quiet, with this flow, which
 -- is a greatest one of the net.

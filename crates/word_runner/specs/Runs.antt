@@ -1,15 +1,11 @@
 -- What the seats make of a run, and when it leaves a flow.
 use Rattle.std.specs.Prelude.{◌≡◌, ℕ, ◌<◌, ◌≤◌, ◌⊎◌, false, List, [], ◌∷◌, ◌++◌, length}
-use Rattle.closure_net.specs.Network.{NetView, FlowView}
+use Rattle.closure_net.specs.Prelude.{NetView, FlowView, IsNet, IsGreatestFlow}
 use Rattle.machine_law.specs.declared.operations.Operation.TheVariants.{Idle}
 use Rattle.word_runner.specs.declared.settle_fault.SettleFault.{SettleFault}
 use Rattle.word_runner.specs.declared.settle_fault.SettleFault.TheVariants as unsettled
-use Rattle.closure_net.specs.Network.{IsNet}
-use Rattle.closure_net.specs.Flows.{IsGreatestFlow}
 use Rattle.machine_law.specs.States as law
-use Rattle.machine_law.specs.States.{opening, IsQuiet}
-use Rattle.machine_law.specs.Steps.{Run}
-use Rattle.machine_law.specs.Quiet.{IsFlowOf}
+use Rattle.machine_law.specs.Prelude.{opening, IsQuiet, Run, IsFlowOf}
 use Rattle.machine_law.specs.declared.events.Event.{Event}
 use mathlib.Core.Option.{some}
 use lib.ListN.{get_elem?}

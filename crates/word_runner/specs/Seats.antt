@@ -2,14 +2,12 @@
 use Rattle.std.specs.Prelude.{◌≡◌, ◌≢◌, ℕ, ◌+◌, ◌<◌, ◌⊎◌, ◌%◌, ◌^◌, ◌==◌, Bool, true, false, not, List, [], ◌∷◌, ◌++◌, length, slice_index}
 use Rattle.atomic_table.specs.declared.shared.Seat.{Seat}
 use Rattle.atomic_table.specs.declared.shared.Shared.{Shared}
-use Rattle.ordered_group.specs.Amount.{minus, negative}
-use Rattle.ordered_group.specs.Sums.{amount_at}
+use Rattle.ordered_group.specs.Prelude.{minus, negative, amount_at}
 use Rattle.closure_net.specs.Network.{NetView, FlowView, FlowFits}
 use Rattle.closure_net.specs.declared.port.PortKind.TheVariants.{Forward}
-use Rattle.machine_law.specs.Conservation.{all_given}
+use Rattle.machine_law.specs.Prelude.{all_given, is_idle}
 use Rattle.machine_law.specs.declared.operations.Operation.{Operation}
 use Rattle.machine_law.specs.declared.operations.Operation.TheVariants.{Idle, Scan, PushDue, TakeDue, GiveDue, RaiseDue}
-use Rattle.machine_law.specs.Operations.{is_idle}
 use Rattle.word_runner.specs.declared.view.View.{View}
 use Rattle.word_runner.specs.declared.table.Rule.{Rule}
 use Rattle.word_runner.specs.declared.turns.WordTurn.{WordTurn}
@@ -51,37 +49,24 @@ pub record IsSame (s s' : Seat (Unit {0}) View) : Type 0 where
 abbrev pub StepReads : Operation ℕ → Type 0
 StepReads Idle = Unit {0}
 StepReads (Scan have place read best) = Unit {0}
-StepReads (PushDue have best) = ⊥
-StepReads (TakeDue d port) = ⊥
-StepReads (GiveDue d port) = ⊥
-StepReads (RaiseDue have best) = ⊥
+StepReads _ = ⊥
 
 -- the step adds k to its word
 abbrev pub StepAdds : Operation ℕ → ℕ → Type 0
-StepAdds Idle k = ⊥
-StepAdds (Scan have place read best) k = ⊥
 StepAdds (PushDue have best) k = (best.port.kind ≡ Forward) × (k ≡ have)
-StepAdds (TakeDue d port) k = ⊥
 StepAdds (GiveDue d port) k = k ≡ d
-StepAdds (RaiseDue have best) k = ⊥
+StepAdds _ k = ⊥
 
 -- the step takes k from its word
 abbrev pub Subtracts : Operation ℕ → ℕ → Type 0
-Subtracts Idle k = ⊥
-Subtracts (Scan have place read best) k = ⊥
 Subtracts (PushDue have best) k = (best.port.kind ≢ Forward) × (k ≡ push_units have best.port.kind best.capacity)
 Subtracts (TakeDue d port) k = k ≡ d
-Subtracts (GiveDue d port) k = ⊥
-Subtracts (RaiseDue have best) k = ⊥
+Subtracts _ k = ⊥
 
 -- the step stores k in its word
 abbrev pub Stores : Operation ℕ → ℕ → Type 0
-Stores Idle k = ⊥
-Stores (Scan have place read best) k = ⊥
-Stores (PushDue have best) k = ⊥
-Stores (TakeDue d port) k = ⊥
-Stores (GiveDue d port) k = ⊥
 Stores (RaiseDue have best) k = k ≡ best.label + 1
+Stores _ k = ⊥
 
 -- the words, the net whose state they show, what its source gives in all, and how many workers there are
 pub record WordsView : Type 0 where

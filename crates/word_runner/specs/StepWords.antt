@@ -1,15 +1,13 @@
 -- The word that a step is at, what it becomes, and the operation after the step.
 use Rattle.std.specs.Prelude.{ℕ, ◌+◌, ◌-◌, if◌then◌else◌, nat_lt, length, slice_get, Option, Some, None}
-use Rattle.closure_net.specs.Network.{NetView}
-use Rattle.closure_net.specs.Ports.{ports}
+use Rattle.closure_net.specs.Prelude.{NetView, ports}
 use Rattle.closure_net.specs.declared.port.Port.{Port}
 use Rattle.closure_net.specs.declared.port.PortKind.{PortKind}
 use Rattle.closure_net.specs.declared.port.PortKind.TheVariants.{Sink, Forward, Backward, Source}
 use Rattle.machine_law.specs.declared.operations.Best.{Best}
 use Rattle.machine_law.specs.declared.operations.Operation.{Operation}
 use Rattle.machine_law.specs.declared.operations.Operation.TheVariants.{Idle, Scan, PushDue, TakeDue, GiveDue, RaiseDue}
-use Rattle.machine_law.specs.Residual.{label_beyond}
-use Rattle.machine_law.specs.Reads.{after_port, after_label}
+use Rattle.machine_law.specs.Prelude.{label_beyond, after_port, after_label}
 use Rattle.word_runner.specs.Layout.{excess_at, label_at, source_at, room_at, flow_at}
 
 abbrev pub capacity_word : NetView → ℕ → PortKind → ℕ → ℕ
@@ -56,16 +54,12 @@ smaller_of have capacity = if nat_lt capacity have then capacity else have
 
 -- the units of a push over a port of this kind
 abbrev pub push_units : ℕ → PortKind → ℕ → ℕ
-push_units have Sink read = smaller_of have read
 push_units have Forward read = have
-push_units have Backward read = smaller_of have read
-push_units have Source read = smaller_of have read
+push_units have _ read = smaller_of have read
 
 abbrev pub word_after_push : PortKind → ℕ → ℕ → ℕ
-word_after_push Sink d x = x - d
 word_after_push Forward d x = x + d
-word_after_push Backward d x = x - d
-word_after_push Source d x = x - d
+word_after_push _ d x = x - d
 
 abbrev pub word_after : Operation ℕ → ℕ → ℕ
 word_after Idle x = x
@@ -83,10 +77,8 @@ abbrev pub after_capacity_word : ℕ → ℕ → ℕ → ℕ → Option (Best �
 after_capacity_word ports label have place best x = if nat_lt 0 x then Scan have place (Some x) best else after_port ports label have place best
 
 abbrev pub after_look_word : NetView → ℕ → ℕ → ℕ → ℕ → Option (Best ℕ) → Port → PortKind → ℕ → Operation ℕ
-after_look_word net b label have place best port Sink x = after_capacity_word (length (ports net b)) label have place best x
 after_look_word net b label have place best port Forward x = after_label (length (ports net b)) label have place best 0 port (label_beyond net Forward x)
-after_look_word net b label have place best port Backward x = after_capacity_word (length (ports net b)) label have place best x
-after_look_word net b label have place best port Source x = after_capacity_word (length (ports net b)) label have place best x
+after_look_word net b label have place best port _ x = after_capacity_word (length (ports net b)) label have place best x
 
 abbrev pub after_look_word_if : NetView → ℕ → ℕ → ℕ → ℕ → Option (Best ℕ) → Option Port → ℕ → Operation ℕ
 after_look_word_if net b label have place best None x = Idle

@@ -2,19 +2,15 @@
 use Rattle.std.specs.Prelude.{◌≡◌, ℕ, ◌+◌, ◌-◌, ◌<◌, ◌≤◌, ◌⊎◌, ◌^◌, Bool, true, false, if◌then◌else◌, nat_lt, List, [], ◌∷◌, ◌++◌, length, slice_index, slice_set, Option, Some, None}
 use Rattle.atomic_table.specs.Table.{State, Me, Step}
 use Rattle.ordered_group.specs.Amount.{Amount, AtMost}
-use Rattle.closure_net.specs.Network.{NetView}
-use Rattle.closure_net.specs.Ports.{ports}
+use Rattle.closure_net.specs.Prelude.{NetView, ports}
 use Rattle.closure_net.specs.declared.port.PortKind.{PortKind}
-use Rattle.closure_net.specs.declared.port.PortKind.TheVariants.{Sink, Forward, Backward, Source}
+use Rattle.closure_net.specs.declared.port.PortKind.TheVariants.{Forward}
 use Rattle.machine_law.specs.declared.events.Event.{Event}
 use Rattle.machine_law.specs.declared.operations.Best.{Best}
 use Rattle.machine_law.specs.declared.operations.Operation.{Operation}
 use Rattle.machine_law.specs.declared.operations.Operation.TheVariants.{Idle, Scan, PushDue, TakeDue, GiveDue, RaiseDue}
-use Rattle.machine_law.specs.Operations.{is_idle, operation_as}
+use Rattle.machine_law.specs.Prelude.{is_idle, operation_as, opening, IsPortOf, Run, next_of}
 use Rattle.machine_law.specs.States as law
-use Rattle.machine_law.specs.States.{opening}
-use Rattle.machine_law.specs.Residual.{IsPortOf}
-use Rattle.machine_law.specs.Steps.{Run, next_of}
 use Rattle.word_runner.specs.declared.view.View.{View}
 use Rattle.word_runner.specs.Layout.{units, count}
 use Rattle.word_runner.specs.StepWords.{after}
@@ -29,27 +25,17 @@ block_of_view v i = if is_idle v.operation then i - 2 else v.block
 
 -- the labels after the next step of block b, whose operation this is
 abbrev pub labels_after : List ℕ → ℕ → Operation ℕ → List ℕ
-labels_after labels b Idle = labels
-labels_after labels b (Scan have place read best) = labels
-labels_after labels b (PushDue have best) = labels
-labels_after labels b (TakeDue d port) = labels
-labels_after labels b (GiveDue d port) = labels
 labels_after labels b (RaiseDue have best) = slice_set labels b (best.label + 1)
+labels_after labels b _ = labels
 
 -- whether the word that a push raised has reached 2^63
 abbrev pub is_word_overfull : PortKind → ℕ → ℕ → Bool
-is_word_overfull Sink d x = false
 is_word_overfull Forward d x = nat_lt 9223372036854775807 (x + d)
-is_word_overfull Backward d x = false
-is_word_overfull Source d x = false
+is_word_overfull _ d x = false
 
 abbrev pub stopped_after : Operation ℕ → ℕ → Bool
-stopped_after Idle x = false
-stopped_after (Scan have place read best) x = false
 stopped_after (PushDue have best) x = is_word_overfull best.port.kind have x
-stopped_after (TakeDue d port) x = false
-stopped_after (GiveDue d port) x = false
-stopped_after (RaiseDue have best) x = false
+stopped_after _ x = false
 
 -- the event of the step that is next
 abbrev pub event_of_operation : NetView → ℕ → Operation ℕ → Event
@@ -80,12 +66,8 @@ IsPlaced net b (RaiseDue have best) = IsPortOf net b best.port
 
 -- the step would raise a label to 2^63 or more
 abbrev pub RaisesTooFar : Operation ℕ → Type 0
-RaisesTooFar Idle = ⊥
-RaisesTooFar (Scan have place read best) = ⊥
-RaisesTooFar (PushDue have best) = ⊥
-RaisesTooFar (TakeDue d port) = ⊥
-RaisesTooFar (GiveDue d port) = ⊥
 RaisesTooFar (RaiseDue have best) = 2 ^ 63 ≤ best.label + 1
+RaisesTooFar _ = ⊥
 
 -- a run of the machine leads to a state in which the flow of a pair is 2^63 units or more
 pub record SomeFlowIsTooLarge (net : NetView) : Type 0 where

@@ -4,18 +4,14 @@ use Rattle.std.specs.List.{filter}
 use mathlib.Core.Option.{some}
 use lib.ListN.{get_elem?}
 use Rattle.atomic_table.specs.Table.{State}
-use Rattle.ordered_group.specs.Amount.{AtMost, positive, negative}
-use Rattle.ordered_group.specs.Sums.{amount_at}
+use Rattle.ordered_group.specs.Prelude.{AtMost, positive, negative, amount_at}
 use Rattle.prec_file.specs.Rests.{from_at}
 use Rattle.closure_net.specs.Network.{NetView, IsNet}
 use Rattle.machine_law.specs.declared.events.Event.{Event}
 use Rattle.machine_law.specs.declared.operations.Operation.{Operation}
 use Rattle.machine_law.specs.declared.operations.Operation.TheVariants.{Idle}
-use Rattle.machine_law.specs.Operations.{operation_as}
+use Rattle.machine_law.specs.Prelude.{operation_as, opening, Run, all_given}
 use Rattle.machine_law.specs.States as law
-use Rattle.machine_law.specs.States.{opening}
-use Rattle.machine_law.specs.Steps.{Run}
-use Rattle.machine_law.specs.Conservation.{all_given}
 use Rattle.word_runner.specs.declared.view.View.{View}
 use Rattle.word_runner.specs.Layout.{units, count, flow_at, Cells}
 

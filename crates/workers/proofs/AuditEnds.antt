@@ -1,22 +1,15 @@
 -- From how the run of an audited board ends to how a run over its net ends, and its history.
-use Rattle.std.proofs.Common.{◌≡◌, ℕ, ◌<◌, ◌≤◌, ◌∙◌, Bool, true, false, List, [], length, ap, sym, subst, refl, arith, inl, inr, Result, Ok, Err}
-use Rattle.std.specs.Prelude.{MatchResult}
+use Rattle.fixed_worth.proofs.Common.{◌≡◌, ℕ, ◌<◌, ◌≤◌, ◌∙◌, Bool, true, false, List, [], length, ap, sym, subst, refl, arith, inl, inr, Result, Ok, Err, MatchResult, common_steps}
 use Rattle.closure_net.specs.Network.{NetView, FlowView}
 use Rattle.machine_law.specs.declared.events.Event.{Event}
 use Rattle.machine_law.specs.States.{opening, IsQuiet}
-use Rattle.boards.specs.Runs.{SomeNextOverflows, IsReplayedTo}
-use Rattle.boards.specs.Boards.{shown_state, HasSettled}
-use Rattle.boards.specs.Ends.{IsCutOffAt}
-use Rattle.boards.specs.Audits.{AuditView, IsAudited, IsHistoryFull, AuditGoesOn, HasAuditSettled}
-use Rattle.workers.specs.Runs.{most_steps, Settles}
-use Rattle.workers.specs.Solving.{AreBadWorkers}
-use Rattle.workers.specs.Auditing.{most_room, IsHistory, IsSomeHistory, IsAudit, IsAuditLeft, IsAuditLoss, lost_by, AuditRunFaultStands, AuditFaultStands}
+use Rattle.boards.specs.Prelude.{SomeNextOverflows, IsReplayedTo, shown_state, HasSettled, IsCutOffAt, AuditView, IsAudited, IsHistoryFull, AuditGoesOn, HasAuditSettled}
+use Rattle.workers.specs.Prelude.{most_steps, Settles, AreBadWorkers, most_room, IsHistory, IsSomeHistory, IsAudit, IsAuditLeft, IsAuditLoss, lost_by, AuditRunFaultStands, AuditFaultStands}
 use Rattle.workers.specs.declared.solving.SolveFault.{SolveFault}
-use Rattle.workers.specs.declared.solving.SolveFault.TheVariants.{BadWorkers, Unsettled, TooLarge, StrangerNet, NoMemory, NoThread}
+use Rattle.workers.specs.declared.solving.SolveFault.TheVariants.{BadWorkers, Unsettled, TooLarge, NoThread}
 use Rattle.workers.specs.declared.solving.TheConstants.{MOST_WORKERS}
 use Rattle.workers.specs.declared.auditing.AuditEnd.{AuditEnd}
 use Rattle.workers.specs.declared.auditing.AuditEnd.TheVariants.{NoFlow, HistoryFull}
-use Rattle.std.proofs.lemmas.Grind.{common_steps}
 
 -- ---- a history
 
@@ -95,13 +88,10 @@ module _ (first new : AuditView) (limit steps : ℕ) (e : steps ≡ most_steps l
 -- ---- what the whole run answers
 
 run_stands : (net : NetView) (workers limit room : ℕ) (why : AuditEnd) (history : List Event) → AuditRunFaultStands net limit room why history → AuditFaultStands net workers limit room why history
-run_stands net workers limit room (NoFlow BadWorkers) history h = absurd h
 run_stands net workers limit room (NoFlow Unsettled) history h = h
 run_stands net workers limit room (NoFlow TooLarge) history h = h
-run_stands net workers limit room (NoFlow StrangerNet) history h = absurd h
-run_stands net workers limit room (NoFlow NoMemory) history h = absurd h
-run_stands net workers limit room (NoFlow NoThread) history h = absurd h
 run_stands net workers limit room HistoryFull history h = h
+run_stands net workers limit room (NoFlow _) history h = absurd h
 
 -- whatever was answered of the run of a board over the net, with the room that was asked for
 pub answered : {S F : Type 0} (flow : S → FlowView) (events : S → List Event) (why : F → AuditEnd) (history : F → List Event) (net : NetView) (workers limit room : ℕ) (result : Result S F)

@@ -1,14 +1,10 @@
 -- From how the run of a board ends to how a run over its net ends.
-use Rattle.std.proofs.Common.{◌≡◌, ℕ, ◌≤◌, ◌∙◌, ap, sym, subst, Result, Ok, Err}
-use Rattle.std.specs.Prelude.{MatchResult}
+use Rattle.fixed_worth.proofs.Common.{◌≡◌, ℕ, ◌≤◌, ◌∙◌, ap, sym, subst, Result, Ok, Err, MatchResult}
 use Rattle.closure_net.specs.Network.{NetView, FlowView}
-use Rattle.boards.specs.Runs.{SomeNextOverflows}
-use Rattle.boards.specs.Boards.{BoardView, shown_state, IsTurnBoard, HasSettled}
-use Rattle.boards.specs.Ends.{IsCutOffAt, GoesOn}
-use Rattle.workers.specs.Runs.{most_steps, Settles, IsCutOff, SomeStepOverflows}
-use Rattle.workers.specs.Solving.{RunFaultStands, SolveFaultStands}
+use Rattle.boards.specs.Prelude.{SomeNextOverflows, BoardView, shown_state, IsTurnBoard, HasSettled, IsCutOffAt, GoesOn}
+use Rattle.workers.specs.Prelude.{most_steps, Settles, IsCutOff, SomeStepOverflows, RunFaultStands, SolveFaultStands}
 use Rattle.workers.specs.declared.solving.SolveFault.{SolveFault}
-use Rattle.workers.specs.declared.solving.SolveFault.TheVariants.{BadWorkers, Unsettled, TooLarge, StrangerNet, NoMemory, NoThread}
+use Rattle.workers.specs.declared.solving.SolveFault.TheVariants.{Unsettled, TooLarge}
 
 module _ (first new : BoardView) (limit steps : ℕ) (e : steps ≡ most_steps limit) (is : IsTurnBoard new) (goes : GoesOn first new steps) where
   pub cut_off : IsCutOffAt new steps → IsCutOff first.net limit
@@ -37,12 +33,9 @@ module _ (first new : BoardView) (limit steps : ℕ) (e : steps ≡ most_steps l
 
 -- ---- what the whole run answers
 fault_stands : (net : NetView) (workers limit : ℕ) (fault : SolveFault) → RunFaultStands net limit fault → SolveFaultStands net workers limit fault
-fault_stands net workers limit BadWorkers h = absurd h
 fault_stands net workers limit Unsettled h = h
 fault_stands net workers limit TooLarge h = h
-fault_stands net workers limit StrangerNet h = absurd h
-fault_stands net workers limit NoMemory h = absurd h
-fault_stands net workers limit NoThread h = absurd h
+fault_stands net workers limit fault h = absurd h
 
 pub answers : {S : Type 0} (flow : S → FlowView) (count : S → ℕ) (net : NetView) (workers limit : ℕ) (result : Result S SolveFault)
     → MatchResult result (λ s. Settles net limit (flow s) (count s)) (λ fault. RunFaultStands net limit fault)

@@ -5,9 +5,7 @@ use Rattle.closure_net.specs.Network.{NetView, FlowView}
 use Rattle.machine_law.specs.declared.events.Event.{Event}
 use Rattle.machine_law.specs.declared.events.TheConstants.{MOST_EVENTS}
 use Rattle.machine_law.specs.States.{State, IsQuiet}
-use Rattle.boards.specs.Runs.{SomeNextOverflows, AreTurnsTo, IsReplayedTo}
-use Rattle.boards.specs.Boards.{shown_state}
-use Rattle.boards.specs.Audits.{AuditView, IsAudited}
+use Rattle.boards.specs.Prelude.{SomeNextOverflows, AreTurnsTo, IsReplayedTo, shown_state, AuditView, IsAudited}
 use Rattle.workers.specs.Runs.{most_steps, Settles}
 use Rattle.workers.specs.Solving.{AreBadWorkers}
 use Rattle.workers.specs.declared.solving.SolveFault.{SolveFault}

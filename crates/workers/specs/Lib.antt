@@ -1,3 +1,5 @@
 pub mod Runs
 pub mod Solving
 pub mod Auditing
+-- the names of all of them
+pub mod Prelude

@@ -1,8 +1,7 @@
 -- How whole runs end.
 use Rattle.std.specs.Prelude.{◌≡◌, ℕ, ◌≤◌, min}
 use Rattle.closure_net.specs.Network.{NetView, FlowView}
-use Rattle.machine_law.specs.States.{State, IsQuiet}
-use Rattle.machine_law.specs.Quiet.{IsFlowOf, IsSolved}
+use Rattle.machine_law.specs.Prelude.{State, IsQuiet, IsFlowOf, IsSolved}
 use Rattle.async_step.specs.declared.limits.TheConstants.{MOST_STEPS}
 use Rattle.boards.specs.Runs.{SomeNextOverflows, IsMadeByTurns}
 

@@ -35,6 +35,4 @@ abbrev pub SolveFaultStands : NetView → ℕ → ℕ → SolveFault → Type 0
 SolveFaultStands net workers limit BadWorkers = AreBadWorkers workers
 SolveFaultStands net workers limit Unsettled = IsCutOff net limit
 SolveFaultStands net workers limit TooLarge = SomeStepOverflows net limit
-SolveFaultStands net workers limit StrangerNet = Unit {0}
-SolveFaultStands net workers limit NoMemory = Unit {0}
-SolveFaultStands net workers limit NoThread = Unit {0}
+SolveFaultStands net workers limit _ = Unit {0}

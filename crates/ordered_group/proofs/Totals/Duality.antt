@@ -2,8 +2,7 @@
 -- sink, and passes over pairs.
 use Rattle.std.proofs.Common.{◌≡◌, ℕ, ◌<◌, Bool, true, false, ap, arith}
 use Rattle.std.proofs.lemmas.Int.{ints}
-use Rattle.ordered_group.specs.Amount.{Amount, zero_amount, plus, minus, AtMost, positive, negative}
-use Rattle.ordered_group.specs.Sums.{total, where_so, at_end}
+use Rattle.ordered_group.specs.Prelude.{Amount, zero_amount, plus, minus, AtMost, positive, negative, total, where_so, at_end}
 use Rattle.ordered_group.proofs.Order.{AtMost-refl, positive-negative}
 use Rattle.ordered_group.proofs.Totals.Ranges.{total-plus, total_mono}
 use Rattle.ordered_group.proofs.Totals.Sets.{route, where_most}

@@ -2,8 +2,7 @@
 use Rattle.std.proofs.Common.{◌≡◌, ◌≢◌, ℕ, zero, suc, ◌+◌, ◌<◌, ◌≤◌, inl, inr, refl, ap, sym, ◌∙◌, arith, add-one}
 use Rattle.std.proofs.lemmas.Int.{ints}
 use Rattle.std.proofs.lemmas.Bool.{cases_eq}
-use Rattle.ordered_group.specs.Amount.{Amount, zero_amount, plus, minus, AtMost, Amount_eq}
-use Rattle.ordered_group.specs.Sums.{total}
+use Rattle.ordered_group.specs.Prelude.{Amount, zero_amount, plus, minus, AtMost, Amount_eq, total}
 use Rattle.ordered_group.proofs.Order.{AtMost-refl, AtMost-trans, AtMost-both, AtMost-plus_both}
 use Rattle.ordered_group.proofs.Signs.{NonNeg, NonNeg-zero, NonNeg-plus, AtMost-plus}
 use Rattle.std.proofs.lemmas.Grind.{common_steps}

@@ -2,8 +2,7 @@
 use Rattle.std.proofs.Common.{◌≡◌, ℕ, zero, suc, ◌<◌, ◌≤◌, Bool, true, false, ◌==◌, ◌&&◌, ◌||◌, ◌⊎◌, inl, inr, sym, refl, ◌∙◌, arith}
 use Rattle.std.proofs.lemmas.Int.{ints}
 use Rattle.std.proofs.lemmas.Bool.{cases_eq, eq-eqb, ne_eqb, and_parts}
-use Rattle.ordered_group.specs.Amount.{Amount, zero_amount, plus, minus, AtMost, Amount_eq}
-use Rattle.ordered_group.specs.Sums.{total, where_so, at_end}
+use Rattle.ordered_group.specs.Prelude.{Amount, zero_amount, plus, minus, AtMost, Amount_eq, total, where_so, at_end}
 use Rattle.ordered_group.proofs.Order.{AtMost-refl}
 use Rattle.ordered_group.proofs.Signs.{NonNeg, NonNeg-zero}
 use Rattle.ordered_group.proofs.Totals.Ranges.{total-same, total-plus, total-zero, total-none, plus-zero_left, plus-zero_right}
@@ -102,10 +101,8 @@ pub within_second : (a b : ℕ → Bool) (k : ℕ) → intersection a b k ≡ tr
 within_second a b k t = (and_parts (a k) (b k) t).1
 
 share : (a b : Bool) (x : Amount) → plus (where_so (a || b) x) (where_so (a && b) x) ≡ plus (where_so a x) (where_so b x)
-share true true x = refl
-share true false x = refl
 share false true x = Amount_eq _ _ (omega (arith, ints)) (omega (arith, ints))
-share false false x = refl
+share a b x = refl
 
 -- the sums over a union and an intersection make those over the two sets
 pub two_sets : (w : ℕ → Amount) (a b : ℕ → Bool) (n : ℕ) → plus (total (λ k. where_so (union a b k) (w k)) n) (total (λ k. where_so (intersection a b k) (w k)) n) ≡ plus (total (λ k. where_so (a k) (w k)) n) (total (λ k. where_so (b k) (w k)) n)

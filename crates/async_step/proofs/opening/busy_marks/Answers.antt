@@ -1,7 +1,5 @@
-use Rattle.std.proofs.Common.{◌≡◌, ◌+◌, ap, subst, sym, ◌∙◌, length, map, ℕ, Bool, List, not}
-use Rattle.std.proofs.lemmas.List.{get_or-map}
-use Rattle.ordered_group.specs.Amount.{zero_amount, is_zero}
-use Rattle.ordered_group.specs.Sums.{amount_at}
+use Rattle.fixed_worth.proofs.Common.{◌≡◌, ◌+◌, ap, subst, sym, ◌∙◌, length, map, ℕ, Bool, List, not, get_or-map}
+use Rattle.ordered_group.specs.Prelude.{zero_amount, is_zero, amount_at}
 use Rattle.async_step.proofs.Changes.{IsMarkedUpTo, marked_next}
 use Rattle.async_step.proofs.opening.busy_marks.Goals as goal
 

@@ -1,6 +1,5 @@
 use Rattle.std.proofs.Common.{map, length, not}
-use Rattle.ordered_group.specs.Sums.{amount_at}
-use Rattle.ordered_group.specs.Amount.{is_zero}
+use Rattle.ordered_group.specs.Prelude.{amount_at, is_zero}
 use Rattle.async_step.proofs.Changes.{IsMarkedUpTo}
 use Rattle.async_step.proofs.opening.busy_marks.Given as goal
 

@@ -1,6 +1,4 @@
-use Rattle.std.proofs.Common.{ap, sym, ◌∙◌, arith, map}
-use Rattle.std.proofs.lemmas.List.{take_all}
-use Rattle.std.proofs.lemmas.Simd.{map-map}
+use Rattle.fixed_worth.proofs.Common.{ap, sym, ◌∙◌, arith, map, take_all, map-map}
 use Rattle.ordered_group.specs.Amount.{positive}
 use Rattle.async_step.proofs.opening.positives.Goals as goal
 

@@ -1,5 +1,4 @@
-use Rattle.std.proofs.Common.{◌≡◌, map, take}
-use Rattle.std.specs.Prelude.{All}
+use Rattle.fixed_worth.proofs.Common.{◌≡◌, map, take, All}
 use Rattle.ordered_group.specs.Amount.{positive, FitsPair}
 use Rattle.async_step.proofs.opening.positives.Given as goal
 

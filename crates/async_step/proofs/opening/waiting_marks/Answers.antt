@@ -1,7 +1,5 @@
-use Rattle.std.proofs.Common.{◌≡◌, ◌+◌, ap, subst, sym, ◌∙◌, length, map, ℕ, Bool, List}
-use Rattle.std.proofs.lemmas.List.{get_or-map}
-use Rattle.ordered_group.specs.Amount.{zero_amount}
-use Rattle.ordered_group.specs.Sums.{amount_at}
+use Rattle.fixed_worth.proofs.Common.{◌≡◌, ◌+◌, ap, subst, sym, ◌∙◌, length, map, ℕ, Bool, List, get_or-map}
+use Rattle.ordered_group.specs.Prelude.{zero_amount, amount_at}
 use Rattle.machine_law.specs.Reads.{is_positive}
 use Rattle.async_step.proofs.Changes.{IsMarkedUpTo, marked_next}
 use Rattle.async_step.proofs.opening.waiting_marks.Goals as goal

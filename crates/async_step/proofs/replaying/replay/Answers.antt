@@ -1,10 +1,7 @@
-use Rattle.std.proofs.Common.{List, get_or, refl, sym, subst}
-use Rattle.std.proofs.lemmas.List.{take_more}
-use Rattle.std.proofs.lemmas.Option.{slice_get-get_or}
+use Rattle.fixed_worth.proofs.Common.{List, get_or, refl, sym, subst, take_more, slice_get-get_or}
 use Rattle.machine_law.specs.declared.events.Event.{Event}
 use Rattle.machine_law.specs.declared.events.Kind.TheVariants.{ReadExcess}
-use Rattle.machine_law.specs.States.{opening}
-use Rattle.machine_law.specs.Steps.{Run}
+use Rattle.machine_law.specs.Prelude.{opening, Run}
 use Rattle.machine_law.proofs.Runs.{run_more}
 use Rattle.async_step.specs.Views.{state_of}
 use Rattle.async_step.proofs.replaying.replay.Goals as goal

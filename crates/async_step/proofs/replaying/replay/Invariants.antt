@@ -1,8 +1,6 @@
 use Rattle.std.proofs.Common.{take}
-use Rattle.machine_law.specs.States.{opening}
-use Rattle.machine_law.specs.Steps.{Run}
-use Rattle.async_step.specs.Views.{state_of}
-use Rattle.async_step.specs.Answers.{IsStateOf}
+use Rattle.machine_law.specs.Prelude.{opening, Run}
+use Rattle.async_step.specs.Prelude.{state_of, IsStateOf}
 use Rattle.async_step.proofs.replaying.replay.Given as goal
 
 abbrev pub invariant-loop-i : goal.invariant-loop-i

@@ -1,7 +1,6 @@
 use Rattle.std.proofs.Common.{inr, refl, subst}
 use Rattle.engines.specs.declared.certification.Uncertified.{Uncertified}
-use Rattle.engines.specs.Certification.{UncertifiedStands}
-use Rattle.engines.specs.NetAnswers.{too_large_line}
+use Rattle.engines.specs.Prelude.{UncertifiedStands, too_large_line}
 use Rattle.audit_engines.proofs.RunAnswers.{certified, check_overflows, said_no}
 use Rattle.audit_engines.proofs.traced_run.tell_flow.Goals as goal
 

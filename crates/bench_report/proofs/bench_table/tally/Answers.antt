@@ -1,9 +1,5 @@
-use Rattle.std.proofs.Common.{◌≡◌, ◌<◌, ◌+◌, Some, None, sym, subst, ◌∙◌, to_z, of_z, rules, arith}
-use Rattle.std.specs.Int.{w128}
-use Rattle.std.specs.BTreeMap.{get}
-use Rattle.std.proofs.lemmas.Result.{err_from_is_err_and}
-use Rattle.bench_report.specs.Benches.{reported_blocks, by_bench}
-use Rattle.bench_report.specs.GrowingRows.{IsTallied, TallyFaultStands}
+use Rattle.fixed_worth.proofs.Common.{◌≡◌, ◌<◌, ◌+◌, Some, None, sym, subst, ◌∙◌, to_z, of_z, rules, arith, w128, get, err_from_is_err_and}
+use Rattle.bench_report.specs.Prelude.{reported_blocks, by_bench, IsTallied, TallyFaultStands}
 use Rattle.bench_report.proofs.Tallies.{none_more, block_added, block_leaves, few_there}
 use Rattle.bench_report.proofs.bench_table.tally.Goals.{in-Some+in_ok-add_block, in_default}
 use Rattle.bench_report.proofs.bench_table.tally.Goals as goal

@@ -1,6 +1,5 @@
 use Rattle.std.specs.BTreeMap.{get}
-use Rattle.bench_report.specs.Benches.{reported_blocks, by_bench}
-use Rattle.bench_report.specs.GrowingRows.{IsTallied}
+use Rattle.bench_report.specs.Prelude.{reported_blocks, by_bench, IsTallied}
 use Rattle.bench_report.proofs.bench_table.tally.Given as goal
 
 abbrev pub invariant-loop-b : goal.invariant-loop-b

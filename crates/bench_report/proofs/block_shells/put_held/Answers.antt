@@ -1,5 +1,4 @@
-use Rattle.std.proofs.Common.{◌≡◌, [], ◌∷◌, rules, arith, Some}
-use Rattle.std.specs.Fmt.{decimal}
+use Rattle.fixed_worth.proofs.Common.{◌≡◌, [], ◌∷◌, rules, arith, Some, decimal}
 use Rattle.csv.specs.Writing.{default_writer, row_text}
 use Rattle.bench_report.specs.BlockShells.{block_shell_line}
 use Rattle.bench_report.proofs.Plain.{decimal_plain}

@@ -1,21 +1,10 @@
 use Rattle.bench_report.proofs.laws.bench_table_is_unique.Goals as goal
-use Rattle.std.proofs.Common.{◌≡◌, ℕ, ◌<◌, ℤ, true, Option, Some, None, List, [], ◌∷◌, map, refl, sym, ap, subst, ◌∙◌, arith}
-use Rattle.std.specs.BTreeMap.{is_at}
-use Rattle.std.specs.List.{All, Contains, list_any}
-use Rattle.std.specs.Ordering.{int_cmp, nat_cmp, eq_by_cmp}
-use Rattle.std.proofs.lemmas.Bool.{and_parts, eqb-true}
-use Rattle.std.proofs.lemmas.Bool.Decides.{Decides-int_eq}
-use Rattle.std.proofs.lemmas.Cmp.{eq_by_cmp_equiv}
-use Rattle.std.proofs.lemmas.List.Elements.{All-map, All-weaker, All-contains, All-head, All-tail}
-use Rattle.std.proofs.lemmas.Map.Lookups.{exact_signed, exact_unsigned, exact_pairs, btree_set_from_contains}
-use Rattle.std.proofs.lemmas.Map.Views.{Contains-from_any, list_any-from_Contains}
+use Rattle.fixed_worth.proofs.Common.{◌≡◌, ℕ, ◌<◌, ℤ, true, Option, Some, None, List, [], ◌∷◌, map, refl, sym, ap, subst, ◌∙◌, arith, is_at, All, Contains, list_any, int_cmp, nat_cmp, eq_by_cmp, and_parts, eqb-true, Decides-int_eq, eq_by_cmp_equiv, All-map, All-weaker, All-contains, All-head, All-tail, exact_signed, exact_unsigned, exact_pairs, btree_set_from_contains, Contains-from_any, list_any-from_Contains, common_steps}
 use Rattle.closure_net.proofs.Holding.{same_tests}
 use Rattle.bench_report.specs.declared.bench_row.BenchRow.{BenchRow}
-use Rattle.bench_report.specs.Benches.{ReportedBlocks, is_shell, by_bench, bench_and_shell, IsBenchRow, IsBenchTable}
-use Rattle.bench_report.specs.GrowingRows.{row_below}
+use Rattle.bench_report.specs.Prelude.{ReportedBlocks, is_shell, by_bench, bench_and_shell, IsBenchRow, IsBenchTable, row_below}
 use Rattle.bench_report.proofs.Sums.{some_block}
 use Rattle.bench_report.proofs.Tables.{by_bench_total, same_places}
-use Rattle.std.proofs.lemmas.Grind.{common_steps}
 
 -- a block of a set has its bench and its shell
 in_shell : (o : Option ℕ) (k : ℕ) → is_shell o k ≡ true → o ≡ Some k

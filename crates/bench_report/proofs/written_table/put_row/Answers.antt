@@ -1,8 +1,5 @@
-use Rattle.std.proofs.Common.{◌≡◌, ◌^◌, ◌<◌, [], ◌∷◌, Fits, FitsSigned, rules, arith}
-use Rattle.std.specs.Prelude.{unsigned_abs}
-use Rattle.std.specs.Int.{w32, w128}
-use Rattle.std.specs.Fmt.{decimal, signed_decimal}
-use Rattle.std.proofs.lemmas.Int.{ints}
+use Rattle.fixed_worth.proofs.Common.{◌≡◌, ◌^◌, ◌<◌, [], ◌∷◌, Fits, FitsSigned, rules, arith, unsigned_abs, w128, decimal, signed_decimal, ints}
+use Rattle.std.specs.Int.{w32}
 use Rattle.csv.specs.Writing.{default_writer, row_text}
 use Rattle.fixed_worth.specs.Printed.{amount_text}
 use Rattle.bench_report.specs.Written.{fields_line}

@@ -1,6 +1,6 @@
 use Rattle.std.proofs.Common.{sym, ◌∙◌}
 use Rattle.fixed_worth.specs.declared.limits.TheConstants.{MOST_BLOCKS}
-use Rattle.blocks_file.specs.Records.{lines_in}
+use Rattle.fixed_worth.specs.Record.{lines_in}
 use Rattle.fixed_worth.proofs.NextLine.{Next}
 use Rattle.blocks_file.proofs.Counts.{passes, is_extra, is_counted}
 use Rattle.blocks_file.proofs.counting.count_records.Goals.{then-count, else-count}

@@ -1,6 +1,6 @@
 use Rattle.std.proofs.Common.{length}
 use Rattle.fixed_worth.specs.declared.limits.TheConstants.{MOST_BLOCKS}
-use Rattle.blocks_file.specs.Records.{lines_in}
+use Rattle.fixed_worth.specs.Record.{lines_in}
 use Rattle.blocks_file.proofs.Counts.{Counted}
 use Rattle.blocks_file.proofs.counting.count_records.Given as goal
 

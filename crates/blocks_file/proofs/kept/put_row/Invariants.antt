@@ -1,5 +1,4 @@
-use Rattle.std.proofs.Common.{◌≡◌, ℕ, ◌+◌, ◌<◌, ◌≤◌, length, pos}
-use Rattle.std.specs.Prelude.{slice_index_or}
+use Rattle.fixed_worth.proofs.Common.{◌≡◌, ℕ, ◌+◌, ◌<◌, ◌≤◌, length, pos, slice_index_or}
 use Rattle.blocks_file.proofs.kept.put_row.Given as goal
 
 abbrev pub invariant-loop-i : goal.invariant-loop-i

@@ -1,12 +1,10 @@
-use Rattle.std.proofs.Common.{None, ◌≡◌, ℕ, ℤ, List, [], length, Option, sym, ap, ◌∙◌, subst, arith}
+use Rattle.fixed_worth.proofs.Common.{None, ◌≡◌, ℕ, ℤ, List, [], length, Option, sym, ap, ◌∙◌, subst, arith, common_steps}
 use Rattle.blocks_file.proofs.reading.read_blocks.Goals as goal
 use Rattle.blocks_file.specs.declared.place.Place.{Place}
 use Rattle.blocks_file.specs.declared.blocks_fault.BlocksFault.{BlocksFault}
-use Rattle.blocks_file.specs.Records.{lines_in, record_count_of, first_fault, long_fault, many_fault, fault_of}
-use Rattle.blocks_file.specs.Denotes.{BlocksView, Denotes, columns_from}
-use Rattle.blocks_file.specs.RowReading.{AreKept}
+use Rattle.fixed_worth.specs.Record.{lines_in}
+use Rattle.blocks_file.specs.Prelude.{record_count_of, first_fault, long_fault, many_fault, fault_of, BlocksView, Denotes, columns_from, AreKept}
 use Rattle.blocks_file.proofs.Slots.{columns_length, column_length, column_at}
-use Rattle.std.proofs.lemmas.Grind.{common_steps}
 
 denoted : (n : ℕ) (chosen text : List ℕ) (places : List Place) (values : List ℤ) → n ≡ record_count_of text → AreKept n chosen (lines_in text) places values
     → Denotes chosen text (record { blocks = n; places = places; columns = columns_from (length chosen) n values })

@@ -1,8 +1,6 @@
-use Rattle.std.proofs.Common.{◌≡◌, ℕ, ℤ, pos, ◌*◌, List, length, refl, ap, ◌∙◌, subst}
-use Rattle.std.proofs.lemmas.List.{length-replicate}
-use Rattle.fixed_worth.specs.Text.{fields_of}
-use Rattle.blocks_file.specs.Records.{lines_in, columns_of}
-use Rattle.blocks_file.specs.RowReading.{HoldsValues, ArePut}
+use Rattle.fixed_worth.proofs.Common.{◌≡◌, ℕ, ℤ, pos, ◌*◌, List, length, refl, ap, ◌∙◌, subst, length-replicate}
+use Rattle.fixed_worth.specs.Prelude.{fields_of, lines_in}
+use Rattle.blocks_file.specs.Prelude.{columns_of, HoldsValues, ArePut}
 use Rattle.fixed_worth.proofs.NextLine.{Next}
 use Rattle.blocks_file.proofs.LineAfterLine.{begins, passes, keeps, read_all}
 use Rattle.fixed_worth.proofs.Results.{ok_before}

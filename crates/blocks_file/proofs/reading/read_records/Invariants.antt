@@ -1,5 +1,5 @@
 use Rattle.std.proofs.Common.{◌≡◌, length}
-use Rattle.blocks_file.specs.Records.{lines_in}
+use Rattle.fixed_worth.specs.Record.{lines_in}
 use Rattle.blocks_file.proofs.LineAfterLine.{ReadSoFar}
 use Rattle.blocks_file.proofs.reading.read_records.Given as goal
 

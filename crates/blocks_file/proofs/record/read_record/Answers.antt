@@ -1,14 +1,10 @@
-use Rattle.std.proofs.Common.{◌≡◌, false, sym, ◌∙◌, ℕ, ℤ, true, List, ◌∷◌, length, map, Some, None, refl, arith}
-use Rattle.fixed_worth.specs.Text.{fields_of, WordRun}
-use Rattle.fixed_worth.specs.Record.{is_remark, is_skipped}
+use Rattle.fixed_worth.proofs.Common.{◌≡◌, false, sym, ◌∙◌, ℕ, ℤ, true, List, ◌∷◌, length, map, Some, None, refl, arith, length-map, common_steps}
+use Rattle.fixed_worth.specs.Prelude.{fields_of, WordRun, is_remark, is_skipped, number_of, block_of}
 use Rattle.blocks_file.proofs.record.read_record.Goals as goal
-use Rattle.std.proofs.lemmas.List.{length-map}
 use Rattle.blocks_file.specs.declared.place.Place.{Place}
 use Rattle.blocks_file.specs.declared.blocks_fault.BlocksFault.TheVariants.{NoColumn}
-use Rattle.blocks_file.specs.Records.{number_of, head_reads, place_at, block_of, place_of_record, columns_of, shape_fault, are_there}
-use Rattle.blocks_file.specs.RowReading.{IsRow, HoldsValues}
+use Rattle.blocks_file.specs.Prelude.{head_reads, place_at, place_of_record, columns_of, shape_fault, are_there, IsRow, HoldsValues}
 use Rattle.blocks_file.proofs.Rows.{row_good}
-use Rattle.std.proofs.lemmas.Grind.{common_steps}
 
 abbrev texts : List WordRun → List (List ℕ)
 texts rs = map (λ r. r.text) rs

@@ -1,5 +1,4 @@
-use Rattle.std.proofs.Common.{◌≡◌, ℕ, ◌+◌, ◌<◌, ◌∷◌, List, length, map, sym, ap, ◌∙◌, arith}
-use Rattle.std.proofs.lemmas.Result.{err_from_is_err_and}
+use Rattle.fixed_worth.proofs.Common.{◌≡◌, ℕ, ◌+◌, ◌<◌, ◌∷◌, List, length, map, sym, ap, ◌∙◌, arith, err_from_is_err_and}
 use Rattle.fixed_worth.specs.Text.{WordRun}
 use Rattle.blocks_file.proofs.Rows.{field_at, row_more, row_bad}
 use Rattle.blocks_file.proofs.row.read_row.Goals as goal

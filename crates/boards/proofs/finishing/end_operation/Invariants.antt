@@ -1,7 +1,5 @@
 use Rattle.std.proofs.Common.{◌-◌}
-use Rattle.boards.specs.Boards.{shown_state, IsTurnBoard}
-use Rattle.boards.specs.Ends.{AreIdleBelow}
-use Rattle.boards.specs.Records.{RecordGoesOn}
+use Rattle.boards.specs.Prelude.{shown_state, IsTurnBoard, AreIdleBelow, RecordGoesOn}
 use Rattle.boards.proofs.finishing.end_operation.Given as goal
 
 abbrev pub invariant-loop-board : goal.invariant-loop-board

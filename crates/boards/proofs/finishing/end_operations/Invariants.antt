@@ -1,5 +1,4 @@
-use Rattle.boards.specs.Ends.{AreIdleBelow}
-use Rattle.boards.specs.Records.{RecordGoesOn}
+use Rattle.boards.specs.Prelude.{AreIdleBelow, RecordGoesOn}
 use Rattle.boards.proofs.finishing.end_operations.Given as goal
 
 abbrev pub invariant-loop-block : goal.invariant-loop-block

@@ -1,6 +1,5 @@
 use Rattle.std.proofs.Common.{◌≡◌, ◌∙◌, ◌+◌, ℕ, ap, sym, subst, Some, None, if◌then◌else◌}
-use Rattle.boards.specs.Boards.{shown_state, blocks_of_board}
-use Rattle.boards.specs.Ends.{IsAlone}
+use Rattle.boards.specs.Prelude.{shown_state, blocks_of_board, IsAlone}
 use Rattle.boards.proofs.Alone.{all_idle_alone, served_counts, still_alone, unserved_quiet}
 use Rattle.boards.proofs.Ends.{ended}
 use Rattle.boards.proofs.Records.{record_stays, record_served, record_ended}

@@ -1,7 +1,5 @@
 use Rattle.std.proofs.Common.{◌≡◌}
-use Rattle.boards.specs.Boards.{shown_state, blocks_of_board, IsTurnBoard}
-use Rattle.boards.specs.Ends.{IsAlone}
-use Rattle.boards.specs.Records.{RecordGoesOn}
+use Rattle.boards.specs.Prelude.{shown_state, blocks_of_board, IsTurnBoard, IsAlone, RecordGoesOn}
 use Rattle.boards.proofs.finishing.take_turns.Given as goal
 
 abbrev pub invariant-loop-made : goal.invariant-loop-made

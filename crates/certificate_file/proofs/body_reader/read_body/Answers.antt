@@ -1,8 +1,5 @@
 use Rattle.std.proofs.Common.{ℕ, Bool, [], ◌∷◌, length, sym, subst, ◌∙◌}
-use Rattle.certificate_file.specs.Pieces.{IsPieceRead}
-use Rattle.certificate_file.specs.BodyLines.{line_of}
-use Rattle.certificate_file.specs.Certificate.{Covers}
-use Rattle.certificate_file.specs.Gathered.{Adds}
+use Rattle.certificate_file.specs.Prelude.{IsPieceRead, line_of, Covers, Adds}
 use Rattle.certificate_file.proofs.Going.{goes_on}
 use Rattle.certificate_file.proofs.body_reader.read_body.Goals as goal
 

@@ -1,9 +1,7 @@
 use Rattle.std.proofs.Common.{◌≡◌, ℕ, List, drop, Some, Ok, sym, ap, ◌∙◌, subst}
 use Rattle.closure_net.specs.Network.{FlowView}
 use Rattle.certificate_file.specs.declared.header.Wanted.{Wanted}
-use Rattle.certificate_file.specs.Pieces.{Piece}
-use Rattle.certificate_file.specs.Header.{header_for}
-use Rattle.certificate_file.specs.Certificate.{Covers, IsRead}
+use Rattle.certificate_file.specs.Prelude.{Piece, header_for, Covers, IsRead}
 use Rattle.certificate_file.proofs.Wants.{header_wanted}
 use Rattle.certificate_file.proofs.Whole.{IsEmpty, none_ascends, all_read}
 use Rattle.certificate_file.proofs.certificate.read_certificate.Goals as goal

@@ -1,7 +1,6 @@
 use Rattle.std.proofs.Common.{below_more, ◌+◌, ◌<◌, length, drop, sym, subst, ◌∙◌, refl, arith}
 use Rattle.ordered_group.specs.Sums.{amount_at}
-use Rattle.certificate_file.specs.ReadBack.{Writable}
-use Rattle.certificate_file.specs.Written.{line_at, amount_lines, body_text}
+use Rattle.certificate_file.specs.Prelude.{Writable, line_at, amount_lines, body_text}
 use Rattle.certificate_file.proofs.Puts.{put_begins, line_put, line_failed, line_skipped}
 use Rattle.certificate_file.proofs.writing.put_amounts.Goals as goal
 use Rattle.certificate_file.proofs.writing.put_amounts.Goals.{then-not-is_zero+in_ok-put_line, else-not-is_zero}

@@ -1,7 +1,6 @@
 use Rattle.std.proofs.Common.{◌≡◌, ℕ, ◌<◌, drop}
 use Rattle.ordered_group.specs.Sums.{amount_at}
-use Rattle.certificate_file.specs.ReadBack.{Writable}
-use Rattle.certificate_file.specs.Written.{line_at, amount_lines, body_text}
+use Rattle.certificate_file.specs.Prelude.{Writable, line_at, amount_lines, body_text}
 use Rattle.certificate_file.proofs.Puts.{Put}
 use Rattle.certificate_file.proofs.writing.put_amounts.Given as goal
 

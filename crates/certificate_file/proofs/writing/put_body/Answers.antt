@@ -1,5 +1,4 @@
-use Rattle.std.proofs.Common.{map}
-use Rattle.std.proofs.lemmas.Result.{on_ok_weaker, on_err_weaker}
+use Rattle.fixed_worth.proofs.Common.{map, on_ok_weaker, on_err_weaker}
 use Rattle.certificate_file.specs.Written.{pit_at, body_text, flow_lines, end_text}
 use Rattle.certificate_file.proofs.Puts.{body_parts, first_failed, second_failed, third_failed, three_held}
 use Rattle.certificate_file.proofs.writing.put_body.Goals as goal

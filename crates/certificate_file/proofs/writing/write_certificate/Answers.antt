@@ -1,12 +1,9 @@
-use Rattle.std.proofs.Common.{◌≡◌, ℕ, List, ◌++◌, [], ap, sym, subst, ◌∙◌, arith}
-use Rattle.std.proofs.lemmas.Grind.{common_steps}
-use Rattle.std.proofs.lemmas.Result.{on_ok_weaker, on_err_weaker}
+use Rattle.fixed_worth.proofs.Common.{◌≡◌, ℕ, List, ◌++◌, [], ap, sym, subst, ◌∙◌, arith, common_steps, on_ok_weaker, on_err_weaker}
 use Rattle.fixed_worth.specs.Device.{ReceivedPrefix, SentOrHeld}
 use Rattle.fixed_worth.proofs.Pieces.{prefix_of_first, prefix_in_second}
 use Rattle.ordered_group.specs.declared.groups.Group.{Group}
 use Rattle.certificate_file.specs.declared.header.Price.{Price}
-use Rattle.certificate_file.specs.Written.{lines_text, header_words, header_with, body_text, value_lines, end_text, text_of}
-use Rattle.certificate_file.specs.ReadBack.{IsReadBack}
+use Rattle.certificate_file.specs.Prelude.{lines_text, header_words, header_with, body_text, value_lines, end_text, text_of, IsReadBack}
 use Rattle.certificate_file.proofs.Puts.{both_sent, last_failed}
 use Rattle.certificate_file.proofs.Whole.{read_back}
 use Rattle.certificate_file.proofs.writing.write_certificate.Goals as goal

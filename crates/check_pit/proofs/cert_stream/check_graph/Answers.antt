@@ -1,6 +1,5 @@
 use Rattle.std.proofs.Common.{ℕ, List, ◌++◌, ap, subst}
-use Rattle.check_pit.specs.StreamView.{LineView}
-use Rattle.check_pit.specs.StreamChecks.{ReadsOn, BodyFails}
+use Rattle.check_pit.specs.Prelude.{LineView, ReadsOn, BodyFails}
 use Rattle.check_pit.proofs.cert_stream.check_graph.Goals as goal
 
 pub returns-in-Err-clause-checked : goal.returns-in-Err-clause-checked

@@ -1,12 +1,9 @@
-use Rattle.std.proofs.Common.{◌∙◌, sym, subst, arith}
-use Rattle.std.proofs.lemmas.Result.{err_from_is_err_and}
-use Rattle.closure_net.specs.Network.{NetView, holds_of}
-use Rattle.closure_net.specs.Closure.{IsGreatest}
+use Rattle.fixed_worth.proofs.Common.{◌∙◌, sym, subst, arith, err_from_is_err_and, common_steps}
+use Rattle.closure_net.specs.Prelude.{NetView, holds_of, IsGreatest}
 use Rattle.check_pit.specs.Checks.{PassesCapacities}
 use Rattle.check_pit.proofs.Verdicts.{flow_found, balance_fault, no_fault}
 use Rattle.closure_net.proofs.Duality.{greatest_from_tight}
 use Rattle.check_pit.proofs.checking.check.Goals as goal
-use Rattle.std.proofs.lemmas.Grind.{common_steps}
 
 pub returns-in_err-balances-clause-found : goal.returns-in_err-balances-clause-found
 returns-in_err-balances-clause-found g c = grind (arith, common_steps, err_from_is_err_and, balance_fault)

@@ -1,6 +1,5 @@
 use Rattle.std.proofs.Common.{ℕ, ◌<◌}
-use Rattle.ordered_group.specs.Amount.{zero_amount, AtMost}
-use Rattle.ordered_group.specs.Sums.{amount_at}
+use Rattle.ordered_group.specs.Prelude.{zero_amount, AtMost, amount_at}
 use Rattle.check_pit.proofs.checking.none_negative.Given as goal
 
 abbrev pub invariant-loop-k : goal.invariant-loop-k

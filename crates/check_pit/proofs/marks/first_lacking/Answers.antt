@@ -1,8 +1,7 @@
-use Rattle.std.proofs.Common.{false, get_or, refl, arith}
+use Rattle.fixed_worth.proofs.Common.{false, get_or, refl, arith, common_steps}
 use Rattle.closure_net.proofs.Spreads.{above_known}
 use Rattle.check_pit.proofs.Lacks.{holds_above, lacking}
 use Rattle.check_pit.proofs.marks.first_lacking.Goals as goal
-use Rattle.std.proofs.lemmas.Grind.{common_steps}
 
 pub bounds-marks-p : goal.bounds-marks-p
 bounds-marks-p c = grind (arith, common_steps, above_known)

@@ -1,6 +1,5 @@
 use Rattle.std.proofs.Common.{◌≡◌}
-use Rattle.ordered_group.specs.Amount.{positive}
-use Rattle.ordered_group.specs.Sums.{total, amount_at}
+use Rattle.ordered_group.specs.Prelude.{positive, total, amount_at}
 use Rattle.check_pit.proofs.room.positive_total.Given as goal
 
 abbrev pub invariant-loop-b : goal.invariant-loop-b

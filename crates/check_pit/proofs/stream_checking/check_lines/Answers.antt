@@ -1,7 +1,5 @@
-use Rattle.std.proofs.Common.{rules, arith, length, [], ◌∷◌, ◌++◌, refl, sym, ◌∙◌}
-use Rattle.std.proofs.lemmas.Grind.{common_steps}
-use Rattle.std.proofs.lemmas.Result.{err_from_is_err_and}
-use Rattle.certificate_file.specs.Certificate.{has_pair}
+use Rattle.fixed_worth.proofs.Common.{rules, arith, length, [], ◌∷◌, ◌++◌, refl, sym, ◌∙◌, common_steps, err_from_is_err_and}
+use Rattle.prec_file.specs.Rests.{has_pair}
 use Rattle.check_pit.proofs.NextLines.{lacks_no_memory}
 use Rattle.check_pit.proofs.StreamReadings.{reads_nothing, reading_begins, reading_on, reading_lacks, line_met}
 use Rattle.check_pit.proofs.StreamRooms.{summed_begins, summed_on, blocks_ascend, met_sound, may_put, line_refused, pit_open, end_answered}

@@ -1,5 +1,4 @@
-use Rattle.std.proofs.Common.{refl, ap, ◌+◌, ◌∙◌}
-use Rattle.std.specs.Fn.{FnOnceReturnsAt}
+use Rattle.fixed_worth.proofs.Common.{refl, ap, ◌+◌, ◌∙◌, FnOnceReturnsAt}
 use Rattle.certificate_file.specs.Pieces.{in_line, read_line}
 use Rattle.check_pit.specs.TakenLines.{AlwaysGives, TakesLine, LacksLine}
 use Rattle.check_pit.proofs.NextLines.{each_case, line_given}

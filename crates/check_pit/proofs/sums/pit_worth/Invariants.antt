@@ -1,6 +1,5 @@
 use Rattle.std.proofs.Common.{◌≡◌, ℕ, ◌<◌, IsTrue}
-use Rattle.ordered_group.specs.Amount.{plus, FitsPair}
-use Rattle.ordered_group.specs.Sums.{total, where_so, amount_at}
+use Rattle.ordered_group.specs.Prelude.{plus, FitsPair, total, where_so, amount_at}
 use Rattle.closure_net.specs.Network.{holds_of}
 use Rattle.check_pit.proofs.sums.pit_worth.Given as goal
 

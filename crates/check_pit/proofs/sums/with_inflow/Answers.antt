@@ -1,9 +1,8 @@
-use Rattle.std.proofs.Common.{◌≡◌, length, arith, sym}
+use Rattle.fixed_worth.proofs.Common.{◌≡◌, length, arith, sym, common_steps}
 use Rattle.ordered_group.specs.Sums.{amount_at}
 use Rattle.prec_file.specs.Rests.{to_at}
 use Rattle.check_pit.proofs.Over.{number_below, all_in, all_fit, one_overflows, sum_more, fits_more}
 use Rattle.check_pit.proofs.sums.with_inflow.Goals as goal
-use Rattle.std.proofs.lemmas.Grind.{common_steps}
 
 pub at-requires-after_bounds : goal.at-requires-after_bounds
 at-requires-after_bounds g c = omega (arith, number_below (g.G.OrderedGroup.parts_of c.args.start) _ (amount_at c.args.carried.now) c.args.b _ _ c.below-numbers.ensures c.loop-k.k-index (omega arith), c.requires.lengths)

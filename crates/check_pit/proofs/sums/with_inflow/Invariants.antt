@@ -1,6 +1,5 @@
 use Rattle.std.proofs.Common.{◌≡◌}
-use Rattle.ordered_group.specs.Amount.{plus}
-use Rattle.ordered_group.specs.Sums.{amount_at}
+use Rattle.ordered_group.specs.Prelude.{plus, amount_at}
 use Rattle.ordered_group.proofs.Numbers.{over}
 use Rattle.check_pit.proofs.Over.{ListFits}
 use Rattle.check_pit.proofs.sums.with_inflow.Given as goal

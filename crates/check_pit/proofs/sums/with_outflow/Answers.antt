@@ -1,5 +1,4 @@
-use Rattle.std.proofs.Common.{◌≡◌, ◌<◌, ◌+◌, ◌==◌, ℕ, List, length, get_or, arith, ap, ◌∙◌, refl, sym}
-use Rattle.std.proofs.lemmas.List.{length-map}
+use Rattle.fixed_worth.proofs.Common.{◌≡◌, ◌<◌, ◌+◌, ◌==◌, ℕ, List, length, get_or, arith, ap, ◌∙◌, refl, sym, length-map}
 use Rattle.ordered_group.specs.Sums.{amount_at}
 use Rattle.prec_file.specs.Rests.{IsRising, from_at, to_at, numbers, above_of, count_ending_below}
 use Rattle.prec_file.proofs.Order.{own_at}

@@ -1,8 +1,6 @@
 use Rattle.std.proofs.Common.{◌≡◌, length}
-use Rattle.ordered_group.specs.Amount.{plus}
-use Rattle.ordered_group.specs.Sums.{amount_at}
-use Rattle.prec_file.specs.Rests.{from_at}
-use Rattle.prec_file.specs.Rests.{numbers}
+use Rattle.ordered_group.specs.Prelude.{plus, amount_at}
+use Rattle.prec_file.specs.Prelude.{from_at, numbers}
 use Rattle.ordered_group.proofs.Numbers.{over}
 use Rattle.check_pit.proofs.Over.{ListFits}
 use Rattle.check_pit.proofs.sums.with_outflow.Given as goal

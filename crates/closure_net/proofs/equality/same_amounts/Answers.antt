@@ -1,6 +1,5 @@
 use Rattle.std.proofs.Common.{◌<◌, length, arith, below_more, refl, ap, sym, ◌∙◌}
-use Rattle.ordered_group.specs.Amount.{zero_amount}
-use Rattle.ordered_group.specs.Sums.{amount_at}
+use Rattle.ordered_group.specs.Prelude.{zero_amount, amount_at}
 use Rattle.ordered_group.proofs.Lists.{at_map}
 use Rattle.closure_net.proofs.Views.{same_amounts_at}
 use Rattle.closure_net.proofs.equality.same_amounts.Goals as goal

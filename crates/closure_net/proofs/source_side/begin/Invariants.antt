@@ -1,6 +1,5 @@
 use Rattle.std.proofs.Common.{◌≡◌}
-use Rattle.closure_net.specs.Reached.{HasSourceResidual}
-use Rattle.closure_net.specs.Searches.{PassedPlaces}
+use Rattle.closure_net.specs.Prelude.{HasSourceResidual, PassedPlaces}
 use Rattle.closure_net.proofs.source_side.begin.Given as goal
 
 abbrev pub invariant-loop-b : goal.invariant-loop-b

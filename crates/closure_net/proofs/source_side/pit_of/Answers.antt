@@ -1,7 +1,6 @@
 use Rattle.std.proofs.Common.{ℕ, ◌<◌, length, arith, ◌∙◌, subst, All, List}
 use Rattle.prec_file.specs.Rests.{above_of, below_of, IsKnown}
-use Rattle.closure_net.specs.Network.{holds_of}
-use Rattle.closure_net.specs.Searches.{PassedPlaces, Always, above_at, sender_at, SendsAt}
+use Rattle.closure_net.specs.Prelude.{holds_of, PassedPlaces, Always, above_at, sender_at, SendsAt}
 use Rattle.closure_net.proofs.Reach.{searched_more, reached, ascends, passing_known}
 use Rattle.closure_net.proofs.source_side.pit_of.Goals as goal
 

@@ -1,7 +1,6 @@
 use Rattle.std.proofs.Common.{◌≡◌, ℕ, arith, ap, ◌∙◌, sym, get_or, subst}
 use Rattle.prec_file.specs.Rests.{from_at, below_of}
-use Rattle.closure_net.specs.Reached.{Carries}
-use Rattle.closure_net.specs.Searches.{SendsAt, sender_at}
+use Rattle.closure_net.specs.Prelude.{Carries, SendsAt, sender_at}
 use Rattle.closure_net.proofs.Holding.{apart}
 use Rattle.closure_net.proofs.Spreads.{passed_add, passed_skip, passed_same, below_known}
 use Rattle.closure_net.proofs.source_side.spread_up.Goals as goal

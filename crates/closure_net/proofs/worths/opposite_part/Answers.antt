@@ -1,5 +1,4 @@
-use Rattle.std.proofs.Common.{◌<◌, length, arith, map}
-use Rattle.std.proofs.lemmas.List.{length-map}
+use Rattle.fixed_worth.proofs.Common.{◌<◌, length, arith, map, length-map}
 use Rattle.ordered_group.specs.Amount.{zero_amount, minus, FitsPair}
 use Rattle.ordered_group.proofs.Lists.{here_from_map}
 use Rattle.closure_net.proofs.worths.opposite_part.Goals as goal

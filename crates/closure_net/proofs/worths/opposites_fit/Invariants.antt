@@ -1,6 +1,5 @@
 use Rattle.std.proofs.Common.{ℕ, ◌<◌, map}
-use Rattle.ordered_group.specs.Amount.{zero_amount, minus, FitsPair}
-use Rattle.ordered_group.specs.Sums.{amount_at}
+use Rattle.ordered_group.specs.Prelude.{zero_amount, minus, FitsPair, amount_at}
 use Rattle.closure_net.proofs.worths.opposites_fit.Given as goal
 
 abbrev pub invariant-loop-w : goal.invariant-loop-w

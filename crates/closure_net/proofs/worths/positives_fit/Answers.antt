@@ -1,6 +1,5 @@
 use Rattle.std.proofs.Common.{arith, map, ap, sym, ◌∙◌}
-use Rattle.ordered_group.specs.Amount.{positive}
-use Rattle.ordered_group.specs.Sums.{amount_at}
+use Rattle.ordered_group.specs.Prelude.{positive, amount_at}
 use Rattle.ordered_group.proofs.Lists.{at_map}
 use Rattle.ordered_group.proofs.Steps.{total_step, SumFits_step}
 use Rattle.closure_net.proofs.worths.positives_fit.Goals as goal

@@ -1,6 +1,5 @@
 use Rattle.std.proofs.Common.{◌≡◌, map}
-use Rattle.ordered_group.specs.Amount.{positive}
-use Rattle.ordered_group.specs.Sums.{total, amount_at, SumFits}
+use Rattle.ordered_group.specs.Prelude.{positive, total, amount_at, SumFits}
 use Rattle.closure_net.proofs.worths.positives_fit.Given as goal
 
 abbrev pub invariant-loop-w : goal.invariant-loop-w

@@ -1,5 +1,4 @@
-use Rattle.std.proofs.Common.{◌∙◌, ap, subst, arith, inr, map, ℤ}
-use Rattle.std.proofs.lemmas.List.{take_all}
+use Rattle.fixed_worth.proofs.Common.{◌∙◌, ap, subst, arith, inr, map, ℤ, take_all}
 use Rattle.ordered_group.specs.Amount.{Amount}
 use Rattle.closure_net.specs.Faults.{WorthsOverflow}
 use Rattle.closure_net.proofs.worths.worths_of_blocks.Goals as goal

@@ -1,14 +1,9 @@
-use Rattle.std.proofs.Common.{Bool, List, sym, subst}
-use Rattle.std.proofs.lemmas.Result.{err_from_is_err_and}
+use Rattle.fixed_worth.proofs.Common.{Bool, List, sym, subst, err_from_is_err_and}
 use Rattle.prec_file.specs.Rests.{RestsView}
-use Rattle.engines.specs.FaultStands.{Fails}
-use Rattle.engines.specs.Judging.{StandsBehind}
-use Rattle.engines.specs.Readings.{IsHeader}
+use Rattle.engines.specs.Prelude.{Fails, StandsBehind, IsHeader}
 use Rattle.mine_inputs.specs.ReadMines.{AreRead}
 use Rattle.mine_inputs.proofs.MinesRead.{read_as}
-use Rattle.design_engines.specs.Compares.{IsBeside, BesideFails}
-use Rattle.design_engines.specs.DesignTexts.{ReadsDesign}
-use Rattle.design_engines.specs.Told.{design_view}
+use Rattle.design_engines.specs.Prelude.{IsBeside, BesideFails, ReadsDesign, design_view}
 use Rattle.design_engines.specs.declared.value_fault.ValueFault.TheVariants as value
 use Rattle.design_engines.proofs.BesideStreams.{unvalued, read_beside}
 use Rattle.design_engines.proofs.beside_judge.beside_stream.Goals as goal
@@ -32,8 +27,8 @@ returns-in_err-valued-clause-judged g c =
     (λ texts cert. AreRead texts mine.nanos.items mine.predecessors × IsHeader texts cert mine.predecessors.blocks mine.group × StandsBehind remaining cert c.price_mine.new.stream.lines)
     (λ texts d cert. BesideFails texts d cert e) c.in_ok-mine.ensures.priced
     (λ texts d cert drawn h.
-      let seen = subst (λ (r : RestsView). ReadsDesign r.blocks d case.marks.items) (sym c.in_ok-mine.ensures.blocks) drawn in
-      unvalued texts d cert e (c.in_err-valued.ensures.is texts d (read_as texts _ _ mine.predecessors c.as_slice.ensures.value h.0) (subst (λ (ms : List Bool). ReadsDesign mine.predecessors.blocks d ms) (sym c.as_slice-2.ensures.value) seen))))
+    let seen = subst (λ (r : RestsView). ReadsDesign r.blocks d case.marks.items) (sym c.in_ok-mine.ensures.blocks) drawn in
+    unvalued texts d cert e (c.in_err-valued.ensures.is texts d (read_as texts _ _ mine.predecessors c.as_slice.ensures.value h.0) (subst (λ (ms : List Bool). ReadsDesign mine.predecessors.blocks d ms) (sym c.as_slice-2.ensures.value) seen))))
 
 pub returns-clause-judged : goal.returns-clause-judged
 returns-clause-judged g c =
@@ -45,5 +40,5 @@ returns-clause-judged g c =
     (λ texts cert. AreRead texts mine.nanos.items mine.predecessors × IsHeader texts cert mine.predecessors.blocks mine.group × StandsBehind remaining cert c.price_mine.new.stream.lines)
     (λ texts d cert. IsBeside texts d cert (design_view valued) c.in_ok-judgement.judgement) c.in_ok-mine.ensures.priced
     (λ texts d cert drawn h.
-      let seen = subst (λ (r : RestsView). ReadsDesign r.blocks d case.marks.items) (sym c.in_ok-mine.ensures.blocks) drawn in
-      (c.in_ok-valued.ensures.is texts d (read_as texts _ _ mine.predecessors c.as_slice.ensures.value h.0) (subst (λ (ms : List Bool). ReadsDesign mine.predecessors.blocks d ms) (sym c.as_slice-2.ensures.value) seen), c.in_ok-judgement.ensures.judged texts cert h.0 h.1 h.2))
+    let seen = subst (λ (r : RestsView). ReadsDesign r.blocks d case.marks.items) (sym c.in_ok-mine.ensures.blocks) drawn in
+    (c.in_ok-valued.ensures.is texts d (read_as texts _ _ mine.predecessors c.as_slice.ensures.value h.0) (subst (λ (ms : List Bool). ReadsDesign mine.predecessors.blocks d ms) (sym c.as_slice-2.ensures.value) seen), c.in_ok-judgement.ensures.judged texts cert h.0 h.1 h.2))

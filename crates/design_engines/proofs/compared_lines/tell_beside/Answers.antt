@@ -1,13 +1,6 @@
-use Rattle.std.proofs.Common.{ℤ, sym, ap, ◌∙◌, rules, subst, FitsSigned}
-use Rattle.std.specs.Int.{w128}
-use Rattle.std.specs.Io.KnownBytes.{Appends}
-use Rattle.std.proofs.lemmas.Int.{to_z-of_z}
-use Rattle.std.proofs.lemmas.Result.{err_from_is_err_and}
+use Rattle.fixed_worth.proofs.Common.{ℤ, sym, ap, ◌∙◌, rules, subst, FitsSigned, w128, Appends, to_z-of_z, err_from_is_err_and}
 use Rattle.engines.specs.declared.judgement.Judgement.{Judgement}
-use Rattle.engines.specs.Checking.{LineFails}
-use Rattle.engines.specs.Judgements.{CertificateAccepted, IsJudged}
-use Rattle.engines.specs.OutputLines.{judgement_line}
-use Rattle.engines.specs.Verdicts.{verdict_of}
+use Rattle.engines.specs.Prelude.{LineFails, CertificateAccepted, IsJudged, judgement_line, verdict_of}
 use Rattle.design_engines.specs.Comparisons.ComparedView.{unproved}
 use Rattle.design_engines.specs.Told.{design_view}
 use Rattle.design_engines.proofs.Compared.{drawn_of, compared_failed}

@@ -1,13 +1,7 @@
-use Rattle.std.proofs.Common.{◌≡◌, ℕ, ℤ, ◌-ℤ◌, ◌++◌, List, sym, ◌∙◌, rules, subst, FitsSigned}
-use Rattle.std.specs.Int.{w128}
-use Rattle.std.specs.Io.KnownBytes.{Appends}
-use Rattle.std.proofs.lemmas.Int.{to_z-of_z}
-use Rattle.std.proofs.lemmas.Result.{err_from_is_err_and}
+use Rattle.fixed_worth.proofs.Common.{◌≡◌, ℕ, ℤ, ◌-ℤ◌, ◌++◌, List, sym, ◌∙◌, rules, subst, FitsSigned, w128, Appends, to_z-of_z, err_from_is_err_and}
 use Rattle.engines.specs.Checking.{LineFails}
-use Rattle.design_engines.specs.Comparisons.{best_line}
+use Rattle.design_engines.specs.Prelude.{best_line, DesignView, design_text, design_view}
 use Rattle.design_engines.specs.Comparisons.ComparedView.{beside}
-use Rattle.design_engines.specs.Designs.{DesignView, design_text}
-use Rattle.design_engines.specs.Told.{design_view}
 use Rattle.design_engines.proofs.Compared.{compared, gap_leaves, compared_failed}
 use Rattle.design_engines.proofs.compared_lines.tell_gap.Goals as goal
 

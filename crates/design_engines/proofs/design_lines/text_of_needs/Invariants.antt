@@ -1,5 +1,4 @@
-use Rattle.std.proofs.Common.{◌≡◌, take}
-use Rattle.std.specs.String.{string_bytes}
+use Rattle.fixed_worth.proofs.Common.{◌≡◌, take, string_bytes}
 use Rattle.design_engines.specs.Designs.{needs_text}
 use Rattle.design_engines.proofs.design_lines.text_of_needs.Given as goal
 

@@ -1,6 +1,4 @@
-use Rattle.std.proofs.Common.{◌∙◌, rules, FitsSigned}
-use Rattle.std.specs.Int.{w128}
-use Rattle.std.proofs.lemmas.Int.{to_z-of_z}
+use Rattle.fixed_worth.proofs.Common.{◌∙◌, rules, FitsSigned, w128, to_z-of_z}
 use Rattle.design_engines.proofs.Designed.{valued, leaves}
 use Rattle.design_engines.proofs.mine_value.value_of.Goals as goal
 

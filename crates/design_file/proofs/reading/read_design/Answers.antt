@@ -1,5 +1,4 @@
-use Rattle.std.proofs.Common.{List, Bool, length, ap, sym, subst, ◌∙◌}
-use Rattle.std.proofs.lemmas.Result.{err_from_is_err_and}
+use Rattle.fixed_worth.proofs.Common.{List, Bool, length, ap, sym, subst, ◌∙◌, err_from_is_err_and}
 use Rattle.design_file.proofs.Progress.{ReadSoFar, step_on, step_wrong, unless}
 use Rattle.fixed_worth.proofs.Lent.{written_back}
 use Rattle.design_file.proofs.reading.read_design.Goals as goal

@@ -1,7 +1,6 @@
 use Rattle.std.proofs.Common.{rules, ◌≡◌, ℕ, List, [], take, ap, ◌∙◌, subst, refl, arith}
 use Rattle.prec_file.specs.Rests.{first_of}
-use Rattle.design_value.specs.OpenPairs.{AreOpen}
-use Rattle.design_value.specs.Sums.{marked_in}
+use Rattle.design_value.specs.Prelude.{AreOpen, marked_in}
 use Rattle.design_value.proofs.Leading.{none_passed, all_passed}
 use Rattle.design_value.proofs.open_pairs.open_pairs_of.Goals as goal
 

@@ -1,7 +1,6 @@
 use Rattle.std.proofs.Common.{◌≡◌, ℕ, ◌+◌, ◌<◌, List, [], ◌∷◌, ◌++◌, length, take, get_or, sym, ap, ◌∙◌, subst, arith}
 use Rattle.prec_file.specs.Rests.{first_of, above_of}
-use Rattle.design_value.specs.OpenPairs.{AreOpen}
-use Rattle.design_value.specs.Sums.{marked_in}
+use Rattle.design_value.specs.Prelude.{AreOpen, marked_in}
 use Rattle.design_value.proofs.Leading.{next_pair, few_lead, block_passed}
 use Rattle.design_value.proofs.open_pairs.pass_block.Goals as goal
 

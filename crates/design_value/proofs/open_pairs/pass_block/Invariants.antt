@@ -1,7 +1,6 @@
 use Rattle.std.proofs.Common.{◌+◌, take}
 use Rattle.prec_file.specs.Rests.{first_of}
-use Rattle.design_value.specs.OpenPairs.{AreOpen}
-use Rattle.design_value.specs.Sums.{marked_in}
+use Rattle.design_value.specs.Prelude.{AreOpen, marked_in}
 use Rattle.design_value.proofs.open_pairs.pass_block.Given as goal
 
 abbrev pub invariant-loop-i : goal.invariant-loop-i

@@ -1,7 +1,4 @@
-use Rattle.std.proofs.Common.{ℤ, List, refl, sym, ◌∙◌, subst, rules, FitsSigned}
-use Rattle.std.specs.Int.{w128}
-use Rattle.std.proofs.lemmas.Int.{to_z-of_z}
-use Rattle.std.proofs.lemmas.Result.{err_from_is_err_and}
+use Rattle.fixed_worth.proofs.Common.{ℤ, List, refl, sym, ◌∙◌, subst, rules, FitsSigned, w128, to_z-of_z, err_from_is_err_and}
 use Rattle.mine_inputs.specs.ReadMines.{AreRead}
 use Rattle.engines.specs.Refusals.{flow_for}
 use Rattle.engines.proofs.Judged.{judged_accepted, net_fails, net_known}

@@ -1,4 +1,4 @@
-use Rattle.std.proofs.Common.{◌∙◌, rules}
+use Rattle.std.proofs.Common.{◌∙◌}
 use Rattle.engines.proofs.StreamAnswers.{priced, price_unjudged}
 use Rattle.engines.proofs.certificate_judge.price_mine.Goals as goal
 

@@ -1,5 +1,4 @@
-use Rattle.std.proofs.Common.{◌+◌, Ok, refl}
-use Rattle.std.proofs.lemmas.Result.{err_from_is_err_and}
+use Rattle.fixed_worth.proofs.Common.{◌+◌, Ok, refl, err_from_is_err_and}
 use Rattle.engines.proofs.Answered.{unread, unjudged, untold, told, complete}
 use Rattle.mine_inputs.proofs.Failed.{raised, stayed, went, well, first_of_two, second_of_two}
 use Rattle.mine_inputs.proofs.MineDevices.{mine_once, other_once}

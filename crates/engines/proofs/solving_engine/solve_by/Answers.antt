@@ -1,8 +1,6 @@
-use Rattle.std.proofs.Common.{subst}
-use Rattle.std.proofs.lemmas.Result.{err_from_is_err_and}
+use Rattle.fixed_worth.proofs.Common.{subst, err_from_is_err_and}
 use Rattle.certificate_file.specs.declared.header.Price.{Price}
-use Rattle.engines.specs.Certification.{IsSolution}
-use Rattle.engines.specs.Solving.{SolvesNet}
+use Rattle.engines.specs.Prelude.{IsSolution, SolvesNet}
 use Rattle.mine_inputs.proofs.MinesRead.{read_as}
 use Rattle.engines.proofs.NetAnswers.{answered}
 use Rattle.engines.proofs.Solutions.{net_by, solved, unmade}

@@ -1,10 +1,5 @@
-use Rattle.std.proofs.Common.{not, take, drop, length, ap, ◌∙◌}
-use Rattle.std.specs.Prelude.{nat_lt}
-use Rattle.std.specs.List.{position_or_len, before_first, after_first}
-use Rattle.std.proofs.lemmas.List.{drop-drop}
-use Rattle.std.proofs.lemmas.List.Sums.{prefix_len-le-length}
-use Rattle.fixed_worth.specs.Numeral.{is_minus, unsigned_of}
-use Rattle.fixed_worth.specs.Decimal.{is_mark, is_point, whole_part, fraction_part, exponent_of, has_mark}
+use Rattle.fixed_worth.proofs.Common.{not, take, drop, length, ap, ◌∙◌, nat_lt, position_or_len, before_first, after_first, drop-drop, prefix_len-le-length}
+use Rattle.fixed_worth.specs.Prelude.{is_minus, unsigned_of, is_mark, is_point, whole_part, fraction_part, exponent_of, has_mark}
 use Rattle.fixed_worth.proofs.decimals.cut.Goals as goal
 
 pub split_at-requires : goal.split_at-requires

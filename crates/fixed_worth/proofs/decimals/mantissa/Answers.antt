@@ -1,8 +1,7 @@
-use Rattle.std.proofs.Common.{◌++◌, arith}
+use Rattle.fixed_worth.proofs.Common.{◌++◌, arith, common_steps}
 use Rattle.fixed_worth.specs.Numeral.{value_of}
 use Rattle.fixed_worth.proofs.Digits.{overflows, carried, value_of-append, front_too_large}
 use Rattle.fixed_worth.proofs.decimals.mantissa.Goals as goal
-use Rattle.std.proofs.lemmas.Grind.{common_steps}
 
 pub returns-in_err-all : goal.returns-in_err-all
 returns-in_err-all c = rw c.from_residual.ensures (front_too_large c.args.whole.now c.args.fraction.now c.in_err-all.ensures)

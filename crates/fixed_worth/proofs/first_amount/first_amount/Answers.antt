@@ -1,11 +1,7 @@
-use Rattle.std.proofs.Common.{◌+◌, ◌-◌, ◌*◌, ◌^◌, ◌++◌, cond, pos, take, Ok, sym, ap, ◌∙◌, arith, lit<}
-use Rattle.std.specs.Prelude.{neg_ℤ}
-use Rattle.std.proofs.lemmas.List.{take-append-drop, length-take-le}
-use Rattle.std.proofs.Math.Nat.{pow-le-pow_right}
+use Rattle.fixed_worth.proofs.Common.{◌+◌, ◌-◌, ◌*◌, ◌^◌, ◌++◌, cond, pos, take, Ok, sym, ap, ◌∙◌, arith, lit<, neg_ℤ, take-append-drop, length-take-le, pow-le-pow_right, common_steps}
 use Rattle.fixed_worth.specs.Numeral.{is_minus}
 use Rattle.fixed_worth.proofs.FirstAmounts.{amount_read}
 use Rattle.fixed_worth.proofs.first_amount.first_amount.Goals as goal
-use Rattle.std.proofs.lemmas.Grind.{common_steps}
 
 pub millionths-size-requires-clause-whole : goal.millionths-size-requires-clause-whole
 millionths-size-requires-clause-whole c = grind (arith, common_steps, pow-le-pow_right, lit<)

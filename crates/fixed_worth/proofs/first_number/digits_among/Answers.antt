@@ -1,8 +1,7 @@
-use Rattle.std.proofs.Common.{◌+◌, get_or, sym, arith}
+use Rattle.fixed_worth.proofs.Common.{◌+◌, get_or, sym, arith, common_steps}
 use Rattle.fixed_worth.proofs.Digits.{next_below, power_fits}
 use Rattle.fixed_worth.proofs.FirstNumbers.{one_more, digit_more}
 use Rattle.fixed_worth.proofs.first_number.digits_among.Goals as goal
-use Rattle.std.proofs.lemmas.Grind.{common_steps}
 
 pub overflow_mul-value : goal.overflow_mul-value
 overflow_mul-value c =

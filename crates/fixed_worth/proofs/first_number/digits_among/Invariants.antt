@@ -1,5 +1,4 @@
-use Rattle.std.proofs.Common.{◌≡◌, ◌-◌, ◌^◌, ◌<◌, ◌≤◌, true, take}
-use Rattle.std.specs.List.{list_all}
+use Rattle.fixed_worth.proofs.Common.{◌≡◌, ◌-◌, ◌^◌, ◌<◌, ◌≤◌, true, take, list_all}
 use Rattle.fixed_worth.specs.Numeral.{is_digit, value_of}
 use Rattle.fixed_worth.proofs.first_number.digits_among.Given as goal
 

@@ -1,8 +1,7 @@
-use Rattle.std.proofs.Common.{◌+◌, ◌*◌, below_more, get_or, sym, arith}
+use Rattle.fixed_worth.proofs.Common.{◌+◌, ◌*◌, below_more, get_or, sym, arith, common_steps}
 use Rattle.fixed_worth.specs.Numeral.{value_of}
 use Rattle.fixed_worth.proofs.Digits.{next_below, power_fits, all_digits, carried, finished}
 use Rattle.fixed_worth.proofs.numerals.short_value.Goals as goal
-use Rattle.std.proofs.lemmas.Grind.{common_steps}
 
 pub overflow_mul-all : goal.overflow_mul-all
 overflow_mul-all c =

@@ -1,7 +1,5 @@
-use Rattle.std.proofs.Common.{arith, ◌∙◌, ◌≡◌, ℕ, zero, suc, ◌+◌, ◌-◌, ◌/◌, ◌%◌, ◌^◌, ◌<◌, ◌≤◌, false, eqb, List, [], ◌∷◌, ◌++◌, refl, sym, ap}
+use Rattle.fixed_worth.proofs.Common.{arith, ◌∙◌, ◌≡◌, ℕ, zero, suc, ◌+◌, ◌-◌, ◌/◌, ◌%◌, ◌^◌, ◌<◌, ◌≤◌, false, eqb, List, [], ◌∷◌, ◌++◌, refl, sym, ap, common_steps, decimal_digit, decimal_step_wide}
 use Rattle.fixed_worth.proofs.printing.trimmed_fraction.Goals as goal
-use Rattle.std.proofs.lemmas.Grind.{common_steps}
-use Rattle.std.proofs.lemmas.Fmt.{decimal_digit, decimal_step_wide}
 use Rattle.fixed_worth.proofs.Powers.{ten_more}
 use Rattle.fixed_worth.specs.Printed.{fixed_width, digit_before, without_trailing_zeros}
 

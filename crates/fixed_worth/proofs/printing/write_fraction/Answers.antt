@@ -1,6 +1,4 @@
-use Rattle.std.proofs.Common.{◌∷◌, ap, ◌∙◌}
-use Rattle.std.specs.Fmt.{styled_decimal}
-use Rattle.std.proofs.Output.{has_written_of_eq, writes_in_calls_nil}
+use Rattle.fixed_worth.proofs.Common.{◌∷◌, ap, ◌∙◌, styled_decimal, has_written_of_eq, writes_in_calls_nil}
 use Rattle.fixed_worth.proofs.Shown.{no_fraction, some_fraction}
 use Rattle.fixed_worth.proofs.printing.write_fraction.Goals as goal
 

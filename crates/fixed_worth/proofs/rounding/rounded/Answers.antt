@@ -1,8 +1,6 @@
-use Rattle.std.proofs.Common.{ℕ, sym, arith, subst, ◌≤◌, ◌^◌}
-use Rattle.std.specs.Prelude.{SomeIff}
+use Rattle.fixed_worth.proofs.Common.{ℕ, sym, arith, subst, ◌≤◌, ◌^◌, SomeIff, common_steps}
 use Rattle.fixed_worth.proofs.Powers.{rounds_up, rounds_down}
 use Rattle.fixed_worth.proofs.rounding.rounded.Goals as goal
-use Rattle.std.proofs.lemmas.Grind.{common_steps}
 
 pub returns-then-up-down : goal.returns-then-up-down
 returns-then-up-down c = subst (λ (x : ℕ). SomeIff c.scaled_up.result (x ≤ 10 ^ 18) x) (sym (rounds_up c.args.m c.args.up c.args.down c.if-up-down.true)) c.scaled_up.ensures

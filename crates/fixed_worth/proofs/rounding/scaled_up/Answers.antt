@@ -1,7 +1,6 @@
-use Rattle.std.proofs.Common.{◌-◌, arith}
+use Rattle.fixed_worth.proofs.Common.{◌-◌, arith, common_steps}
 use Rattle.fixed_worth.proofs.Powers.{shifted, too_large}
 use Rattle.fixed_worth.proofs.rounding.scaled_up.Goals as goal
-use Rattle.std.proofs.lemmas.Grind.{common_steps}
 
 pub returns-then-value-gt-MOST : goal.returns-then-value-gt-MOST
 returns-then-value-gt-MOST c = too_large c.loop-i.value (c.args.k - c.loop-i.i) _ c.loop-i.invariant.same c.if-value-gt-MOST.true

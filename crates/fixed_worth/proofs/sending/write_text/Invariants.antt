@@ -1,5 +1,4 @@
-use Rattle.std.proofs.Common.{◌≡◌, ◌-◌, ◌≤◌, length, take}
-use Rattle.std.specs.Io.KnownBytes.{Appends}
+use Rattle.fixed_worth.proofs.Common.{◌≡◌, ◌-◌, ◌≤◌, length, take, Appends}
 use Rattle.fixed_worth.proofs.sending.write_text.Given as goal
 
 abbrev pub invariant-loop-done : goal.invariant-loop-done

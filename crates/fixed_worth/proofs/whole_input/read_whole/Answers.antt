@@ -1,6 +1,4 @@
-use Rattle.std.proofs.Common.{◌++◌, take, arith, length-append}
-use Rattle.std.proofs.lemmas.List.{length-take}
-use Rattle.std.proofs.KnownBytes.{Consumes-trans}
+use Rattle.fixed_worth.proofs.Common.{◌++◌, take, arith, length-append, length-take, Consumes-trans}
 use Rattle.fixed_worth.proofs.whole_input.read_whole.Goals as goal
 
 -- what the reader gave before, and by this read

@@ -1,5 +1,4 @@
-use Rattle.std.proofs.Common.{◌≡◌, ◌-◌, ◌≤◌, length, vec_len}
-use Rattle.std.specs.Io.KnownBytes.{Consumes}
+use Rattle.fixed_worth.proofs.Common.{◌≡◌, ◌-◌, ◌≤◌, length, vec_len, Consumes}
 use Rattle.fixed_worth.specs.declared.whole_input.TheConstants.{PIECE}
 use Rattle.fixed_worth.proofs.whole_input.read_whole.Given as goal
 

@@ -1,9 +1,7 @@
-use Rattle.std.proofs.Common.{refl, subst}
-use Rattle.std.proofs.lemmas.Result.{err_from_is_err_and}
+use Rattle.fixed_worth.proofs.Common.{refl, subst, err_from_is_err_and}
 use Rattle.ordered_group.specs.Block.{scaled_block, scaled_worth}
 use Rattle.certificate_file.specs.declared.header.Price.{Price}
-use Rattle.engines.specs.Certification.{IsSolution}
-use Rattle.engines.specs.Readings.{counts_by, IsGroupNamed}
+use Rattle.engines.specs.Prelude.{IsSolution, counts_by, IsGroupNamed}
 use Rattle.mine_inputs.proofs.MinesRead.{read_as}
 use Rattle.engines.proofs.Solutions.{net_by}
 use Rattle.lock_free_engine.specs.LockFreeSolving.{SolvesNetWithoutLock, lock_free_group}

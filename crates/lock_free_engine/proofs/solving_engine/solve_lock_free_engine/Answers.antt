@@ -1,5 +1,4 @@
-use Rattle.std.proofs.Common.{Err, refl}
-use Rattle.std.proofs.lemmas.Result.{err_from_is_err_and}
+use Rattle.fixed_worth.proofs.Common.{Err, refl, err_from_is_err_and}
 use Rattle.engines.specs.declared.method.Method.TheVariants.{PushRelabel}
 use Rattle.engines.proofs.Answered.{unsolved, answered}
 use Rattle.mine_inputs.proofs.Failed.{raised, stayed, went}

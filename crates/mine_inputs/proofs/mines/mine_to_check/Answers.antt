@@ -1,11 +1,6 @@
-use Rattle.std.proofs.Common.{rules, sym, subst, ap}
-use Rattle.std.proofs.lemmas.Result.{err_from_is_err_and}
-use Rattle.std.specs.Prelude.{IfSome}
+use Rattle.fixed_worth.proofs.Common.{rules, sym, subst, ap, err_from_is_err_and, IfSome}
 use Rattle.mine_inputs.specs.declared.worths.Worths.TheVariants.{Values}
-use Rattle.mine_inputs.specs.FaultStands.{MineFails}
-use Rattle.mine_inputs.specs.Inputs.{ReadsPrec, PrecReadFails}
-use Rattle.mine_inputs.specs.MineInputs.{ForWorths}
-use Rattle.mine_inputs.specs.ReadMines.{AreWorthsOf}
+use Rattle.mine_inputs.specs.Prelude.{MineFails, ReadsPrec, PrecReadFails, ForWorths, AreWorthsOf}
 use Rattle.mine_inputs.proofs.MinesRead.{worths_unread, values_read, prec_unread, mine_read}
 use Rattle.mine_inputs.proofs.mines.mine_to_check.Goals.{in-Values+in_ok-text-in-Values+in_ok-read_values-in-Values, in-Prices+in_ok-worths-in-Prices}
 use Rattle.mine_inputs.proofs.mines.mine_to_check.Goals as goal

@@ -1,7 +1,5 @@
-use Rattle.std.proofs.Common.{sym, subst}
-use Rattle.std.proofs.lemmas.Result.{err_from_is_err_and}
-use Rattle.mine_inputs.specs.MineInputs.{ForTexts}
-use Rattle.mine_inputs.specs.ReadMines.{IsMineRead}
+use Rattle.fixed_worth.proofs.Common.{sym, subst, err_from_is_err_and}
+use Rattle.mine_inputs.specs.Prelude.{ForTexts, IsMineRead}
 use Rattle.mine_inputs.proofs.MinesRead.{memory_refused, mine_priced}
 use Rattle.mine_inputs.proofs.mines.mine_to_solve.Goals as goal
 

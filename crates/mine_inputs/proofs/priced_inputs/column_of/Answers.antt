@@ -1,6 +1,4 @@
-use Rattle.std.proofs.Common.{◌≡◌, ◌+◌, ◌∙◌, ℕ, ℤ, pos, List, [], ◌∷◌, ◌++◌, map, get_or, ap, sym, arith}
-use Rattle.std.specs.List.{range_with_len}
-use Rattle.std.proofs.lemmas.List.FromFn.{map-range_with_len_more}
+use Rattle.fixed_worth.proofs.Common.{◌≡◌, ◌+◌, ◌∙◌, ℕ, ℤ, pos, List, [], ◌∷◌, ◌++◌, map, get_or, ap, sym, arith, range_with_len, map-range_with_len_more}
 use Rattle.mine_inputs.proofs.priced_inputs.column_of.Goals as goal
 
 next : (f : ℕ → ℤ) (b : ℕ) (xs ys : List ℤ) (y : ℤ) → xs ≡ map f (range_with_len 0 b) → ys ≡ xs ++ y ∷ [] → y ≡ f b → ys ≡ map f (range_with_len 0 (b + 1))

@@ -1,5 +1,4 @@
-use Rattle.std.proofs.Common.{◌≡◌, [], pos, map, get_or}
-use Rattle.std.specs.List.{range_with_len}
+use Rattle.fixed_worth.proofs.Common.{◌≡◌, [], pos, map, get_or, range_with_len}
 use Rattle.mine_inputs.proofs.priced_inputs.column_of.Given as goal
 
 abbrev pub invariant-loop-b : goal.invariant-loop-b

@@ -1,13 +1,10 @@
-use Rattle.std.proofs.Common.{ℕ, Bool, false, length, get_or, ap, sym, ◌∙◌, ◌++◌, arith, length-append, List, map}
-use Rattle.std.proofs.lemmas.List.{length-map}
-use Rattle.std.proofs.lemmas.Result.{err_from_is_err_and}
+use Rattle.fixed_worth.proofs.Common.{ℕ, Bool, false, length, get_or, ap, sym, ◌∙◌, ◌++◌, arith, length-append, List, map, length-map, err_from_is_err_and, common_steps}
 use Rattle.fixed_worth.specs.Text.{fields_of}
 use Rattle.prec_file.specs.Records.{record_fault}
 use Rattle.prec_file.proofs.History.{told, repeated}
 use Rattle.prec_file.proofs.Marks.{marks}
 use Rattle.prec_file.proofs.RowReading.{record_pairs}
 use Rattle.prec_file.proofs.reading.read_line.Goals as goal
-use Rattle.std.proofs.lemmas.Grind.{common_steps}
 
 pub returns-then-seen-record : goal.returns-then-seen-record
 returns-then-seen-record c = grind (arith, common_steps, repeated)

@@ -1,18 +1,11 @@
-use Rattle.std.proofs.Common.{List, Bool, length, ap, sym, subst, ◌∙◌, ◌≡◌, ℕ, ◌<◌, true, false, not, [], ◌∷◌, ◌++◌, None, refl, arith}
-use Rattle.std.proofs.lemmas.Result.{err_from_is_err_and}
+use Rattle.fixed_worth.proofs.Common.{List, Bool, length, ap, sym, subst, ◌∙◌, ◌≡◌, ℕ, ◌<◌, true, false, not, [], ◌∷◌, ◌++◌, None, refl, arith, err_from_is_err_and, ◌||◌, nat_le, nat_lt, All, list_all, list_any, nat_tests, All-nil, All-cons, All-map, All-weaker, All-append}
 use Rattle.prec_file.proofs.Shapes.{unless_told}
 use Rattle.prec_file.proofs.Progress.{ReadSoFar, step_on, step_wrong}
 use Rattle.fixed_worth.proofs.Lent.{written_back}
-use Rattle.fixed_worth.specs.Text.{fields_of}
+use Rattle.fixed_worth.specs.Prelude.{fields_of, reads, is_skipped, block_of}
 use Rattle.prec_file.proofs.reading.read_pairs.Goals as goal
-use Rattle.std.specs.Prelude.{◌||◌, nat_le, nat_lt, All}
-use Rattle.std.specs.List.{list_all, list_any}
-use Rattle.std.proofs.lemmas.Bool.Decides.{nat_tests}
-use Rattle.std.proofs.lemmas.List.Elements.{All-nil, All-cons, All-map, All-weaker, All-append}
 use Rattle.prec_file.specs.declared.prec_fault.PrecFault.TheVariants.{Text, Number, UnknownBlock}
-use Rattle.fixed_worth.specs.Record.{reads, is_skipped}
-use Rattle.prec_file.specs.Records.{block_of, predecessors_of, pairs_in, shape_fault, history_fault, record_fault}
-use Rattle.prec_file.specs.Rests.{IsKnown}
+use Rattle.prec_file.specs.Prelude.{predecessors_of, pairs_in, shape_fault, history_fault, record_fault, IsKnown}
 use Rattle.prec_file.proofs.History.{third, shape_block, or_none, none_behind}
 
 -- The pairs of a record without fault are of known blocks.

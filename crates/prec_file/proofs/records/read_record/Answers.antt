@@ -1,6 +1,6 @@
-use Rattle.std.proofs.Common.{length, Some, sym, ap, ◌∙◌, arith}
-use Rattle.prec_file.specs.Records.{block_of, predecessor_count_of, predecessors_of}
-use Rattle.std.proofs.lemmas.Result.{err_from_is_err_and}
+use Rattle.fixed_worth.proofs.Common.{length, Some, sym, ap, ◌∙◌, arith, err_from_is_err_and}
+use Rattle.fixed_worth.specs.Record.{block_of}
+use Rattle.prec_file.specs.Records.{predecessor_count_of, predecessors_of}
 use Rattle.prec_file.proofs.Shapes.{one_read, two_read, reads_ok, reads_err, too_few, bad_second, bad_rest, unknown, sound, known, texts_length, texts}
 use Rattle.fixed_worth.proofs.FirstNumbers.{number_no_remark}
 use Rattle.prec_file.proofs.records.read_record.Goals as goal

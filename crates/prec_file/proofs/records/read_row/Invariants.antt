@@ -1,6 +1,4 @@
-use Rattle.std.proofs.Common.{◌≡◌, ◌+◌, ◌≤◌, ◌++◌, false, length, map, vec_capacity}
-use Rattle.std.specs.Prelude.{◌||◌, nat_le}
-use Rattle.std.specs.List.{list_all, list_any}
+use Rattle.fixed_worth.proofs.Common.{◌≡◌, ◌+◌, ◌≤◌, ◌++◌, false, length, map, vec_capacity, ◌||◌, nat_le, list_all, list_any}
 use Rattle.fixed_worth.specs.declared.limits.TheConstants.{LINE_BYTES}
 use Rattle.fixed_worth.specs.Record.{reads, number_of}
 use Rattle.prec_file.proofs.records.read_row.Given as goal

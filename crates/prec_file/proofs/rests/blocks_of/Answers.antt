@@ -1,9 +1,7 @@
-use Rattle.std.proofs.Common.{◌<◌, ◌+◌, ℕ, List, [], ◌∷◌, ◌++◌, length, get_or, map, take, sym, ap, ◌∙◌, arith}
-use Rattle.std.proofs.lemmas.List.{map-append}
+use Rattle.fixed_worth.proofs.Common.{◌<◌, ◌+◌, ℕ, List, [], ◌∷◌, ◌++◌, length, get_or, map, take, sym, ap, ◌∙◌, arith, map-append, common_steps}
 use Rattle.prec_file.specs.Rests.{above_of, first_of}
 use Rattle.prec_file.proofs.Rows.{none_taken, one_taken, block_taken, all_taken}
 use Rattle.prec_file.proofs.rests.blocks_of.Goals as goal
-use Rattle.std.proofs.lemmas.Grind.{common_steps}
 
 pub loop-block-init : goal.loop-block-init
 loop-block-init c = c.in_ok-blocks.ensures.items ∙ ap (λ (xs : List (ℕ × ℕ)). map (λ p. p.0) xs) (none_taken c.args.of.now.pairs)

@@ -1,6 +1,5 @@
 use Rattle.std.proofs.Common.{ℕ, All, length, sym, subst}
-use Rattle.prec_file.specs.Rests.{IsKnown, to_at}
-use Rattle.prec_file.specs.Indexes.{IsStarts}
+use Rattle.prec_file.specs.Prelude.{IsKnown, to_at, IsStarts}
 use Rattle.prec_file.proofs.Sorting.{known_predecessors}
 use Rattle.prec_file.proofs.Order.{predecessors_moved, filled_moved}
 use Rattle.prec_file.proofs.rests.with_index.Goals as goal

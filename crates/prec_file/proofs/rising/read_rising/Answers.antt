@@ -1,8 +1,6 @@
-use Rattle.std.proofs.Common.{arith}
-use Rattle.std.proofs.lemmas.Result.{err_from_is_err_and}
+use Rattle.fixed_worth.proofs.Common.{arith, err_from_is_err_and, common_steps}
 use Rattle.prec_file.proofs.RisingProgress.{rising_begun, rising_on, rising_wrong}
 use Rattle.prec_file.proofs.rising.read_rising.Goals as goal
-use Rattle.std.proofs.lemmas.Grind.{common_steps}
 
 pub loop-line-init : goal.loop-line-init
 loop-line-init c = grind (arith, common_steps, rising_begun)

@@ -1,11 +1,9 @@
-use Rattle.std.proofs.Common.{ℕ, ◌≤◌, List, All, length, false, refl, ◌<◌, ap, sym, subst, ◌∙◌, arith}
-use Rattle.std.proofs.lemmas.Result.{err_from_is_err_and}
+use Rattle.fixed_worth.proofs.Common.{ℕ, ◌≤◌, List, All, length, false, refl, ◌<◌, ap, sym, subst, ◌∙◌, arith, err_from_is_err_and, common_steps}
 use Rattle.fixed_worth.specs.Text.{fields_of}
 use Rattle.prec_file.specs.Rests.{RowsView}
 use Rattle.prec_file.proofs.History.{told}
 use Rattle.prec_file.proofs.RowReading.{predecessors_known, line_read}
 use Rattle.prec_file.proofs.rising.read_rising_line.Goals as goal
-use Rattle.std.proofs.lemmas.Grind.{common_steps}
 
 pub returns-in_err-record : goal.returns-in_err-record
 returns-in_err-record c = grind (arith, common_steps, err_from_is_err_and, told)

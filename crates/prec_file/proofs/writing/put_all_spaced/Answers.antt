@@ -1,5 +1,4 @@
-use Rattle.std.proofs.Common.{◌+◌, ◌∷◌, ◌++◌, take, drop, get_or, subst, ◌∙◌}
-use Rattle.std.specs.Fmt.{decimal}
+use Rattle.fixed_worth.proofs.Common.{◌+◌, ◌∷◌, ◌++◌, take, drop, get_or, subst, ◌∙◌, decimal}
 use Rattle.fixed_worth.specs.Device.{SentOrHeld, ReceivedPrefix}
 use Rattle.fixed_worth.proofs.Pieces.{held_more, held_more_prefix, prefix_of_part}
 use Rattle.prec_file.specs.Written.{spaced_numbers}

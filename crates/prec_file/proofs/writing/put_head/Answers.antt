@@ -1,8 +1,6 @@
-use Rattle.std.proofs.Common.{◌∙◌}
-use Rattle.std.proofs.lemmas.Result.{on_ok_weaker, on_err_weaker}
+use Rattle.fixed_worth.proofs.Common.{◌∙◌, on_ok_weaker, on_err_weaker}
 use Rattle.fixed_worth.proofs.Pieces.{held_both, prefix_in_second}
 use Rattle.prec_file.proofs.writing.put_head.Goals as goal
-use Rattle.fixed_worth.proofs.Results.{on_err}
 
 pub returns-clause-held : goal.returns-clause-held
 returns-clause-held g c = rw (← (c.as_bytes.ensures ∙ c.set.ensures.digits)) (on_ok_weaker _ (held_both _ _ _ _ _ _ _ _ c.in_ok-put.ensures.held) c.put_spaced.ensures.held)

@@ -1,13 +1,8 @@
-use Rattle.std.proofs.Common.{ℕ, List, [], ◌∷◌, ◌++◌, length, subst, arith}
-use Rattle.std.specs.Fmt.{decimal}
-use Rattle.std.specs.Prelude.{OnErr}
-use Rattle.std.proofs.lemmas.Result.{on_ok_weaker, on_err_weaker}
+use Rattle.fixed_worth.proofs.Common.{ℕ, List, [], ◌∷◌, ◌++◌, length, subst, arith, decimal, OnErr, on_ok_weaker, on_err_weaker, common_steps}
 use Rattle.fixed_worth.specs.Device.{ReceivedPrefix}
 use Rattle.fixed_worth.proofs.Pieces.{held_both, prefix_in_second}
 use Rattle.prec_file.specs.Written.{spaced_numbers}
 use Rattle.prec_file.proofs.writing.put_line.Goals as goal
-use Rattle.fixed_worth.proofs.Results.{on_err}
-use Rattle.std.proofs.lemmas.Grind.{common_steps}
 
 -- the line's front and back
 abbrev front : ℕ → List ℕ → List ℕ

@@ -1,6 +1,4 @@
-use Rattle.std.proofs.Common.{[], ◌∷◌, ◌∙◌}
-use Rattle.std.specs.Fmt.{decimal}
-use Rattle.std.proofs.lemmas.Result.{on_ok_weaker, on_err_weaker}
+use Rattle.fixed_worth.proofs.Common.{[], ◌∷◌, ◌∙◌, decimal, on_ok_weaker, on_err_weaker}
 use Rattle.fixed_worth.proofs.Pieces.{held_both, prefix_in_first, prefix_in_second}
 use Rattle.prec_file.proofs.writing.put_spaced.Goals as goal
 use Rattle.fixed_worth.proofs.Results.{on_err}

@@ -1,5 +1,4 @@
-use Rattle.std.proofs.Common.{◌+◌, subst, arith}
-use Rattle.std.proofs.lemmas.Result.{on_err_weaker}
+use Rattle.fixed_worth.proofs.Common.{◌+◌, subst, arith, on_err_weaker, common_steps}
 use Rattle.fixed_worth.specs.Device.{ReceivedPrefix}
 use Rattle.fixed_worth.proofs.Pieces.{held_more, held_more_prefix, held_prefix, prefix_of_part}
 use Rattle.prec_file.specs.Written.{prec_line, lines_below}
@@ -7,7 +6,6 @@ use Rattle.prec_file.proofs.WrittenPieces.{lines_more, lines_front}
 use Rattle.prec_file.proofs.writing.write_lines.Goals as goal
 use Rattle.fixed_worth.proofs.Results.{on_err}
 use Rattle.fixed_worth.proofs.Results.{on_err}
-use Rattle.std.proofs.lemmas.Grind.{common_steps}
 
 pub loop-block-preserved : goal.loop-block-preserved
 loop-block-preserved g c = grind (arith, common_steps, lines_more, held_more)

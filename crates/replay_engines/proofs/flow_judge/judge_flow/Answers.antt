@@ -1,6 +1,4 @@
-use Rattle.std.proofs.Common.{rules, subst, FitsSigned}
-use Rattle.std.specs.Int.{w128}
-use Rattle.std.proofs.lemmas.Int.{to_z-of_z}
+use Rattle.fixed_worth.proofs.Common.{rules, subst, FitsSigned, w128, to_z-of_z}
 use Rattle.closure_net.specs.Network.{FlowView}
 use Rattle.engines.specs.declared.certification.Uncertified.{Uncertified}
 use Rattle.engines.specs.Certification.{IsSolution, UncertifiedStands}

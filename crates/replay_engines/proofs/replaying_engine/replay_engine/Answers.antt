@@ -1,5 +1,4 @@
-use Rattle.std.proofs.Common.{◌+◌, refl}
-use Rattle.std.proofs.lemmas.Result.{err_from_is_err_and}
+use Rattle.fixed_worth.proofs.Common.{◌+◌, refl, err_from_is_err_and}
 use Rattle.mine_inputs.proofs.Failed.{raised, stayed, went, first_of_two, second_of_two}
 use Rattle.mine_inputs.proofs.MineDevices.{mine_once, other_once}
 use Rattle.replay_engines.proofs.Answered.{unread, trace_unread, replay_answer}

@@ -2,8 +2,7 @@ use Rattle.std.proofs.Common.{◌≡◌, ◌∙◌, ℕ, ℤ, List, ap, sym, sub
 use Rattle.fixed_worth.specs.declared.limits.TheConstants.{MOST_BLOCKS, MOST_FACTOR}
 use Rattle.shells.specs.Prices.{PricesView, worths_at}
 use Rattle.bench_report.specs.declared.report_fault.ReportFault.{ReportFault}
-use Rattle.bench_report.specs.Benches.{reported_blocks}
-use Rattle.bench_report.specs.Faults.{SameLengths, SomeBenchSumOverflows, ReportFaultStands}
+use Rattle.bench_report.specs.Prelude.{reported_blocks, SameLengths, SomeBenchSumOverflows, ReportFaultStands}
 use Rattle.report_engines.proofs.SmallSums.{same_lengths, none_overflows}
 use Rattle.report_engines.proofs.bench_rows.rows_at.Goals as goal
 

@@ -1,5 +1,4 @@
-use Rattle.std.proofs.Common.{◌≡◌, ◌∷◌, [], Some, None, refl, rules}
-use Rattle.std.proofs.lemmas.Result.{err_from_is_err_and}
+use Rattle.fixed_worth.proofs.Common.{◌≡◌, ◌∷◌, [], Some, None, refl, rules, err_from_is_err_and}
 use Rattle.settings_file.specs.declared.keys.Key.TheVariants.{Tonnes}
 use Rattle.settings_file.specs.Settings.{first_missing}
 use Rattle.report_engines.proofs.Readings.{others_known}

@@ -1,7 +1,6 @@
-use Rattle.std.proofs.Common.{sym, subst, IfSome}
+use Rattle.fixed_worth.proofs.Common.{sym, subst, IfSome, err_from_is_err_and}
 use Rattle.mine_inputs.specs.declared.priced_inputs.ChargeColumns.{ChargeColumns}
 use Rattle.report_engines.specs.ReportParts.{IsPricedModel, IsReportRead}
-use Rattle.std.proofs.lemmas.Result.{err_from_is_err_and}
 use Rattle.report_engines.proofs.Readings.{said_fails, model_unread, prec_unread, all_are_read}
 use Rattle.report_engines.proofs.report_inputs.report_mine_from.Goals as goal
 

@@ -1,5 +1,4 @@
-use Rattle.std.proofs.Common.{◌∙◌, ap, rules, sym, subst}
-use Rattle.std.proofs.lemmas.Result.{err_from_is_err_and}
+use Rattle.fixed_worth.proofs.Common.{◌∙◌, ap, rules, sym, subst, err_from_is_err_and}
 use Rattle.shells.specs.Prices.{PricesView}
 use Rattle.bench_report.specs.Written.{table_text}
 use Rattle.shell_engines.proofs.BlockTables.{has_table}

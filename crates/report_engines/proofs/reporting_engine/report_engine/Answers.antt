@@ -1,9 +1,7 @@
-use Rattle.std.proofs.Common.{List, ℕ, Bool, subst}
-use Rattle.std.proofs.lemmas.Result.{err_from_is_err_and}
+use Rattle.fixed_worth.proofs.Common.{List, ℕ, Bool, subst, err_from_is_err_and}
 use Rattle.shell_engines.specs.Devices.{is_asked, contents_in}
 use Rattle.shell_engines.proofs.Answering.{unanswered, sent}
-use Rattle.report_engines.specs.ReportParts.{IsReportRead}
-use Rattle.report_engines.specs.Reports.{AnswersReport, ReportFails}
+use Rattle.report_engines.specs.Prelude.{IsReportRead, AnswersReport, ReportFails}
 use Rattle.report_engines.proofs.Answers.{mine_unread}
 use Rattle.report_engines.proofs.reporting_engine.report_engine.Goals as goal
 

@@ -1,11 +1,7 @@
-use Rattle.std.proofs.Common.{◌≡◌, ◌≤◌, length, true, rules, ℕ, zero, suc, ◌+◌, ◌<◌, List, [], ◌∷◌, get_or, subst, arith, ltb}
-use Rattle.std.specs.List.{All}
+use Rattle.fixed_worth.proofs.Common.{◌≡◌, ◌≤◌, length, true, rules, ℕ, zero, suc, ◌+◌, ◌<◌, List, [], ◌∷◌, get_or, subst, arith, ltb, All, IsStrictlyIncreasing, and_parts, ltb-true, AllPairs-from_increasing}
 use Rattle.fixed_worth.specs.declared.limits.TheConstants.{MOST_FACTOR, MOST_FACTORS}
 use Rattle.settings_file.specs.Values.{are_ascending, AreFactors}
 use Rattle.settings_file.proofs.arrays.factors_in.Goals as goal
-use Rattle.std.specs.List.Sorted.{IsStrictlyIncreasing}
-use Rattle.std.proofs.lemmas.Bool.{and_parts, ltb-true}
-use Rattle.std.proofs.lemmas.List.Kept.{AllPairs-from_increasing}
 
 increasing : (ns : List ℕ) → are_ascending ns ≡ true → IsStrictlyIncreasing ns
 unfolding are_ascending

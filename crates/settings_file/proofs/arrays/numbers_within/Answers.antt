@@ -1,6 +1,4 @@
-use Rattle.std.proofs.Common.{◌≡◌, ◌<◌, ◌≤◌, length, get_or, Some, None, sym, rules}
-use Rattle.std.proofs.lemmas.List.{drop_all}
-use Rattle.std.proofs.lemmas.List.Elements.{All-push}
+use Rattle.fixed_worth.proofs.Common.{◌≡◌, ◌<◌, ◌≤◌, length, get_or, Some, None, sym, rules, drop_all, All-push}
 use Rattle.toml.specs.View.{view}
 use Rattle.settings_file.specs.Values.{whole_value_within}
 use Rattle.settings_file.proofs.ReadArrays.{read-next, read-bad, read-end}

@@ -1,5 +1,4 @@
-use Rattle.std.proofs.Common.{◌≡◌, ◌≤◌, drop}
-use Rattle.std.specs.List.{All}
+use Rattle.fixed_worth.proofs.Common.{◌≡◌, ◌≤◌, drop, All}
 use Rattle.toml.specs.View.{items_view}
 use Rattle.settings_file.specs.Values.{all_read, whole_value_within}
 use Rattle.settings_file.proofs.ReadArrays.{after}

@@ -1,5 +1,4 @@
-use Rattle.std.proofs.Common.{◌≡◌, ◌<◌, ◌≤◌, length, get_or, Some, None, sym, rules}
-use Rattle.std.proofs.lemmas.List.{drop_all}
+use Rattle.fixed_worth.proofs.Common.{◌≡◌, ◌<◌, ◌≤◌, length, get_or, Some, None, sym, rules, drop_all}
 use Rattle.toml.specs.View.{view}
 use Rattle.settings_file.specs.Values.{offset_of}
 use Rattle.settings_file.proofs.ReadArrays.{read-next, read-bad, read-end}

@@ -1,9 +1,8 @@
-use Rattle.std.proofs.Common.{◌≡◌, ◌∙◌, ap, is_some, Option, Some, None, Bor}
+use Rattle.fixed_worth.proofs.Common.{◌≡◌, ◌∙◌, ap, is_some, Option, Some, None, Bor, option_map}
 use Rattle.toml.specs.Data.{Data}
 use Rattle.toml.specs.View.{view}
 use Rattle.toml.specs.declared.value.Value.{Value}
 use Rattle.toml.proofs.Views.{table_get}
-use Rattle.std.specs.Prelude.{option_map}
 use Rattle.settings_file.proofs.reading.has_key.Goals as goal
 
 -- something is found where something is there to be shown

@@ -1,8 +1,7 @@
 use Rattle.std.proofs.Common.{◌≡◌, ◌∙◌, Some, None, sym, ap, rules}
 use Rattle.toml.specs.View.{view}
 use Rattle.toml.proofs.Views.{table_get}
-use Rattle.settings_file.specs.Settings.{value_said, or_bad}
-use Rattle.settings_file.specs.Values.{offsets_of}
+use Rattle.settings_file.specs.Prelude.{value_said, or_bad, offsets_of}
 use Rattle.settings_file.specs.declared.keys.Key.TheVariants.{Offsets}
 use Rattle.settings_file.proofs.reading.offsets_at.Goals as goal
 

@@ -1,8 +1,5 @@
-use Rattle.std.proofs.Common.{rules, FitsSigned}
-use Rattle.std.specs.Int.{w128}
-use Rattle.std.proofs.lemmas.Int.{to_z-of_z}
-use Rattle.closure_net.specs.Network.{holds_of}
-use Rattle.closure_net.specs.Mine.{Mine, IsBest, IsNetOf}
+use Rattle.fixed_worth.proofs.Common.{rules, FitsSigned, w128, to_z-of_z}
+use Rattle.closure_net.specs.Prelude.{holds_of, Mine, IsBest, IsNetOf}
 use Rattle.shell_engines.proofs.Nets.{row_is}
 use Rattle.shell_engines.proofs.best_pits.best_of.Goals as goal
 

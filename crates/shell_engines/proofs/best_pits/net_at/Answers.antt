@@ -1,7 +1,6 @@
 use Rattle.std.proofs.Common.{◌≡◌, ◌∙◌, ℤ, List, length, map, subst}
 use Rattle.ordered_group.specs.Block.{scaled_block}
-use Rattle.closure_net.specs.Network.{net_view}
-use Rattle.closure_net.specs.Faults.{WorthsFaultStands}
+use Rattle.closure_net.specs.Prelude.{net_view, WorthsFaultStands}
 use Rattle.shells.specs.Prices.{worths_at}
 use Rattle.shell_engines.proofs.Nets.{over_of}
 use Rattle.shell_engines.proofs.best_pits.net_at.Goals as goal

@@ -1,14 +1,9 @@
-use Rattle.std.proofs.Common.{◌<◌, ◌∙◌, ℕ, List, All, length, rules, FitsSigned, to_z, of_z, sym, ap, subst, arith}
-use Rattle.std.specs.Int.{w128}
-use Rattle.std.proofs.lemmas.Int.{to_z-of_z}
-use Rattle.closure_net.specs.Network.{holds_of}
-use Rattle.closure_net.specs.Mine.{IsBest}
+use Rattle.fixed_worth.proofs.Common.{◌<◌, ◌∙◌, ℕ, List, All, length, rules, FitsSigned, to_z, of_z, sym, ap, subst, arith, w128, to_z-of_z}
+use Rattle.closure_net.specs.Prelude.{holds_of, IsBest}
 use Rattle.ordered_group.specs.Sets.{worth_in}
-use Rattle.shells.specs.Prices.{priced_count, worth_at}
-use Rattle.shells.specs.Series.{mine_at}
+use Rattle.shells.specs.Prelude.{priced_count, worth_at, mine_at}
 use Rattle.engines.proofs.Counted.{ascending_short}
-use Rattle.sub_mines.specs.Parts.{every_block}
-use Rattle.sub_mines.specs.Renumbered.{number_in}
+use Rattle.sub_mines.specs.Prelude.{every_block, number_in}
 use Rattle.shell_engines.specs.ShellTable.{IsRowOf}
 use Rattle.shell_engines.proofs.Among.{proved_row}
 use Rattle.shell_engines.proofs.lifted_pits.best_with.Goals as goal

@@ -1,8 +1,7 @@
 use Rattle.std.proofs.Common.{◌≡◌, ℕ, ◌<◌, get_or}
 use Rattle.ordered_group.specs.Sets.{worth_in}
 use Rattle.shells.specs.Prices.{priced_count, worth_at}
-use Rattle.sub_mines.specs.Parts.{every_block}
-use Rattle.sub_mines.specs.Renumbered.{number_in}
+use Rattle.sub_mines.specs.Prelude.{every_block, number_in}
 use Rattle.shell_engines.proofs.lifted_pits.worth_of.Given as goal
 
 abbrev pub invariant-loop-b : goal.invariant-loop-b

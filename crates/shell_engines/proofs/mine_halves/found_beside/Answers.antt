@@ -1,11 +1,9 @@
-use Rattle.std.proofs.Common.{◌∙◌, List, [], ◌∷◌, ◌++◌, All, length, sym, ap, subst, arith}
-use Rattle.std.proofs.lemmas.List.Elements.{All-append}
+use Rattle.fixed_worth.proofs.Common.{◌∙◌, List, [], ◌∷◌, ◌++◌, All, length, sym, ap, subst, arith, All-append}
 use Rattle.prec_file.specs.Rests.{numbers_passing}
 use Rattle.sub_mines.specs.Parts.{every_block}
 use Rattle.shell_engines.specs.declared.best_pits.BestPit.{BestPit}
 use Rattle.shell_engines.specs.declared.mine_parts.Part.{Part}
-use Rattle.shell_engines.specs.PitsAtFactors.{IsProved}
-use Rattle.shell_engines.specs.Parting.{IsLeft}
+use Rattle.shell_engines.specs.Prelude.{IsProved, IsLeft}
 use Rattle.shell_engines.proofs.Proving.{all_one}
 use Rattle.shell_engines.proofs.Merging.{all_nothing}
 use Rattle.shell_engines.proofs.Parting.{part_of, whole_part}

@@ -1,6 +1,5 @@
 use Rattle.std.proofs.Common.{All}
-use Rattle.shell_engines.specs.PitsAtFactors.{IsProved}
-use Rattle.shell_engines.specs.Parting.{IsLeft}
+use Rattle.shell_engines.specs.Prelude.{IsProved, IsLeft}
 use Rattle.shell_engines.proofs.mine_halves.found_beside.Given as goal
 
 abbrev pub invariant-loop : goal.invariant-loop

@@ -1,11 +1,8 @@
-use Rattle.std.proofs.Common.{All, IfOk, Result, sym, subst}
-use Rattle.std.specs.declared.alloc.AllocError.{AllocError}
-use Rattle.std.proofs.lemmas.List.Elements.{All-append}
+use Rattle.fixed_worth.proofs.Common.{All, IfOk, Result, sym, subst, AllocError, All-append}
 use Rattle.shell_engines.specs.declared.best_pits.BestPit.{BestPit}
 use Rattle.shell_engines.specs.declared.mine_parts.Part.{Part}
 use Rattle.shell_engines.specs.declared.mine_halves.Level.{Level}
-use Rattle.shell_engines.specs.PitsAtFactors.{IsProved}
-use Rattle.shell_engines.specs.Parting.{IsLeft, IsSearchLevel}
+use Rattle.shell_engines.specs.Prelude.{IsProved, IsLeft, IsSearchLevel}
 use Rattle.shell_engines.proofs.Proving.{all_before, all_last}
 use Rattle.shell_engines.proofs.mine_halves.level_of.Goals as goal
 

@@ -1,11 +1,8 @@
-use Rattle.std.proofs.Common.{◌≡◌, ◌+◌, ◌<◌, ◌∙◌, ℕ, List, All, length, map, get_or, Vec, Global, Option, IfSome, sym, ap, subst}
-use Rattle.std.proofs.lemmas.List.{get_or_read}
+use Rattle.fixed_worth.proofs.Common.{◌≡◌, ◌+◌, ◌<◌, ◌∙◌, ℕ, List, All, length, map, get_or, Vec, Global, Option, IfSome, sym, ap, subst, get_or_read}
 use Rattle.prec_file.specs.Rests.{numbers_passing}
-use Rattle.closure_net.specs.Network.{holds_of}
-use Rattle.closure_net.specs.Mine.{IsBest}
+use Rattle.closure_net.specs.Prelude.{holds_of, IsBest}
 use Rattle.shells.specs.Series.{mine_at}
-use Rattle.sub_mines.specs.Parts.{union_of, difference_of, every_block}
-use Rattle.sub_mines.specs.Renumbered.{number_in}
+use Rattle.sub_mines.specs.Prelude.{union_of, difference_of, every_block, number_in}
 use Rattle.shell_engines.proofs.Parting.{lifted_best, lower_part, higher_part, same_lists_part}
 use Rattle.shell_engines.proofs.mine_parts.by_pit.Goals as goal
 

@@ -1,13 +1,11 @@
-use Rattle.std.proofs.Common.{◌≡◌, ℕ, List, length, get_or, Option, IfSome, ap, subst, arith}
-use Rattle.std.proofs.lemmas.List.{get_or_read}
+use Rattle.fixed_worth.proofs.Common.{◌≡◌, ℕ, List, length, get_or, Option, IfSome, ap, subst, arith, get_or_read}
 use Rattle.ordered_group.specs.Block.{scaled_block}
 use Rattle.closure_net.specs.Network.{NetView}
 use Rattle.shells.specs.Prices.{priced_count}
 use Rattle.engines.proofs.Counted.{ascending_short}
 use Rattle.shell_engines.specs.declared.best_pits.BestPit.{BestPit}
 use Rattle.shell_engines.specs.declared.mine_parts.Halved.{Halved}
-use Rattle.shell_engines.specs.PitsAtFactors.{IsBestOf}
-use Rattle.shell_engines.specs.Parting.{IsNetAmong, IsBestAmong, AreHalved, mine_among}
+use Rattle.shell_engines.specs.Prelude.{IsBestOf, IsNetAmong, IsBestAmong, AreHalved, mine_among}
 use Rattle.shell_engines.proofs.mine_parts.solved_part.Goals as goal
 
 pub net_among-requires-clause-size : goal.net_among-requires-clause-size

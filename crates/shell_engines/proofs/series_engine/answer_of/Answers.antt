@@ -1,6 +1,5 @@
 use Rattle.std.proofs.Common.{◌∙◌, ap, refl}
-use Rattle.shell_engines.specs.ShellTable.{shell_table_text}
-use Rattle.shell_engines.specs.Shells.{AnswersShells, ShellsFail}
+use Rattle.shell_engines.specs.Prelude.{shell_table_text, AnswersShells, ShellsFail}
 use Rattle.shell_engines.proofs.BlockTables.{has_table}
 use Rattle.shell_engines.proofs.Lifted.{is_table, denoted, no_series_answer}
 use Rattle.shell_engines.proofs.series_engine.answer_of.Goals as goal

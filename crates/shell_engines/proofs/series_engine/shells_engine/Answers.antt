@@ -1,9 +1,6 @@
-use Rattle.std.proofs.Common.{List, ℕ, Bool, subst}
-use Rattle.std.proofs.lemmas.Result.{err_from_is_err_and}
-use Rattle.shell_engines.specs.Devices.{is_asked, contents_in}
+use Rattle.fixed_worth.proofs.Common.{List, ℕ, Bool, subst, err_from_is_err_and}
+use Rattle.shell_engines.specs.Prelude.{is_asked, contents_in, IsSeriesRead, AnswersShells, ShellsFail}
 use Rattle.shell_engines.proofs.Answering.{unanswered, sent}
-use Rattle.shell_engines.specs.SeriesTexts.{IsSeriesRead}
-use Rattle.shell_engines.specs.Shells.{AnswersShells, ShellsFail}
 use Rattle.shell_engines.proofs.Answers.{mine_unread}
 use Rattle.shell_engines.proofs.series_engine.shells_engine.Goals as goal
 

@@ -1,9 +1,7 @@
-use Rattle.std.proofs.Common.{◌∙◌, subst}
-use Rattle.std.proofs.lemmas.Result.{err_from_is_err_and}
+use Rattle.fixed_worth.proofs.Common.{◌∙◌, subst, err_from_is_err_and}
 use Rattle.ordered_group.specs.Block.{scaled_block}
 use Rattle.prec_file.specs.Rests.{RestsView}
-use Rattle.shells.specs.Prices.{PricesView}
-use Rattle.shells.specs.Series.{rests_in}
+use Rattle.shells.specs.Prelude.{PricesView, rests_in}
 use Rattle.shell_engines.specs.SettledSeries.{IsNetAt, NoSeriesStands}
 use Rattle.shell_engines.proofs.Proving.{proved_by}
 use Rattle.shell_engines.proofs.settled_series.best_at.Goals as goal

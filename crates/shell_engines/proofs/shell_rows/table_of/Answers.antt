@@ -1,5 +1,4 @@
-use Rattle.std.proofs.Common.{◌≡◌, ℕ, ◌+◌, ◌<◌, List, [], ◌++◌, take, get_or, length, sym, ap, ◌∙◌, arith}
-use Rattle.std.proofs.lemmas.List.{take_more, flat_map_more}
+use Rattle.fixed_worth.proofs.Common.{◌≡◌, ℕ, ◌+◌, ◌<◌, List, [], ◌++◌, take, get_or, length, sym, ap, ◌∙◌, arith, take_more, flat_map_more}
 use Rattle.shell_engines.specs.ShellTable.{shell_row_line, shell_table_text}
 use Rattle.shell_engines.specs.declared.shell_rows.ShellRow.{ShellRow}
 use Rattle.shell_engines.proofs.shell_rows.table_of.Goals as goal

@@ -1,7 +1,6 @@
-use Rattle.std.proofs.Common.{◌∙◌, pos, ◌*ℤ◌, ◌-ℤ◌, ℤ, ap, rules}
+use Rattle.fixed_worth.proofs.Common.{◌∙◌, pos, ◌*ℤ◌, ◌-ℤ◌, ℤ, ap, rules, int_max, w128, to_z-of_z}
 use mir.Val.{SFits}
-use Rattle.std.specs.Int.{int_max, w128, w64}
-use Rattle.std.proofs.lemmas.Int.{to_z-of_z}
+use Rattle.std.specs.Int.{w64}
 use Rattle.shells.proofs.costs.left_by_mill.Goals as goal
 
 pub returns : goal.returns

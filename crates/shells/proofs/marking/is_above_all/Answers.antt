@@ -1,5 +1,4 @@
-use Rattle.std.proofs.Common.{◌-◌, length, get_or}
-use Rattle.std.proofs.lemmas.Bool.{ltb-true, lt-ltb}
+use Rattle.fixed_worth.proofs.Common.{◌-◌, length, get_or, ltb-true, lt-ltb}
 use Rattle.shells.proofs.Factors.{above_last, last_below}
 use Rattle.shells.proofs.marking.is_above_all.Goals as goal
 

@@ -1,5 +1,4 @@
-use Rattle.std.proofs.Common.{◌≡◌, arith, rules, ℤ, pos, ◌+◌, ◌+ℤ◌, ◌-ℤ◌, refl, subst, SFits, w32}
-use Rattle.std.proofs.lemmas.Int.{to_z-of_z, ints}
+use Rattle.fixed_worth.proofs.Common.{◌≡◌, arith, rules, ℤ, pos, ◌+◌, ◌+ℤ◌, ◌-ℤ◌, refl, subst, SFits, w32, to_z-of_z, ints}
 use Rattle.slope.specs.Gathering.{Collects, IsBelowRow}
 use Rattle.slope.proofs.ConeSteps.{level_begun, level_ended}
 use Rattle.slope.proofs.cone.add_level.Goals as goal

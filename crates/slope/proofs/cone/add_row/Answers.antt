@@ -1,10 +1,6 @@
-use Rattle.std.proofs.Common.{◌≡◌, arith, rules, ℤ, pos, ◌+◌, ◌≤◌, ◌+ℤ◌, ◌-ℤ◌, refl, subst, sym, SFits, w32, to_z, List, Vec, Global, length, ap, ◌∙◌}
-use Rattle.std.proofs.lemmas.Int.{to_z-of_z, ints}
-use Rattle.std.proofs.lemmas.Bool.{iff_false}
-use Rattle.std.proofs.lemmas.Result.{err_from_is_err_and}
+use Rattle.fixed_worth.proofs.Common.{◌≡◌, arith, rules, ℤ, pos, ◌+◌, ◌≤◌, ◌+ℤ◌, ◌-ℤ◌, refl, subst, sym, SFits, w32, to_z, List, Vec, Global, length, ap, ◌∙◌, to_z-of_z, ints, iff_false, err_from_is_err_and}
 use Rattle.slope.specs.declared.pattern.TheConstants.{MOST_OFFSETS}
-use Rattle.slope.specs.Offsets.{Offset}
-use Rattle.slope.specs.Gathering.{Collects, IsBelowPoint}
+use Rattle.slope.specs.Prelude.{Offset, Collects, IsBelowPoint}
 use Rattle.slope.proofs.ConeSteps.{row_begun, row_ended, point_taken, point_passed, refused}
 use Rattle.slope.proofs.cone.add_row.Goals as goal
 use Rattle.slope.proofs.cone.add_row.Goals.{then-is_near+in_ok-add, else-is_near}

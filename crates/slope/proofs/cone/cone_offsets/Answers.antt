@@ -1,5 +1,4 @@
-use Rattle.std.proofs.Common.{◌≡◌, ◌+◌, arith, pos, ℕ, subst}
-use Rattle.std.proofs.lemmas.Result.{err_from_is_err_and}
+use Rattle.fixed_worth.proofs.Common.{◌≡◌, ◌+◌, arith, pos, ℕ, subst, err_from_is_err_and}
 use Rattle.slope.specs.Gathering.{Collects, IsBelowLevel}
 use Rattle.slope.proofs.ConeSteps.{cone_ended, cone_wider}
 use Rattle.slope.proofs.cone.cone_offsets.Goals as goal

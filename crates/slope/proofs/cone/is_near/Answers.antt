@@ -1,5 +1,4 @@
-use Rattle.std.proofs.Common.{arith}
-use Rattle.std.proofs.lemmas.Int.{to_z-of_z}
+use Rattle.fixed_worth.proofs.Common.{arith, to_z-of_z}
 use Rattle.slope.proofs.Distances.{distance_fits}
 use Rattle.slope.proofs.cone.is_near.Goals as goal
 

@@ -1,13 +1,9 @@
 use Rattle.slope.proofs.laws.slopes_are_narrow.Goals as goal
-use Rattle.std.proofs.Common.{◌≡◌, ◌≢◌, ℕ, zero, suc, ◌+◌, ◌<◌, ◌≤◌, ◌==◌, cond, List, length, get_or, sym, ap, ◌∙◌, arith}
-use Rattle.std.proofs.lemmas.Bool.Decides.{nat_tests}
-use Rattle.std.proofs.lemmas.List.{get_or_default}
+use Rattle.fixed_worth.proofs.Common.{◌≡◌, ◌≢◌, ℕ, zero, suc, ◌+◌, ◌<◌, ◌≤◌, ◌==◌, cond, List, length, get_or, sym, ap, ◌∙◌, arith, nat_tests, get_or_default}
 use Rattle.blocks_file.specs.Denotes.{BlocksView}
-use Rattle.prec_file.specs.Rests.{RestsView, first_of, above_of}
-use Rattle.prec_file.specs.Written.{AreNarrow}
+use Rattle.prec_file.specs.Prelude.{RestsView, first_of, above_of, AreNarrow}
 use Rattle.prec_file.proofs.Finding.{above_at, above_rises}
-use Rattle.slope.specs.Offsets.{Offset, IsPattern}
-use Rattle.slope.specs.Slopes.{place_of, offset_between, IsSlopePair, AreSlopes}
+use Rattle.slope.specs.Prelude.{Offset, IsPattern, place_of, offset_between, IsSlopePair, AreSlopes}
 use Rattle.slope.specs.declared.up.Up.{Up}
 use Rattle.slope.specs.declared.selection.Selection.{Selection}
 use Rattle.slope.proofs.Finding.{one_place}

@@ -1,7 +1,4 @@
-use Rattle.std.proofs.lemmas.List.Filters.{dedup_is}
-use Rattle.std.proofs.lemmas.List.Kept.{Contains-dedup, Contains-from_dedup, IsStrictlySortedBy-dedup}
-use Rattle.std.proofs.lemmas.List.Sorted.{Contains-permutation, IsPermutation-sym}
-use Rattle.std.proofs.Common.{rules}
+use Rattle.fixed_worth.proofs.Common.{dedup_is, Contains-dedup, Contains-from_dedup, IsStrictlySortedBy-dedup, Contains-permutation, IsPermutation-sym, rules}
 use Rattle.slope.proofs.OffsetSorting.{offset_eq, offsets_total, offset_ties, offsets_alike, offset_same, rising_from_sorted}
 use Rattle.slope.proofs.offset_order.in_order.Goals as goal
 

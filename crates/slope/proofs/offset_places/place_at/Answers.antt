@@ -1,5 +1,4 @@
-use Rattle.std.proofs.Common.{SFits, w32, rules, arith, ◌∙◌}
-use Rattle.std.proofs.lemmas.Int.{to_z-of_z, ints}
+use Rattle.fixed_worth.proofs.Common.{SFits, w32, rules, arith, ◌∙◌, to_z-of_z, ints}
 use Rattle.slope.proofs.Finding.{first_of, second_of, height_of, at_place}
 use Rattle.slope.proofs.offset_places.place_at.Goals as goal
 

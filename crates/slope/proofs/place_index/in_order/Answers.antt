@@ -1,6 +1,4 @@
-use Rattle.std.proofs.lemmas.List.Filters.{dedup_is}
-use Rattle.std.proofs.lemmas.List.Kept.{Contains-dedup, Contains-from_dedup, IsStrictlySortedBy-dedup}
-use Rattle.std.proofs.lemmas.List.Sorted.{Contains-permutation, IsPermutation-sym}
+use Rattle.fixed_worth.proofs.Common.{dedup_is, Contains-dedup, Contains-from_dedup, IsStrictlySortedBy-dedup, Contains-permutation, IsPermutation-sym}
 use Rattle.slope.proofs.EntryOrder.{entry_eq, entries_total, entry_ties, entries_alike, entry_same, in_order_from_sorted, entries_moved}
 use Rattle.slope.proofs.place_index.in_order.Goals as goal
 

@@ -1,6 +1,5 @@
 use Rattle.std.proofs.Common.{List, Err, subst}
-use Rattle.slope.specs.Offsets.{Offset}
-use Rattle.slope.specs.Gathering.{IsFinding}
+use Rattle.slope.specs.Prelude.{Offset, IsFinding}
 use Rattle.slope.proofs.Finding.{none_at}
 use Rattle.slope.proofs.place_search.block_at.Goals as goal
 

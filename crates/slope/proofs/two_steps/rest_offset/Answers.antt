@@ -1,5 +1,4 @@
-use Rattle.std.proofs.Common.{◌∙◌, ◌-ℤ◌, rules, SFits, w32, w64}
-use Rattle.std.proofs.lemmas.Int.{to_z-of_z}
+use Rattle.fixed_worth.proofs.Common.{◌∙◌, ◌-ℤ◌, rules, SFits, w32, w64, to_z-of_z}
 use Rattle.slope.proofs.two_steps.rest_offset.Goals as goal
 
 pub returns : goal.returns

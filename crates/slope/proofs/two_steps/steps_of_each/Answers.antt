@@ -1,4 +1,4 @@
-use Rattle.std.proofs.Common.{◌+◌, ℕ, List, subst, sym}
+use Rattle.fixed_worth.proofs.Common.{◌+◌, ℕ, List, subst, sym}
 use Rattle.std.specs.Global.{Vec}
 use Rattle.slope.specs.Gathering.{AreStepsOfEach}
 use Rattle.slope.proofs.TwoSteps.{each_more}

@@ -1,7 +1,5 @@
-use Rattle.std.proofs.Common.{◌+◌, ℕ, List, Vec, Global, Contains, ap, subst, sym, ◌∙◌}
-use Rattle.std.proofs.lemmas.Bool.{iff_false}
-use Rattle.slope.specs.Offsets.{Offset}
-use Rattle.slope.specs.Gathering.{rest_after, offset_at, AreFirstSteps}
+use Rattle.fixed_worth.proofs.Common.{◌+◌, ℕ, List, Vec, Global, Contains, ap, subst, sym, ◌∙◌, iff_false}
+use Rattle.slope.specs.Prelude.{Offset, rest_after, offset_at, AreFirstSteps}
 use Rattle.slope.proofs.TwoSteps.{no_steps, step_more, step_passed}
 use Rattle.slope.proofs.two_steps.steps_to.Goals as goal
 use Rattle.slope.proofs.two_steps.steps_to.Goals.{then-leads_on+in_ok-push, else-leads_on}

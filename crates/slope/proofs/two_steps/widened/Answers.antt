@@ -1,6 +1,4 @@
-use Rattle.std.proofs.Common.{◌≡◌, ◌∙◌, ◌++◌, ◌∷◌, [], ap, sym, take, length, arith, List, pos}
-use Rattle.std.proofs.Math.Seq.{take-length}
-use Rattle.std.proofs.lemmas.List.{take_more}
+use Rattle.fixed_worth.proofs.Common.{◌≡◌, ◌∙◌, ◌++◌, ◌∷◌, [], ap, sym, take, length, arith, List, pos, take-length, take_more}
 use Rattle.slope.specs.Offsets.{Offset}
 use Rattle.slope.proofs.two_steps.widened.Goals as goal
 

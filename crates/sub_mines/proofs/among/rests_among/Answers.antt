@@ -1,6 +1,5 @@
-use Rattle.std.proofs.Common.{◌≡◌, length, ap, subst, ◌∙◌}
+use Rattle.fixed_worth.proofs.Common.{◌≡◌, length, ap, subst, ◌∙◌, IfOk-weaker}
 use Rattle.prec_file.specs.Rests.{RestsView, ArePairsOf}
-use Rattle.std.proofs.lemmas.Result.{IfOk-weaker}
 use Rattle.sub_mines.specs.Renumbered.{IsPartPairs}
 use Rattle.sub_mines.proofs.Rows.{rows_known, rows_are_part}
 use Rattle.sub_mines.proofs.among.rests_among.Goals as goal

@@ -1,6 +1,4 @@
-use Rattle.std.proofs.Common.{◌≡◌, ◌∙◌}
-use Rattle.std.specs.Fmt.{decimal}
-use Rattle.std.proofs.lemmas.Result.{on_ok_weaker, on_err_weaker}
+use Rattle.fixed_worth.proofs.Common.{◌≡◌, ◌∙◌, decimal, on_ok_weaker, on_err_weaker}
 use Rattle.trace_file.proofs.Puts.{line_held, space_failed, digits_failed, feed_failed}
 use Rattle.trace_file.proofs.event_line.put_event.Goals as goal
 use Rattle.fixed_worth.proofs.Results.{on_err}

@@ -1,7 +1,4 @@
-use Rattle.std.proofs.Common.{subst, ◌∙◌}
-use Rattle.std.specs.Prelude.{All}
-use Rattle.std.proofs.lemmas.List.{take_all}
-use Rattle.std.proofs.lemmas.Result.{on_ok_weaker, on_err_weaker}
+use Rattle.fixed_worth.proofs.Common.{subst, ◌∙◌, All, take_all, on_ok_weaker, on_err_weaker}
 use Rattle.fixed_worth.proofs.Pieces.{held_sent, held_prefix}
 use Rattle.trace_file.specs.Written.{trace_text}
 use Rattle.trace_file.proofs.RoundTrip.{Fits, written_is_read}

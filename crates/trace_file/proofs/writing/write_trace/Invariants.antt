@@ -1,5 +1,4 @@
-use Rattle.std.proofs.Common.{◌≡◌, take}
-use Rattle.std.specs.Prelude.{All}
+use Rattle.fixed_worth.proofs.Common.{◌≡◌, take, All}
 use Rattle.fixed_worth.specs.Device.{SentOrHeld}
 use Rattle.trace_file.proofs.Puts.{begun}
 use Rattle.trace_file.proofs.RoundTrip.{Fits}

@@ -1,8 +1,7 @@
-use Rattle.std.proofs.Common.{arith}
+use Rattle.fixed_worth.proofs.Common.{arith, common_steps}
 use Rattle.fixed_worth.proofs.NextLine.{Next}
 use Rattle.upit_file.proofs.BodyLines.{passes, keeps}
 use Rattle.upit_file.proofs.body.read_body.Goals as goal
-use Rattle.std.proofs.lemmas.Grind.{common_steps}
 
 pub loop-text-preserved-in-Skipped : goal.loop-text-preserved-in-Skipped
 loop-text-preserved-in-Skipped c =

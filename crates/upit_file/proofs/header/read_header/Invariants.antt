@@ -1,5 +1,4 @@
-use Rattle.std.proofs.Common.{◌≤◌, length, IfSome}
-use Rattle.std.specs.Prelude.{unwrap_or}
+use Rattle.fixed_worth.proofs.Common.{◌≤◌, length, IfSome, unwrap_or}
 use Rattle.fixed_worth.specs.declared.limits.TheConstants.{MOST_BLOCKS}
 use Rattle.fixed_worth.specs.Record.{numbered_lines}
 use Rattle.upit_file.specs.Records.{blocks_declared}

@@ -1,17 +1,8 @@
-use Rattle.std.proofs.Common.{◌≡◌, true, List, ℕ, ℤ, ◌≤◌, ◌^◌, subst, arith, All, ◌+◌, Bool, false, not, eqb, [], ◌∷◌, ◌++◌, length, refl, sym, ap, ◌∙◌}
-use Rattle.std.specs.Prelude.{unsigned_abs, codes}
-use Rattle.upit_file.specs.Records.{is_name, UpitView, lines_in}
+use Rattle.fixed_worth.proofs.Common.{◌≡◌, true, List, ℕ, ℤ, ◌≤◌, ◌^◌, subst, arith, All, ◌+◌, Bool, false, not, eqb, [], ◌∷◌, ◌++◌, length, refl, sym, ap, ◌∙◌, unsigned_abs, codes, list_all, list_any, option_or, decimal, or_parts, list_all-append}
+use Rattle.upit_file.specs.Prelude.{is_name, UpitView, header, last_name, header_fault, body, before_end, first_fault, value_among, header_lines, record_lines, upit_lines, upit_text, IsReadBack}
+use Rattle.fixed_worth.specs.Prelude.{lines_in, Line, numbered_lines}
 use Rattle.upit_file.proofs.laws.written_is_read.Goals as goal
-use Rattle.std.specs.List.{list_all, list_any}
-use Rattle.std.specs.Option.{option_or}
-use Rattle.std.specs.Fmt.{decimal}
-use Rattle.std.proofs.lemmas.Bool.{or_parts}
-use Rattle.std.proofs.lemmas.List.Folds.{list_all-append}
 use Rattle.fixed_worth.specs.declared.limits.TheConstants.{MOST_BLOCKS}
-use Rattle.fixed_worth.specs.Record.{Line, numbered_lines}
-use Rattle.upit_file.specs.Header.{header, last_name, header_fault}
-use Rattle.upit_file.specs.Body.{body, before_end, first_fault, value_among}
-use Rattle.upit_file.specs.Writing.{header_lines, record_lines, upit_lines, upit_text, IsReadBack}
 use Rattle.fixed_worth.proofs.Joined.{is_one_line, lines_cut}
 use Rattle.fixed_worth.proofs.WrittenNumbers.{decimal_is_one_line}
 use Rattle.upit_file.proofs.HeaderBack.{name_whole, written, header_back}

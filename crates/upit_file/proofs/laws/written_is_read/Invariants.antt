@@ -1,5 +1,4 @@
-use Rattle.std.proofs.Common.{ℕ, ℤ, ◌<◌, ◌≤◌, ◌^◌, slice_index_or}
-use Rattle.std.specs.Prelude.{unsigned_abs}
+use Rattle.fixed_worth.proofs.Common.{ℕ, ℤ, ◌<◌, ◌≤◌, ◌^◌, slice_index_or, unsigned_abs}
 use Rattle.upit_file.proofs.laws.written_is_read.Given as goal
 
 abbrev pub invariant-loop-value : goal.invariant-loop-value

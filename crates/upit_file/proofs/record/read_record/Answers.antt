@@ -1,12 +1,8 @@
-use Rattle.std.proofs.Common.{Some, List, map, sym, ap, ◌∙◌, subst, ◌≡◌, ℕ, true, [], ◌∷◌, drop, None, Ok, ℤ, pos, refl}
-use Rattle.fixed_worth.specs.Text.{WordRun}
+use Rattle.fixed_worth.proofs.Common.{Some, List, map, sym, ap, ◌∙◌, subst, ◌≡◌, ℕ, true, [], ◌∷◌, drop, None, Ok, ℤ, pos, refl, is_some, is_ok, unwrap_or, result_ok, result_unwrap_or}
+use Rattle.fixed_worth.specs.Prelude.{WordRun, first_whole, reads, number_of, first_decimal, decimal_of}
 use Rattle.upit_file.specs.declared.record.Record.TheVariants.{Value}
 use Rattle.upit_file.specs.Body.{IsRecord}
 use Rattle.upit_file.proofs.record.read_record.Goals as goal
-use Rattle.std.specs.Prelude.{is_some, is_ok, unwrap_or}
-use Rattle.std.specs.Result.{result_ok, result_unwrap_or}
-use Rattle.fixed_worth.specs.Record.{first_whole, reads, number_of}
-use Rattle.fixed_worth.specs.Decimal.{first_decimal, decimal_of}
 use Rattle.fixed_worth.proofs.FirstNumbers.{first_is, no_field, number_no_remark}
 use Rattle.fixed_worth.proofs.FirstAmounts.{first_amount_is}
 

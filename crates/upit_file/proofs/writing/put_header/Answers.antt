@@ -1,8 +1,5 @@
-use Rattle.std.proofs.Common.{ℕ, List, [], ◌∷◌, ◌++◌, ap, subst, ◌∙◌, arith, codes, decimal}
-use Rattle.std.proofs.lemmas.Grind.{common_steps}
-use Rattle.std.proofs.lemmas.Result.{on_ok_weaker, on_err_weaker, err_from_is_err_and}
-use Rattle.fixed_worth.specs.Laws.{with_line_feeds}
-use Rattle.fixed_worth.specs.Device.{SentOrHeld, ReceivedPrefix}
+use Rattle.fixed_worth.proofs.Common.{ℕ, List, [], ◌∷◌, ◌++◌, ap, subst, ◌∙◌, arith, codes, decimal, common_steps, on_ok_weaker, on_err_weaker, err_from_is_err_and}
+use Rattle.fixed_worth.specs.Prelude.{with_line_feeds, SentOrHeld, ReceivedPrefix}
 use Rattle.upit_file.proofs.LineFeeds.{held_lines, prefix_lines, prefix_before}
 use Rattle.upit_file.proofs.writing.put_header.Goals as goal
 
@@ -26,7 +23,7 @@ returns-in_err-put_line-clause-prefix g c =
 pub returns-in_err-put_line-2-clause-prefix : goal.returns-in_err-put_line-2-clause-prefix
 returns-in_err-put_line-2-clause-prefix g c =
     rw (err_from_is_err_and c.from_residual-in_err-put_line-2.result c.from_residual-in_err-put_line-2.ensures.1).1
-        (prefix_before _ _ _ (name_line c.args.name.now ∷ type_line ∷ []) (count_line (decimal c.args.n) ∷ last_line ∷ []) (prefix_lines _ _ _ _ _ (name_line c.args.name.now ∷ []) (type_line ∷ []) c.in_ok-put_line.ensures.held c.in_err-put_line-2.ensures.prefix))
+    (prefix_before _ _ _ (name_line c.args.name.now ∷ type_line ∷ []) (count_line (decimal c.args.n) ∷ last_line ∷ []) (prefix_lines _ _ _ _ _ (name_line c.args.name.now ∷ []) (type_line ∷ []) c.in_ok-put_line.ensures.held c.in_err-put_line-2.ensures.prefix))
 
 pub returns-in_err-put_line-3-clause-prefix : goal.returns-in_err-put_line-3-clause-prefix
 returns-in_err-put_line-3-clause-prefix g c =
@@ -48,8 +45,8 @@ returns g c =
     let e = g.W.Write.contents c.put_line-3.new.out in
     let f = g.W.Write.contents c.put_line-4.new.out in
     let three = held_lines a d e c.args.page.now c.put_line-2.new.page c.put_line-3.new.page (name_line c.args.name.now ∷ type_line ∷ []) (count_line (decimal c.args.n) ∷ [])
-        (held_lines a (g.W.Write.contents c.put_line.new.out) d c.args.page.now c.put_line.new.page c.put_line-2.new.page (name_line c.args.name.now ∷ []) (type_line ∷ []) c.in_ok-put_line.ensures.held c.in_ok-put_line-2.ensures.held)
-        (subst (λ (t : List ℕ). SentOrHeld d e c.put_line-3.new.page (c.put_line-2.new.page ++ with_line_feeds (count_line t ∷ []))) (c.as_bytes.ensures ∙ c.of-count.ensures.digits ∙ ap decimal c.from.ensures) c.in_ok-put_line-3.ensures.held) in
+    (held_lines a (g.W.Write.contents c.put_line.new.out) d c.args.page.now c.put_line.new.page c.put_line-2.new.page (name_line c.args.name.now ∷ []) (type_line ∷ []) c.in_ok-put_line.ensures.held c.in_ok-put_line-2.ensures.held)
+    (subst (λ (t : List ℕ). SentOrHeld d e c.put_line-3.new.page (c.put_line-2.new.page ++ with_line_feeds (count_line t ∷ []))) (c.as_bytes.ensures ∙ c.of-count.ensures.digits ∙ ap decimal c.from.ensures) c.in_ok-put_line-3.ensures.held) in
     let all = name_line c.args.name.now ∷ type_line ∷ count_line (decimal c.args.n) ∷ [] in
     record {
       held = on_ok_weaker c.put_line-4.result (held_lines a e f c.args.page.now c.put_line-3.new.page c.put_line-4.new.page all (last_line ∷ []) three) c.put_line-4.ensures.held;

@@ -1,10 +1,7 @@
-use Rattle.std.proofs.Common.{◌≡◌, [], ◌++◌, pos, get_or, ap, ◌∙◌, append-nil, arith}
-use Rattle.std.proofs.lemmas.List.{get_or_read}
-use Rattle.std.proofs.lemmas.Result.{err_from_is_err_and}
+use Rattle.fixed_worth.proofs.Common.{◌≡◌, [], ◌++◌, pos, get_or, ap, ◌∙◌, append-nil, arith, get_or_read, err_from_is_err_and, common_steps}
 use Rattle.upit_file.specs.Writing.{record_line}
 use Rattle.upit_file.proofs.LineFeeds.{held_record, prefix_record}
 use Rattle.upit_file.proofs.writing.put_records.Goals as goal
-use Rattle.std.proofs.lemmas.Grind.{common_steps}
 
 pub returns-in_err-put_line-clause-prefix : goal.returns-in_err-put_line-clause-prefix
 returns-in_err-put_line-clause-prefix g c =

@@ -1,6 +1,5 @@
 use Rattle.std.proofs.Common.{◌≡◌, ◌++◌, take}
-use Rattle.fixed_worth.specs.Device.{SentOrHeld}
-use Rattle.fixed_worth.specs.Laws.{with_line_feeds}
+use Rattle.fixed_worth.specs.Prelude.{SentOrHeld, with_line_feeds}
 use Rattle.upit_file.specs.Writing.{record_lines}
 use Rattle.upit_file.proofs.writing.put_records.Given as goal
 

@@ -1,8 +1,5 @@
-use Rattle.std.proofs.Common.{◌≡◌, ℕ, List, [], ◌∷◌, ◌++◌, length, ap, ap₂, subst, ◌∙◌, arith, codes}
-use Rattle.std.proofs.lemmas.Grind.{common_steps}
-use Rattle.std.proofs.lemmas.Result.{on_ok_weaker, on_err_weaker, err_from_is_err_and}
-use Rattle.fixed_worth.specs.Laws.{with_line_feeds}
-use Rattle.fixed_worth.specs.Device.{SentOrHeld, ReceivedPrefix}
+use Rattle.fixed_worth.proofs.Common.{◌≡◌, ℕ, List, [], ◌∷◌, ◌++◌, length, ap, ap₂, subst, ◌∙◌, arith, codes, common_steps, on_ok_weaker, on_err_weaker, err_from_is_err_and}
+use Rattle.fixed_worth.specs.Prelude.{with_line_feeds, SentOrHeld, ReceivedPrefix}
 use Rattle.fixed_worth.proofs.Pieces.{held_sent, held_prefix}
 use Rattle.upit_file.specs.Writing.{header_lines, record_lines}
 use Rattle.upit_file.proofs.LineFeeds.{two_groups, prefix_one, prefix_two, prefix_three, all_groups}

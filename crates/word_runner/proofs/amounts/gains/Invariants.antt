@@ -1,7 +1,5 @@
-use Rattle.std.proofs.Common.{◌≡◌, ◌<◌, ◌≤◌, ◌-◌, ◌^◌, ℕ, length}
-use Rattle.std.specs.Prelude.{slice_index}
-use Rattle.ordered_group.specs.Amount.{positive}
-use Rattle.ordered_group.specs.Sums.{amount_at, total}
+use Rattle.fixed_worth.proofs.Common.{◌≡◌, ◌<◌, ◌≤◌, ◌-◌, ◌^◌, ℕ, length, slice_index}
+use Rattle.ordered_group.specs.Prelude.{positive, amount_at, total}
 use Rattle.word_runner.specs.Layout.{units}
 use Rattle.word_runner.proofs.amounts.gains.Given as goal
 

@@ -1,7 +1,5 @@
-use Rattle.std.proofs.Common.{◌≡◌, ◌<◌, ◌≤◌, ◌-◌, ℕ, length}
-use Rattle.std.specs.Prelude.{slice_index}
-use Rattle.ordered_group.specs.Amount.{negative}
-use Rattle.ordered_group.specs.Sums.{amount_at}
+use Rattle.fixed_worth.proofs.Common.{◌≡◌, ◌<◌, ◌≤◌, ◌-◌, ℕ, length, slice_index}
+use Rattle.ordered_group.specs.Prelude.{negative, amount_at}
 use Rattle.word_runner.specs.Layout.{units}
 use Rattle.word_runner.proofs.amounts.losses.Given as goal
 

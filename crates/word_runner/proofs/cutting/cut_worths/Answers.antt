@@ -1,6 +1,5 @@
 use Rattle.std.proofs.Common.{rules, subst}
-use Rattle.ordered_group.specs.Amount.{Amount}
-use Rattle.ordered_group.specs.Sums.{amount_at}
+use Rattle.ordered_group.specs.Prelude.{Amount, amount_at}
 use Rattle.word_runner.specs.CutNets.{scaled_parts, IsCutWorth}
 use Rattle.word_runner.proofs.Cuts.{pushed_all}
 use Rattle.word_runner.proofs.cutting.cut_worths.Goals as goal

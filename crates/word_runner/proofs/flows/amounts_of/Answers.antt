@@ -1,6 +1,4 @@
-use Rattle.std.proofs.Common.{rules, ◌≡◌, ◌+◌, ◌∙◌, ◌++◌, ◌∷◌, [], pos, ap, sym}
-use Rattle.std.specs.Prelude.{slice_index}
-use Rattle.std.specs.Mem.Slots.{slots_items}
+use Rattle.fixed_worth.proofs.Common.{rules, ◌≡◌, ◌+◌, ◌∙◌, ◌++◌, ◌∷◌, [], pos, ap, sym, slice_index, slots_items}
 use Rattle.ordered_group.specs.declared.scaled.Scaled.{Scaled}
 use Rattle.word_runner.specs.Layout.{units}
 use Rattle.word_runner.proofs.Lists.{pushed_each}

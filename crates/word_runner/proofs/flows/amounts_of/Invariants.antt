@@ -1,9 +1,6 @@
-use Rattle.std.proofs.Common.{◌≡◌, ◌<◌, ◌≤◌, ◌+◌, ◌-◌, ℕ, length, map}
-use Rattle.std.specs.Prelude.{slice_index}
-use Rattle.std.specs.Mem.Slots.{slots_items}
+use Rattle.fixed_worth.proofs.Common.{◌≡◌, ◌<◌, ◌≤◌, ◌+◌, ◌-◌, ℕ, length, map, slice_index, slots_items}
 use Rattle.ordered_group.specs.Sums.{amount_at}
-use Rattle.word_runner.specs.Layout.{units}
-use Rattle.word_runner.specs.CutNets.{scaled_parts}
+use Rattle.word_runner.specs.Prelude.{units, scaled_parts}
 use Rattle.word_runner.proofs.flows.amounts_of.Given as goal
 
 abbrev pub invariant-loop-k : goal.invariant-loop-k

@@ -1,8 +1,5 @@
-use Rattle.std.proofs.Common.{rules, ◌≡◌, ◌<◌, ◌++◌, ◌∷◌, []}
-use Rattle.std.specs.Prelude.{slice_index}
-use Rattle.std.specs.Mem.Slots.{slots_items}
-use Rattle.ordered_group.specs.Amount.{minus, negative}
-use Rattle.ordered_group.specs.Sums.{amount_at}
+use Rattle.fixed_worth.proofs.Common.{rules, ◌≡◌, ◌<◌, ◌++◌, ◌∷◌, [], slice_index, slots_items}
+use Rattle.ordered_group.specs.Prelude.{minus, negative, amount_at}
 use Rattle.word_runner.specs.Layout.{units, count, room_at}
 use Rattle.word_runner.proofs.Lists.{pushed_each}
 use Rattle.word_runner.proofs.Settles.{room_within, given_is}

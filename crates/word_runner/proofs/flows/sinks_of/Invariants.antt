@@ -1,10 +1,6 @@
-use Rattle.std.proofs.Common.{◌≡◌, ◌<◌, ◌≤◌, ◌-◌, ℕ, length, map}
-use Rattle.std.specs.Prelude.{slice_index}
-use Rattle.std.specs.Mem.Slots.{slots_items}
-use Rattle.ordered_group.specs.Amount.{minus, negative}
-use Rattle.ordered_group.specs.Sums.{amount_at}
-use Rattle.word_runner.specs.Layout.{units, room_at}
-use Rattle.word_runner.specs.CutNets.{scaled_parts}
+use Rattle.fixed_worth.proofs.Common.{◌≡◌, ◌<◌, ◌≤◌, ◌-◌, ℕ, length, map, slice_index, slots_items}
+use Rattle.ordered_group.specs.Prelude.{minus, negative, amount_at}
+use Rattle.word_runner.specs.Prelude.{units, room_at, scaled_parts}
 use Rattle.word_runner.proofs.flows.sinks_of.Given as goal
 
 abbrev pub invariant-loop-b : goal.invariant-loop-b

@@ -1,6 +1,5 @@
 use Rattle.std.proofs.Common.{◌∙◌, ap, sym, arith}
-use Rattle.word_runner.specs.Halves.{IsSole}
-use Rattle.word_runner.specs.Seats.{Own, WordsView}
+use Rattle.word_runner.specs.Prelude.{IsSole, Own, WordsView}
 use Rattle.word_runner.proofs.Begins.{splits}
 use Rattle.word_runner.proofs.opening.split.Goals as goal
 

@@ -2,9 +2,7 @@ use Rattle.std.proofs.Common.{rules, refl, replicate, ◌≡◌, ◌∙◌, ℕ,
 use Rattle.atomic_table.specs.Table.{opening}
 use Rattle.ordered_group.specs.Amount.{Amount, AtMost}
 use Rattle.closure_net.specs.Network.{NetView}
-use Rattle.word_runner.specs.Layout.{units, count, width}
-use Rattle.word_runner.specs.Views.{start_words, first_view, IsRuled}
-use Rattle.word_runner.specs.CutNets.{AreGains}
+use Rattle.word_runner.specs.Prelude.{units, count, width, start_words, first_view, IsRuled, AreGains}
 use Rattle.word_runner.proofs.Begins.{begins, widths}
 use Rattle.word_runner.proofs.Cuts.{cut_gains}
 use Rattle.word_runner.proofs.Units.{units_above}

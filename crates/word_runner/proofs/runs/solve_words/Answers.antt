@@ -1,5 +1,4 @@
-use Rattle.std.proofs.Common.{rules, ◌∙◌, ◌++◌, sym, arith}
-use Rattle.std.proofs.lemmas.List.{length-append}
+use Rattle.fixed_worth.proofs.Common.{rules, ◌∙◌, ◌++◌, sym, arith, length-append}
 use Rattle.word_runner.specs.Openings.{AreNeitherOneNorTwo}
 use Rattle.word_runner.proofs.Ends.{on_sides, fault_ends, solved_ends}
 use Rattle.word_runner.proofs.runs.solve_words.Goals as goal

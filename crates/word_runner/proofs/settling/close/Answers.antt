@@ -1,8 +1,6 @@
 use Rattle.std.proofs.Common.{rules, ap, subst}
 use Rattle.closure_net.specs.Network.{NetView}
-use Rattle.word_runner.specs.Seats.{WordsView}
-use Rattle.word_runner.specs.Runs.{IsOpenRunOf}
-use Rattle.word_runner.specs.Ends.{IsQuietEnd}
+use Rattle.word_runner.specs.Prelude.{WordsView, IsOpenRunOf, IsQuietEnd}
 use Rattle.word_runner.proofs.Settles.{rooms_closed, ends_closed, open_closed}
 use Rattle.word_runner.proofs.settling.close.Goals as goal
 

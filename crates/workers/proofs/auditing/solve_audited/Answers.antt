@@ -1,5 +1,4 @@
-use Rattle.std.proofs.Common.{arith, subst}
-use Rattle.std.specs.Prelude.{MatchResult}
+use Rattle.fixed_worth.proofs.Common.{arith, subst, MatchResult}
 use Rattle.closure_net.specs.Network.{NetView}
 use Rattle.workers.specs.Auditing.{IsAudit, AuditRunFaultStands}
 use Rattle.workers.proofs.AuditEnds.{answered, good_workers}

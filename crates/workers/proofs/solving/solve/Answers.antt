@@ -1,8 +1,6 @@
-use Rattle.std.proofs.Common.{subst}
-use Rattle.std.specs.Prelude.{MatchResult}
+use Rattle.fixed_worth.proofs.Common.{subst, MatchResult}
 use Rattle.closure_net.specs.Network.{NetView}
-use Rattle.workers.specs.Runs.{Settles}
-use Rattle.workers.specs.Solving.{RunFaultStands}
+use Rattle.workers.specs.Prelude.{Settles, RunFaultStands}
 use Rattle.workers.proofs.RunEnds.{answers}
 use Rattle.workers.proofs.solving.solve.Goals as goal
 

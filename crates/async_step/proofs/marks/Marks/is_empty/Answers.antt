@@ -1,5 +1,4 @@
-use Rattle.std.proofs.Common.{◌↔◌, subst, length, IsTrue, nat_eq}
-use Rattle.std.proofs.lemmas.Bool.{eq-eqb, eqb-true}
+use Rattle.fixed_worth.proofs.Common.{◌↔◌, subst, length, IsTrue, nat_eq, eq-eqb, eqb-true}
 use Rattle.async_step.specs.Marks.{NoneWithin}
 use Rattle.async_step.proofs.Gaps.{empty_tells}
 use Rattle.async_step.proofs.marks.Marks.is_empty.Goals as goal

@@ -1,7 +1,6 @@
-use Rattle.std.proofs.Common.{length, arith, ap}
+use Rattle.fixed_worth.proofs.Common.{length, arith, ap, common_steps}
 use Rattle.async_step.proofs.Counts.{level_can_shift, all_can_shift, marks_set, differ}
 use Rattle.async_step.proofs.marks.Marks.set.Goals as goal
-use Rattle.std.proofs.lemmas.Grind.{common_steps}
 
 pub count_after_shift-requires : goal.count_after_shift-requires
 count_after_shift-requires c = level_can_shift _ _ _ _ _ _ _ (omega (arith, c.requires, ap length c.self.view_is)) c.index.ensures (differ _ _ c.if-index-marked.false) (omega arith) (omega arith) c.self.invariant.small c.index-2.ensures

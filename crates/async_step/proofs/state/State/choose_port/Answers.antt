@@ -1,8 +1,7 @@
 use Rattle.std.proofs.Common.{◌+◌, subst, sym, refl, ℕ, List}
 use Rattle.ordered_group.specs.Amount.{Amount}
 use Rattle.machine_law.specs.declared.operations.Operation.{Operation}
-use Rattle.async_step.specs.Views.{StateView, view_of, IsState, operation_at}
-use Rattle.async_step.specs.Scans.{after_label_by}
+use Rattle.async_step.specs.Prelude.{StateView, view_of, IsState, operation_at, after_label_by}
 use Rattle.machine_law.specs.Reads.{LooksAtPort}
 use Rattle.async_step.proofs.Changes.{state_works}
 use Rattle.async_step.proofs.Scanning.{scan_works, chosen_works, scan_in_place, step_in_place, becomes}

@@ -1,8 +1,7 @@
 use Rattle.std.proofs.Common.{subst, sym}
 use Rattle.closure_net.specs.declared.port.PortKind.{PortKind}
 use Rattle.machine_law.specs.Steps.{after_give_by}
-use Rattle.async_step.specs.Views.{state_of}
-use Rattle.async_step.specs.Answers.{Leads}
+use Rattle.async_step.specs.Prelude.{state_of, Leads}
 use Rattle.async_step.proofs.state.State.give.Goals as goal
 
 pub returns-in-Sink : goal.returns-in-Sink

@@ -1,14 +1,10 @@
-use Rattle.std.proofs.Common.{◌≡◌, ◌<◌, ◌+◌, ◌∙◌, not, ◌&&◌, ◌||◌, ap, ap₂, subst, sym, set, List, Bool, length, arith}
-use Rattle.std.proofs.lemmas.List.{map-set, length-map, get_or-map}
-use Rattle.ordered_group.specs.Amount.{Amount, zero_amount, is_zero}
-use Rattle.ordered_group.specs.Sums.{amount_at}
+use Rattle.fixed_worth.proofs.Common.{◌≡◌, ◌<◌, ◌+◌, ◌∙◌, not, ◌&&◌, ◌||◌, ap, ap₂, subst, sym, set, List, Bool, length, arith, map-set, length-map, get_or-map, common_steps}
+use Rattle.ordered_group.specs.Prelude.{Amount, zero_amount, is_zero, amount_at}
 use Rattle.machine_law.specs.declared.operations.Operation.{Operation}
-use Rattle.machine_law.specs.Operations.{operation_as}
-use Rattle.machine_law.specs.Reads.{is_positive}
+use Rattle.machine_law.specs.Prelude.{operation_as, is_positive}
 use Rattle.async_step.specs.Views.{StateView, view_of, IsState, is_waiting, is_busy}
 use Rattle.async_step.proofs.Changes.{state_operation}
 use Rattle.async_step.proofs.state.State.go_on.Goals as goal
-use Rattle.std.proofs.lemmas.Grind.{common_steps}
 
 pub invariant_of-self : goal.invariant_of-self
 invariant_of-self g c =

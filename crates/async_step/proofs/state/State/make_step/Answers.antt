@@ -1,12 +1,9 @@
 use Rattle.std.proofs.Common.{◌<◌, ◌+◌, ◌∙◌, ap, subst, sym, refl, set}
 use Rattle.ordered_group.specs.Amount.{Amount}
 use Rattle.machine_law.specs.declared.operations.Operation.{Operation}
-use Rattle.machine_law.specs.Operations.{operation_as}
-use Rattle.machine_law.specs.Steps.{with_operation}
+use Rattle.machine_law.specs.Prelude.{operation_as, with_operation}
 use Rattle.async_step.specs.declared.limits.TheConstants.{MOST_STEPS}
-use Rattle.async_step.specs.Views.{StateView, state_of}
-use Rattle.async_step.specs.Answers.{GoesTo}
-use Rattle.async_step.specs.Changes.{change_as, after_change}
+use Rattle.async_step.specs.Prelude.{StateView, state_of, GoesTo, change_as, after_change}
 use Rattle.async_step.specs.declared.changing.Change.{Change}
 use Rattle.async_step.proofs.Becoming.{not_full, fits_changed, goes}
 use Rattle.async_step.proofs.state.State.make_step.Goals as goal

@@ -1,7 +1,6 @@
-use Rattle.std.proofs.Common.{arith}
+use Rattle.fixed_worth.proofs.Common.{arith, common_steps}
 use Rattle.async_step.proofs.Becoming.{fits_value, room_here, too_large}
 use Rattle.async_step.proofs.state.State.move_to_sink.Goals as goal
-use Rattle.std.proofs.lemmas.Grind.{common_steps}
 
 pub returns-in_err-_room : goal.returns-in_err-_room
 returns-in_err-_room g c = grind (arith, common_steps, too_large, room_here)

@@ -1,7 +1,6 @@
-use Rattle.std.proofs.Common.{refl, arith}
+use Rattle.fixed_worth.proofs.Common.{refl, arith, common_steps}
 use Rattle.async_step.proofs.Turns.{stepped, still_state}
 use Rattle.async_step.proofs.state.State.next_step.Goals as goal
-use Rattle.std.proofs.lemmas.Grind.{common_steps}
 
 pub returns-clause-made : goal.returns-clause-made
 returns-clause-made g c = grind (arith, common_steps, stepped)

@@ -1,10 +1,7 @@
-use Rattle.std.proofs.Common.{◌≡◌, ◌∙◌, ap, sym, subst, map, length, replicate, List, arith, rules, refl, not}
-use Rattle.std.proofs.lemmas.List.{length-map}
-use Rattle.ordered_group.specs.Amount.{positive, is_zero}
+use Rattle.fixed_worth.proofs.Common.{◌≡◌, ◌∙◌, ap, sym, subst, map, length, replicate, List, arith, rules, refl, not, length-map}
+use Rattle.ordered_group.specs.Prelude.{positive, is_zero, amount_at}
 use Rattle.machine_law.specs.declared.operations.Operation.TheVariants.{Idle}
-use Rattle.machine_law.specs.Operations.{operation_as}
-use Rattle.machine_law.specs.Reads.{is_positive}
-use Rattle.ordered_group.specs.Sums.{amount_at}
+use Rattle.machine_law.specs.Prelude.{operation_as, is_positive}
 use Rattle.async_step.specs.Views.{StateView, view_of, IsMarked}
 use Rattle.async_step.proofs.Opens.{shows_opening, opens, opening_state, mapped_replicate}
 use Rattle.async_step.proofs.state.State.open.Goals as goal

@@ -2,12 +2,9 @@ use Rattle.std.proofs.Common.{ℕ, ◌<◌, ◌+◌, ◌∙◌, ap, ap₂, subst
 use Rattle.ordered_group.specs.Amount.{Amount}
 use Rattle.closure_net.specs.Ports.{ports}
 use Rattle.machine_law.specs.declared.operations.Operation.{Operation}
-use Rattle.machine_law.specs.Residual.{end_label}
-use Rattle.machine_law.specs.Steps.{with_operation}
+use Rattle.machine_law.specs.Prelude.{end_label, with_operation}
 use Rattle.async_step.specs.declared.limits.TheConstants.{MOST_STEPS}
-use Rattle.async_step.specs.Views.{StateView, state_of}
-use Rattle.async_step.specs.Scans.{after_label_by}
-use Rattle.async_step.specs.Answers.{GoesTo}
+use Rattle.async_step.specs.Prelude.{StateView, state_of, after_label_by, GoesTo}
 use Rattle.async_step.specs.declared.saw.Saw.TheVariants.{Label}
 use Rattle.async_step.proofs.Becoming.{not_full, goes}
 use Rattle.async_step.specs.declared.changing.Change.TheVariants.{Nothing}

@@ -1,10 +1,8 @@
-use Rattle.std.proofs.Common.{Bool, subst, arith}
+use Rattle.fixed_worth.proofs.Common.{Bool, subst, arith, common_steps}
 use Rattle.machine_law.proofs.PortLists.{port-at}
-use Rattle.async_step.specs.Views.{state_of}
-use Rattle.async_step.specs.Scans.{IsScanAt}
+use Rattle.async_step.specs.Prelude.{state_of, IsScanAt}
 use Rattle.async_step.proofs.Turns.{scan_within, scan_is, scan_reads, scan_looks}
 use Rattle.async_step.proofs.state.State.scan.Goals as goal
-use Rattle.std.proofs.lemmas.Grind.{common_steps}
 
 pub port-port-requires-clause-inside : goal.port-port-requires-clause-inside
 port-port-requires-clause-inside g c κs within = scan_within c.args.net.now c.args.self.now c.args.block c.args.place c.args.is_read c.requires.over c.requires.scan

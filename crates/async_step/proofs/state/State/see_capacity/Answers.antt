@@ -1,13 +1,8 @@
-use Rattle.std.proofs.Common.{◌≡◌, ◌+◌, ◌∙◌, not, ◌&&◌, ◌||◌, ap, ap₂, subst, sym, refl, set, ℕ, List, Bool, true, arith}
-use Rattle.std.specs.Prelude.{slice_index}
-use Rattle.std.proofs.lemmas.List.{length-map, get_or-map}
-use Rattle.ordered_group.specs.Amount.{Amount, zero_amount, is_zero}
-use Rattle.ordered_group.specs.Sums.{amount_at}
+use Rattle.fixed_worth.proofs.Common.{◌≡◌, ◌+◌, ◌∙◌, not, ◌&&◌, ◌||◌, ap, ap₂, subst, sym, refl, set, ℕ, List, Bool, true, arith, slice_index, length-map, get_or-map}
+use Rattle.ordered_group.specs.Prelude.{Amount, zero_amount, is_zero, amount_at}
 use Rattle.machine_law.specs.declared.operations.Operation.{Operation}
-use Rattle.machine_law.specs.Operations.{is_idle}
-use Rattle.machine_law.specs.Reads.{is_positive, LooksAtPort}
-use Rattle.async_step.specs.Views.{StateView, view_of, IsState, operation_at, is_waiting, is_busy}
-use Rattle.async_step.specs.Scans.{after_capacity_by}
+use Rattle.machine_law.specs.Prelude.{is_idle, is_positive, LooksAtPort}
+use Rattle.async_step.specs.Prelude.{StateView, view_of, IsState, operation_at, is_waiting, is_busy, after_capacity_by}
 use Rattle.async_step.proofs.Changes.{state_operation, state_works}
 use Rattle.async_step.proofs.Scanning.{scan_works, scan_in_place, step_in_place, idle_now, becomes}
 use Rattle.async_step.proofs.state.State.see_capacity.Goals as goal

@@ -1,13 +1,10 @@
-use Rattle.std.proofs.Common.{◌≡◌, ◌<◌, ◌∙◌, not, ◌&&◌, ◌||◌, ap, subst, sym, set, List, Bool, length, arith}
-use Rattle.std.proofs.lemmas.List.{map-set, length-map, get_or-map}
+use Rattle.fixed_worth.proofs.Common.{◌≡◌, ◌<◌, ◌∙◌, not, ◌&&◌, ◌||◌, ap, subst, sym, set, List, Bool, length, arith, map-set, length-map, get_or-map, common_steps}
 use Rattle.ordered_group.specs.Amount.{Amount, is_zero}
 use Rattle.machine_law.specs.declared.operations.Operation.TheVariants.{Idle}
-use Rattle.machine_law.specs.Operations.{operation_as, is_idle}
-use Rattle.machine_law.specs.Reads.{is_positive}
+use Rattle.machine_law.specs.Prelude.{operation_as, is_idle, is_positive}
 use Rattle.async_step.specs.Views.{StateView, view_of, IsState, operation_at, is_waiting, is_busy}
 use Rattle.async_step.proofs.Changes.{state_excess}
 use Rattle.async_step.proofs.state.State.set_excess.Goals as goal
-use Rattle.std.proofs.lemmas.Grind.{common_steps}
 
 pub invariant_of-self : goal.invariant_of-self
 invariant_of-self g c =

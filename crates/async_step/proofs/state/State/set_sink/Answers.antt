@@ -1,10 +1,8 @@
-use Rattle.std.proofs.Common.{subst, sym, List, arith}
-use Rattle.std.proofs.lemmas.List.{map-set}
+use Rattle.fixed_worth.proofs.Common.{subst, sym, List, arith, map-set, common_steps}
 use Rattle.ordered_group.specs.Amount.{Amount}
 use Rattle.async_step.specs.Views.{StateView, view_of, IsState}
 use Rattle.async_step.proofs.Changes.{state_sink}
 use Rattle.async_step.proofs.state.State.set_sink.Goals as goal
-use Rattle.std.proofs.lemmas.Grind.{common_steps}
 
 pub invariant_of-self : goal.invariant_of-self
 invariant_of-self g c =

@@ -1,5 +1,4 @@
-use Rattle.std.proofs.Common.{◌∙◌, sym, arith, rules}
-use Rattle.std.proofs.lemmas.Bool.{not-false}
+use Rattle.fixed_worth.proofs.Common.{◌∙◌, sym, arith, rules, not-false}
 use denote.Enum.Bare.{same_true}
 use Rattle.machine_law.specs.contracts.events.Kind.{the_type}
 use Rattle.async_step.proofs.Turns.{stepped, still_state}

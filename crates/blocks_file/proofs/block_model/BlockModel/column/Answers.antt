@@ -1,5 +1,4 @@
-use Rattle.std.proofs.Common.{pos, ◌+◌, ◌*◌, ◌<◌, [], length, get_or, sym, ap, ◌∙◌, arith}
-use Rattle.std.proofs.lemmas.List.{get_or_read}
+use Rattle.fixed_worth.proofs.Common.{pos, ◌+◌, ◌*◌, ◌<◌, [], length, get_or, sym, ap, ◌∙◌, arith, get_or_read}
 use Rattle.blocks_file.proofs.Slots.{columns_length, slot_below, column_at}
 use Rattle.blocks_file.proofs.block_model.BlockModel.column.Goals as goal
 

@@ -1,8 +1,5 @@
-use Rattle.std.proofs.Common.{◌≡◌, ◌≤◌, ℕ, ◌∙◌, min, true, ap, sym, subst, arith}
-use Rattle.std.proofs.Math.Nat.{min-le_left, min-le_right}
-use Rattle.boards.specs.Boards.{shown_state}
-use Rattle.boards.specs.Ends.{HasEnded}
-use Rattle.boards.specs.Audits.{AuditView, audit_of, IsToldAs, AuditGoesOn}
+use Rattle.fixed_worth.proofs.Common.{◌≡◌, ◌≤◌, ℕ, ◌∙◌, min, true, ap, sym, subst, arith, min-le_left, min-le_right}
+use Rattle.boards.specs.Prelude.{shown_state, HasEnded, AuditView, audit_of, IsToldAs, AuditGoesOn}
 use Rattle.machine_law.specs.declared.events.TheConstants.{MOST_EVENTS}
 use Rattle.boards.proofs.Audits.{audited, audit_goes_on, run_ended}
 use Rattle.boards.proofs.audited_board.Audited.finish.Goals as goal

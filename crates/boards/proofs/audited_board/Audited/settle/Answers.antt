@@ -1,7 +1,6 @@
 use Rattle.std.proofs.Common.{refl, subst}
 use Rattle.machine_law.specs.States.{IsQuiet}
-use Rattle.boards.specs.Boards.{BoardView, shown_state, HasSettled}
-use Rattle.boards.specs.Audits.{AuditView, audit_of, HasAuditSettled}
+use Rattle.boards.specs.Prelude.{BoardView, shown_state, HasSettled, AuditView, audit_of, HasAuditSettled}
 use Rattle.boards.proofs.Ends.{unquiet}
 use Rattle.boards.proofs.Audits.{audit_settled}
 use Rattle.boards.proofs.audited_board.Audited.settle.Goals as goal

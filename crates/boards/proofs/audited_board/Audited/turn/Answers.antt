@@ -1,9 +1,5 @@
-use Rattle.std.proofs.Common.{◌≡◌, ◌≤◌, ◌∙◌, min, true, ap, sym, subst, arith}
-use Rattle.std.proofs.Math.Nat.{min-le_right}
-use Rattle.boards.specs.Boards.{shown_state}
-use Rattle.boards.specs.Turns.{IsTurn, IsTurnEnd}
-use Rattle.boards.specs.Records.{RecordView}
-use Rattle.boards.specs.Audits.{AuditView, audit_of, IsAuditTurn, IsToldAs}
+use Rattle.fixed_worth.proofs.Common.{◌≡◌, ◌≤◌, ◌∙◌, min, true, ap, sym, subst, arith, min-le_right}
+use Rattle.boards.specs.Prelude.{shown_state, IsTurn, IsTurnEnd, RecordView, AuditView, audit_of, IsAuditTurn, IsToldAs}
 use Rattle.machine_law.specs.declared.events.TheConstants.{MOST_EVENTS}
 use Rattle.boards.specs.declared.turn.Turn.{Turn}
 use Rattle.boards.specs.declared.turn.Turn.TheVariants.{Stepped, Idle as Unserved}

@@ -1,8 +1,7 @@
 use Rattle.std.proofs.Common.{◌∙◌, ap, subst}
 use Rattle.machine_law.specs.States.{IsQuiet}
 use Rattle.async_step.specs.Views.{StateView}
-use Rattle.boards.specs.Boards.{BoardView, board_view, shown_state}
-use Rattle.boards.specs.Boards.{HasSettled}
+use Rattle.boards.specs.Prelude.{BoardView, board_view, shown_state, HasSettled}
 use Rattle.boards.proofs.Ends.{settled}
 use Rattle.boards.proofs.board.Board.settle.Goals as goal
 

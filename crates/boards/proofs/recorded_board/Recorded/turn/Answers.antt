@@ -1,8 +1,6 @@
-use Rattle.std.proofs.Common.{◌≡◌, ◌≤◌, List, true, ap, sym, subst, ◌∙◌, arith}
-use Rattle.std.specs.Prelude.{vec_capacity}
+use Rattle.fixed_worth.proofs.Common.{◌≡◌, ◌≤◌, List, true, ap, sym, subst, ◌∙◌, arith, vec_capacity}
 use Rattle.machine_law.specs.declared.events.Event.{Event}
-use Rattle.boards.specs.Turns.{IsTurn}
-use Rattle.boards.specs.Records.{RecordView, record_view, RecordsTurns, written_by, events_after, Writes}
+use Rattle.boards.specs.Prelude.{IsTurn, RecordView, record_view, RecordsTurns, written_by, events_after, Writes}
 use Rattle.boards.proofs.Ends.{turn_of_step}
 use Rattle.boards.proofs.Records.{room_due, written_is, recorded}
 use Rattle.boards.proofs.recorded_board.Recorded.turn.Goals as goal

@@ -1,6 +1,5 @@
 use Rattle.std.proofs.Common.{subst}
-use Rattle.boards.specs.Boards.{BoardView}
-use Rattle.boards.specs.Turns.{IsTurn}
+use Rattle.boards.specs.Prelude.{BoardView, IsTurn}
 use Rattle.boards.proofs.turn_board.TurnBoard.turn.Goals as goal
 
 pub returns-clause-turn : goal.returns-clause-turn

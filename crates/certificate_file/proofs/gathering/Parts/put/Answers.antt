@@ -1,7 +1,7 @@
 use Rattle.std.proofs.Common.{◌≡◌, List, ap, rules, ◌∙◌}
 use Rattle.ordered_group.specs.Amount.{Amount}
 use Rattle.closure_net.specs.Network.{flow_view}
-use Rattle.certificate_file.specs.Certificate.{has_pair}
+use Rattle.prec_file.specs.Rests.{has_pair}
 use Rattle.certificate_file.specs.Gathered.{Gathered, with_rest}
 use Rattle.certificate_file.proofs.Additions.{absent, present, rest_absent, rest_present, adds_rest}
 use Rattle.certificate_file.proofs.gathering.Parts.put.Goals as goal

@@ -1,11 +1,10 @@
-use Rattle.std.proofs.Common.{false, sym, ap, ◌∙◌, arith, below_more}
+use Rattle.fixed_worth.proofs.Common.{false, sym, ap, ◌∙◌, arith, below_more, common_steps}
 use Rattle.ordered_group.specs.Amount.{zero_amount}
 use Rattle.ordered_group.proofs.Order.{is_eq_tells}
 use Rattle.closure_net.proofs.Views.{length_view, at_view}
 use Rattle.check_pit.specs.Rooms.{RoomView}
 use Rattle.check_pit.proofs.RoomEnds.{first_told}
 use Rattle.check_pit.proofs.room.Room.first_unbalanced.Goals as goal
-use Rattle.std.proofs.lemmas.Grind.{common_steps}
 
 pub loop-b-preserved : goal.loop-b-preserved
 loop-b-preserved g c =

@@ -1,6 +1,5 @@
 use Rattle.std.proofs.Common.{◌≡◌, ℕ, ◌<◌}
-use Rattle.ordered_group.specs.Amount.{zero_amount}
-use Rattle.ordered_group.specs.Sums.{amount_at}
+use Rattle.ordered_group.specs.Prelude.{zero_amount, amount_at}
 use Rattle.check_pit.proofs.room.Room.first_unbalanced.Given as goal
 
 abbrev pub invariant-loop-b : goal.invariant-loop-b

@@ -1,5 +1,4 @@
-use Rattle.std.proofs.Common.{sym, subst, arith, length, ◌<◌}
-use Rattle.std.proofs.lemmas.Result.{err_from_is_err_and}
+use Rattle.fixed_worth.proofs.Common.{sym, subst, arith, length, ◌<◌, err_from_is_err_and}
 use Rattle.check_pit.specs.declared.pit_fault.PitFault.{PitFault}
 use Rattle.check_pit.specs.Rooms.{SumOverflowsWith, RefusedWhere}
 use Rattle.check_pit.proofs.RoomSums.{with_rest}

@@ -1,5 +1,4 @@
-use Rattle.std.proofs.Common.{◌≡◌, ℕ, ◌+◌, ◌-◌, eqb, Some}
-use Rattle.std.specs.Prelude.{position}
+use Rattle.fixed_worth.proofs.Common.{◌≡◌, ℕ, ◌+◌, ◌-◌, eqb, Some, position}
 use Rattle.fixed_worth.specs.declared.limits.TheConstants.{MOST_BYTES}
 use Rattle.check_pit.specs.StreamLines.{ReadsSome}
 use Rattle.check_pit.proofs.stream_lines.StreamLines.next_length.Given as goal

@@ -1,6 +1,4 @@
-use Rattle.std.proofs.Common.{◌≡◌, ◌++◌, ◌∷◌, [], ◌<◌, ◌-◌, ℕ, suc, List, length, map, IfSome, get_or, set, subst, ap, refl, sym, ◌∙◌, arith}
-use Rattle.std.proofs.lemmas.List.{length-map, map-append, map-set}
-use Rattle.std.proofs.lemmas.Grind.{get_or_default_zero}
+use Rattle.fixed_worth.proofs.Common.{◌≡◌, ◌++◌, ◌∷◌, [], ◌<◌, ◌-◌, ℕ, suc, List, length, map, IfSome, get_or, set, subst, ap, refl, sym, ◌∙◌, arith, length-map, map-append, map-set, get_or_default_zero}
 use Rattle.ordered_group.specs.Amount.{Amount}
 use Rattle.closure_net.specs.Carrying.{amount_of_place, ArePlaces}
 use Rattle.closure_net.proofs.Places.{grown, few_set, few_replaced, few_size, place_fits, places_more, all_set}

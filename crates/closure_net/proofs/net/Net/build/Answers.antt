@@ -1,11 +1,8 @@
-use Rattle.std.proofs.Common.{arith, map, length, List, ap, subst, ◌≡◌}
-use Rattle.std.proofs.lemmas.List.{length-map}
-use Rattle.closure_net.specs.Faults.{WorthsFit}
+use Rattle.fixed_worth.proofs.Common.{arith, map, length, List, ap, subst, ◌≡◌, length-map, common_steps}
+use Rattle.closure_net.specs.Prelude.{WorthsFit, IsNetParts}
 use Rattle.closure_net.proofs.net.Net.build.Goals as goal
 use Rattle.ordered_group.specs.Amount.{Amount}
 use Rattle.prec_file.specs.Rests.{RestsView, IsRests}
-use Rattle.closure_net.specs.Network.{IsNetParts}
-use Rattle.std.proofs.lemmas.Grind.{common_steps}
 
 -- pairs and as many worths, all of which fit, make a net
 net_parts : (v : RestsView) (ws : List Amount) → v.blocks ≡ length ws → IsRests v → WorthsFit ws → IsNetParts v ws

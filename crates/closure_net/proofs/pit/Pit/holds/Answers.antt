@@ -1,6 +1,4 @@
-use Rattle.std.proofs.Common.{List, ℕ, subst, ap, ◌∙◌}
-use Rattle.std.specs.List.Sorted.{IsBinarySearchResult}
-use Rattle.std.specs.Ordering.{nat_cmp}
+use Rattle.fixed_worth.proofs.Common.{List, ℕ, subst, ap, ◌∙◌, IsBinarySearchResult, nat_cmp}
 use Rattle.closure_net.specs.Network.{holds_of}
 use Rattle.closure_net.proofs.Ascending.{found_is_held}
 use Rattle.closure_net.proofs.pit.Pit.holds.Goals as goal

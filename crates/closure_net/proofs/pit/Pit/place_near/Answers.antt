@@ -1,8 +1,5 @@
-use Rattle.std.proofs.Common.{◌≡◌, ◌≤◌, ◌+◌, ◌<◌, ℕ, List, Result, false, length, get_or, slice_range, MatchResult, subst, ap, sym, ◌∙◌}
-use Rattle.std.specs.List.Sorted.{IsBinarySearchResult}
-use Rattle.std.specs.Ordering.{nat_cmp}
-use Rattle.closure_net.specs.Network.{holds_of}
-use Rattle.closure_net.specs.Searches.{StandsFrom, StandsBelow}
+use Rattle.fixed_worth.proofs.Common.{◌≡◌, ◌≤◌, ◌+◌, ◌<◌, ℕ, List, Result, false, length, get_or, slice_range, MatchResult, subst, ap, sym, ◌∙◌, IsBinarySearchResult, nat_cmp}
+use Rattle.closure_net.specs.Prelude.{holds_of, StandsFrom, StandsBelow}
 use Rattle.closure_net.proofs.Ascending.{found_in_part}
 use Rattle.closure_net.proofs.pit.Pit.place_near.Goals as goal
 

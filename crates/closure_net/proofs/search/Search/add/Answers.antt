@@ -1,7 +1,6 @@
-use Rattle.std.proofs.Common.{◌<◌, length, arith, ap, subst, sym, ℕ, List, set, true, ◌++◌, ◌∷◌, []}
+use Rattle.fixed_worth.proofs.Common.{◌<◌, length, arith, ap, subst, sym, ℕ, List, set, true, ◌++◌, ◌∷◌, [], vec_capacity}
 use Rattle.closure_net.specs.Searches.{IsSearch}
 use Rattle.closure_net.proofs.Marks.{search_room, search_more, read_false}
-use Rattle.std.specs.Vec.{vec_capacity}
 use Rattle.closure_net.proofs.search.Search.add.Goals as goal
 
 pub push_reserved-requires : goal.push_reserved-requires

@@ -1,5 +1,4 @@
-use Rattle.std.proofs.Common.{arith, rules}
-use Rattle.std.specs.Vec.{vec_capacity}
+use Rattle.fixed_worth.proofs.Common.{arith, rules, vec_capacity}
 use Rattle.closure_net.proofs.Marks.{search_none}
 use Rattle.closure_net.proofs.search.Search.new.Goals as goal
 

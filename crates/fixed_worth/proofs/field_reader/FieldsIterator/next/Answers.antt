@@ -1,9 +1,7 @@
-use Rattle.std.proofs.Common.{not, arith}
-use Rattle.std.proofs.lemmas.List.Sums.{prefix_len-le-length}
+use Rattle.fixed_worth.proofs.Common.{not, arith, prefix_len-le-length, common_steps}
 use Rattle.fixed_worth.specs.Text.{is_separator}
 use Rattle.fixed_worth.proofs.Cuts.{field_none, field_given}
 use Rattle.fixed_worth.proofs.field_reader.FieldsIterator.next.Goals as goal
-use Rattle.std.proofs.lemmas.Grind.{common_steps}
 
 pub split_at-requires : goal.split_at-requires
 split_at-requires c = rw c.gap_length-gap.ensures (prefix_len-le-length (λ b. not (not (is_separator b))) c.self.inside.rest.now)

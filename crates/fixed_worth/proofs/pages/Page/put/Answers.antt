@@ -1,8 +1,6 @@
-use Rattle.std.proofs.Common.{arith}
-use Rattle.std.proofs.lemmas.Result.{on_ok_weaker, on_err_weaker}
+use Rattle.fixed_worth.proofs.Common.{arith, on_ok_weaker, on_err_weaker, common_steps}
 use Rattle.fixed_worth.proofs.Pieces.{none_held, prefix_of_second}
 use Rattle.fixed_worth.proofs.pages.Page.put.Goals as goal
-use Rattle.std.proofs.lemmas.Grind.{common_steps}
 
 pub returns-then-piece-gt-ROOM-clause-held : goal.returns-then-piece-gt-ROOM-clause-held
 returns-then-piece-gt-ROOM-clause-held g c = grind (arith, common_steps, on_ok_weaker, none_held)

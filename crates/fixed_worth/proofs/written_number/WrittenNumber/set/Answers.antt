@@ -1,7 +1,4 @@
-use Rattle.std.proofs.Common.{◌++◌, sym, ap, ◌∙◌, arith}
-use Rattle.std.proofs.lemmas.List.{append-nil, drop_all}
-use Rattle.std.specs.Fmt.{decimal}
-use Rattle.std.proofs.lemmas.Fmt.{length-decimal-le_wide}
+use Rattle.fixed_worth.proofs.Common.{◌++◌, sym, ap, ◌∙◌, arith, append-nil, drop_all, decimal, length-decimal-le_wide}
 use Rattle.fixed_worth.proofs.DigitsFromEnd.{starts_above, written_before, all_written}
 use Rattle.fixed_worth.proofs.written_number.WrittenNumber.set.Goals as goal
 

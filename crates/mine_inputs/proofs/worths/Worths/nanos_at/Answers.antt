@@ -1,7 +1,5 @@
-use Rattle.std.proofs.Common.{◌≡◌, pos, ◌*ℤ◌, ◌+◌, ◌<◌, length, ℤ, ℕ, List, [], ◌∷◌, ◌++◌, map, take, get_or, ap, sym, ◌∙◌, arith, rules}
-use Rattle.std.specs.Int.{w64, w128}
-use Rattle.std.proofs.lemmas.Int.{to_z-of_z}
-use Rattle.std.proofs.lemmas.List.{take_more, map_push}
+use Rattle.fixed_worth.proofs.Common.{◌≡◌, pos, ◌*ℤ◌, ◌+◌, ◌<◌, length, ℤ, ℕ, List, [], ◌∷◌, ◌++◌, map, take, get_or, ap, sym, ◌∙◌, arith, rules, w128, to_z-of_z, take_more, map_push}
+use Rattle.std.specs.Int.{w64}
 use Rattle.mine_inputs.proofs.worths.Worths.nanos_at.Goals as goal
 
 next : (f : ℤ → ℤ) (xs : List ℤ) (i : ℕ) (ys zs : List ℤ) (y : ℤ) → i < length xs → ys ≡ map f (take i xs) → zs ≡ ys ++ y ∷ [] → y ≡ f (get_or xs i (pos 0)) → zs ≡ map f (take (i + 1) xs)

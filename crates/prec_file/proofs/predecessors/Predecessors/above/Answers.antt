@@ -1,7 +1,5 @@
-use Rattle.std.proofs.Common.{ℕ, ◌+◌, ◌<◌, length, arith, ap, ◌∙◌, slice_range}
-use Rattle.std.proofs.lemmas.List.{length-map}
-use Rattle.prec_file.specs.Rests.{above_of}
-use Rattle.prec_file.specs.Indexes.{pairs_by}
+use Rattle.fixed_worth.proofs.Common.{ℕ, ◌+◌, ◌<◌, length, arith, ap, ◌∙◌, slice_range, length-map}
+use Rattle.prec_file.specs.Prelude.{above_of, pairs_by}
 use Rattle.prec_file.proofs.Order.{starts_rise, above_is, at_zero}
 use Rattle.prec_file.proofs.predecessors.Predecessors.above.Goals as goal
 

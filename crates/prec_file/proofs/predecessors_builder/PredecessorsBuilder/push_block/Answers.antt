@@ -1,7 +1,6 @@
 use Rattle.std.proofs.Common.{◌≡◌, ◌+◌, ◌++◌, ◌∷◌, [], ◌<◌, ◌≤◌, All, length, map, refl, sym, ap, subst, ◌∙◌, arith}
 use Rattle.prec_file.specs.declared.limits.TheConstants.{MOST_PAIRS}
-use Rattle.prec_file.specs.Rests.{RowsView, IsOfBlock, IsRowAdded}
-use Rattle.prec_file.specs.Indexes.{pairs_by}
+use Rattle.prec_file.specs.Prelude.{RowsView, IsOfBlock, IsRowAdded, pairs_by}
 use Rattle.prec_file.proofs.RowSteps.{pushed_told, pushed_rows, own_kept}
 use Rattle.prec_file.proofs.predecessors_builder.PredecessorsBuilder.push_block.Goals as goal
 

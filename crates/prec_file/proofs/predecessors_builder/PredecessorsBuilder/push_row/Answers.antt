@@ -1,7 +1,6 @@
 use Rattle.std.proofs.Common.{◌≡◌, ℕ, ◌+◌, ◌<◌, ◌≤◌, ◌++◌, ◌∷◌, [], List, All, length, map, refl, ap, sym, subst, ◌∙◌, arith}
 use Rattle.prec_file.specs.declared.limits.TheConstants.{MOST_PAIRS}
-use Rattle.prec_file.specs.Rests.{RowsView, IsOfBlock, IsRowAdded}
-use Rattle.prec_file.specs.Indexes.{pairs_by}
+use Rattle.prec_file.specs.Prelude.{RowsView, IsOfBlock, IsRowAdded, pairs_by}
 use Rattle.prec_file.proofs.SortedApart.{own_pairs}
 use Rattle.prec_file.proofs.RowSteps.{pushed_told, pushed_rows}
 use Rattle.prec_file.proofs.RowChecks.{row_own, row_length, row_seconds}

@@ -1,6 +1,5 @@
 use Rattle.std.proofs.Common.{◌≡◌, ◌≤◌, length, get_or, ap, sym, subst, ◌∙◌, arith}
-use Rattle.prec_file.specs.Rests.{RowsView}
-use Rattle.prec_file.specs.Indexes.{pairs_by}
+use Rattle.prec_file.specs.Prelude.{RowsView, pairs_by}
 use Rattle.prec_file.proofs.RowChecks.{skipped_told, skipped_rows}
 use Rattle.prec_file.proofs.predecessors_builder.PredecessorsBuilder.skip_to.Goals as goal
 

@@ -1,5 +1,4 @@
-use Rattle.std.proofs.Common.{◌≡◌, length, vec_len}
-use Rattle.std.specs.Vec.{vec_capacity}
+use Rattle.fixed_worth.proofs.Common.{◌≡◌, length, vec_len, vec_capacity}
 use Rattle.pseudoflow.proofs.units.Scale.large_units.Given as goal
 
 abbrev pub invariant-loop-worth : goal.invariant-loop-worth

@@ -1,10 +1,8 @@
-use Rattle.std.proofs.Common.{[], ◌∷◌, All, Option, IfSome, sym, subst}
-use Rattle.std.proofs.lemmas.List.Elements.{All-append}
+use Rattle.fixed_worth.proofs.Common.{[], ◌∷◌, All, Option, IfSome, sym, subst, All-append}
 use Rattle.shell_engines.specs.declared.best_pits.BestPit.{BestPit}
 use Rattle.shell_engines.specs.declared.mine_parts.Part.{Part}
 use Rattle.shell_engines.specs.declared.mine_halves.Level.{Level}
-use Rattle.shell_engines.specs.PitsAtFactors.{IsProved}
-use Rattle.shell_engines.specs.Parting.{IsLeft}
+use Rattle.shell_engines.specs.Prelude.{IsProved, IsLeft}
 use Rattle.shell_engines.proofs.Proving.{all_one}
 use Rattle.shell_engines.proofs.Among.{all_kept}
 use Rattle.shell_engines.proofs.mine_halves.Level.take.Goals.{in-Some+in_ok-push, in_default}

@@ -1,6 +1,4 @@
-use Rattle.std.proofs.Common.{sym}
-use Rattle.std.specs.List.{Contains}
-use Rattle.std.proofs.lemmas.Result.{err_from_is_err_and}
+use Rattle.fixed_worth.proofs.Common.{sym, Contains, err_from_is_err_and}
 use Rattle.shell_engines.proofs.Growing.{above_before, settled_more}
 use Rattle.shell_engines.proofs.settled_series.Shells.settle_at.Goals as goal
 

@@ -1,6 +1,4 @@
-use Rattle.std.proofs.Common.{◌≡◌, ◌<◌, ◌-◌, ◌∙◌, length, map, ap, arith, rules}
-use Rattle.std.specs.List.{range_with_len}
-use Rattle.std.proofs.lemmas.Slice.Zip.{AllZip-map}
+use Rattle.fixed_worth.proofs.Common.{◌≡◌, ◌<◌, ◌-◌, ◌∙◌, length, map, ap, arith, rules, range_with_len, AllZip-map}
 use Rattle.rayon.specs.Numbers.{nat_range}
 use Rattle.rayon.proofs.ListFacts.{IfOk-then}
 use Rattle.rayon.proofs.ToStd.{nat_range-All}

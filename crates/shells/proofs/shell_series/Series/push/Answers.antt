@@ -1,6 +1,5 @@
 use Rattle.std.proofs.Common.{ℕ, List, refl, sym, subst, ◌∙◌, true≢false}
-use Rattle.closure_net.specs.Network.{holds_of}
-use Rattle.closure_net.specs.Mine.{IsBest}
+use Rattle.closure_net.specs.Prelude.{holds_of, IsBest}
 use Rattle.shells.specs.Series.{mine_at, IsAboveAll}
 use Rattle.shells.proofs.Shells.{net_of_over}
 use Rattle.shells.proofs.shell_series.Series.push.Goals as goal

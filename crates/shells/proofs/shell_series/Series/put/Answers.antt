@@ -1,9 +1,6 @@
-use Rattle.std.proofs.Common.{◌≡◌, ◌<◌, length, drop, sym, subst, rules, arith}
-use Rattle.std.specs.Prelude.{vec_capacity}
-use Rattle.std.proofs.Math.Seq.{take-append_seam}
-use Rattle.closure_net.specs.Network.{holds_of}
+use Rattle.fixed_worth.proofs.Common.{◌≡◌, ◌<◌, length, drop, sym, subst, rules, arith, vec_capacity, take-append_seam}
+use Rattle.closure_net.specs.Prelude.{holds_of, IsBest}
 use Rattle.shells.specs.Series.{SeriesView, mine_at, IsAboveAll, IsPushed, IsHeldSeries}
-use Rattle.closure_net.specs.Mine.{IsBest}
 use Rattle.shells.proofs.Pushes.{push_keeps}
 use Rattle.shells.proofs.shell_series.Series.put.Goals as goal
 

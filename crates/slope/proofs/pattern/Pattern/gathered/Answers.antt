@@ -1,5 +1,4 @@
-use Rattle.std.proofs.Common.{length, ap, arith, subst, sym, List, Contains}
-use Rattle.std.proofs.lemmas.List.Elements.{All-contains, All-contains_itself, All-weaker}
+use Rattle.fixed_worth.proofs.Common.{length, ap, arith, subst, sym, List, Contains, All-contains, All-contains_itself, All-weaker}
 use Rattle.slope.specs.Offsets.{Offset, IsUpward}
 use Rattle.slope.proofs.pattern.Pattern.gathered.Goals as goal
 

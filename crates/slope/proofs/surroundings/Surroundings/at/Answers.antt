@@ -1,11 +1,8 @@
-use Rattle.std.proofs.Common.{◌<◌, length, refl, ap, arith, ◌≡◌, ◌≢◌, ℕ, List, Option, Some, None, MatchOption, set, sym, subst, ◌∙◌}
-use Rattle.slope.specs.Gathering.{SurroundingsView, AreSeen, IsSight, StandsAtOffset, StandsNone, offset_at}
+use Rattle.fixed_worth.proofs.Common.{◌<◌, length, refl, ap, arith, ◌≡◌, ◌≢◌, ℕ, List, Option, Some, None, MatchOption, set, sym, subst, ◌∙◌, common_steps}
+use Rattle.slope.specs.Prelude.{SurroundingsView, AreSeen, IsSight, StandsAtOffset, StandsNone, offset_at, Offset, place_of, offset_between}
 use Rattle.slope.proofs.surroundings.Surroundings.at.Goals as goal
-use Rattle.slope.specs.Offsets.{Offset}
-use Rattle.slope.specs.Slopes.{place_of, offset_between}
 use Rattle.slope.specs.declared.sight.Sight.{Sight}
 use Rattle.slope.specs.declared.sight.Sight.TheVariants as sight
-use Rattle.std.proofs.lemmas.Grind.{common_steps}
 
 seen_more : (v : SurroundingsView) (keys : List Offset) (blocks : List ℕ) (seen : List Sight) (i : ℕ) (s : Sight) → AreSeen v keys blocks seen → i < length v.offsets → IsSight v i s → AreSeen v keys blocks (set seen i s)
 seen_more v keys blocks seen i s h l k = grind (arith, common_steps)

@@ -1,10 +1,7 @@
-use Rattle.std.proofs.Common.{◌≡◌, ◌<◌, ◌∙◌, ℕ, List, length, get_or, ap, sym, arith}
-use Rattle.std.proofs.lemmas.List.{get_or_read}
+use Rattle.fixed_worth.proofs.Common.{◌≡◌, ◌<◌, ◌∙◌, ℕ, List, length, get_or, ap, sym, arith, get_or_read}
 use Rattle.closure_net.specs.Network.{NetView}
 use Rattle.machine_law.specs.declared.operations.Operation.{Operation}
-use Rattle.word_runner.specs.Layout.{count}
-use Rattle.word_runner.specs.StepWords.{after}
-use Rattle.word_runner.specs.Seats.{Own, WordsView}
+use Rattle.word_runner.specs.Prelude.{count, after, Own, WordsView}
 use Rattle.word_runner.proofs.Told.{told_next}
 use Rattle.word_runner.proofs.seats.WordSeat.turn.Goals as goal
 
