@@ -1,10 +1,15 @@
 """Tests of the pages: each relative link leads somewhere, each name of the code that a page cites is in the code, and the map
-of the crates has each crate, on a floor that is no lower than those of the crates it depends on."""
+of the crates has each crate, on a floor that is no lower than those of the crates it depends on. A page has no sentence of more
+than 40 words, and no more words than it may have."""
 import re
 
 PAGES = ("*.md", "docs/*.md", "crates/*.md", "bench/**/*.md", "examples/**/*.md", "python/*.md", "python/*/*.md", "tests/cases/*.md")
 CITING = ("docs/PROOFS.md", "docs/CALLS.md", "docs/DEFINITIONS.md", "docs/PROOF_GUIDE.md", "docs/ARCHITECTURE.md", "docs/ASSURANCE.md",
           "crates/README.md")
+LONGEST_SENTENCE = 40
+MOST_WORDS = {"docs/DECISIONS.md": 4_500}
+UNREAD = ("bench/LAST_RUN.md", "bench/RESULTS.md", "docs/ASSURANCE.md", "docs/STATEMENT.md")     # whose sentences may be longer
+SENTENCE = re.compile(r"(?<=[.!?:])\s+")
 LINK = re.compile(r"\]\(([^()\s]+)\)")
 QUOTED = re.compile(r"`([^`\n]+)`")
 NAME = re.compile(r"[A-Za-z_][\w-]*(?:::[A-Za-z_][\w-]*)*")
@@ -86,3 +91,29 @@ def misplaced_crates(top):
             if name not in floors or any(floors.get(one, 0) > floors[name] for one in below.split()):
                 wrong.append("crates/README.md: %s isn't there, or below a crate that it depends on" % name)
     return wrong
+
+
+def paragraphs(text):
+    """What a page says outside its code and what it quotes: the parts of its tables' cells, and its paragraphs and items."""
+    for line in re.sub(r"\n(?=[^\n|#>\-*\d ])", " ", without_code(text)).split("\n"):
+        if line.startswith("|"):
+            yield from re.split(r"[|;]", line)
+        elif not line.startswith(("    ", ">")):
+            yield line
+
+
+def long_sentences(top):
+    """The sentences of more words than one may have, by their page."""
+    wrong = []
+    for page in sorted({page for pattern in PAGES for page in top.glob(pattern)}):
+        name = str(page.relative_to(top))
+        if name not in UNREAD:
+            said = (sentence for paragraph in paragraphs(page.read_text()) for sentence in SENTENCE.split(paragraph))
+            wrong += ["%s: a sentence of %d words: %s .." % (name, len(one.split()), one[:60]) for one in said if len(one.split()) > LONGEST_SENTENCE]
+    return wrong
+
+
+def long_pages(top):
+    """The pages that have more words than they may have."""
+    counts = {name: len((top / name).read_text().split()) for name in MOST_WORDS if (top / name).exists()}
+    return ["%s: %d words, at most %d" % (name, counts[name], MOST_WORDS[name]) for name in counts if counts[name] > MOST_WORDS[name]]

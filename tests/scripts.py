@@ -12,6 +12,7 @@ import edit_groups
 import imports
 import must_fail
 import pages
+import statement
 
 CODE = """//! A crate for the tests of the scripts.
 #![tactic(auto)]
@@ -161,8 +162,8 @@ def version_is_up_to_date(top):
 
 
 def pages_are_right(top):
-    """Whether all links of the pages lead somewhere, and what they name is in the code."""
-    wrong = pages.broken_links(top) + pages.unknown_names(top) + pages.misplaced_crates(top)
+    """Whether all links of the pages lead somewhere, what they name is in the code, and no sentence or page is too long."""
+    wrong = pages.broken_links(top) + pages.unknown_names(top) + pages.misplaced_crates(top) + pages.long_sentences(top) + pages.long_pages(top)
     return not wrong, "\n".join(wrong)
 
 
@@ -177,6 +178,36 @@ def wrong_pages_are_told(tree):
     wanted = ["no file gone.md", "no heading #left", "there is no nothing_so", "there is no Gone.antt",
               "next isn't defined", "nothing_so isn't defined", "some_number isn't defined", "pit isn't there, or below"]
     return len(told) == len(wanted) and all(sum(one in said for said in told) == 1 for one in wanted), "\n".join(told)
+
+
+def long_pages_are_told(tree):
+    """Whether a sentence of 41 words is told, and none of 40, of code or of a quotation; and a page of too many words."""
+    text = "Is %s.\n\n> %s\n\n    %s\n\n| %s; %s |\n\nIs %s\n%s.\n" % (("so " * 39).strip(), "so " * 50, "so " * 50, "so " * 30, "so " * 30, ("so " * 20).strip(), ("so " * 20).strip())
+    (tree / "docs").mkdir(exist_ok=True)
+    (tree / "docs" / "DECISIONS.md").write_text(text + "\n\n".join(["So."] * 4_500))
+    told = [one for one in pages.long_sentences(tree) if "DECISIONS" in one] + pages.long_pages(tree)
+    (tree / "docs" / "DECISIONS.md").unlink()
+    return len(told) == 2 and "of 41 words" in told[0] and "at most 4500" in told[1], "\n".join(told)
+
+
+def the_statement_is_of_the_sources(top):
+    """Whether docs/STATEMENT.md is what tools/statement.py writes from the definitions as they are."""
+    said = subprocess.run([sys.executable, top / "tools" / "statement.py", "--check"], stdin=subprocess.DEVNULL, stdout=subprocess.PIPE, stderr=subprocess.STDOUT, text=True)
+    return said.returncode == 0, "docs/STATEMENT.md is of other definitions; try: tools/statement.py\n" + said.stdout
+
+
+def a_statement_has_what_it_rests_on(top, tree):
+    """Whether a definition is reached through a file that hands names on, by an alias and by a constructor, and no other is."""
+    (tree / "crates" / "small" / "specs").mkdir(parents=True)
+    write(tree, "small/specs/Lib.antt", "pub mod Low\npub mod High\npub mod Prelude\n")
+    write(tree, "small/specs/Low.antt", "use Rattle.std.specs.Prelude.{List}\n-- a size\nabbrev pub size : List -- unused\nsize = 1\n\nabbrev pub other : List\nother = 2\n"
+                                        "pub data Kind : Type 0 where\n  plain : Kind\n")
+    write(tree, "small/specs/Prelude.antt", "pub use Rattle.small.specs.Low.{size, other}\n")
+    write(tree, "small/specs/High.antt", "use Rattle.small.specs.Low as low\nuse Rattle.small.specs.Low.{plain}\nabbrev pub top : List\ntop = low.other plain\n\nabbrev pub unused : List\nunused = 3\n")
+    (tree / "crates.txt").write_text("small:\n")
+    sources = statement.Sources(tree)
+    through = statement.cone_of(sources, "size top", statement.Module(tree, names={"size": ("small.specs.Prelude", "size"), "top": ("small.specs.High", "top")}))
+    return {name for _, name in through.definitions} == {"size", "top", "other", "Kind"} and through.library == {"List"}, str(through)
 
 
 def imports_are_right(top):
@@ -250,7 +281,7 @@ def goals_are_of_their_function(top):
     return not wrong, "\n".join(wrong)
 
 
-OF_THIS_TREE = [version_is_up_to_date, pages_are_right, imports_are_right, refusals_are_read, goals_are_of_their_function]
+OF_THIS_TREE = [version_is_up_to_date, pages_are_right, the_statement_is_of_the_sources, imports_are_right, refusals_are_read, goals_are_of_their_function]
 
 
 TABLE = "x,y,z,value\n0,0,0,1\n20,0,0,-2.5\n"
@@ -337,13 +368,13 @@ def installs_where_the_caller_stands(top, folder):
 
 # the build comes first: the copies in which edits are tried begin with what it made
 CASES = [a_build_says_what_it_proved, edits_are_tried_by_their_function, edits_of_several_functions_are_tried_by_one_check, refused_edits_pass, an_accepted_edit_fails, named_edits_are_tried_alone,
-         a_failed_proof_fails_the_example, wrong_pages_are_told, scattered_imports_are_told]
+         a_failed_proof_fails_the_example, wrong_pages_are_told, long_pages_are_told, scattered_imports_are_told]
 
 
 def test(top):
     """Runs the tests, and gives how many passed and failed."""
     passed = failed = 0
-    for case in (tables_are_read_or_refused, wrong_drawings_are_refused, installs_where_the_caller_stands):
+    for case in (tables_are_read_or_refused, wrong_drawings_are_refused, installs_where_the_caller_stands, a_statement_has_what_it_rests_on):
         with tempfile.TemporaryDirectory(prefix="pit-scripts-") as room:
             well, said = case(top, Path(room))
         if not well:

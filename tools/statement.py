@@ -1,0 +1,275 @@
+#!/usr/bin/env python3
+"""Writes docs/STATEMENT.md: every definition on which the answer of `pit check` rests, in reading order.
+
+    tools/statement.py [--check]     with --check it writes nothing, and its status is 1 where the page is another
+
+The page is made from the sources alone. It begins at a clause of a public function, resolves each name of it by the imports
+of its file, and goes on with the definitions that these names have. A word of the language's library, an operator and a type
+of the code are named on the page, and not followed.
+"""
+import re
+import sys
+from dataclasses import dataclass, field
+from pathlib import Path
+
+TOP = Path(__file__).resolve().parent.parent
+PAGE = TOP / "docs" / "STATEMENT.md"
+
+HEAD = re.compile(r"^(?:(?:abbrev|unfoldable) )?(?:pub )?(?:(?:record|data) )?(?P<name>[^\W\d][\w'-]*)(?= [:({]|$)", re.M)
+OPERATOR = re.compile(r"^infix[lr]? +\d+ +(?P<name>\S+)", re.M)
+DEFINES = re.compile(r"^(?:abbrev|unfoldable|pub|record|data) (?!use |mod )")
+USE = re.compile(r"^(?P<pub>pub )?(?:(?:ghost|unfoldable) )?(?:pub )?use Rattle\.(?P<path>[\w.«»]+?)(?:\.\{(?P<names>[^}]*)\}| as (?P<alias>\w+));?$", re.M)
+WORD = re.compile(r"[^\W\d][\w']*(?:\.[^\W\d][\w']*)*")
+FIELD = re.compile(r"^  (?:pub )?(?P<name>[\w']+) :", re.M)
+
+
+@dataclass
+class Definition:
+    """A definition: its file and name, the comment above it, its text, and the line where it begins."""
+
+    module: str
+    name: str
+    words: str
+    text: str
+    line: int
+
+
+@dataclass
+class Module:
+    """A file of definitions: what it defines, and what each imported name stands for."""
+
+    path: Path
+    definitions: dict = field(default_factory=dict)
+    constructors: dict = field(default_factory=dict)
+    names: dict = field(default_factory=dict)
+    aliases: dict = field(default_factory=dict)
+
+
+def imports(text, module):
+    """Fills in what the imports of a text say."""
+    for use in USE.finditer(text):
+        if use["alias"]:
+            module.aliases[use["alias"]] = use["path"]
+            continue
+        for part in use["names"].split(","):
+            name, _, other = part.strip().partition(" as ")
+            module.names[(other or name).strip()] = (use["path"], name.strip())
+
+
+def blocks(text):
+    """The definitions of a file: the comment above each, its text, its first line. An equation stands with what it defines."""
+    words, held, found, begun = [], [], [], 0
+    for number, line in enumerate(text.split("\n") + [""], 1):
+        if held and line and (line[0] in " \t" or not DEFINES.match(line) and not line.startswith(("--", "use ", "pub use ", "infix"))):
+            held.append(line)
+        elif line.startswith("--"):
+            if held:
+                found.append((words, held, begun))
+                words, held = [], []
+            words = words + [line[2:].strip()]
+        elif DEFINES.match(line) or line.startswith("infix"):
+            if held:
+                found.append((words, held, begun))
+                words = []
+            held, begun = [line], number
+        else:
+            if held:
+                found.append((words, held, begun))
+            words, held = [], []
+    return found
+
+
+def module_of(path, name):
+    """A file of definitions as it is read."""
+    text = path.read_text(encoding="utf-8")
+    module = Module(path)
+    imports(text, module)
+    for words, lines, number in blocks(text):
+        if lines[0].startswith("infix"):
+            continue
+        head = HEAD.match(lines[0])
+        if head:
+            if " data " in lines[0]:
+                module.constructors.update((name, head["name"]) for name in FIELD.findall("\n".join(lines)))
+            module.definitions[head["name"]] = Definition(name, head["name"], " ".join(words), "\n".join(lines), number)
+    return module
+
+
+class Sources:
+    """All files of definitions, by the names that imports give them, and the order in which they are to be read."""
+
+    def __init__(self, top):
+        self.top, self.modules, self.order = top, {}, []
+        self.crates = re.findall(r"^(\w+)(?: \w+)*:", (top / "crates.txt").read_text(), re.M)
+        for crate in self.crates:
+            specs = top / "crates" / crate / "specs"
+            if (specs / "Lib.antt").exists():
+                names = re.findall(r"^pub mod (\w+)", (specs / "Lib.antt").read_text(), re.M)
+                for name in names:
+                    self.add(specs / (name + ".antt"), "%s.specs.%s" % (crate, name))
+
+    def add(self, path, name):
+        if path.exists():
+            self.modules[name] = module_of(path, name)
+            self.order.append(name)
+
+    def home(self, path, name):
+        """The definition that a name of a file stands for, through files that only hand names on; else none."""
+        module = self.modules.get(path)
+        while module is not None:
+            name = module.constructors.get(name, name)
+            if name in module.definitions:
+                break
+            if name not in module.names:
+                return None
+            path, name = module.names[name]
+            module = self.modules.get(path)
+        return module.definitions[name] if module else None
+
+
+@dataclass
+class Cone:
+    """What a clause rests on: definitions, types of the code, and words of the library."""
+
+    definitions: dict = field(default_factory=dict)
+    types: set = field(default_factory=set)
+    library: set = field(default_factory=set)
+
+
+def cited(text, module):
+    """The names of a text that stand for something elsewhere: pairs of a file and a name."""
+    bare = re.sub(r"--.*", "", text)
+    for word in WORD.findall(bare):
+        first, *rest = word.split(".")
+        if first in module.aliases and rest:
+            yield module.aliases[first], rest[0]
+        elif first in module.names:
+            yield module.names[first]
+        elif first in module.definitions:
+            yield module.definitions[first].module, first
+    for name, source in module.names.items():
+        if name.startswith("◌") and name.strip("◌") in bare:
+            yield source
+
+
+def in_code(path, name, crates):
+    """The type or constant of the code, with its file, that a name of a declared type stands for; else none."""
+    found = re.match(r"(\w+)\.specs\.declared\.(.+?)(\.TheVariants|\.TheConstants)?$", path)
+    if not found or found[1] not in crates:
+        return None
+    *folders, last = found[2].split(".")
+    if found[3] == ".TheConstants":
+        folders, last = [*folders, last], name
+    return last, "crates/%s/src/%s.rt" % (found[1], "/".join(folders))
+
+
+def cone_of(sources, clause, module):
+    """What a clause rests on."""
+    cone, waiting = Cone(), list(cited(clause, module))
+    while waiting:
+        path, name = waiting.pop()
+        definition = sources.home(path, name)
+        if definition is not None:
+            key = definition.module, definition.name
+            if key not in cone.definitions:
+                cone.definitions[key] = definition
+                waiting += cited(definition.text, sources.modules[definition.module])
+            continue
+        last = sources.modules.get(path)
+        if last is not None and name in last.names:
+            path, name = last.names[name]
+        shown = in_code(path, name, sources.crates)
+        if shown:
+            cone.types.add(shown)
+        elif path.split(".")[0] not in sources.crates:
+            cone.library.add(name)
+        else:
+            raise SystemExit("%s.%s: no definition of it was found" % (path, name))
+    return cone
+
+
+def clause_of(path, function, name):
+    """The text of a clause of a function, and what the imports of its file say."""
+    text = path.read_text(encoding="utf-8")
+    module = Module(path)
+    imports(re.sub(r"^ghost use", "use", text, flags=re.M), module)
+    found = re.search(r"fn %s\b.*?ensures %s (\{.*?\})\n    (?:ensures|requires|//|\{)|fn %s\b.*?ensures %s (\{.*?\})\n\{" % (function, name, function, name), text, re.S)
+    if not found:
+        raise SystemExit("%s has no clause %s of %s" % (path, name, function))
+    return found[1] or found[2], module
+
+
+def sentence(definition, above):
+    """The words of a definition: the comment above it, or that of the one before it in its file, of which it is a part."""
+    words = definition.words or above
+    return words[:1].upper() + words[1:] if words else ""
+
+
+def section(sources, name, definitions):
+    """The part of the page for one file."""
+    module = sources.modules[name]
+    crate, file = name.split(".specs.")
+    lines = ["## `%s`, `%s.antt`" % (crate, file), ""]
+    above = ""
+    for definition in module.definitions.values():
+        above = definition.words or above
+        if definition.name in definitions:
+            words = sentence(definition, above)
+            lines += ([words.rstrip(".") + ":", ""] if words else []) + ["```", definition.text, "```", ""]
+    return lines
+
+
+def part(sources, title, words, definitions):
+    """A part of the page: its title, a paragraph, and these definitions by their files."""
+    lines = ["# " + title, "", words, ""]
+    for name in sources.order:
+        names = {definition for module, definition in definitions if module == name}
+        if names:
+            lines += section(sources, name, names)
+    return lines
+
+
+def leaves(cone):
+    """What the definitions take from elsewhere: types and constants of the code, and words of the library."""
+    lines = ["# Taken from elsewhere", "", "Types and constants of the code, each with its file:", ""]
+    lines += ["- `%s` in [`%s`](../%s)" % (name, path, path) for name, path in sorted(cone.types)]
+    return lines + ["", "Words of the language's library: " + ", ".join("`%s`" % name for name in sorted(cone.library)) + ".", ""]
+
+
+def page(sources):
+    """The text of the page."""
+    clause, module = clause_of(sources.top / ENGINE, "check_engine", "answer")
+    every = cone_of(sources, clause, module)
+    accepted = cone_of(sources, "WritesAccepted", sources.modules["engines.specs.Checking"]).definitions
+    rest = {key: every.definitions[key] for key in every.definitions if key not in accepted}
+    files = {name for name, _ in accepted}
+    lines = ["# What you have to believe, in %d definitions" % len(every.definitions), "", HEAD_WORDS, "",
+             "The clause `answer` of `check_engine` in [`%s`](../%s):" % (ENGINE, ENGINE), "",
+             "```", re.sub(r"\n {4,}", "\n    ", clause), "```", ""]
+    lines += part(sources, "An `ACCEPTED`: %d definitions" % len(accepted),
+                  "They stand in %d files of %d crates. The last of them is `WritesAccepted`." % (len(files), len({name.split(".")[0] for name in files})), accepted)
+    lines += part(sources, "A `REFUSED` and a fault: %d more" % len(rest), "Whoever asks why a certificate was refused reads these too.", rest)
+    return "\n".join(lines + leaves(every))
+
+
+ENGINE = "crates/engines/src/checking_engine.rt"
+HEAD_WORDS = """`tools/statement.py` wrote this page from the sources, and the tests compare it. It has every definition on which the answer of
+`pit check` rests, and no other. A file stands after those it uses.
+
+Whoever relies on an `ACCEPTED` has to believe that these definitions say what [DEFINITIONS.md](DEFINITIONS.md) says in words.
+That the code meets them is proved. A set of blocks is a test, a text is a list of bytes, and a worth is a whole number of
+billionths."""
+
+
+def main():
+    text = page(Sources(TOP))
+    if sys.argv[1:] == ["--check"]:
+        return 0 if PAGE.exists() and PAGE.read_text(encoding="utf-8") == text else 1
+    if sys.argv[1:]:
+        sys.exit(__doc__)
+    PAGE.write_text(text, encoding="utf-8")
+    return 0
+
+
+if __name__ == "__main__":
+    sys.exit(main())
