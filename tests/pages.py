@@ -7,8 +7,8 @@ PAGES = ("*.md", "docs/*.md", "crates/*.md", "bench/**/*.md", "examples/**/*.md"
 CITING = ("docs/PROOFS.md", "docs/CALLS.md", "docs/DEFINITIONS.md", "docs/PROOF_GUIDE.md", "docs/ARCHITECTURE.md", "docs/ASSURANCE.md",
           "crates/README.md")
 LONGEST_SENTENCE = 40
-MOST_WORDS = {"docs/DECISIONS.md": 4_500}
-UNREAD = ("bench/LAST_RUN.md", "bench/RESULTS.md", "docs/ASSURANCE.md", "docs/STATEMENT.md")     # whose sentences may be longer
+MOST_WORDS = {"docs/DECISIONS.md": 4_500, "bench/RESULTS.md": 2_800}
+UNREAD = ("bench/LAST_RUN.md", "docs/ASSURANCE.md", "docs/STATEMENT.md")     # whose sentences may be longer
 SENTENCE = re.compile(r"(?<=[.!?:])\s+")
 LINK = re.compile(r"\]\(([^()\s]+)\)")
 QUOTED = re.compile(r"`([^`\n]+)`")
