@@ -117,7 +117,15 @@ def is_none_or(holds: Holds) -> Holds:
 
 def is_file_name(value: Any) -> bool:
     """Whether this names a file of the folder itself, and of no other."""
-    return isinstance(value, str) and re.fullmatch(r"[^/\0]+", value) is not None and value not in (".", "..")
+    return is_path(value) and "/" not in value and value not in ("", ".", "..")
+
+
+def is_path(value: Any) -> bool:
+    """Whether a file may be called so: a part of it has at most 255 bytes."""
+    try:
+        return isinstance(value, str) and "\0" not in value and len(value) < 4096 and all(len(part.encode()) <= 255 for part in value.split("/"))
+    except UnicodeEncodeError:
+        return False
 
 
 def is_offset(value: Any) -> bool:

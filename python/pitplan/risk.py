@@ -108,7 +108,7 @@ def is_economics(value: Any) -> bool:
 
 # What risk.json has, and what each may be. Realisations lie in the folder risk, or where the planner's own file does.
 SETUP: dict[str, kept_json.Holds] = {
-    "study": kept_json.is_word, "file": lambda value: kept_json.is_file_name(value) or kept_json.is_word(value) and Path(value).is_absolute() and "\0" not in value, "column": kept_json.is_word,
+    "study": kept_json.is_word, "file": lambda value: kept_json.is_file_name(value) or kept_json.is_path(value) and Path(value).is_absolute(), "column": kept_json.is_word,
     "digests": lambda value: kept_json.is_list(kept_json.is_digest)(value) and 0 < len(value) < 1 << 16, "factors": are_factors, "economics": is_economics}
 
 
@@ -313,7 +313,10 @@ class Realisation(Study):
         grades = np.where(rows >= 0, self.grades()[np.maximum(rows, 0)], 0).astype(float)
         blocks = self.model.blocks.assign(**{self.setup.column: grades})
         model = Model(blocks, self.model.grid, self.model.name, columns=self.model.columns, row_block=self.model.row_block, depth=self.model.depth)
-        return economics_of(self.setup.economics).priced(model)
+        try:
+            return economics_of(self.setup.economics).priced(model)
+        except PlanError as error:           # the economics stand in that file
+            raise type(error)(error.what, table=error.table or folder_of(self.base) / "risk.json", row=error.row, column=error.column, try_this=error.try_this) from None
 
     def grades(self) -> Floats:
         """The grades of this realisation, of shape (lines of the table below its header,).
@@ -326,7 +329,7 @@ class Realisation(Study):
         path = folder_of(self.base) / self.setup.file
         try:
             found: Floats = np.ascontiguousarray(np.load(path, mmap_mode="r", allow_pickle=False)[self.number], np.float32)
-        except (FileNotFoundError, *store.DAMAGED) as error:
+        except (OSError, *store.DAMAGED) as error:
             raise PlanError(f"realisation {self.number} can't be read: {error}", table=path, try_this=command("risk", self.base.named, "--realisations", "FILE")) from None
         if digest_of(found) != self.setup.digests[self.number]:
             raise PlanError(f"realisation {self.number} has changed since pitplan risk looked through it", table=path, try_this=command("risk", self.base.named, "--realisations", "FILE"))

@@ -52,7 +52,7 @@ MANIFEST: dict[str, kept_json.Holds] = {
     "key": kept_json.is_digest, "files": lambda value: kept_json.is_table(kept_json.is_digest, kept_json.is_file_name)(value) and {*READ, "blocks.npz"} <= set(value),
     "blocks": kept_json.is_count, "pairs": kept_json.is_count, "offsets": kept_json.is_table(kept_json.is_list(kept_json.is_offset)),
     "metals": kept_json.is_table(kept_json.is_one({"grade": kept_json.is_word, "grade_unit": kept_json.is_word, "price_unit": kept_json.is_word})),
-    "currency": kept_json.is_word, "source": kept_json.is_none_or(kept_json.is_one({"table": kept_json.is_word, "sha256": kept_json.is_digest})),
+    "currency": kept_json.is_word, "source": kept_json.is_none_or(kept_json.is_one({"table": kept_json.is_path, "sha256": kept_json.is_digest})),
     "keys": kept_json.is_word, "pit": kept_json.is_list(kept_json.is_word)}
 VERDICT: dict[str, kept_json.Holds] = {
     "factor": kept_json.is_factor, "count": kept_json.is_count, "worth": kept_json.is_amount, "certificate": kept_json.is_none_or(kept_json.is_digest), "bits": kept_json.is_digest,

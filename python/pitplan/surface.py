@@ -117,9 +117,10 @@ class Entities:
     def of(self, entities: Any, around: tuple[str, ...] = ()) -> Iterator[tuple[Any, bool]]:
         """The simple entities of some entities, and whether each is of a block; `around` are the blocks that these stand in.
         Raises PlanError where a block holds itself, or stands in `DEEPEST` others."""
-        from ezdxf.entities import Insert
+        from ezdxf.entities.insert import Insert
         from ezdxf.protocols import SupportsVirtualEntities, virtual_entities
         for entity in entities:
+            kind = entity.dxftype()
             self.take(1 if around else 0)
             if isinstance(entity, Insert) and entity.mcount > 1:
                 many = entity.dxf.row_count * entity.dxf.column_count
@@ -129,7 +130,7 @@ class Entities:
                 yield from ((attribute, True) for attribute in entity.attribs)
                 yield from self.of(virtual_entities(entity), self.deeper(around, str(entity.dxf.name)))
             elif isinstance(entity, SupportsVirtualEntities):        # a dimension has a block without a name; a polyline has its own faces alone
-                yield from self.of(virtual_entities(entity), around if entity.dxftype() == "POLYLINE" else self.deeper(around, ""))
+                yield from self.of(virtual_entities(entity), around if kind == "POLYLINE" else self.deeper(around, ""))
             else:
                 yield entity, bool(around)
 

@@ -3,11 +3,15 @@ import ast
 import csv
 import gzip
 import hashlib
+import itertools
 import json
 import math
 import os
 import re
+import shutil
+import time
 from pathlib import Path
+from types import SimpleNamespace
 
 import numpy as np
 import pandas as pd
@@ -16,13 +20,13 @@ import pytest
 import mines
 import pitplan as pp
 import served
-from pitplan import commands_shells, csv_text, export_csv, recheck, risk, store, vary
+from pitplan import commands_shells, csv_text, engines, export_csv, recheck, risk, store, vary
 from pitplan.errors import PlanError
 from pitplan.formula import worked_out
 from pitplan.resting import Resting
 from pitplan.status import seconds_left, states
 from pitplan.study_file import read_study_file
-from pitplan.task import wanted
+from pitplan.task import Task, Tasks, wanted
 from pitplan.whole_file import write_table
 from test_bundle import bundled
 
@@ -223,7 +227,7 @@ def test_a_packed_table_that_the_free_memory_does_not_take_is_refused(tmp_path, 
     with pytest.raises(PlanError, match="unpacks to more than 100,000 bytes, which is what the free memory takes"):
         pp.read_table(tmp_path / "t.csv.gz", size=(1, 1, 1))
     monkeypatch.setattr(csv_text, "free_memory", lambda: 3_000_000)
-    with pytest.raises(PlanError, match="no column is known as x"):
+    with pytest.raises(PlanError, match="isn't the header line"):
         pp.read_table(tmp_path / "t.csv.gz", size=(1, 1, 1))
 
 
@@ -357,7 +361,7 @@ def test_a_what_if_leads_out_of_no_study(asked_for):
     kept = path.read_text()
     try:
         path.write_text(changed(kept, ["changes"], [["../../x", 5]]))
-        with pytest.raises(PlanError, match='vary.json is damaged: changes is ..."../../x", 5'):
+        with pytest.raises(PlanError, match=r'vary.json is damaged: changes is \[\["../../x", 5'):
             vary.tasks(pp.Study(asked_for))
     finally:
         path.write_text(kept)
@@ -381,3 +385,34 @@ def test_realisations_of_a_strange_shape_are_told(asked_for, tmp_path, shape):
         file.write(bytes(8 * 96))
     with pytest.raises(PlanError, match="r.npy"):
         risk.prepare(pp.Study(asked_for), mines.costs(), tmp_path / "r.npy", [1000])
+
+
+@pytest.mark.parametrize("typed", ["/opt/a\\b/pitplan", r"'/opt/C:\new\table' \\x", 'a "b" {c}', "a\nb"])
+def test_a_snakefile_starts_the_very_command(asked_for, monkeypatch, typed):
+    monkeypatch.setattr(engines, "command", lambda: typed)
+    text = (engines.write_snakefile(pp.Study(asked_for), [Task("run", "base", (1000,))]) / "Snakefile").read_text()
+    said = ast.literal_eval(text.split("    shell: ")[1].strip())
+    assert said.format(wildcards=SimpleNamespace(i=7)).startswith(f"{typed} task . $(sed -n 7p submit/")
+
+
+def test_a_file_called_log_hinders_no_task_and_is_told(asked_for):
+    shutil.rmtree(asked_for / "log", ignore_errors=True)
+    (asked_for / "log").write_text("the planner's own")
+    task = Task("run", "base", (1000,))
+    try:
+        assert Tasks(asked_for).do(task) == 0
+        assert [state.state for state in states(pp.Study(asked_for), [task, Task("run", "base", (555,))], {})] == ["done", "to do"]
+        with pytest.raises(PlanError, match="log is a file, and what tasks say is kept in a folder of that name"):
+            engines.listed(pp.Study(asked_for), [task])
+    finally:
+        (asked_for / "log").unlink()
+
+
+def test_a_pit_takes_no_negative_time_where_the_clock_is_set_back(asked_for, monkeypatch):
+    monkeypatch.setattr(time, "time", itertools.count(10 ** 9, -1000).__next__)
+    study = pp.Study(asked_for)
+    study.run_series([777])
+    assert 0 <= study.verdict(777)["seconds"] < 500 and study.verdict(777)["factor"] == 777
+    verdict = study.place(777) / "verdict.json"
+    verdict.write_text(changed(verdict.read_text(), ["seconds"], -7.5))      # of an older pitplan
+    assert seconds_left(study, states(study, [Task("run", "base", (777,)), Task("run", "base", (778,))], {})) == 0
