@@ -35,7 +35,7 @@ from .grid import Grid
 from .model import Model, TableKeys
 from .next_command import command
 from .study import FULL, Study, Told, Verdict, made_whole, mark, sweep, write_blocks
-from .study_file import economics_of
+from .study_file import economics_of, refuse_digits
 from .task import Task
 
 if TYPE_CHECKING:
@@ -101,6 +101,7 @@ def are_factors(value: Any) -> bool:
 def is_economics(value: Any) -> bool:
     """Whether this is what `prepare` keeps of [economics]."""
     try:
+        refuse_digits("", value)
         return isinstance(value, dict) and bool(economics_of(value).metals)
     except (PlanError, ArithmeticError, AttributeError, LookupError, TypeError, ValueError):
         return False

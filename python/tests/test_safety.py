@@ -349,7 +349,7 @@ def test_what_stands_in_a_study_is_read_by_a_checked_reader(asked_for, name):
                 try:
                     use(asked_for)
                 except PlanError as error:
-                    assert str(asked_for) in str(error) or "over this model" in str(error), (keys, value, error)
+                    assert str(asked_for) in str(error) or "over this model" in str(error) or keys[0] == "economics" and "mining" in str(error), (keys, value, error)
                 else:
                     assert keys[-1] != "../../x" and value != "../../x" or keys[-1] in ("currency", "grade", "host", "study", "model", "table", "file", "mining"), (keys, value)
     finally:
