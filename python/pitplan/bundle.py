@@ -18,6 +18,7 @@ from .digests import sha256
 from .errors import PlanError
 from .next_command import command
 from .study import COLUMNS, READ, made_whole, sweep
+from .whole_file import write_table
 
 if TYPE_CHECKING:
     from .shells import Shells
@@ -92,7 +93,7 @@ def write(shells: Shells, folder: str | Path, told: Path, dialect: Dialect, rate
         raise PlanError("the table that the study was built from isn't there any more", table=table, try_this=f"{command('build', study.named)} && {command('shells', study.named)}")
     shells = shells.with_certificates()
     sweep(folder.parent, f".{glob.escape(folder.name)}.*")
-    with made_whole(folder) as work:
+    with made_whole(folder, is_study=False) as work:
         name = f"table/{plain_name(table.name)}"
         copy_files(study, work, {told: "study.toml", table: name})
         manifest = study.manifest | {"source": study.manifest["source"] | {"table": name}}      # no path of the planner's machine
@@ -143,9 +144,9 @@ def write_certificates(shells: Shells, work: Path) -> None:
 
 def write_tables(shells: Shells, work: Path, rates: dict[str, Any]) -> None:
     """Numbers alone: no cell of a stranger's table comes into these."""
-    shells.table(**rates).to_csv(work / "tables" / "pit_by_pit.csv", index=False)
-    shells.benches().to_csv(work / "tables" / "benches.csv", index=False)
-    shells.of_blocks().drop(columns="id").rename_axis("block").to_csv(work / "tables" / "blocks.csv")
+    write_table(shells.table(**rates), work / "tables" / "pit_by_pit.csv")
+    write_table(shells.benches(), work / "tables" / "benches.csv")
+    write_table(shells.of_blocks().drop(columns="id").rename_axis("block").reset_index(), work / "tables" / "blocks.csv")
 
 
 def facts_of(study: Study, name: str, dialect: Dialect) -> dict[str, Any]:

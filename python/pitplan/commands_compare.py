@@ -55,20 +55,18 @@ def design_of(model: Model, ids: Path | None, column: tuple[str | None, str | No
 def write(study: Study, found: Comparison, elevations: list[float]) -> Path:
     """Writes all that was found into a folder of its own."""
     from .compare_plan import plan, widest_bench
-    from .export_csv import safe
     from .pictures import save
-    from .whole_file import whole_file
+    from .whole_file import whole_file, write_table
     target = results(study) / ("compare-" + re.sub(r"[^\w.-]+", "_", found.design.name))
     target.mkdir(exist_ok=True)
     tables: dict[str, Any] = {"benches.csv": found.benches}
     if found.repair:
         b = study.model.blocks[found.repair.held & ~found.design.held]
-        tables |= {"pairs.csv": safe(found.pairs), "walls.csv": safe(found.walls), "repair.csv": safe(b[["id", "rock", "tonnes"]])}
+        tables |= {"pairs.csv": found.pairs, "walls.csv": found.walls, "repair.csv": b[["id", "rock", "tonnes"]]}
     for stale in ("pairs.csv", "walls.csv", "repair.csv"):
         (target / stale).unlink(missing_ok=True)
     for name, frame in tables.items():
-        with whole_file(target / name) as part:
-            frame.to_csv(part, index=False)
+        write_table(frame, target / name)
     with whole_file(target / "summary.json") as part:
         part.write_text(json.dumps(summary(study, found), indent=1) + "\n")
     for elevation in elevations or ([widest_bench(found)] if len(found.benches) else []):

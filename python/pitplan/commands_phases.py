@@ -22,16 +22,14 @@ def phases(factors: str = typer.Argument(..., help="Factors of the pits that end
            mining_width: Optional[float] = typer.Option(None, "--mining-width", min=0.0, help="The least width that machines need, in metres: where a pushback is thinner is told by bench.")) -> None:
     """Cut the mine into pushbacks: rock, ore, grade, metal, strip ratio and worth of each, bench by bench."""
     from .chosen import pits_at, shares_of
-    from .export_csv import safe
     from .phases import Phases
-    from .whole_file import whole_file
+    from .whole_file import write_table
     found = Phases(pits_at(folder, shares_of(factors)), mining_width)
     benches = found.benches()
     table = found.table(benches=benches)
     target = results(found.shells.study)
-    for name, frame in (("phases.csv", table), ("phase_benches.csv", benches), ("phase_blocks.csv", safe(found.of_blocks()[found.pushback > 0]))):
-        with whole_file(target / name) as part:
-            frame.to_csv(part, index=False)
+    for name, frame in (("phases.csv", table), ("phase_benches.csv", benches), ("phase_blocks.csv", found.of_blocks()[found.pushback > 0])):
+        write_table(frame, target / name)
     show(found, table)
     tell_narrow(found, benches, target / "phase_benches.csv")
     say(f"{target}: phases.csv, phase_benches.csv, phase_blocks.csv. After each pushback the mine is a proved pit; in which order benches are dug is the scheduler's")

@@ -92,7 +92,6 @@ def lines(total: int) -> Told:
 def write_tables(found: Shells, table: pd.DataFrame, decimal: str | None = None) -> None:
     """Pit by pit, bench by bench, and the planner's own table with a column more; `decimal` is its mark of a decimal, where study.toml says it."""
     from . import table_back
-    from .export_csv import safe
     from .whole_file import write_table
     folder = results(found.study)
     write_table(table, folder / "pit_by_pit.csv")
@@ -102,7 +101,7 @@ def write_tables(found: Shells, table: pd.DataFrame, decimal: str | None = None)
         rows = table_back.write(found, folder / name, decimal)
         say(f"{folder / name}: the table with a column more, pit_shell, that {rows:,} of its rows have")
     except PlanError as error:
-        write_table(safe(found.of_blocks()), folder / "blocks.csv")
+        write_table(found.of_blocks(), folder / "blocks.csv")
         warn(f"{error}\n{folder / 'blocks.csv'} has the shell of each block by its id instead")
 
 

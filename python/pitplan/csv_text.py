@@ -8,6 +8,7 @@ import io
 import re
 import warnings
 import zlib
+from collections import Counter
 from collections.abc import Collection, Mapping, Sequence
 from contextlib import suppress
 from dataclasses import dataclass
@@ -19,12 +20,14 @@ import numpy.typing as npt
 import pandas as pd
 
 from .errors import PlanError
+from .machine import free_memory
 
 SEPARATORS = ",;\t"
 THOUSANDS = re.compile(r"[+-]?\d{1,3}(([,'\s]\d{3})+(\.\d+)?|([.\s]\d{3})+,\d+)")
 COMMA_DECIMAL = re.compile(r"([+-]?\d*),(\d+(?:[eE][+-]?\d+)?)")
 GROUPED = re.compile(r"[+-]?[1-9]\d{0,2}([.,])\d{3}(\1\d{3})*")       # a whole number with thousands separators, or one with three decimals
 SMALL, MOST_TIMES = 1 << 26, 200              # bytes that any table may unpack to, and how many times its size a larger one may
+HELD = 3                                     # bytes of memory that a byte of a table takes while it is read
 SAY_ENCODING = 'save it as "CSV UTF-8"; or tell init --encoding cp1252, or say encoding = "cp1252" in [model]'
 MOST_WORDS = 1000                            # different cells that a column of codes has at most; one of numbers with a mark among them has more
 NO_PLACE = "fill its place in, or take the row out"      # what to try where a coordinate is no number
@@ -43,12 +46,13 @@ class Dialect:
 
 
 class Unpacked(io.RawIOBase):
-    """The bytes of a packed table, which is refused where it unpacks to far more than a table does: a few bytes can stand for
-    more than any machine holds."""
+    """The bytes of a packed table, which is refused where it unpacks to far more than a table does, or to more than the free memory
+    takes: a few bytes can stand for more than any machine holds."""
 
     def __init__(self, path: Path) -> None:
         self.path, self.file = path, gzip.open(path, "rb")
-        self.left = max(SMALL, MOST_TIMES * path.stat().st_size)
+        size, memory = MOST_TIMES * path.stat().st_size, free_memory() // HELD
+        self.left, self.why = max(SMALL, min(size, memory)), f"{MOST_TIMES} times its size" if size <= memory else f"{memory:,} bytes, which is what the free memory takes"
 
     def readable(self) -> bool:
         return True
@@ -59,12 +63,12 @@ class Unpacked(io.RawIOBase):
         Raises
         ------
         PlanError
-            Where they are more than `MOST_TIMES` the packed ones.
+            Where they are more than `MOST_TIMES` the packed ones, or the free memory over `HELD`.
         """
         count = self.file.readinto(buffer)
         self.left -= count
         if self.left < 0:
-            raise PlanError(f"unpacks to more than {MOST_TIMES} times its size", table=self.path, try_this="is it a table? Unpack it, and look")
+            raise PlanError(f"unpacks to more than {self.why}", table=self.path, try_this="is it a table? Unpack it, and look")
         return count
 
     def close(self) -> None:
@@ -210,9 +214,7 @@ def read_frame(path: Path, dialect: Dialect, words: Collection[str] = ()) -> pd.
         Where the file isn't such a table: with the row, where there is one.
     """
     names = names_of(head_of(path, dialect.encoding, 1)[0], dialect.separator)
-    doubled = [name for i, name in enumerate(names) if name in names[:i]]
-    if doubled:
-        raise PlanError(f"two columns are called {doubled[0]}", table=path, try_this="another name for one of them")
+    refuse_doubled(names, path)
     frame = parsed(path, dialect, names, words)
     frame.index = pd.RangeIndex(dialect.skip, dialect.skip + len(frame))
     if dialect.decimal == ",":
@@ -225,6 +227,13 @@ def read_frame(path: Path, dialect: Dialect, words: Collection[str] = ()) -> pd.
     if not len(frame):
         raise PlanError("has no rows below its header line", table=path)
     return frame
+
+
+def refuse_doubled(names: Sequence[str], path: object) -> None:
+    """Refuses a name that two columns have."""
+    doubled = next((name for name, count in Counter(names).items() if count > 1), None)
+    if doubled is not None:
+        raise PlanError(f"two columns are called {doubled}", table=path, try_this="another name for one of them")
 
 
 def points_for_commas(frame: pd.DataFrame, words: Collection[str], path: Path) -> None:

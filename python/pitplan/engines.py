@@ -9,6 +9,7 @@ from __future__ import annotations
 import hashlib
 import json
 import os
+import re
 import shlex
 import shutil
 import subprocess
@@ -17,6 +18,7 @@ from dataclasses import dataclass
 from pathlib import Path
 from typing import Any
 
+from . import kept_json
 from .errors import STOPPED, MachineError, PlanError, in_a_line
 from .program import TOP, found_program
 from .study import Study, host
@@ -96,7 +98,10 @@ def listed(study: Study, tasks: Sequence[Task]) -> Path:
     """A new folder ``submit/N`` with the list of tasks, a line each."""
     top = study.folder / "submit"
     top.mkdir(exist_ok=True)
-    (study.folder / "log").mkdir(exist_ok=True)
+    try:
+        (study.folder / "log").mkdir(exist_ok=True)
+    except FileExistsError:
+        raise PlanError(f"{study.folder / 'log'} is a file, and what tasks say is kept in a folder of that name", try_this="another name for the file") from None
     number = max((int(path.name) for path in top.iterdir() if path.name.isdigit()), default=0) + 1
     folder = top / str(number)
     folder.mkdir()
@@ -179,8 +184,9 @@ def in_slurm(study: Study) -> dict[Task, Handed]:
         Where Slurm can't be asked.
     """
     lists = {}
-    for path in sorted((study.folder / "submit").glob("*/submitted.json"), key=lambda path: int(path.parent.name)):
-        told = json.loads(path.read_text())
+    there = [path for path in (study.folder / "submit").glob("*/submitted.json") if path.parent.name.isdecimal()]
+    for path in sorted(there, key=lambda path: int(path.parent.name)):
+        told = kept_json.read(path, {"engine": kept_json.is_word, "job": lambda value: isinstance(value, str) and re.fullmatch(r"\w*", value) is not None}, f"take {path} away")
         if told["engine"] == "slurm":
             lists[told["job"]] = (path.parent / "tasks.txt").read_text().splitlines()
     if not lists:
@@ -204,10 +210,11 @@ def write_snakefile(study: Study, tasks: Sequence[Task]) -> Path:
     """
     folder = listed(study, tasks)
     place = f"submit/{folder.name}"
-    quoted = command().replace("{", "{{").replace("}", "}}").replace('"', '\\"')
+    quoted = json.dumps(command().replace("{", "{{").replace("}", "}}"))[1:-1]       # Python's words are quoted as JSON's are
     (folder / "Snakefile").write_text(SNAKEFILE.format(folder=place, count=len(tasks), mega=megabytes(study), command=quoted))
     (folder / "slurm-status").write_text(STATUS)
-    (folder / "slurm-status").chmod(0o755)
+    it = folder / "slurm-status"
+    it.chmod(it.stat().st_mode | it.stat().st_mode >> 2 & 0o111)       # who may read it may run it
     (folder / "submitted.json").write_text(json.dumps({"engine": "snakemake", "job": "", "host": host()}))
     return folder
 

@@ -12,7 +12,7 @@ import pandas as pd
 
 from .amounts import THOUSAND
 from .csv_text import PLAIN
-from .whole_file import whole_file
+from .whole_file import write_table
 
 if TYPE_CHECKING:
     from .shells import Shells
@@ -23,15 +23,22 @@ MARKED = re.compile(r"'[=+\-@\t\r]")
 
 def harmless(words: Any) -> pd.Series:
     """Words of the planner's own as a spreadsheet may open them: one that begins with ``=``, ``+``, ``-`` or ``@`` gets an
-    apostrophe before it, unless it is a number, since spreadsheets would run it as a formula.
+    apostrophe before it, unless it is a number, since spreadsheets would run it as a formula. A carriage return becomes a blank: it
+    isn't quoted as a line feed is, and spreadsheets begin a row there.
 
-    >>> harmless(["B1", "=1+1", "-5"]).tolist()
-    ['B1', "'=1+1", '-5']
+    >>> harmless(["B1", "=1+1", "-5", "S" + chr(13) + "=2"]).tolist()
+    ['B1', "'=1+1", '-5', 'S =2']
     """
     found = pd.Series(words, dtype=object)
-    kinds = found.unique()
-    risky = {word: f"'{word}" for word in kinds if isinstance(word, str) and FORMULA.match(word) and not PLAIN.fullmatch(word)}
+    told = {word: harmless_word(word) for word in found.unique() if isinstance(word, str)}
+    risky = {word: other for word, other in told.items() if word != other}
     return found.map(lambda word: risky.get(word, word)) if risky else found
+
+
+def harmless_word(word: str) -> str:
+    """A word as `harmless` writes it."""
+    is_formula = FORMULA.match(word) and not PLAIN.fullmatch(word)
+    return ("'" if is_formula else "") + word.replace("\r", " ")
 
 
 def as_written(word: str) -> str:
@@ -104,10 +111,9 @@ def write(shells: Shells, path: str | os.PathLike[str], columns: Sequence[str] |
     OSError
         Where the file can't be written. What was there stays then.
     """
-    found = safe(table_of(shells, columns, is_whole))
+    found = table_of(shells, columns, is_whole)
     for name in found.columns:
         if found[name].dtype.kind == "f":
             found[name] = spelled_once(found[name].to_numpy())
-    with whole_file(path) as part:
-        found.to_csv(part, index=False)
+    write_table(found, path)
     return len(found)

@@ -12,7 +12,7 @@ import pandas as pd
 from .amounts import THOUSAND
 from .errors import PlanError, meant
 from .model import OURS
-from .whole_file import whole_file
+from .whole_file import whole_file, write_table
 
 if TYPE_CHECKING:
     from .model import Model
@@ -59,9 +59,7 @@ def write(shells: Shells, path: str | os.PathLike[str], columns: Sequence[str] |
     with whole_file(path) as part:
         mesh.write(part, file_format="vtu")
     if len(words):
-        from .export_csv import harmless
-        with whole_file(os.fspath(path) + ".words.csv") as part:
-            words.assign(word=harmless(words["word"])).to_csv(part, index=False)
+        write_table(words, os.fspath(path) + ".words.csv")
     return words
 
 

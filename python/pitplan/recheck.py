@@ -32,6 +32,7 @@ from typing import Any, BinaryIO, NamedTuple
 
 HERE = Path(__file__).resolve().parent
 SUMS, PIECE, THOUSAND, MICRO, NANO = "SHA256SUMS", 1 << 20, 1000, 10 ** 6, 10 ** 9
+HELD = 10                                    # bytes of memory that a byte of a table takes, its cells as words
 LINE = 120                                   # bytes that a line of a certificate has at most
 NUMBER = re.compile(r"[+-]?(\d+\.?\d*|\.\d+)([eE][+-]?\d+)?")
 COMMA = re.compile(r"([+-]?\d*),(\d+(?:[eE][+-]?\d+)?)")
@@ -194,6 +195,15 @@ def reason(error: Exception) -> str:
     return str(error) if isinstance(error, Bad) else f"{type(error).__name__}: {error}"
 
 
+def free_memory() -> int:
+    """Bytes of memory that are free on this machine; a gigabyte where the system doesn't say."""
+    try:
+        with open("/proc/meminfo") as file:
+            return next((int(line.split()[1]) * 1024 for line in file if line.startswith("MemAvailable")), 1 << 30)
+    except OSError:
+        return 1 << 30
+
+
 def digest_of(path: Path) -> str:
     """The sha256 of a file."""
     digest = hashlib.sha256()
@@ -204,10 +214,12 @@ def digest_of(path: Path) -> str:
 
 
 def within(name: str) -> Path:
-    """A file of the bundle by its name; a name that leads out of the bundle is none."""
+    """A file of the bundle by its name; a name that leads out of the bundle is none. Nor is a pipe or a device, which may never end."""
     path = HERE / name
     if "\0" in name or Path(name).is_absolute() or ".." in Path(name).parts or path.is_symlink() or HERE not in path.resolve().parents:
         raise Bad(f"{name} leads out of the bundle")
+    if path.exists() and not path.is_file():
+        raise Bad(f"{name} is no regular file")
     return path
 
 
@@ -385,10 +397,10 @@ def judged(pit: str, path: Path, most: int) -> Judged:
     return Judged(said, digest.hexdigest(), list(map(int, held)), of, factor)
 
 
-def check_pits(told: Told, pit: str, blocks: Blocks, facts: dict[str, Any], is_plain: bool) -> list[int]:
+def check_pits(told: Told, pit: str, blocks: Blocks, is_plain: bool) -> list[int]:
     """Each certificate, and that its pit lies within the next. Returns the first factor whose pit has each block, 0 where none
     has it."""
-    most = LINE * (3 * len(blocks.places) + facts["pairs"] + 10)
+    most = LINE * (3 * len(blocks.places) + pairs_listed() + 10)
     shell, below, last = [0] * len(blocks.places), set[int](), -1
     verdicts = verdicts_of()
     plain = plainly([within(verdict["file"]) for verdict in verdicts]) if is_plain else []
@@ -469,7 +481,7 @@ def other_mine(of: int | None, here: int) -> str:
 def plainly(paths: list[Path]) -> list[str]:
     """What plainly.py says of these certificates, for each a line."""
     words = ["--prec", "model/mine.prec", "--blocks", "model/mine.blocks", "--settings", "model/settings.toml"]
-    run = subprocess.run([sys.executable, "-I", str(HERE / "plainly.py"), *words, *map(str, paths)], cwd=HERE, stdout=subprocess.PIPE, text=True)
+    run = subprocess.run([sys.executable, "-I", str(within("plainly.py")), *words, *map(str, paths)], cwd=HERE, stdout=subprocess.PIPE, text=True)
     lines = run.stdout.splitlines()
     # where the model can't be read, that is the one line
     return (lines + lines[-1:] * (len(paths) - len(lines)))[:len(paths)] if lines else ["no answer"] * len(paths)
@@ -502,7 +514,7 @@ class Table:
         is_packed = path.suffix.lower() == ".gz"
         if is_packed:
             with open(path, "rb") as packed:
-                for _ in pieces(packed, max(SMALL, MOST_TIMES * path.stat().st_size), "a table"):
+                for _ in pieces(packed, max(SMALL, min(MOST_TIMES * path.stat().st_size, free_memory() // HELD)), "a table"):
                     pass
         try:
             with gzip.open(path, "rt", 9, encoding, newline="") if is_packed else open(path, encoding=encoding, newline="") as file:
@@ -716,10 +728,10 @@ def pairs_listed() -> int:
     found = 0
     with open(within("model/mine.prec"), "rb") as file:
         for n, line in enumerate(file, 1):
-            fields = line.split(maxsplit=2)
-            if len(fields) < 2 or not fields[1].isdigit() or len(fields[1]) > 10:
+            fields = line.split()
+            if len(fields) < 2 or fields[1] != b"%d" % (len(fields) - 2):
                 raise Bad(f"model/mine.prec: line {n} is {shown(line[:80].decode(errors='replace').rstrip())}, and has to be a block, how many predecessors it has, and these")
-            found += int(fields[1])
+            found += len(fields) - 2
     return found
 
 
@@ -1074,7 +1086,7 @@ def check_all(told: Told, pit: str, is_plain: bool) -> None:
     found = told.attempt("the table", check_table, told, blocks, facts)
     told.attempt("the slopes", check_slopes, told, pit, found.regions if found else None)
     told.attempt("the factors", check_series, told)
-    shell = told.attempt("verdicts.json", check_pits, told, pit, blocks, facts, is_plain)
+    shell = told.attempt("verdicts.json", check_pits, told, pit, blocks, is_plain)
     if shell is not None and found and found.fenced:
         dug = [b for b in found.fenced if shell[b]]
         told.check(not dug, "no pit has a block that forbid keeps" + (f": not so for {len(dug):,}, the first is block {dug[0]}" if dug else ""))
@@ -1093,8 +1105,8 @@ def main() -> int:
     told = Told()
     check_all(told, words[0] if words else "pit", "--plainly" in sys.argv)
     try:
-        print(f"sha256 of {SUMS}: {digest_of(HERE / SUMS)} (compare it with the one that you were told)")
-    except OSError:
+        print(f"sha256 of {SUMS}: {digest_of(within(SUMS))} (compare it with the one that you were told)")
+    except (Bad, OSError):
         pass
     bad, looks = told.count["WRONG"], told.count["look"]
     print(f"{bad} of {told.count.total()} things are WRONG" if bad else f"everything that was looked at holds: {told.count['ok']} things"

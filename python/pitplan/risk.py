@@ -25,7 +25,7 @@ import numpy as np
 import numpy.typing as npt
 import pandas as pd
 
-from . import store
+from . import kept_json, store
 from .amounts import THOUSAND, Priced, spelled
 from .column_names import PLACES
 from .csv_text import dialect_beside, number_column, read_frame
@@ -35,7 +35,7 @@ from .grid import Grid
 from .model import Model, TableKeys
 from .next_command import command
 from .study import FULL, Study, Told, Verdict, made_whole, mark, sweep, write_blocks
-from .study_file import economics_of
+from .study_file import economics_of, refuse_digits
 from .task import Task
 
 if TYPE_CHECKING:
@@ -85,12 +85,32 @@ def folder_of(study: Study) -> Path:
 def setup_of(study: Study) -> Setup | None:
     """What was asked for by `prepare` over this very model, None where nothing was."""
     try:
-        found = Setup(**json.loads((folder_of(study) / "risk.json").read_text()))
+        found = kept_json.read(folder_of(study) / "risk.json", SETUP, command("risk", study.named, "--realisations", "FILE"))
     except FileNotFoundError:
         return None
-    except (TypeError, ValueError):
-        raise PlanError(f"{folder_of(study) / 'risk.json'} is damaged", try_this=command("risk", study.named, "--realisations", "FILE")) from None
-    return found if found.study == study.key else None
+    if found["column"] not in [metal["grade"] for metal in found["economics"]["metals"]]:
+        raise kept_json.Damaged(f"{folder_of(study) / 'risk.json'} is damaged: column is {kept_json.shown(found['column'])}", try_this=command("risk", study.named, "--realisations", "FILE"))
+    return Setup(**{key: found[key] for key in SETUP}) if found["study"] == study.key else None
+
+
+def are_factors(value: Any) -> bool:
+    """Whether this is a list of factors in thousandths, ascending."""
+    return bool(value) and kept_json.is_list(kept_json.is_factor)(value) and all(a < b for a, b in zip(value, value[1:]))
+
+
+def is_economics(value: Any) -> bool:
+    """Whether this is what `prepare` keeps of [economics]."""
+    try:
+        refuse_digits("", value)
+        return isinstance(value, dict) and bool(economics_of(value).metals)
+    except (PlanError, ArithmeticError, AttributeError, LookupError, TypeError, ValueError):
+        return False
+
+
+# What risk.json has, and what each may be. Realisations lie in the folder risk, or where the planner's own file does.
+SETUP: dict[str, kept_json.Holds] = {
+    "study": kept_json.is_word, "file": lambda value: kept_json.is_file_name(value) or kept_json.is_path(value) and Path(value).is_absolute(), "column": kept_json.is_word,
+    "digests": lambda value: kept_json.is_list(kept_json.is_digest)(value) and 0 < len(value) < 1 << 16, "factors": are_factors, "economics": is_economics}
 
 
 def prepare(study: Study, economics: Economics, realisations: Path, factors: Sequence[int], metal: str | None = None, keys: TableKeys | None = None) -> Setup:
@@ -164,7 +184,7 @@ def opened(path: Path, work: Path, study: Study | None = None, keys: TableKeys |
             return np.load(path, mmap_mode="r", allow_pickle=False), str(path.resolve())
         except FileNotFoundError:
             raise PlanError(f"{path} isn't there") from None
-        except ValueError as error:
+        except store.DAMAGED as error:
             raise PlanError(f"can't be read as realisations: {error}", table=path) from None
     grades = of_table(path, study.model if study else None, keys)
     np.save(work / "realisations.npy", grades)
@@ -294,7 +314,10 @@ class Realisation(Study):
         grades = np.where(rows >= 0, self.grades()[np.maximum(rows, 0)], 0).astype(float)
         blocks = self.model.blocks.assign(**{self.setup.column: grades})
         model = Model(blocks, self.model.grid, self.model.name, columns=self.model.columns, row_block=self.model.row_block, depth=self.model.depth)
-        return economics_of(self.setup.economics).priced(model)
+        try:
+            return economics_of(self.setup.economics).priced(model)
+        except PlanError as error:           # the economics stand in that file
+            raise type(error)(error.what, table=error.table or folder_of(self.base) / "risk.json", row=error.row, column=error.column, try_this=error.try_this) from None
 
     def grades(self) -> Floats:
         """The grades of this realisation, of shape (lines of the table below its header,).
@@ -307,7 +330,7 @@ class Realisation(Study):
         path = folder_of(self.base) / self.setup.file
         try:
             found: Floats = np.ascontiguousarray(np.load(path, mmap_mode="r", allow_pickle=False)[self.number], np.float32)
-        except (FileNotFoundError, IndexError, ValueError) as error:
+        except (OSError, *store.DAMAGED) as error:
             raise PlanError(f"realisation {self.number} can't be read: {error}", table=path, try_this=command("risk", self.base.named, "--realisations", "FILE")) from None
         if digest_of(found) != self.setup.digests[self.number]:
             raise PlanError(f"realisation {self.number} has changed since pitplan risk looked through it", table=path, try_this=command("risk", self.base.named, "--realisations", "FILE"))
@@ -343,7 +366,7 @@ class Realisation(Study):
         if self.made:
             yield self.files
             return
-        self.began = time.time()             # pricing and writing count with the first pit: `pitplan status` reckons by what pits took
+        self.began = time.monotonic()             # pricing and writing count with the first pit: `pitplan status` reckons by what pits took
         sweep(Path(tempfile.gettempdir()), SCRATCH + "*")
         with tempfile.TemporaryDirectory(prefix=SCRATCH + mark(), ignore_cleanup_errors=True) as scratch:
             self.made = Path(scratch) / "mine.blocks"

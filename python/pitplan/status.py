@@ -72,7 +72,7 @@ def state_of(of: Tasks, task: Task, handed: Handed | None) -> State:
         return State(task, RUNNING, f"on {', '.join(sorted(at))}" if at else f"Slurm says {handed.state if handed else ''}", len(missing))
     try:
         return State(task, FAILED, str(json.loads(of.note(task).read_text())["words"]), len(missing))
-    except (FileNotFoundError, ValueError, KeyError, TypeError):      # the last three of a note that is damaged
+    except (FileNotFoundError, NotADirectoryError, ValueError, KeyError, TypeError):      # the last three of a note that is damaged
         last = handed.last_line() if handed else None
         if last is not None and DONE_WORDS.search(last):
             last = None                      # it was done, over a model that stands there no more
@@ -104,7 +104,7 @@ def is_of(name: str, missing: Sequence[int]) -> bool:
 def seconds_left(study: Study, found: Sequence[State]) -> float | None:
     """How long the rest will take, from the pits that are found and as many at a time as run now; None where none is found yet."""
     of = Tasks(study.folder, study.given)
-    took = [verdict["seconds"] for state in found for factor in state.task.factors if (verdict := of.study(state.task).verdict(factor))]
+    took = [max(verdict["seconds"], 0.0) for state in found for factor in state.task.factors if (verdict := of.study(state.task).verdict(factor))]
     left = sum(state.missing for state in found)
     if not took:
         return None if left else 0.0

@@ -22,7 +22,7 @@ from .next_command import command
 
 Array = npt.NDArray[Any]
 # What numpy and zipfile raise of a file that is damaged.
-DAMAGED = (ValueError, KeyError, TypeError, IndexError, EOFError, RuntimeError, zipfile.BadZipFile, zlib.error, tokenize.TokenError)
+DAMAGED = (ValueError, KeyError, TypeError, IndexError, EOFError, OverflowError, RuntimeError, zipfile.BadZipFile, zlib.error, tokenize.TokenError)
 COLUMN, WORDS, METAL, GRADE = "column ", "words ", "metal ", "grade "
 
 

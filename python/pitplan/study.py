@@ -15,6 +15,7 @@ import errno
 import hashlib
 import json
 import os
+import secrets
 import shutil
 import tempfile
 import time
@@ -23,13 +24,13 @@ from concurrent.futures import ThreadPoolExecutor
 from contextlib import contextmanager, suppress
 from functools import cached_property
 from pathlib import Path
-from typing import TYPE_CHECKING, Any, TypedDict
+from typing import TYPE_CHECKING, TypedDict, cast
 
 import numpy as np
 import numpy.typing as npt
 import pandas as pd
 
-from . import edges, store
+from . import edges, kept_json, store
 from .amounts import THOUSAND, Priced, as_text
 from .digests import sha256, sha256_unless_known
 from .economics import Economics
@@ -46,7 +47,16 @@ Bools = npt.NDArray[np.bool_]
 Told = Callable[[int, str, float], None]     # a factor, what is done for it, and how far that is, from 0 to 1
 COLUMNS = ("revenue", "processing", "mining", "tonnes")
 READ = ("mine.blocks", "mine.prec", "settings.toml")
-MANIFEST = {"key", "files", "blocks", "pairs", "offsets", "metals", "currency", "source", "keys", "pit"}      # what manifest.json has at least
+# What manifest.json and a verdict have at least, and what each may be. A file of the model lies beside the manifest, and nowhere else.
+MANIFEST: dict[str, kept_json.Holds] = {
+    "key": kept_json.is_digest, "files": lambda value: kept_json.is_table(kept_json.is_digest, kept_json.is_file_name)(value) and {*READ, "blocks.npz"} <= set(value),
+    "blocks": kept_json.is_count, "pairs": kept_json.is_count, "offsets": kept_json.is_table(kept_json.is_list(kept_json.is_offset)),
+    "metals": kept_json.is_table(kept_json.is_one({"grade": kept_json.is_word, "grade_unit": kept_json.is_word, "price_unit": kept_json.is_word})),
+    "currency": kept_json.is_word, "source": kept_json.is_none_or(kept_json.is_one({"table": kept_json.is_path, "sha256": kept_json.is_digest})),
+    "keys": kept_json.is_word, "pit": kept_json.is_list(kept_json.is_word)}
+VERDICT: dict[str, kept_json.Holds] = {
+    "factor": kept_json.is_factor, "count": kept_json.is_count, "worth": kept_json.is_amount, "certificate": kept_json.is_none_or(kept_json.is_digest), "bits": kept_json.is_digest,
+    "model": kept_json.is_word, "pit": kept_json.is_list(kept_json.is_word), "seconds": kept_json.is_number, "host": kept_json.is_word}
 TIMES = 10                                   # that a folder is tried to be put where other processes put theirs
 FULL = (errno.ENOSPC, errno.EDQUOT)          # a disk has no room, or its user's share of it
 
@@ -92,13 +102,9 @@ class Study:
         self.folder, self.named = Path(folder), named or Path(folder)
         self.where = self.folder / "model"
         try:
-            self.manifest: dict[str, Any] = json.loads((self.where / "manifest.json").read_text())
+            self.manifest = kept_json.read(self.where / "manifest.json", MANIFEST, command("build", self.named))
         except (FileNotFoundError, NotADirectoryError):
             raise PlanError(f"{self.folder} is no study, or was never built", try_this=command("build", self.named)) from None
-        except ValueError:                   # no JSON, or no text
-            self.manifest = {}
-        if not isinstance(self.manifest, dict) or not self.manifest.keys() >= MANIFEST:
-            raise PlanError(f"{self.where / 'manifest.json'} is damaged", try_this=command("build", self.named))
         self.key: str = self.manifest["key"]
         self.given = program
         self.added_up = set[tuple[int, str, int, str]]()     # of pits that this object added up and kept: factor, digest of the bits, count, worth
@@ -243,11 +249,17 @@ class Study:
     def verdict(self, factor: int) -> Verdict | None:
         """The verdict of a run that is done over this very model, else None."""
         try:
-            found: Verdict = json.loads((self.place(factor) / "verdict.json").read_text())
-        except (FileNotFoundError, NotADirectoryError, ValueError):      # the last where it is no JSON, or no text
+            return self.told(factor)
+        except kept_json.Damaged:            # the pit is found again
             return None
-        is_whole = isinstance(found, dict) and found.keys() >= Verdict.__annotations__.keys()
-        return found if is_whole and found["model"] == self.key and found["factor"] == factor else None
+
+    def told(self, factor: int) -> Verdict | None:
+        """As `verdict`. Raises `kept_json.Damaged` where it isn't one that `kept` writes."""
+        try:
+            found = kept_json.read(self.place(factor) / "verdict.json", VERDICT, command("shells", self.named))
+        except (FileNotFoundError, NotADirectoryError):
+            return None
+        return cast(Verdict, found) if found["model"] == self.key and found["factor"] == factor else None
 
     def certified(self, factor: int) -> Verdict | None:
         """The verdict of a pit whose certificate `pit check` accepted, over this very model, else None."""
@@ -277,7 +289,7 @@ class Study:
         done = self.certified(factor)
         if done:
             return done
-        began, place = self.began or time.time(), self.place(factor)
+        began, place = self.began or time.monotonic(), self.place(factor)
         self.began = None
         stated = self.mask(factor) if self.verdict(factor) else None
         with made_whole(place) as work:
@@ -287,7 +299,7 @@ class Study:
                 raise Disagreement(f"at factor {factor / THOUSAND:g} pit shells stated another pit than pit solve found, and the best pit is one", try_this="keep the folder, and tell the maintainers")
             if sure:
                 sure()
-            return self.kept(work, found, time.time() - began)
+            return self.kept(work, found, time.monotonic() - began)
 
     def kept(self, work: Path, found: Accepted | Stated, seconds: float) -> Verdict:
         """Writes a pit that has been added up, and its verdict, into a folder that is then renamed to its place."""
@@ -314,7 +326,7 @@ class Study:
         NotAccepted, Disagreement
             As `run`.
         """
-        began, pits = time.time(), self.folder / "runs" / "base"
+        began, pits = time.monotonic(), self.folder / "runs" / "base"
         pits.mkdir(parents=True, exist_ok=True)
         with tempfile.TemporaryDirectory(prefix=f".f{factors[0]:05d}-{factors[-1]:05d}.{mark()}", dir=pits) as work:
             found = self.program.series(self.files, factors, Path(work), workers, proving(told))
@@ -324,7 +336,7 @@ class Study:
             sure()
         for pit in found:
             with made_whole(self.place(pit.factor)) as work_of_pit:
-                self.kept(work_of_pit, pit, (time.time() - began) / len(found))
+                self.kept(work_of_pit, pit, (time.monotonic() - began) / len(found))
             if told:
                 told(pit.factor, "done", 1.0)
 
@@ -357,7 +369,7 @@ class Study:
         Disagreement
             Where what is kept isn't what was accepted.
         """
-        done = self.verdict(factor)
+        done = self.told(factor)
         if not done:
             raise PlanError(f"the pit at factor {factor / THOUSAND:g} hasn't been run over this model", try_this=command("shells", self.named))
         bits = bits_of(self.place(factor) / "pit.npz")
@@ -461,14 +473,17 @@ def write_blocks(path: Path, model: Model, priced: Priced) -> None:
 
 
 @contextmanager
-def made_whole(place: Path) -> Iterator[Path]:
+def made_whole(place: Path, is_study: bool = True) -> Iterator[Path]:
     """A folder to write in, that is renamed to `place` at the end; whatever goes wrong before, `place` stays as it was.
 
-    Its name says the host and the process, for `sweep`.
+    Its name says the host and the process, for `sweep`. Within a study (`is_study`) it has its parent's mode, so that who works in
+    the one works in the other, but others never write there; elsewhere it is as the umask says.
     """
     place.parent.mkdir(parents=True, exist_ok=True)
-    work = Path(tempfile.mkdtemp(prefix=f".{place.name}.{mark()}", dir=place.parent))
-    work.chmod(place.parent.stat().st_mode & 0o777)       # mkdtemp makes it for one's own eyes
+    work = place.with_name(f".{place.name}.{mark()}{secrets.token_hex(4)}")
+    work.mkdir()
+    if is_study:
+        work.chmod(place.parent.stat().st_mode & 0o775)
     try:
         yield work
         put(work, place)

@@ -22,6 +22,7 @@ NAME = "study.toml"
 SECTIONS = ("model", "economics", "slopes", "shells")
 RATES = ("mining_rate", "mill_rate", "discount")
 SERIES = ("from", "to", "step")
+FAR = 10 ** 100                              # how far from 0 a whole number may be
 
 
 @dataclass(frozen=True)
@@ -84,9 +85,9 @@ def read_study_file(study: Path) -> StudyFile:
         raise PlanError(f"{study} is a file, and a study is a folder", try_this=f"{command('init', study)}, if it is a table") from None
     except FileNotFoundError:
         raise PlanError(f"{path} isn't there", try_this=f"the folder of a study, or {command('init', '.', 'TABLE.csv')} to begin one") from None
-    except UnicodeDecodeError as error:
+    except (UnicodeDecodeError, RecursionError) as error:
         raise PlanError(f"isn't TOML: {error}", table=path) from None
-    except tomllib.TOMLDecodeError as error:
+    except ValueError as error:              # also a number of more digits than Python reads
         raise PlanError(f"isn't TOML: {error}{line_of(text, str(error))}", table=path,
                         try_this="numbers with a point as 2.4, words in quotes, every bracket closed") from None
     try:
@@ -104,6 +105,7 @@ def line_of(text: str, said: str) -> str:
 
 def checked(path: Path, told: Mapping[str, Any]) -> StudyFile:
     """The sections of a study.toml as what they say."""
+    refuse_digits("", told)
     known("the file", told, SECTIONS)
     for name in SECTIONS[:3]:
         if name not in told:
@@ -126,6 +128,18 @@ def checked(path: Path, told: Mapping[str, Any]) -> StudyFile:
     digest = hashlib.sha256(json.dumps([told[name] for name in SECTIONS[:3]], sort_keys=True, default=str).encode()).hexdigest()
     return StudyFile(path, table, keys, economics_of(told["economics"]), made("slopes", Slopes, told["slopes"]), series(shells.get("factors")),
                      rates, digest)
+
+
+def refuse_digits(where: str, value: Any) -> None:
+    """Refuses whole numbers of very many digits, which no float holds."""
+    if isinstance(value, int) and abs(value) > FAR:
+        raise PlanError(f"{where.strip()} has a number of very many digits")
+    if isinstance(value, dict):
+        for key, part in value.items():
+            refuse_digits(f"{where} {key}" if where else f"[{key}]", part)
+    elif isinstance(value, list):
+        for part in value:
+            refuse_digits(where, part)
 
 
 def known(where: str, found: Mapping[str, Any], names: tuple[str, ...]) -> None:

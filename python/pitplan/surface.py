@@ -16,6 +16,9 @@ Floats = npt.NDArray[np.float64]
 Ints = npt.NDArray[np.int64]
 AT_ONCE = 4_000_000                          # columns under triangles that are looked at in one go
 SLACK = 1e-9
+MOST = 1_000_000                             # faces and other entities that the blocks of a DXF may bring
+DEEPEST = 32                                 # blocks that a block may stand in
+FAR = 1e12                                   # how far from 0 a corner may be
 
 
 @dataclass(frozen=True)
@@ -40,6 +43,7 @@ def of_points(points: Floats, table: object) -> Surface:
     Raises PlanError where no three of them span a triangle.
     """
     from scipy.spatial import Delaunay, QhullError
+    points = near(points, table)
     lowest = points[np.lexsort((points[:, 2], points[:, 1], points[:, 0]))]
     first = np.ones(len(lowest), bool)
     first[1:] = (lowest[1:, :2] != lowest[:-1, :2]).any(axis=1)
@@ -56,22 +60,86 @@ def of_dxf(path: Path, layers: Sequence[str] = ()) -> Surface:
     Raises
     ------
     PlanError
-        Where it can't be read, has no such layer, or no faces there: with what it has instead.
+        Where it can't be read, has no such layer, or no faces there: with what it has instead; where its blocks never end, or a
+        corner is no place.
     """
-    from ezdxf.disassemble import recursive_decompose
-    entities = list(recursive_decompose(document(path).modelspace()))
-    there = sorted({str(entity.dxf.layer) for entity in entities})
+    from ezdxf.lldxf.const import DXFError
+    there, kinds, faces = set[str](), set[str](), list[list[Any]]()
+    entities = Entities(path)
+    try:
+        for entity, is_within in entities.of(document(path).modelspace()):
+            there.add(str(entity.dxf.layer))
+            if not layers or entity.dxf.layer in layers:
+                kinds.add(entity.dxftype())
+                found = list(faces_of(entity))
+                entities.take(len(found) if is_within else 0)
+                faces += found
+    except (DXFError, ArithmeticError, AttributeError, LookupError, TypeError, ValueError) as error:
+        raise PlanError(f"can't be read as DXF: {error}", table=path) from None
     for layer in layers:
         if layer not in there:
-            raise PlanError(f"has no layer {layer!r}{meant(layer, there)}", table=path)
-    entities = [entity for entity in entities if not layers or entity.dxf.layer in layers]
-    faces = [face for entity in entities for face in faces_of(entity)]
+            raise PlanError(f"has no layer {layer!r}{meant(layer, sorted(there))}", table=path)
     if not faces:
-        kinds = sorted({entity.dxftype() for entity in entities})
-        raise PlanError("has no faces" + (", but " + ", ".join(kinds) if kinds else ""), table=path, try_this="triangulate it in the CAD package, or give its points as CSV (x, y, z)")
+        raise PlanError("has no faces" + (", but " + ", ".join(sorted(kinds)) if kinds else ""), table=path, try_this="triangulate it in the CAD package, or give its points as CSV (x, y, z)")
     fans = [(face[0], face[i], face[i + 1]) for face in faces for i in range(1, len(face) - 1)]
-    points, corner = np.unique(np.array(fans, float).reshape(-1, 3), axis=0, return_inverse=True)
+    points, corner = np.unique(near(np.array(fans, float).reshape(-1, 3), path), axis=0, return_inverse=True)
     return Surface(points, corner.reshape(-1, 3).astype(np.int64))
+
+
+def near(points: Floats, path: object) -> Floats:
+    """Points, refused where one is no place or further off than `FAR`."""
+    wrong = ~(np.abs(points) <= FAR).all(axis=1)
+    if wrong.any():
+        x, y, z = points[int(np.argmax(wrong))]
+        raise PlanError(f"{int(wrong.sum()):,} corners are no places, the first is ({x:g}, {y:g}, {z:g})", table=path, try_this="take these faces out in the CAD package, or name the --layer of the design")
+    return points
+
+
+class Entities:
+    """The simple entities of a DXF, also within blocks, as `ezdxf.disassemble` finds them. What blocks bring has a bound, since a few
+    lines of blocks within blocks stand for any number of faces.
+
+    Parameters
+    ----------
+    path : Path
+        Of the DXF.
+    """
+
+    def __init__(self, path: Path) -> None:
+        self.path, self.left = path, MOST
+
+    def take(self, count: int) -> None:
+        """Counts what blocks bring. Raises PlanError where it is more than `MOST`."""
+        self.left -= count
+        if self.left < 0:
+            raise PlanError(f"its blocks bring more than {MOST:,} faces and other entities", table=self.path, try_this="explode the blocks of the design in the CAD package, and leave the others out")
+
+    def of(self, entities: Any, around: tuple[str, ...] = ()) -> Iterator[tuple[Any, bool]]:
+        """The simple entities of some entities, and whether each is of a block; `around` are the blocks that these stand in.
+        Raises PlanError where a block holds itself, or stands in `DEEPEST` others."""
+        from ezdxf.entities.insert import Insert
+        from ezdxf.protocols import SupportsVirtualEntities, virtual_entities
+        for entity in entities:
+            kind = entity.dxftype()
+            self.take(1 if around else 0)
+            if isinstance(entity, Insert) and entity.mcount > 1:
+                many = entity.dxf.row_count * entity.dxf.column_count
+                self.take(many if many > self.left else 0)           # before they are gone through one by one
+                yield from self.of(entity.multi_insert(), around)
+            elif isinstance(entity, Insert):
+                yield from ((attribute, True) for attribute in entity.attribs)
+                yield from self.of(virtual_entities(entity), self.deeper(around, str(entity.dxf.name)))
+            elif isinstance(entity, SupportsVirtualEntities):        # a dimension has a block without a name; a polyline has its own faces alone
+                yield from self.of(virtual_entities(entity), around if kind == "POLYLINE" else self.deeper(around, ""))
+            else:
+                yield entity, bool(around)
+
+    def deeper(self, around: tuple[str, ...], name: str) -> tuple[str, ...]:
+        """The blocks that a block's own entities stand in."""
+        if name and name in around or len(around) >= DEEPEST:
+            raise PlanError(f"the block {name!r} holds itself" if name in around else f"blocks stand in each other more than {DEEPEST} deep", table=self.path,
+                            try_this="mend it in the CAD package, or explode the blocks of the design there")
+        return (*around, name)
 
 
 def document(path: Path) -> Any:

@@ -3,8 +3,6 @@ from __future__ import annotations
 
 import gzip
 import io
-import os
-import tempfile
 from collections.abc import Iterable, Iterator
 from pathlib import Path
 from typing import IO, TYPE_CHECKING, Any, cast
@@ -17,6 +15,7 @@ from .csv_text import dialect_of, head_of, names_of, opened, separator_of
 from .digests import sha256_unless_known
 from .errors import PlanError
 from .next_command import command
+from .whole_file import whole_file
 
 if TYPE_CHECKING:
     from .shells import Shells
@@ -123,21 +122,11 @@ def free_name(names: list[str]) -> str:
 
 def rewrite(path: Path, target: Path, head: bytes, cells: list[bytes], shell: npt.NDArray[Any]) -> None:
     """The table with a cell more in each record, written beside `target` and renamed."""
-    handle, name = tempfile.mkstemp(prefix=f".{target.name}.", dir=target.parent)
-    os.close(handle)
-    try:
-        with opened(path) as old, cast(IO[bytes], gzip.open(name, "wb", 1) if target.suffix == ".gz" else open(name, "wb")) as new:
-            new.write(with_column(next(records(old)), head))
-            row = 0
-            for text in pieces(old):
-                row += write_piece(new, text, cells, shell[row:])
-        os.chmod(name, 0o644)
-        os.replace(name, target)
-    except BaseException as error:
-        os.unlink(name)
-        if isinstance(error, OSError):
-            error.filename = error.filename or str(target)       # a full disk names none
-        raise
+    with whole_file(target) as part, opened(path) as old, cast(IO[bytes], gzip.open(part, "wb", 1) if target.suffix == ".gz" else open(part, "wb")) as new:
+        new.write(with_column(next(records(old)), head))
+        row = 0
+        for text in pieces(old):
+            row += write_piece(new, text, cells, shell[row:])
 
 
 def write_piece(new: IO[bytes], text: bytes, cells: list[bytes], shell: npt.NDArray[Any]) -> int:

@@ -14,7 +14,7 @@ import json
 import re
 import time
 from collections.abc import Iterable, Sequence
-from contextlib import nullcontext
+from contextlib import nullcontext, suppress
 from dataclasses import dataclass
 from pathlib import Path
 from typing import TYPE_CHECKING
@@ -143,7 +143,8 @@ class Tasks:
             finally:
                 if isinstance(study, Realisation):
                     study.__dict__.pop("priced", None)      # the next one has others
-        self.note(task).unlink(missing_ok=True)
+        with suppress(NotADirectoryError):   # where log is a file
+            self.note(task).unlink(missing_ok=True)
         return len(missing)
 
     def verify(self, task: Task) -> None:

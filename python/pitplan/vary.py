@@ -14,6 +14,7 @@ from typing import TYPE_CHECKING, Any
 
 import pandas as pd
 
+from . import kept_json
 from .amounts import THOUSAND
 from .economics import Amount, Economics
 from .errors import PlanError, meant
@@ -170,12 +171,18 @@ def asked_of(study: Study) -> Asked | None:
     """What was asked for by `prepare` over this very model, None where nothing was."""
     path = study.folder / "vary" / "vary.json"
     try:
-        found = Asked(**json.loads(path.read_text()))
+        found = kept_json.read(path, ASKED, command("vary", study.named, "price=-20..20"))
     except FileNotFoundError:
         return None
-    except (TypeError, ValueError):
-        raise PlanError(f"{path} is damaged", try_this=command("vary", study.named, "price=-20..20")) from None
-    return found if found.study == study.key else None
+    return Asked(found["study"], found["factor"], [(what, by) for what, by in found["changes"]]) if found["study"] == study.key else None
+
+
+def is_change(value: Any) -> bool:
+    """Whether this is a change that can be made: it names a folder, so that no other word may stand there."""
+    return isinstance(value, list) and len(value) == 2 and value[0] in WHAT and kept_json.is_number(value[1]) and value[1] != 0 and value[1] > -100
+
+
+ASKED: dict[str, kept_json.Holds] = {"study": kept_json.is_word, "factor": kept_json.is_factor, "changes": kept_json.is_list(is_change)}      # what vary.json has
 
 
 def scenario(base: Study, name: str) -> Study:

@@ -34,6 +34,7 @@ def whole_file(target: str | os.PathLike[str]) -> Iterator[Path]:
 
 
 def write_table(frame: Any, target: str | os.PathLike[str]) -> None:
-    """Writes a pandas table as CSV, as `whole_file` writes."""
+    """Writes a pandas table as CSV, as `whole_file` writes, its words as `export_csv.harmless` has them: all CSV is written here."""
+    from .export_csv import safe
     with whole_file(target) as part:
-        frame.to_csv(part, index=False)
+        safe(frame).to_csv(part, index=False)

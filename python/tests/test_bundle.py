@@ -655,9 +655,28 @@ def test_a_certificate_that_unpacks_without_end_is_not_read_on(copy):
     with gzip.open(path, "wb", 9) as file:
         for _ in range(60):
             file.write(bytes(1 << 20))
-    summed(copy)
-    lines, status = rechecked(copy)
-    assert status == 1 and any("unpacks to more than" in line for line in lines), lines
+    for told in (lambda: None, lambda: told_otherwise("facts.json", "pairs", value=10 ** 17)(copy)):      # nor where the sender says that there are so many pairs
+        told()
+        summed(copy)
+        lines, status = rechecked(copy)
+        assert status == 1 and any("unpacks to more than" in line for line in lines), lines
+
+
+def test_pairs_are_counted_and_no_number_of_them_is_believed(copy, monkeypatch):
+    prec, told = copy / "model" / "mine.prec", json.loads((copy / "facts.json").read_text())
+    monkeypatch.setattr(recheck, "HERE", copy)
+    assert recheck.pairs_listed() == told["pairs"]
+    prec.write_text(prec.read_text() + "7 9999999999\n")
+    with pytest.raises(recheck.Bad, match="has to be a block, how many predecessors it has, and these"):
+        recheck.pairs_listed()
+
+
+@pytest.mark.parametrize("name", ["README.txt", "verdicts.json", "table/t.csv", "certificates/f01000.cert.gz", bundle.SUMS])
+def test_a_pipe_among_the_files_is_refused_and_not_waited_for(copy, name):
+    (copy / name).unlink()
+    os.mkfifo(copy / name)
+    ran = subprocess.run([sys.executable, "-I", str(copy / "recheck.py"), os.environ["PIT"]], capture_output=True, text=True, timeout=60)
+    assert ran.returncode == 1 and f"{name} is no regular file" in ran.stdout and "Traceback" not in ran.stderr, ran.stdout
 
 
 def test_bytes_for_a_terminal_are_not_printed(copy):

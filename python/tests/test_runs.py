@@ -155,7 +155,7 @@ def test_a_verdict_or_a_manifest_that_was_damaged_is_none(tmp_path):
         assert found()
     verdict = json.loads((study.place(800) / "verdict.json").read_text())
     (study.place(800) / "verdict.json").write_text(json.dumps(verdict).replace('"count"', '"counu"'))
-    with pytest.raises(pp.PlanError, match="hasn't been run over this model"):
+    with pytest.raises(pp.PlanError, match="f00800/verdict.json is damaged: it has no count"):
         study.mask(800)
 
 
