@@ -15,6 +15,7 @@ from .column_names import PLACES, SIZES, which_columns
 from .csv_text import NO_PLACE, Dialect, dialect_of, head_of, names_of, number_column, numbers_among, read_frame
 from .errors import PlanError, meant
 from .grid import Floats, Grid
+from .study_keys import refuse_wrong
 
 Ints = npt.NDArray[np.int64]
 OFF = 0.05                                   # of a block: how far a centre may be off the grid
@@ -141,16 +142,7 @@ class TableKeys:
     skip: int | None = None
 
     def __post_init__(self) -> None:
-        if self.size is not None and (len(self.size) != 3 or not all(v > 0 for v in self.size)):
-            raise PlanError(f"size is {list(self.size)}, and has to be three numbers above 0", try_this="size = [20, 20, 10] in [model]")
-        for key, known in (("z", ("elevation", "depth")), ("missing", ("refuse", "air", "rock"))):
-            if getattr(self, key) not in known:
-                raise PlanError(f"{key} = {getattr(self, key)!r} in [model] is none of {', '.join(known)}")
-        for key, count in (("widen", self.widen), ("skip", self.skip or 0)):
-            if count < 0:
-                raise PlanError(f"{key} = {count} in [model] is less than none")
-        if self.decimal not in (None, ".", ","):
-            raise PlanError(f"decimal = {self.decimal!r} in [model] is neither a point nor a comma", try_this='decimal = ","')
+        refuse_wrong("model", vars(self))
 
     def dialect(self, path: Path) -> Dialect:
         found = dialect_of(path, self.encoding or "utf-8-sig")

@@ -5,23 +5,21 @@ import hashlib
 import json
 import re
 import tomllib
-from collections.abc import Callable, Mapping
-from dataclasses import dataclass, fields
+from collections.abc import Mapping
+from dataclasses import dataclass, field, fields
 from pathlib import Path
 from typing import Any
 
+from . import study_keys
 from .economics import Economics, Metal
-from .errors import PlanError, meant
+from .errors import Gathered, PlanError, meant
 from .model import Model, TableKeys, read_with
 from .next_command import command
-from .pit_by_pit import Rates
 from .shells import factors, series_of
 from .slopes import Slopes
 
 NAME = "study.toml"
-SECTIONS = ("model", "economics", "slopes", "shells")
 RATES = ("mining_rate", "mill_rate", "discount")
-SERIES = ("from", "to", "step")
 
 
 @dataclass(frozen=True)
@@ -42,6 +40,8 @@ class StudyFile:
         Of ``mining_rate``, ``mill_rate``, ``discount`` those that are given: words for `Shells.table`.
     digest : str
         Of the sections [model], [economics] and [slopes]: what a built model rests on.
+    values : dict of dict
+        By section and key: what the file says, or what counts where it says nothing.
     """
 
     path: Path
@@ -52,6 +52,7 @@ class StudyFile:
     factors: list[int]
     rates: dict[str, float]
     digest: str = ""
+    values: dict[str, dict[str, Any]] = field(default_factory=dict)
 
     def read_model(self) -> Model:
         """The model that the table holds."""
@@ -92,7 +93,9 @@ def read_study_file(study: Path) -> StudyFile:
     try:
         return checked(path, told)
     except PlanError as error:
-        raise type(error)(error.what, table=error.table or path.name, row=error.row, column=error.column, try_this=error.try_this) from None
+        for each in error.each():
+            each.table = each.table or path.name
+        raise
 
 
 def line_of(text: str, said: str) -> str:
@@ -103,107 +106,93 @@ def line_of(text: str, said: str) -> str:
 
 
 def checked(path: Path, told: Mapping[str, Any]) -> StudyFile:
-    """The sections of a study.toml as what they say."""
-    known("the file", told, SECTIONS)
-    for name in SECTIONS[:3]:
-        if name not in told:
-            raise PlanError(f"there is no section [{name}]", try_this=f"{command('init', '.', 'TABLE.csv')} writes all of them")
-    for name, section in told.items():
-        if not isinstance(section, dict):
-            raise PlanError(f"{name} has to be a section: [{name}] in a line of its own")
-    model = dict(told["model"])
-    if not isinstance(model.get("table"), str):
-        raise PlanError("[model] has no table", try_this='table = "mine.csv"')
-    table = path.parent / Path(model.pop("table")).expanduser()
-    keys = made("model", TableKeys, model)
-    shells = told.get("shells", {})
-    known("[shells]", shells, ("factors", *RATES))
-    rates = {name: shells[name] for name in RATES if name in shells}
-    for name, value in rates.items():
-        if not is_number(value):
-            raise PlanError(f"[shells] {name} is {value!r}, and has to be a number")
-    Rates(rates.get("mining_rate"), rates.get("mill_rate"), rates.get("discount", 0.1))
-    digest = hashlib.sha256(json.dumps([told[name] for name in SECTIONS[:3]], sort_keys=True, default=str).encode()).hexdigest()
-    return StudyFile(path, table, keys, economics_of(told["economics"]), made("slopes", Slopes, told["slopes"]), series(shells.get("factors")),
-                     rates, digest)
+    """The sections of a study.toml as what they say.
+
+    Raises
+    ------
+    PlanError
+        With each error that hangs on no other one.
+    """
+    found = Gathered()
+    found.errors = wrong_sections(told)
+    for section in study_keys.SECTIONS:
+        if isinstance(told.get(section), Mapping):
+            found.errors += wrong_in_section(section, told[section])
+    found.tell()
+    values = {section: study_keys.with_defaults(section, told.get(section, {})) for section in study_keys.SECTIONS}
+    shells, made_of = values["shells"], {}
+    with found.part("model"):
+        made_of["model"] = made("model", TableKeys, told["model"])
+    with found.part("economics"):
+        made_of["economics"] = economics_of(told["economics"])
+    with found.part("slopes"):
+        made_of["slopes"] = made("slopes", Slopes, told["slopes"])
+    with found.part("shells", "factors"):
+        made_of["factors"] = series(shells["factors"])
+    found.tell()
+    digest = hashlib.sha256(json.dumps([told[name] for name in study_keys.NEEDED], sort_keys=True, default=str).encode()).hexdigest()
+    rates = {name: told["shells"][name] for name in RATES if name in told.get("shells", {})}
+    table = path.parent / Path(values["model"]["table"]).expanduser()
+    return StudyFile(path, table, made_of["model"], made_of["economics"], made_of["slopes"], made_of["factors"], rates, digest, values)
 
 
-def known(where: str, found: Mapping[str, Any], names: tuple[str, ...]) -> None:
-    """Refuses keys that are none of `names`."""
-    for key in found:
-        if key not in names:
-            raise PlanError(f"{where} has no {'section' if where == 'the file' else 'key'} {key!r}{meant(key, names)}", try_this=", ".join(names))
+def wrong_sections(told: Mapping[str, Any]) -> list[PlanError]:
+    """Sections that a study.toml has and may not have, or needs and hasn't."""
+    names = study_keys.SECTIONS
+    found = [PlanError(f"the file has no section {name!r}{meant(name, names)}", try_this=", ".join(names), key=(name,)) for name in told if name not in names]
+    for name in names:
+        if name in told and not isinstance(told[name], Mapping):
+            found.append(PlanError(f"{name} has to be a section: [{name}] in a line of its own", key=(name,)))
+        elif name in study_keys.NEEDED and name not in told:
+            found.append(PlanError(f"there is no section [{name}]", try_this=f"{command('init', '.', 'TABLE.csv')} writes all of them", key=(name,)))
+    return found
+
+
+def wrong_in_section(section: str, values: Mapping[str, Any]) -> list[PlanError]:
+    """What is wrong with each key of a section, and with each of the metals."""
+    found = study_keys.wrong_in(section, values) + study_keys.missing_in(section, values)
+    metals = values.get(study_keys.METALS) if section == "economics" else None
+    if study_keys.KINDS["metals"].holds(metals):
+        for at, metal in enumerate(metals or ()):
+            found += wrong_in_metal(metal, at)
+    return found
+
+
+def wrong_in_metal(metal: Mapping[str, Any], at: int) -> list[PlanError]:
+    """What is wrong with each key of one of the metals."""
+    name: str | int = metal["name"] if isinstance(metal.get("name"), str) else at
+    where, path = f"[economics] metal {at + 1 if name == at else name}", ("economics", study_keys.METALS, name)
+    return study_keys.wrong_in(study_keys.METALS, metal, where, path) + study_keys.missing_in(study_keys.METALS, metal, where, path)
 
 
 def made(section: str, kind: Any, found: Mapping[str, Any]) -> Any:
-    """A dataclass of the keys of a section."""
-    known(f"[{section}]", found, tuple(f.name for f in fields(kind) if f.init))
-    of_kind(f"[{section}]", kind, found)
-    try:
-        return kind(**found)
-    except TypeError as error:
-        raise PlanError(f"[{section}]: {error}".replace("__init__() ", "")) from None
-
-
-def of_kind(where: str, kind: Any, found: Mapping[str, Any]) -> None:
-    """Refuses values of another kind than the fields of a dataclass say: words for a number, or a number for a list."""
-    for f in fields(kind):
-        told = KINDS.get(str(f.type).removesuffix(" | None"))
-        is_left_out = f.name not in found or found[f.name] is None and str(f.type).endswith(" | None")
-        if told and not is_left_out and not told[1](found[f.name]):
-            raise PlanError(f"{where} {f.name} is {found[f.name]!r}, and has to be {told[0]}")
-
-
-def is_number(value: object) -> bool:
-    return isinstance(value, (int, float)) and not isinstance(value, bool) and abs(value) < float("inf")
-
-
-def is_words(value: object) -> bool:
-    return isinstance(value, list) and all(isinstance(word, str) for word in value)
-
-
-# What a value of a field may be, by how the field is typed: in words, and whether a value of a TOML file is one.
-KINDS: dict[str, tuple[str, Callable[[Any], bool]]] = {
-    "bool": ("true or false", lambda value: isinstance(value, bool)),
-    "int": ("a whole number", lambda value: isinstance(value, int) and not isinstance(value, bool)),
-    "float": ("a number", is_number),
-    "str": ("words in quotes", lambda value: isinstance(value, str)),
-    "Sequence[str]": ('a list of words, as ["a", "b"]', is_words),
-    "Sequence[float]": ("a list of numbers", lambda value: isinstance(value, list) and all(map(is_number, value))),
-    "Mapping[str, str]": ('a table of words, as { x = "XC" }', lambda value: isinstance(value, dict) and is_words(list(value.values()))),
-    "Mapping[str, Any]": ("a table, as { tonnes = 10400 }", lambda value: isinstance(value, dict)),
-}
+    """A dataclass of the keys of a section: of those that it has a field for."""
+    names = {f.name for f in fields(kind) if f.init}
+    return kind(**{name: value for name, value in found.items() if name in names})
 
 
 def economics_of(found: Mapping[str, Any]) -> Economics:
-    """The section [economics]."""
-    metals = found.get("metals", [])
-    if not isinstance(metals, list) or not all(isinstance(m, dict) for m in metals):
-        raise PlanError("[economics] metals has to be a list of tables", try_this='metals = [ { name = "copper", grade = "CU", price = 8500 } ]')
-    needed = ("name", "grade", "price")
-    for m in metals:
-        known("[economics] metals", m, tuple(f.name for f in fields(Metal)))
-        of_kind(f"[economics] metal {m.get('name', '')}", Metal, m)
-        for key in needed:
-            if key not in m:
-                raise PlanError(f"[economics] metal {m.get('name', '')} has no {key}", try_this=", ".join(needed))
-    for key in ("mining", "processing"):
-        if key not in found:
-            raise PlanError(f"[economics] has no {key}: what does {'digging' if key == 'mining' else 'treating'} a tonne cost?", try_this=f"{key} = 2.50")
-    economics: Economics = made("economics", Economics, {**found, "metals": tuple(Metal(**m) for m in metals)})
+    """The section [economics].
+
+    Raises
+    ------
+    PlanError
+        With each error that hangs on no other one.
+    """
+    wrong = Gathered()
+    wrong.errors = wrong_in_section("economics", found)
+    wrong.tell()
+    metals = []
+    for at, metal in enumerate(found["metals"]):
+        with wrong.part("economics", study_keys.METALS, metal["name"]):
+            metals.append(made(study_keys.METALS, Metal, metal))
+    wrong.tell()
+    economics: Economics = made("economics", Economics, {**found, "metals": tuple(metals)})
     return economics
 
 
 def series(found: Any) -> list[int]:
-    """The factors: a series from, to, by; or a list of shares of the price."""
-    if found is None:
-        return factors(0.30, 1.20, 0.05)
-    if isinstance(found, dict):
-        known("[shells] factors", found, SERIES)
-        missing = [key for key in SERIES if key not in found]
-        if missing or not all(is_number(found[key]) for key in SERIES):
-            raise PlanError("[shells] factors needs three numbers: from, to, step", try_this="factors = { from = 0.30, to = 1.20, step = 0.05 }")
-        return factors(*(float(found[key]) for key in SERIES))
-    if isinstance(found, list):
-        return series_of(found)
-    raise PlanError(f"[shells] factors is {found!r}", try_this="factors = { from = 0.30, to = 1.20, step = 0.05 }, or [0.5, 0.75, 1.0]")
+    """The factors in thousandths: a series from, to, by; or a list of shares of the price."""
+    if isinstance(found, Mapping):
+        return factors(*(float(found[key]) for key in study_keys.SERIES))
+    return series_of(found)
