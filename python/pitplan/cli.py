@@ -17,7 +17,7 @@ from .errors import Disagreement, MachineError, NotAccepted, PlanError
 from .later import lazily
 from .next_command import remember
 
-ORDER = ("init", "build", "slopes", "shells", "plot", "page", "phases", "export", "compare", "risk", "vary", "submit", "status", "task", "bundle", "doctor")  # of a working day, for --help
+ORDER = ("init", "build", "slopes", "shells", "plot", "page", "phases", "export", "compare", "risk", "vary", "submit", "status", "task", "bundle", "schema", "doctor")  # of a working day, for --help
 NO, WRONG, MACHINE, STOPPED = 1, 3, 4, 130
 
 

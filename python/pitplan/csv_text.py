@@ -357,8 +357,8 @@ def number_column(values: pd.Series, table: object, absent: Collection[str] = ()
     if bad.any():
         row = int(np.argmax(bad))
         what = "empty" if np.isnan(found[row]) else "not finite"
-        raise PlanError(f"{cells(int(bad.sum()))} {what}", table=table, row=int(values.index[row]), column=values.name, try_this=hint or (EMPTY if what == "empty" else None),
-                        cells=[Cell(int(values.index[i]), "" if np.isnan(found[i]) else f"{found[i]:g}") for i in np.flatnonzero(bad)[1:MOST_CELLS]])
+        raise PlanError(f"{cells(int(bad.sum()))} {what}", table=table, row=int(values.index[row]), column=values.name, try_this=hint or (EMPTY if what == "empty" else None)
+                        ).with_cells(Cell(int(values.index[i]), "" if np.isnan(found[i]) else f"{found[i]:g}") for i in np.flatnonzero(bad)[1:MOST_CELLS])
     return found
 
 
@@ -389,8 +389,8 @@ def numbers_of(values: pd.Series, table: object, absent: Collection[str], hint: 
         n = int(bad.sum())
         what = "the cell is no number" if n == 1 else f"{n:,} cells are no numbers, the first is"
         there = f" {cell!r}" if cell else " empty"
-        raise PlanError(what + (": it is" if n == 1 else "") + there, table=table, row=int(values.index[row]), column=values.name, try_this=remedy(cell, hint),
-                        cells=[Cell(int(values.index[i]), str(text.iloc[i])) for i in np.flatnonzero(bad)[1:MOST_CELLS]])
+        raise PlanError(what + (": it is" if n == 1 else "") + there, table=table, row=int(values.index[row]), column=values.name, try_this=remedy(cell, hint)
+                        ).with_cells(Cell(int(values.index[i]), str(text.iloc[i])) for i in np.flatnonzero(bad)[1:MOST_CELLS])
     return found.astype(float)
 
 

@@ -230,10 +230,10 @@ def wrong_grade(metal: Metal, model: Model, grades: Floats, wrong: Bools) -> Pla
     key: KeyPath = ("economics", METALS, metal.name, "grade")
     if grades[at] >= 0:
         what, hint = f"in {metal.grade_unit} is more than the whole rock", "another grade_unit"
-        return PlanError(f"{grades[at]:g} {what}{more}", table=model.table, row=int(row[at]), column=metal.grade, try_this=hint, key=(*key[:-1], "grade_unit"), cells=cells)
+        return PlanError(f"{grades[at]:g} {what}{more}", table=model.table, row=int(row[at]), column=metal.grade, try_this=hint, key=(*key[:-1], "grade_unit")).with_cells(cells)
     mark = Remedy(("model", "absent"), [f"{grades[at]:g}"], 'if that stands for "not estimated"', adds=True)
     is_mark = len(np.unique(grades[wrong])) == 1          # else it is what kriging leaves
-    return PlanError(f"{grades[at]:g} is below 0{more}", table=model.table, row=int(row[at]), column=metal.grade, try_this=mark if is_mark else "0 in their place, if the estimation left them so", key=key, cells=cells)
+    return PlanError(f"{grades[at]:g} is below 0{more}", table=model.table, row=int(row[at]), column=metal.grade, try_this=mark if is_mark else "0 in their place, if the estimation left them so", key=key).with_cells(cells)
 
 
 def amount(what: str, given: Amount, model: Model) -> Floats:

@@ -60,19 +60,20 @@ class PlanError(Exception):
         What to change. A `Remedy` can be put right by a program, too.
     key : KeyPath, optional
         The key of ``study.toml`` that is concerned; see also `about`.
-    cells : sequence of Cell, optional
-        The next wrong cells of the same column.
 
     Attributes
     ----------
+    cells : tuple of Cell
+        The next wrong cells of the same column.
     said : str
         The error in one line, without what to try.
     remedy : Remedy or None
     """
 
     def __init__(self, what: str, *, table: object = None, row: int | None = None, column: object = None,
-                 try_this: str | Remedy | None = None, key: KeyPath = (), cells: Sequence[Cell] = ()) -> None:
-        self.what, self.table, self.row, self.column, self.key, self.cells = what, table, row, column, key, tuple(cells)
+                 try_this: str | Remedy | None = None, key: KeyPath = ()) -> None:
+        self.what, self.table, self.row, self.column, self.key = what, table, row, column, key
+        self.cells: tuple[Cell, ...] = ()
         self.remedy = try_this if isinstance(try_this, Remedy) else None
         self.try_this = None if try_this is None else str(try_this)
         super().__init__(what)
@@ -85,6 +86,11 @@ class PlanError(Exception):
 
     def __str__(self) -> str:
         return self.said + (f"\n  try: {in_a_line(self.try_this)}" if self.try_this else "")
+
+    def with_cells(self, cells: Iterable[Cell]) -> PlanError:
+        """The same error, with further wrong cells of its column."""
+        self.cells = tuple(cells)
+        return self
 
     def each(self) -> list[PlanError]:
         """The errors that this one tells: itself, unless it is `Several`."""
@@ -116,7 +122,8 @@ class Several(PlanError):
     def __init__(self, errors: Sequence[PlanError]) -> None:
         self.errors = list(errors)
         first = self.errors[0]
-        super().__init__(first.what, table=first.table, row=first.row, column=first.column, try_this=first.remedy or first.try_this, key=first.key, cells=first.cells)
+        super().__init__(first.what, table=first.table, row=first.row, column=first.column, try_this=first.remedy or first.try_this, key=first.key)
+        self.cells = first.cells
 
     def __str__(self) -> str:
         return "\n".join(map(str, self.errors))

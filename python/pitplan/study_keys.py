@@ -197,10 +197,10 @@ KINDS: dict[str, Kind] = {
     "fill": Kind("a table, as { tonnes = 10400 }", is_table, {"type": "object"}, '{ tonnes = 10400, rock = "waste" }'),
     "amount": Kind("a number, a column, a formula, or a number for each rock, as { OXI = 7.5, other = 9 }", lambda value: is_number(value) or isinstance(value, str) or is_table(value) and all(map(is_number, value.values())),
                    {"oneOf": [NUMBER, WORD, {"type": "object", "additionalProperties": NUMBER}]}, "2.50"),
-    "angles": Kind("45, or by bearing [[0, 38], [90, 45], [180, 50], [270, 45]]", are_angles, ANGLES, "45"),
+    "angles": Kind("degrees as 45, or by bearing as [[0, 38], [90, 45], [180, 50], [270, 45]]", are_angles, ANGLES, "45"),
     "regions": Kind("angles for each region, as { NORTH = 38, SOUTH = [[0, 44], [180, 50]] }", lambda value: is_table(value) and all(map(are_angles, value.values())),
                     {"type": "object", "additionalProperties": ANGLES}, "{ NORTH = 38 }"),
-    "factors": Kind("{ from = 0.30, to = 1.20, step = 0.05 }, or a list as [0.5, 0.75, 1.0]", are_factors,
+    "factors": Kind("a series as { from = 0.30, to = 1.20, step = 0.05 }, or a list as [0.5, 0.75, 1.0]", are_factors,
                     {"oneOf": [{"type": "array", "items": NUMBER, "minItems": 1}, {"type": "object", "properties": dict.fromkeys(SERIES, NUMBER), "required": list(SERIES), "additionalProperties": False}]}, "[0.5, 0.75, 1.0]"),
     "metals": Kind("a list of tables", lambda value: is_list(value) and all(map(is_table, value)), {"type": "array", "minItems": 1}, '[ { name = "copper", grade = "CU", price = 8500 } ]'),
 }

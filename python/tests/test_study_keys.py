@@ -79,6 +79,11 @@ def test_the_reference_in_the_documents_is_this_one():
     assert [section for section in re.findall(r"^## \[(\w+)\]$", document, re.M)] == list(SECTIONS)
 
 
+def test_shells_complete_the_columns_that_a_key_names():
+    (columns,) = (key for key in KEYS if key.kind == "columns")
+    assert f'"init --column") words="{" ".join(columns.choices)}"' in (TOP / "completions" / "pitplan.bash").read_text()
+
+
 def test_the_schema_takes_what_the_reader_takes(tmp_path):
     jsonschema = pytest.importorskip("jsonschema")
     schema = study_reference.schema()
@@ -143,7 +148,7 @@ TOLD = [(("model", "size"), 3, "has to be three numbers above 0"), (("model", "r
         (("economics", "minning"), 8, "has no key 'minning'; is 'mining' meant?"), (("economics",), 7, "has no mining"), (("economics", "processing"), 9, "processing is True"),
         (("economics", "dilution"), 10, "a number from 0 to 1"), (("economics", "metals", "copper", "price"), 12, "try: price = 0, selling = 8500"),
         (("economics", "metals", "copper", "recovry"), 12, "is 'recovery' meant?"), (("economics", "metals", 1), 13, "metal 2 has no name"), (("economics", "metals", 1, "grade_unit"), 13, '"%", "kg/t"'),
-        (("slopes", "angles"), 17, "45, or by bearing"), (("shells", "discount"), 20, "discount is 8")]
+        (("slopes", "angles"), 17, "degrees as 45, or by bearing"), (("shells", "discount"), 20, "discount is 8")]
 
 
 def test_all_wrong_keys_are_told_with_their_lines(tmp_path):
