@@ -184,7 +184,7 @@ class Economics:
         wrong = Gathered()
         for name in self.mill or ():
             if name not in kinds:
-                wrong.errors.append(PlanError(f"[economics] mill: no block is of rock {name!r}{meant(name, kinds)}", key=("economics", "mill")))
+                wrong.add([PlanError(f"[economics] mill: no block is of rock {name!r}{meant(name, kinds)}", key=("economics", "mill"))])
         wrong.tell()
         takes = rock.isin(list(self.mill)) if self.mill is not None else rock != AIR
         found: Bools = takes.to_numpy() & (model.blocks["row"].to_numpy() >= 0)

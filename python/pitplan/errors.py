@@ -146,8 +146,16 @@ class Gathered:
     2
     """
 
-    def __init__(self) -> None:
+    def __init__(self, table: object = None) -> None:
+        self.table = table                   # of errors that name none
         self.errors: list[PlanError] = []
+
+    def add(self, errors: Iterable[PlanError]) -> None:
+        """Keeps errors that weren't raised. One that is there already is kept once: a cell may be wrong for two keys."""
+        for error in errors:
+            error.table = error.table or self.table
+            if str(error) not in map(str, self.errors):
+                self.errors.append(error)
 
     @contextmanager
     def part(self, *key: str | int) -> Iterator[None]:
@@ -156,15 +164,12 @@ class Gathered:
             with about(*key):
                 yield
         except PlanError as error:
-            self.errors += error.each()
+            self.add(error.each())
 
-    def tell(self, table: object = None) -> None:
-        """Raises what was gathered: one error as it is, more as `Several`; nothing where there is none. Those that name no table get `table`."""
-        for error in self.errors:
-            error.table = error.table or table
-        found = list({str(error): error for error in self.errors}.values())      # one cell may be wrong for two keys
-        if found:
-            raise found[0] if len(found) == 1 else Several(found)
+    def tell(self) -> None:
+        """Raises what was gathered: one error as it is, more as `Several`; nothing where there is none."""
+        if self.errors:
+            raise self.errors[0] if len(self.errors) == 1 else Several(self.errors)
 
 
 @contextmanager

@@ -152,7 +152,7 @@ class Slopes:
         codes, there = pd.factorize(model.blocks[self.by])
         texts = [text_of(value) for value in there]
         wrong = Gathered()
-        wrong.errors = [PlanError(f"[slopes] no block has {self.by} = {name}{meant(name, sorted(texts))}", key=key_of(name)) for name in self.regions if name not in texts]
+        wrong.add(PlanError(f"[slopes] no block has {self.by} = {name}{meant(name, sorted(texts))}", key=key_of(name)) for name in self.regions if name not in texts)
         wrong.tell()
         index = {name: i for i, name in enumerate(self.names) if i}
         of_code = np.array([*(index.get(text, 0) for text in texts), 0], np.int64)       # the last is that of an empty cell, whose code is -1

@@ -78,9 +78,23 @@ def read_study_file(study: Path) -> StudyFile:
         Where it isn't there, isn't TOML, or has a section, a key or a value that it may not have.
     """
     path = path_of(study)
+    parts = parts_of(path, toml_of(study))
+    parts.errors.tell()
+    return parts.whole()
+
+
+def toml_of(study: Path) -> dict[str, Any]:
+    """What a study's study.toml says, as TOML.
+
+    Raises
+    ------
+    PlanError
+        Where it isn't there, or isn't TOML.
+    """
+    path = path_of(study)
     try:
         text = path.read_text("utf-8-sig")
-        told = tomllib.loads(text)
+        return tomllib.loads(text)
     except NotADirectoryError:
         raise PlanError(f"{study} is a file, and a study is a folder", try_this=f"{command('init', study)}, if it is a table") from None
     except FileNotFoundError:
@@ -90,12 +104,6 @@ def read_study_file(study: Path) -> StudyFile:
     except tomllib.TOMLDecodeError as error:
         raise PlanError(f"isn't TOML: {error}{line_of(text, str(error))}", table=path,
                         try_this="numbers with a point as 2.4, words in quotes, every bracket closed") from None
-    try:
-        return checked(path, told)
-    except PlanError as error:
-        for each in error.each():
-            each.table = each.table or path.name
-        raise
 
 
 def line_of(text: str, said: str) -> str:
@@ -105,35 +113,67 @@ def line_of(text: str, said: str) -> str:
     return f": {lines[int(found[1]) - 1].strip()}" if found and int(found[1]) <= len(lines) else ""
 
 
-def checked(path: Path, told: Mapping[str, Any]) -> StudyFile:
-    """The sections of a study.toml as what they say.
+@dataclass
+class Parts:
+    """What a study.toml says, section by section; None where a section is wrong.
 
-    Raises
-    ------
-    PlanError
-        With each error that hangs on no other one.
+    Attributes
+    ----------
+    path : Path
+    told : dict
+        The file as TOML.
+    errors : Gathered
+        Each error that hangs on no other one.
     """
-    found = Gathered()
-    found.errors = wrong_sections(told)
-    for section in study_keys.SECTIONS:
-        if isinstance(told.get(section), Mapping):
-            found.errors += wrong_in_section(section, told[section])
-    found.tell()
-    values = {section: study_keys.with_defaults(section, told.get(section, {})) for section in study_keys.SECTIONS}
-    shells, made_of = values["shells"], {}
-    with found.part("model"):
-        made_of["model"] = made("model", TableKeys, told["model"])
-    with found.part("economics"):
-        made_of["economics"] = economics_of(told["economics"])
-    with found.part("slopes"):
-        made_of["slopes"] = made("slopes", Slopes, told["slopes"])
-    with found.part("shells", "factors"):
-        made_of["factors"] = series(shells["factors"])
-    found.tell()
-    digest = hashlib.sha256(json.dumps([told[name] for name in study_keys.NEEDED], sort_keys=True, default=str).encode()).hexdigest()
-    rates = {name: told["shells"][name] for name in RATES if name in told.get("shells", {})}
-    table = path.parent / Path(values["model"]["table"]).expanduser()
-    return StudyFile(path, table, made_of["model"], made_of["economics"], made_of["slopes"], made_of["factors"], rates, digest, values)
+
+    path: Path
+    told: Mapping[str, Any]
+    errors: Gathered = field(default_factory=Gathered)
+    keys: TableKeys | None = None
+    economics: Economics | None = None
+    slopes: Slopes | None = None
+    factors: list[int] | None = None
+
+    @property
+    def table(self) -> Path | None:
+        """The table of blocks; None where no file is named."""
+        section = self.told.get("model")
+        named = section.get("table") if isinstance(section, Mapping) else None
+        return self.path.parent / Path(named).expanduser() if isinstance(named, str) else None
+
+    def whole(self) -> StudyFile:
+        """All of it, where nothing is wrong."""
+        assert self.table is not None and self.keys is not None and self.economics is not None and self.slopes is not None and self.factors is not None
+        values = {section: study_keys.with_defaults(section, self.told.get(section, {})) for section in study_keys.SECTIONS}
+        rates = {name: self.told["shells"][name] for name in RATES if name in self.told.get("shells", {})}
+        digest = hashlib.sha256(json.dumps([self.told[name] for name in study_keys.NEEDED], sort_keys=True, default=str).encode()).hexdigest()
+        return StudyFile(self.path, self.table, self.keys, self.economics, self.slopes, self.factors, rates, digest, values)
+
+
+def parts_of(path: Path, told: Mapping[str, Any]) -> Parts:
+    """The sections of a study.toml as what they say, with each error that hangs on no other one."""
+    found = Parts(path, told, Gathered(path.name))
+    found.errors.add(wrong_sections(told))
+    sections = {name: told.get(name, {} if name == "shells" else None) for name in study_keys.SECTIONS}
+    right = []
+    for name, section in sections.items():
+        if isinstance(section, Mapping):
+            wrong = wrong_in_section(name, section)
+            found.errors.add(wrong)
+            right += [] if wrong else [name]
+    if "model" in right:
+        with found.errors.part("model"):
+            found.keys = made("model", TableKeys, told["model"])
+    if "economics" in right:
+        with found.errors.part("economics"):
+            found.economics = economics_of(told["economics"])
+    if "slopes" in right:
+        with found.errors.part("slopes"):
+            found.slopes = made("slopes", Slopes, told["slopes"])
+    if "shells" in right:
+        with found.errors.part("shells", "factors"):
+            found.factors = series(study_keys.with_defaults("shells", sections["shells"])["factors"])
+    return found
 
 
 def wrong_sections(told: Mapping[str, Any]) -> list[PlanError]:
@@ -180,7 +220,7 @@ def economics_of(found: Mapping[str, Any]) -> Economics:
         With each error that hangs on no other one.
     """
     wrong = Gathered()
-    wrong.errors = wrong_in_section("economics", found)
+    wrong.add(wrong_in_section("economics", found))
     wrong.tell()
     metals = []
     for at, metal in enumerate(found["metals"]):

@@ -315,7 +315,7 @@ def missing_in(section: str, values: Mapping[str, Any], where: str = "", at: Key
 def refuse_wrong(section: str, values: Mapping[str, Any], where: str = "", at: KeyPath = ()) -> None:
     """Raises what `wrong_in` finds, all of it."""
     found = Gathered()
-    found.errors = wrong_in(section, values, where, at)
+    found.add(wrong_in(section, values, where, at))
     found.tell()
 
 
