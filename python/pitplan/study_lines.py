@@ -14,7 +14,7 @@ def line_of(text: str, path: KeyPath) -> tuple[int, str] | None:
     """The line of a key: its number, from 1, and what stands there. Of a key that isn't there, the line of the table that it would
     stand in; None where that isn't there either, or the text is no TOML.
 
-    tomlkit keeps no positions, but it writes a document again letter by letter: the first line that changes with the value is the one.
+    tomlkit keeps no positions, but it writes a document again line by line: the first line that changes with the value is the one.
 
     >>> line_of('[model]\\nsize = [20, 20,\\n  x]', ("model", "size")) is None
     True
@@ -45,11 +45,12 @@ def header_line(lines: Sequence[str], path: KeyPath, document: Any) -> int | Non
 def marked_line(lines: Sequence[str], path: KeyPath, document: Any) -> int | None:
     """The number of the first line that changes where a mark is put in place of the value."""
     from tomlkit import dumps
+    before = dumps(document).splitlines()    # blanks may be others than in the text
     table = value_at(document, path[:-1])
     step = step_of(table, path[-1])
     table[step]
     table[step] = MARK
-    return next((i for i, (was, now) in enumerate(zip(lines, dumps(document).splitlines()), 1) if was != now), None)
+    return next((i for i, (was, now) in enumerate(zip(before, dumps(document).splitlines()), 1) if was != now), None) if len(before) == len(lines) else None
 
 
 def value_at(document: Any, path: KeyPath) -> Any:

@@ -162,6 +162,12 @@ def test_all_wrong_keys_are_told_with_their_lines(tmp_path):
     assert data["key"] == ["model", "size"] and data["table"] == "study.toml" and data["try"] == "size = [20, 20, 10]"
 
 
+def test_a_line_is_found_whatever_the_blanks():
+    text = "[economics]\nprocessing = { OXI = 7.5 , SUL = 9 }\ndilution   =  5  # x\nmetals = [\n   { name = 'a' , price = 3 },\n]\n"
+    for key, line in ((("economics", "dilution"), 3), (("economics", "processing", "SUL"), 2), (("economics", "metals", "a", "price"), 5), (("economics", "mill"), 1), (("slopes",), None)):
+        assert (line_of(text, key) or (None,))[0] == line, key
+
+
 def test_a_remedy_is_words_and_data():
     remedy = Remedy(("model", "absent"), ["-99"], 'if that stands for "not estimated"', adds=True)
     assert str(remedy) == 'absent = ["-99"] in [model], if that stands for "not estimated"'
