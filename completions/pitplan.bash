@@ -2,12 +2,12 @@
 _pitplan() {
     local word=${COMP_WORDS[COMP_CWORD]} before=${COMP_WORDS[COMP_CWORD-1]} words= files=
     if [ "$COMP_CWORD" = 1 ]; then
-        words="init build slopes shells plot page phases export compare risk vary submit status task bundle doctor"
+        words="init build slopes shells plot page phases export compare risk vary submit status task bundle schema doctor"
         case "$word" in -*) words="--version --install-completion --show-completion -h --help" ;; esac
     else
         case "${COMP_WORDS[1]} $before" in
         "init --study") files=1 ;;
-        "init -c"|"init --column") : ;;
+        "init -c"|"init --column") words="id x y z dx dy dz tonnes density rock" ;;
         "init --encoding") : ;;
         "slopes --every") : ;;
         "shells --workers") : ;;
@@ -65,6 +65,7 @@ _pitplan() {
             status) words="-h --help" files=1 ;;
             task) words="-h --help" files=1 ;;
             bundle) words="-h --help" files=1 ;;
+            schema) words="-h --help" ;;
             doctor) words="-h --help" ;;
             esac
             case "$word" in -*) files= ;; *) words= ;; esac ;;

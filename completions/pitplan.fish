@@ -7,7 +7,7 @@ complete -c pitplan -n __fish_use_subcommand -s h -l help -d 'Show this message 
 complete -c pitplan -n __fish_use_subcommand -a init -d 'Look at a table of blocks, and write a study.toml for it'
 complete -c pitplan -n '__fish_seen_subcommand_from init' -F
 complete -c pitplan -n '__fish_seen_subcommand_from init' -l study -r -F -d 'The folder of the new study'
-complete -c pitplan -n '__fish_seen_subcommand_from init' -s c -l column -x -d 'What a column is, as x=este, where its name isn\'t a usual one'
+complete -c pitplan -n '__fish_seen_subcommand_from init' -s c -l column -x -a 'id x y z dx dy dz tonnes density rock' -d 'What a column is, as x=este, where its name isn\'t a usual one'
 complete -c pitplan -n '__fish_seen_subcommand_from init' -l encoding -x -d 'Of the table where it isn\'t UTF-8, as cp1252'
 complete -c pitplan -n '__fish_seen_subcommand_from init' -l force -d 'Write over a study.toml that is there'
 complete -c pitplan -n '__fish_seen_subcommand_from init' -s h -l help -d 'Show this message and exit'
@@ -99,5 +99,7 @@ complete -c pitplan -n '__fish_seen_subcommand_from task' -s h -l help -d 'Show 
 complete -c pitplan -n __fish_use_subcommand -a bundle -d 'All that the numbers rest on, with scripts that check it again'
 complete -c pitplan -n '__fish_seen_subcommand_from bundle' -F
 complete -c pitplan -n '__fish_seen_subcommand_from bundle' -s h -l help -d 'Show this message and exit'
+complete -c pitplan -n __fish_use_subcommand -a schema -d 'Print a JSON Schema of study.toml, by which an editor completes its keys and marks what is wrong'
+complete -c pitplan -n '__fish_seen_subcommand_from schema' -s h -l help -d 'Show this message and exit'
 complete -c pitplan -n __fish_use_subcommand -a doctor -d 'Look whether all that pitplan needs is here, and take a small mine through it'
 complete -c pitplan -n '__fish_seen_subcommand_from doctor' -s h -l help -d 'Show this message and exit'

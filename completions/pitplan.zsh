@@ -18,6 +18,7 @@ _pitplan() {
         'status:Show what is done, running, waiting and failed, and how long the rest will take'
         'task:Find the pits of one task, for clusters'
         'bundle:All that the numbers rest on, with scripts that check it again'
+        'schema:Print a JSON Schema of study.toml, by which an editor completes its keys and marks what is wrong'
         'doctor:Look whether all that pitplan needs is here, and take a small mine through it'
     )
     if (( CURRENT == 2 )); then
@@ -29,7 +30,7 @@ _pitplan() {
     (( CURRENT-- ))
     case $command in
         init) _arguments '--study[The folder of the new study]:study:_files' \
-            '-c[What a column is, as x=este, where its name isn'\''t a usual one]:column: ' '--column[What a column is, as x=este, where its name isn'\''t a usual one]:column: ' \
+            '-c[What a column is, as x=este, where its name isn'\''t a usual one]:column:(id x y z dx dy dz tonnes density rock)' '--column[What a column is, as x=este, where its name isn'\''t a usual one]:column:(id x y z dx dy dz tonnes density rock)' \
             '--encoding[Of the table where it isn'\''t UTF-8, as cp1252]:encoding: ' \
             '--force[Write over a study.toml that is there]' \
             '-h[Show this message and exit]' '--help[Show this message and exit]' '*:file:_files' ;;
@@ -93,6 +94,7 @@ _pitplan() {
         status) _arguments '-h[Show this message and exit]' '--help[Show this message and exit]' '*:file:_files' ;;
         task) _arguments '-h[Show this message and exit]' '--help[Show this message and exit]' '*:file:_files' ;;
         bundle) _arguments '-h[Show this message and exit]' '--help[Show this message and exit]' '*:file:_files' ;;
+        schema) _arguments '-h[Show this message and exit]' '--help[Show this message and exit]' ;;
         doctor) _arguments '-h[Show this message and exit]' '--help[Show this message and exit]' ;;
     esac
 }

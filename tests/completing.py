@@ -21,7 +21,7 @@ INSTALLED = {"bash": "/usr/share/bash-completion/completions/%s", "zsh": "/usr/s
 LINES = (("pit sol", "solve"), ("pit check --up", "--upit"), ("pit solve --method pse", "pseudoflow"), ("pit slopes --pattern ni", "nine"),
          ("pit solve --group sca", "scaled"), ("pit check --prec a-f", "a-file"), ("pit check a-f", "a-file"), ("pit solve --steps a-f", None),
          ("pitplan she", "shells"), ("pitplan plot --be", "--bench"), ("pitplan submit --engine sl", "slurm"), ("pitplan build a-f", "a-file"),
-         ("pitplan compare --surface a-f", "a-file"), ("pitplan doctor --ru", None), ("pitplan --ver", "--version"))
+         ("pitplan compare --surface a-f", "a-file"), ("pitplan init --column dens", "density"), ("pitplan doctor --ru", None), ("pitplan --ver", "--version"))
 BASH = 'source "$0"; COMP_WORDS=("$@"); COMP_CWORD=$(($# - 1)); _"$1"; printf "%s\\n" "${COMPREPLY[@]}"'
 
 

@@ -33,7 +33,8 @@ class Option:
         block = self.value.capitalize() + "s"
         told = VALUES.get((texts.name, self.names[-1]), "").split()
         named = [re.sub(r"[A-Z].*", "", name) for name, _ in text.rows(block)]  # cone: of cone:LEVELS:RUN:RISE
-        self.words = listed[1].split("|") if listed else named or told if self.value else []
+        among = re.search(r"\bKEY is one of ([\w, ]+)\.", said)
+        self.words = listed[1].split("|") if listed else named or told or (among[1].split(", ") if among else []) if self.value else []
 
     @property
     def is_file(self):

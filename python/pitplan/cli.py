@@ -10,14 +10,14 @@ from pathlib import Path
 import click
 from rich.markup import escape
 
-from . import older
+from . import console, older
 from .console import app, err
 from .errors import STOPPED as SAYS_STOPPED
 from .errors import Disagreement, MachineError, NotAccepted, PlanError
 from .later import lazily
 from .next_command import remember
 
-ORDER = ("init", "build", "slopes", "shells", "plot", "page", "phases", "export", "compare", "risk", "vary", "submit", "status", "task", "bundle", "doctor")  # of a working day, for --help
+ORDER = ("init", "build", "slopes", "shells", "plot", "page", "phases", "export", "compare", "risk", "vary", "submit", "status", "task", "bundle", "schema", "doctor")  # of a working day, for --help
 NO, WRONG, MACHINE, STOPPED = 1, 3, 4, 130
 
 
@@ -43,6 +43,13 @@ def remedy(error: OSError) -> str:
     return "\n  try: make room on that disk; what is done is kept" if error.errno in (errno.ENOSPC, errno.EDQUOT) else ""
 
 
+def tell(error: PlanError) -> None:
+    """Prints an error, or each of several."""
+    from .error_text import lines_of
+    for each in error.each():
+        err.print("[red]error:[/red] " + escape("\n".join(lines_of(each, console.study_toml))), soft_wrap=True)
+
+
 def main() -> None:
     """Runs a command. Exit status: 0 done, 1 no, 2 wrong words, 3 a file is wrong, 4 the machine, 130 stopped."""
     try:
@@ -58,7 +65,7 @@ def main() -> None:
         error.show()
         sys.exit(error.exit_code)
     except PlanError as error:
-        err.print("[red]error:[/red] " + escape(str(error)), soft_wrap=True)
+        tell(error)
         sys.exit(status_of(error))
     except (KeyboardInterrupt, click.Abort):
         err.print(SAYS_STOPPED)

@@ -12,6 +12,7 @@ from rich.markup import escape
 from .console import STUDY, app, described, err, print_columns, say, warn
 from .errors import PlanError
 from .next_command import command
+from .study_keys import keys_of
 
 if TYPE_CHECKING:
     from rich.status import Status
@@ -25,7 +26,7 @@ if TYPE_CHECKING:
 @app.command()
 def init(table: Path = typer.Argument(..., help="A table of blocks: CSV or CSV.gz."),
          folder: Optional[Path] = typer.Option(None, "--study", help="The folder of the new study; the table's name without its ending unless told."),
-         column: list[str] = typer.Option([], "--column", "-c", metavar="KEY=NAME", help="What a column is, as x=este, where its name isn't a usual one. May be given several times."),
+         column: list[str] = typer.Option([], "--column", "-c", metavar="KEY=NAME", help=f"What a column is, as x=este, where its name isn't a usual one. May be given several times. KEY is one of {', '.join(keys_of('model')['columns'].choices)}."),
          encoding: Optional[str] = typer.Option(None, "--encoding", help="Of the table where it isn't UTF-8, as cp1252."),
          is_forced: bool = typer.Option(False, "--force", help="Write over a study.toml that is there.")) -> None:
     """Look at a table of blocks, and write a study.toml for it."""

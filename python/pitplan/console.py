@@ -39,6 +39,7 @@ app = typer.Typer(cls=InOrder, add_completion=True, no_args_is_help=True, pretty
                   epilog="Exit status: 0 done; 1 no, where pit check refuses or a check of pitplan fails; 2 wrong words; 3 a file is wrong; 4 the machine (memory, disk); 130 stopped.")
 out = Console(width=None if sys.stdout.isatty() else 160, soft_wrap=not sys.stdout.isatty(), highlight=False)
 err = Console(stderr=True, highlight=False)
+study_toml: Path | None = None               # that was read last, whose lines errors show
 STUDY: Any = typer.Argument(Path("."), help="The folder of the study, with its study.toml.", show_default="this folder")
 
 
@@ -86,7 +87,9 @@ def print_columns(title: str, names: Sequence[str], rows: Sequence[Sequence[str]
 
 def described(folder: Path) -> StudyFile:
     """What the study's study.toml says."""
-    from .study_file import read_study_file
+    global study_toml
+    from .study_file import path_of, read_study_file
+    study_toml = path_of(folder)
     return read_study_file(folder)
 
 

@@ -19,7 +19,7 @@ import numpy as np
 import numpy.typing as npt
 import pandas as pd
 
-from .errors import PlanError
+from .errors import MOST_CELLS, Cell, PlanError, Remedy
 from .machine import free_memory
 
 SEPARATORS = ",;\t"
@@ -31,6 +31,7 @@ HELD = 3                                     # bytes of memory that a byte of a 
 SAY_ENCODING = 'save it as "CSV UTF-8"; or tell init --encoding cp1252, or say encoding = "cp1252" in [model]'
 MOST_WORDS = 1000                            # different cells that a column of codes has at most; one of numbers with a mark among them has more
 NO_PLACE = "fill its place in, or take the row out"      # what to try where a coordinate is no number
+EMPTY = Remedy(("model", "absent"), [""], 'if an empty cell stands for "not estimated"', adds=True)
 PLAIN = re.compile(r"[+-]?(\d+\.?\d*|\.\d+)([eE][+-]?\d+)?")
 
 
@@ -365,8 +366,8 @@ def number_column(values: pd.Series, table: object, absent: Collection[str] = ()
     if bad.any():
         row = int(np.argmax(bad))
         what = "empty" if np.isnan(found[row]) else "not finite"
-        raise PlanError(f"{cells(int(bad.sum()))} {what}", table=table, row=int(values.index[row]), column=values.name,
-                        try_this=hint or ('absent = [""] in [model], if an empty cell stands for "not estimated"' if what == "empty" else None))
+        raise PlanError(f"{cells(int(bad.sum()))} {what}", table=table, row=int(values.index[row]), column=values.name, try_this=hint or (EMPTY if what == "empty" else None)
+                        ).with_cells(Cell(int(values.index[i]), "" if np.isnan(found[i]) else f"{found[i]:g}") for i in np.flatnonzero(bad)[1:MOST_CELLS])
     return found
 
 
@@ -397,15 +398,15 @@ def numbers_of(values: pd.Series, table: object, absent: Collection[str], hint: 
         n = int(bad.sum())
         what = "the cell is no number" if n == 1 else f"{n:,} cells are no numbers, the first is"
         there = f" {cell!r}" if cell else " empty"
-        raise PlanError(what + (": it is" if n == 1 else "") + there, table=table, row=int(values.index[row]), column=values.name,
-                        try_this=remedy(cell, hint))
+        raise PlanError(what + (": it is" if n == 1 else "") + there, table=table, row=int(values.index[row]), column=values.name, try_this=remedy(cell, hint)
+                        ).with_cells(Cell(int(values.index[i]), str(text.iloc[i])) for i in np.flatnonzero(bad)[1:MOST_CELLS])
     return found.astype(float)
 
 
-def remedy(cell: str, hint: str | None) -> str:
+def remedy(cell: str, hint: str | None) -> str | Remedy:
     """What to try where a cell is no number; `hint` where none may be absent."""
+    if COMMA_DECIMAL.fullmatch(cell) and (not GROUPED.fullmatch(cell) or cell.startswith("0")):
+        return Remedy(("model", "decimal"), ",")
     if THOUSANDS.fullmatch(cell):
         return "take the thousands separators out"
-    if COMMA_DECIMAL.fullmatch(cell):
-        return 'decimal = "," in [model]'
-    return hint or f'absent = ["{cell}"] in [model], if that stands for "not estimated"'
+    return hint or Remedy(("model", "absent"), [cell], 'if that stands for "not estimated"', adds=True)

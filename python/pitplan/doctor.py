@@ -21,7 +21,7 @@ from .program import Pit
 
 # What is imported, and Debian's package of it.
 NEEDED = {"numpy": "python3-numpy", "pandas": "python3-pandas", "matplotlib": "python3-matplotlib", "shapely": "python3-shapely",
-          "typer": "python3-typer", "rich": "python3-rich"}
+          "typer": "python3-typer", "rich": "python3-rich", "tomlkit": "python3-tomlkit"}
 WANTED = {"scipy": "python3-scipy", "ezdxf": "python3-ezdxf", "meshio": "python3-meshio", "geopandas": "python3-geopandas"}
 THREE = Path("/usr/share/javascript/three")
 INSTALL = "sudo apt-get install --no-install-recommends"

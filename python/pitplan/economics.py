@@ -12,10 +12,11 @@ from typing import Union
 import numpy as np
 
 from .amounts import LARGEST_FACTOR, MOST, THOUSAND, Bools, Floats, Priced, Whole, exact_sum, rounding_of
-from .errors import PlanError, meant
+from .errors import MOST_CELLS, Cell, Gathered, KeyPath, PlanError, Remedy, about, meant
 from .formula import worked_out
 from .gaps import AIR
 from .model import Model
+from .study_keys import METALS, refuse_wrong
 from .units import metal_in_a_tonne
 
 BARE = re.compile(r"[A-Za-z0-9_-]+")         # a key of TOML that needs no quotes
@@ -56,16 +57,23 @@ class Metal:
     selling: float = 0.0
 
     def __post_init__(self) -> None:
-        metal_in_a_tonne(self.name, self.grade_unit, self.price_unit)
-        if isinstance(self.price, (int, float)) and self.price < 0:       # scaled by the factor, a penalty would fall with the price
-            raise PlanError(f"metal {self.name}: price is {self.price:g}, and has to be a number of at least 0", try_this=f"price = 0, selling = {-self.price:g}, if it is a penalty")
-        number(f"metal {self.name}: price", self.price, 0)
-        number(f"metal {self.name}: payable", self.payable, 0, 1)
-        number(f"metal {self.name}: selling", self.selling, 0)
+        refuse_wrong(METALS, vars(self), f"[economics] metal {self.name}", ("economics", METALS, self.name))
 
     def content(self) -> float:
         """Units of metal, as the price counts them, in a tonne at a grade of 1."""
         return metal_in_a_tonne(self.name, self.grade_unit, self.price_unit)
+
+
+@dataclass(frozen=True)
+class Read:
+    """What the keys of [economics] say of each block, in arrays of shape (blocks,): grades and recoveries by metal, costs a tonne."""
+
+    to_mill: Bools
+    grade: dict[str, Floats]
+    recovery: dict[str, Floats]
+    processing: Floats
+    mining: Floats
+    forbidden: Bools
 
 
 @dataclass(frozen=True)
@@ -105,17 +113,13 @@ class Economics:
 
     def __post_init__(self) -> None:
         if not self.metals:
-            raise PlanError("[economics] has no metals", try_this='metals = [ { name = "copper", grade = "CU", price = 8500 } ]')
+            raise PlanError("[economics] has no metals", try_this='metals = [ { name = "copper", grade = "CU", price = 8500 } ]', key=("economics", METALS))
         names = [metal.name for metal in self.metals]
         if len(set(names)) < len(names):
-            raise PlanError(f"[economics] two metals are called {next(n for n in names if names.count(n) > 1)}")
-        number("[economics] dilution", self.dilution, 0, 1)
-        number("[economics] mining_recovery", self.mining_recovery, 0, 1)
-        if not self.mining_recovery:
-            raise PlanError("[economics] mining_recovery is 0, and has to be above 0: none of the ore would reach the mill")
-        rounding_of(self.rounding)
-        if isinstance(self.forbid, str):
-            raise PlanError("[economics] forbid is a list of formulas", try_this=f'forbid = ["{self.forbid}"]')
+            raise PlanError(f"[economics] two metals are called {next(n for n in names if names.count(n) > 1)}", key=("economics", METALS))
+        refuse_wrong("economics", {name: value for name, value in vars(self).items() if name not in (METALS, "rounding")})
+        with about("economics", "rounding"):
+            rounding_of(self.rounding)
 
     @property
     def feed(self) -> float:
@@ -131,32 +135,57 @@ class Economics:
         PlanError
             Where a column, a rock, a unit, a grade, a share or a cost is wrong: with the row where there is one.
         """
-        tonnes, to_mill = model.blocks.tonnes.to_numpy(float), self.to_mill(model)
+        tonnes, read = model.blocks.tonnes.to_numpy(float), self.read_of(model)
         revenue, selling = np.zeros(len(model)), np.zeros(len(model))
         metal: dict[str, Floats] = {}
-        grade: dict[str, Floats] = {}
         for m in self.metals:
-            grade[m.name] = grades_of(m, model)
-            recovery = share(f"recovery of {m.name}", amount(f"recovery of {m.name}", m.recovery, model), model)
-            units = tonnes * self.mining_recovery * grade[m.name] * m.content() * recovery * to_mill
+            units = tonnes * self.mining_recovery * read.grade[m.name] * m.content() * read.recovery[m.name] * read.to_mill
             metal[m.name] = units
             revenue += units * m.price * m.payable
             selling += units * m.selling
-        processing = tonnes * self.feed * cost("processing", self.processing, model) * to_mill + selling
-        mining = tonnes * cost("mining", self.mining, model)
+        processing = tonnes * self.feed * read.processing * read.to_mill + selling
+        mining = tonnes * read.mining
         rounding = rounding_of(self.rounding)
         whole = [in_whole(name, values, rounding, model) for name, values in (("revenue", revenue), ("processing", processing), ("mining", mining))]
-        found = Priced(whole[0], whole[1], whole[2], rounding, metal, grade, self.feed, self.forbidden(model))
+        found = Priced(whole[0], whole[1], whole[2], rounding, metal, read.grade, self.feed, read.forbidden)
         if found.forbidden.any():
             found.mining[found.forbidden] = fence_price(found, rounding)
         return found
 
+    def read_of(self, model: Model) -> Read:
+        """What the keys say of each block.
+
+        Raises
+        ------
+        PlanError
+            With each error that hangs on no other one.
+        """
+        wrong, grade, recovery, costs = Gathered(), dict[str, Floats](), dict[str, Floats](), dict[str, Floats]()
+        to_mill = forbidden = np.zeros(len(model), bool)
+        with wrong.part("economics", "mill"):
+            to_mill = self.to_mill(model)
+        for m in self.metals:
+            at, what = ("economics", METALS, m.name), f"recovery of {m.name}"
+            with wrong.part(*at, "grade"):
+                grade[m.name] = grades_of(m, model)
+            with wrong.part(*at, "recovery"):
+                recovery[m.name] = share(what, amount(what, m.recovery, model), model)
+        for name in ("processing", "mining"):
+            with wrong.part("economics", name):
+                costs[name] = cost(name, getattr(self, name), model)
+        with wrong.part("economics", "forbid"):
+            forbidden = self.forbidden(model)
+        wrong.tell()
+        return Read(to_mill, grade, recovery, costs["processing"], costs["mining"], forbidden)
+
     def to_mill(self, model: Model) -> Bools:
         """Whether a block may go to the mill: its rock is one that the mill takes, and it is a block of the table."""
         rock, kinds = model.blocks.rock, [str(kind) for kind in model.blocks.rock.unique()]
+        wrong = Gathered()
         for name in self.mill or ():
             if name not in kinds:
-                raise PlanError(f"[economics] mill: no block is of rock {name!r}{meant(name, kinds)}")
+                wrong.add([PlanError(f"[economics] mill: no block is of rock {name!r}{meant(name, kinds)}", key=("economics", "mill"))])
+        wrong.tell()
         takes = rock.isin(list(self.mill)) if self.mill is not None else rock != AIR
         found: Bools = takes.to_numpy() & (model.blocks["row"].to_numpy() >= 0)
         return found
@@ -185,16 +214,26 @@ def grades_of(metal: Metal, model: Model) -> Floats:
     """The grade of each block, 0 for blocks that were added."""
     found = model.numbers(metal.grade, f"metal {metal.name}")
     found[model.blocks["row"].to_numpy() < 0] = 0.0
-    for wrong, what, hint in ((found < 0, "is below 0", 'absent = ["{:g}"] in [model], if that stands for "not estimated"'),
-                              (found * metal.content() > metal_in_a_tonne(metal.name, "%", metal.price_unit) * 100 * (1 + 1e-9),
-                               f"in {metal.grade_unit} is more than the whole rock", "another grade_unit")):
-        if wrong.any():
-            at = int(np.argmax(wrong))
-            if what == "is below 0" and len(np.unique(found[wrong])) > 1:          # no mark: what kriging leaves
-                hint = "0 in their place, if the estimation left them so"
-            raise PlanError(f"{found[at]:g} {what}" + (f"; {int(wrong.sum()):,} cells are so" if wrong.sum() > 1 else ""), table=model.table,
-                            row=int(model.blocks["row"].iloc[at]), column=metal.grade, try_this=hint.format(found[at]))
+    too_rich = found * metal.content() > metal_in_a_tonne(metal.name, "%", metal.price_unit) * 100 * (1 + 1e-9)
+    if (found < 0).any():
+        raise wrong_grade(metal, model, found, found < 0)
+    if too_rich.any():
+        raise wrong_grade(metal, model, found, too_rich)
     return found
+
+
+def wrong_grade(metal: Metal, model: Model, grades: Floats, wrong: Bools) -> PlanError:
+    """The error of grades below 0, or of more than the whole rock."""
+    at, row = int(np.argmax(wrong)), model.blocks["row"].to_numpy()
+    more = f"; {int(wrong.sum()):,} cells are so" if wrong.sum() > 1 else ""
+    cells = [Cell(int(row[i]), f"{grades[i]:g}") for i in np.flatnonzero(wrong)[1:MOST_CELLS]]
+    key: KeyPath = ("economics", METALS, metal.name, "grade")
+    if grades[at] >= 0:
+        what, hint = f"in {metal.grade_unit} is more than the whole rock", "another grade_unit"
+        return PlanError(f"{grades[at]:g} {what}{more}", table=model.table, row=int(row[at]), column=metal.grade, try_this=hint, key=(*key[:-1], "grade_unit")).with_cells(cells)
+    mark = Remedy(("model", "absent"), [f"{grades[at]:g}"], 'if that stands for "not estimated"', adds=True)
+    is_mark = len(np.unique(grades[wrong])) == 1          # else it is what kriging leaves
+    return PlanError(f"{grades[at]:g} is below 0{more}", table=model.table, row=int(row[at]), column=metal.grade, try_this=mark if is_mark else "0 in their place, if the estimation left them so", key=key).with_cells(cells)
 
 
 def amount(what: str, given: Amount, model: Model) -> Floats:

@@ -1,11 +1,48 @@
-"""What went wrong, in the planner's terms: which table, row and column, what stands there, and what to try."""
+"""What went wrong, in the planner's terms: which table, row and column, which key of study.toml, what stands there, and what to try."""
 from __future__ import annotations
 
 import difflib
-from collections.abc import Iterable
-
+import json
+from collections.abc import Iterable, Iterator, Sequence
+from contextlib import contextmanager
+from dataclasses import dataclass
+from typing import Any, Union
 
 STOPPED = "stopped; what is done is kept, and the same command goes on from there"
+KeyPath = tuple[Union[str, int], ...]        # of study.toml: ("economics", "metals", "copper", "price"); a metal is named, or numbered where it has no name of its own
+MOST_CELLS = 20                              # wrong cells of a column that are told at a time
+
+
+@dataclass(frozen=True)
+class Remedy:
+    """A change of study.toml that puts an error right, as data and, by `str`, in words.
+
+    Attributes
+    ----------
+    key : KeyPath
+        The section and the key that are set.
+    value : Any
+        What a TOML file has there; for a list that may have other words already, what is added to it (`adds`).
+    when : str
+        The condition under which it is right, as "if that stands for ..": what a person has to judge. "" where there is none.
+    adds : bool
+    """
+
+    key: KeyPath
+    value: Any
+    when: str = ""
+    adds: bool = False
+
+    def __str__(self) -> str:
+        return f"{self.key[-1]} = {spelled(self.value)} in [{self.key[0]}]" + (f", {self.when}" if self.when else "")
+
+
+@dataclass(frozen=True)
+class Cell:
+    """A further wrong cell of an error's column: its row below the header line, from 0, and what stands there."""
+
+    row: int
+    text: str
 
 
 class PlanError(Exception):
@@ -19,25 +56,52 @@ class PlanError(Exception):
         The file or the section of ``study.toml``, and the column or key.
     row : int, optional
         The row below the header line, counted from 0. It is told as a spreadsheet counts it: the header line is row 1.
-    try_this : str, optional
-        What to change.
+    try_this : str or Remedy, optional
+        What to change. A `Remedy` can be put right by a program, too.
+    key : KeyPath, optional
+        The key of ``study.toml`` that is concerned; see also `about`.
+
+    Attributes
+    ----------
+    cells : tuple of Cell
+        The next wrong cells of the same column.
+    said : str
+        The error in one line, without what to try.
+    remedy : Remedy or None
     """
 
     def __init__(self, what: str, *, table: object = None, row: int | None = None, column: object = None,
-                 try_this: str | None = None) -> None:
-        self.what, self.table, self.row, self.column, self.try_this = what, table, row, column, try_this
-        place = ", ".join(part for part in (str(table) if table else "", f"row {row + 2}" if row is not None else "",
-                                            f"column {column}" if column else "") if part)
-        super().__init__(in_a_line((place + ": " if place else "") + what) + (f"\n  try: {in_a_line(try_this)}" if try_this else ""))
+                 try_this: str | Remedy | None = None, key: KeyPath = ()) -> None:
+        self.what, self.table, self.row, self.column, self.key = what, table, row, column, key
+        self.cells: tuple[Cell, ...] = ()
+        self.remedy = try_this if isinstance(try_this, Remedy) else None
+        self.try_this = None if try_this is None else str(try_this)
+        super().__init__(what)
 
+    @property
+    def said(self) -> str:
+        place = ", ".join(part for part in (str(self.table) if self.table else "", f"row {self.row + 2}" if self.row is not None else "",
+                                            f"column {self.column}" if self.column else "") if part)
+        return in_a_line((place + ": " if place else "") + self.what)
 
-def in_a_line(text: str) -> str:
-    """A text of a stranger's words in one line, without bytes that a terminal would obey.
+    def __str__(self) -> str:
+        return self.said + (f"\n  try: {in_a_line(self.try_this)}" if self.try_this else "")
 
-    >>> in_a_line("a" + chr(10) + "b" + chr(27))
-    'a\\\\nb\\\\x1b'
-    """
-    return "".join(c if c.isprintable() else c.encode("unicode_escape").decode() for c in text)
+    def with_cells(self, cells: Iterable[Cell]) -> PlanError:
+        """The same error, with further wrong cells of its column."""
+        self.cells = tuple(cells)
+        return self
+
+    def each(self) -> list[PlanError]:
+        """The errors that this one tells: itself, unless it is `Several`."""
+        return [self]
+
+    def as_data(self) -> dict[str, Any]:
+        """All of it as JSON has it. Rows count as a spreadsheet counts them."""
+        return {"said": self.said, "what": self.what, "table": None if self.table is None else str(self.table), "row": None if self.row is None else self.row + 2,
+                "column": None if self.column is None else str(self.column), "key": list(self.key), "try": self.try_this,
+                "remedy": None if self.remedy is None else {"key": list(self.remedy.key), "value": self.remedy.value, "when": self.remedy.when, "adds": self.remedy.adds},
+                "cells": [{"row": cell.row + 2, "text": cell.text} for cell in self.cells]}
 
 
 class NotAccepted(PlanError):
@@ -50,6 +114,100 @@ class Disagreement(PlanError):
 
 class MachineError(PlanError):
     """Memory, a disk or a process failed, and no file is to blame."""
+
+
+class Several(PlanError):
+    """Errors that don't hang on each other, told at a time."""
+
+    def __init__(self, errors: Sequence[PlanError]) -> None:
+        self.errors = list(errors)
+        first = self.errors[0]
+        super().__init__(first.what, table=first.table, row=first.row, column=first.column, try_this=first.remedy or first.try_this, key=first.key)
+        self.cells = first.cells
+
+    def __str__(self) -> str:
+        return "\n".join(map(str, self.errors))
+
+    def each(self) -> list[PlanError]:
+        return self.errors
+
+    def __reduce__(self) -> tuple[Any, ...]:
+        return Several, (self.errors,)
+
+
+class Gathered:
+    """Gathers the errors of parts that don't hang on each other, and tells all of them.
+
+    >>> found = Gathered()
+    >>> for size in (0, -1):
+    ...     with found.part():
+    ...         raise PlanError(f"size is {size}")
+    >>> len(found.errors)
+    2
+    """
+
+    def __init__(self, table: object = None) -> None:
+        self.table = table                   # of errors that name none
+        self.errors: list[PlanError] = []
+
+    def add(self, errors: Iterable[PlanError]) -> None:
+        """Keeps errors that weren't raised. One that is there already is kept once: a cell may be wrong for two keys."""
+        for error in errors:
+            error.table = error.table or self.table
+            if str(error) not in map(str, self.errors):
+                self.errors.append(error)
+
+    @contextmanager
+    def part(self, *key: str | int) -> Iterator[None]:
+        """Keeps what is raised within, of `key` unless it says another, instead of raising it."""
+        try:
+            with about(*key):
+                yield
+        except PlanError as error:
+            self.add(error.each())
+
+    def tell(self) -> None:
+        """Raises what was gathered: one error as it is, more as `Several`; nothing where there is none."""
+        if self.errors:
+            raise self.errors[0] if len(self.errors) == 1 else Several(self.errors)
+
+
+@contextmanager
+def about(*key: str | int) -> Iterator[None]:
+    """Errors raised within concern a key of study.toml, unless they say of another."""
+    try:
+        yield
+    except PlanError as error:
+        for each in error.each():
+            each.key = each.key or key
+        error.key = error.key or key
+        raise
+
+
+def in_a_line(text: str) -> str:
+    """A text of a stranger's words in one line, without bytes that a terminal would obey.
+
+    >>> in_a_line("a" + chr(10) + "b" + chr(27))
+    'a\\\\nb\\\\x1b'
+    """
+    return "".join(c if c.isprintable() else c.encode("unicode_escape").decode() for c in text)
+
+
+def spelled(value: Any) -> str:
+    """A value as study.toml spells it, in one line.
+
+    >>> spelled({"tonnes": 10400, "rock": "waste"}), spelled(["-99", ""]), spelled(True)
+    ('{ tonnes = 10400, rock = "waste" }', '["-99", ""]', 'true')
+    """
+    if isinstance(value, bool):
+        return "true" if value else "false"
+    if isinstance(value, str):
+        return json.dumps(value, ensure_ascii=False).replace("\x7f", "\\u007f")
+    if isinstance(value, dict):
+        return "{ " + ", ".join(f"{name if name.isidentifier() and name.isascii() else spelled(name)} = {spelled(part)}" for name, part in value.items()) + " }" if value else "{}"
+    if isinstance(value, (list, tuple)):
+        return "[" + ", ".join(map(spelled, value)) + "]"
+    return f"{value:g}" if isinstance(value, float) and float(f"{value:g}") == value and "e" not in f"{value:g}" else repr(value)
 
 
 def meant(word: str, known: Iterable[str]) -> str:

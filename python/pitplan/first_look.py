@@ -3,7 +3,7 @@ from __future__ import annotations
 
 import math
 import re
-from collections.abc import Mapping
+from collections.abc import Mapping, Sequence
 from dataclasses import dataclass, field
 from keyword import iskeyword
 from pathlib import Path
@@ -18,7 +18,7 @@ from .formula import text_of
 from .grid import Floats, Grid
 from .next_command import command
 from .slopes import DEFAULT
-from .study_template import TEMPLATE
+from .study_template import aligned, metal, template
 
 UTF_8 = Dialect().encoding
 MARKS = ("-99", "-999", "-9999", "-99.0", "-999.0", "-1", "-1.0", "-", "--", "*", "N/A", "n/a", "NA", "#N/A", "NaN", "nan", "absent", "null", "NULL", "None",
@@ -31,6 +31,9 @@ MOST_REGIONS = 12                            # of slopes: a column with more wor
 METALS = {"cu": ("copper", "%", "t", 8500), "au": ("gold", "g/t", "oz", 1900), "ag": ("silver", "g/t", "oz", 23), "mo": ("molybdenum", "ppm", "lb", 15),
           "zn": ("zinc", "%", "t", 2600), "pb": ("lead", "%", "t", 2100), "ni": ("nickel", "%", "t", 17000), "co": ("cobalt", "%", "t", 33000),
           "fe": ("iron", "%", "t", 110), "u3o8": ("uranium", "ppm", "lb", 60), "li2o": ("lithia", "%", "t", 15000), "pt": ("platinum", "g/t", "oz", 950)}
+# What a column's name says of its unit.
+UNITS = {"ppb": "ppb", "ppm": "ppm", "gpt": "g/t", "gmt": "g/t", "pct": "%", "perc": "%", "percent": "%", "kgt": "kg/t"}
+AIRS = re.compile(r"air|aire|ar|airblock|void|vacio|vacío|vazio", re.IGNORECASE)      # how a rock is called that is none
 SAMPLE = 1500                                # blocks that the grid is looked for in
 PLACES_OFF = 0.02                            # in the unit of the coordinates: how far their rounding may put two blocks off
 
@@ -57,8 +60,8 @@ class Look:
         The column that seems to say in which region of slopes a block is; "" where none does.
     regions : list of str
         What stands in it.
-    rocks, columns : list of str
-        The rocks, and all names of columns.
+    rocks, airs, columns : list of str
+        The rocks, the commonest first; those of them that weigh nothing or are called air; and all names of columns.
     notes : list of str
         What the planner should look at.
     """
@@ -74,6 +77,7 @@ class Look:
     region: str = ""
     regions: list[str] = field(default_factory=list)
     rocks: list[str] = field(default_factory=list)
+    airs: list[str] = field(default_factory=list)
     columns: list[str] = field(default_factory=list)
     notes: list[str] = field(default_factory=list)
 
@@ -109,6 +113,7 @@ def look_at(table: Path, given: Mapping[str, str] | None = None, encoding: str |
     look.region, look.regions = regions_in(frame, look)
     if "rock" in names:
         look.rocks = [str(rock) for rock in frame[names["rock"]].fillna("").str.strip().value_counts().index[:12]]
+        look.airs = airs_among(frame, names, look.absent)
     if not {"tonnes", "density"} & set(names):
         look.notes.append("no column of tonnes or density was found: name it in columns")
     if "rock" not in names:
@@ -184,9 +189,31 @@ def regions_in(frame: pd.DataFrame, look: Look) -> tuple[str, list[str]]:
 
 
 def metal_of(column: str) -> tuple[str, str, str, float] | None:
-    """The usual metal, units and price of a column's name, as CU_PCT, au_gpt, "Ag (g/t)" or ley_zn."""
+    """The usual metal, units and price of a column's name, as CU_PCT, au_gpt, AUPPB, "Ag (g/t)" or ley_zn."""
     words = re.split(r"[^a-z0-9]+", column.lower())
-    return next((METALS[word] for word in words if word in METALS), None)
+    bare = [word.removesuffix(next((unit for unit in UNITS if word.endswith(unit)), "")) for word in words]
+    return next((METALS[word] for word in (*words, *bare) if word in METALS), None)
+
+
+def unit_of(column: str) -> str | None:
+    """The unit of a grade that a column's name says; None where it says none.
+
+    >>> unit_of("AU_PPB"), unit_of("CUPCT"), unit_of("Ag (g/t)"), unit_of("CU")
+    ('ppb', '%', 'g/t', None)
+    """
+    name = column.lower()
+    spelt = next((unit for unit in ("kg/t", "g/t", "mg/kg", "%") if unit in name), None)
+    words = re.split(r"[^a-z0-9]+", name)
+    return spelt or next((UNITS[unit] for word in words for unit in UNITS if word == unit or word.endswith(unit) and word.removesuffix(unit) in METALS), None)
+
+
+def airs_among(frame: pd.DataFrame, names: Mapping[str, str], absent: Sequence[str]) -> list[str]:
+    """The rocks that weigh nothing, or are called air."""
+    rock = frame[names["rock"]].fillna("").str.strip()
+    kinds, weighed = rock.unique(), next((names[key] for key in ("tonnes", "density") if key in names), None)
+    weight = pd.Series(1.0, frame.index) if weighed is None else pd.to_numeric(frame[weighed].mask(frame[weighed].astype(str).isin(list(absent))), errors="coerce").fillna(0.0)
+    heavy = set(rock[weight.to_numpy() > 0])
+    return [str(kind) for kind in kinds if kind not in heavy or AIRS.fullmatch(str(kind))]
 
 
 def find_grid(look: Look, frame: pd.DataFrame, x: Floats, y: Floats, z: Floats) -> None:
@@ -263,26 +290,19 @@ def written(look: Look, table: str) -> str:
     """The text of a study.toml for a table; `table` is its path as the text names it."""
     size = ", ".join(f"{v:g}" for v in look.size) if look.size else "20, 20, 10"
     by_rock = ", ".join(f"{key(rock)} = 2.50" for rock in look.rocks[:3]) + (", other = 2.50" if len(look.rocks) > 3 else "")
-    return TEMPLATE.substitute(
+    return aligned(template().substitute(
         table=quoted(table), columns=", ".join(f"{name} = {quoted(column)}" for name, column in look.names.items()), size=size,
         size_told="" if look.size else "; it couldn't be told: fill it in", rotation=f"{look.rotation:g}", absent=", ".join(map(quoted, look.absent)),
         encoding="" if look.dialect.encoding == UTF_8 else f"\nencoding = {quoted(look.dialect.encoding)}", regularise="true" if look.has_sub_blocks else "false", x=in_formula(look.names["x"]), z=in_formula(look.names["z"]), by_rock=f"; by rock: {{ {by_rock} }}" if by_rock else "",
-        mill=", ".join(map(quoted, look.rocks[:2])), metals=metals(look),
-        by=quoted(look.region or "SECTOR"), regions=", ".join(f"{key(name)} = 45" for name in look.regions) or "NORTH = 38, SOUTH = [[0, 44], [180, 50]]")
+        mill=", ".join(map(quoted, [rock for rock in look.rocks if rock not in look.airs][:2] or ["ORE"])), metals=metals(look),
+        by=quoted(look.region or "SECTOR"), regions=", ".join(f"{key(name)} = 45" for name in look.regions) or "NORTH = 38, SOUTH = [[0, 44], [180, 50]]"))
 
 
 def metals(look: Look) -> str:
     """The lines of the metals: those whose columns are known, else one to be filled in."""
-    lines = []
-    for column in look.grades:
-        usual = metal_of(column)
-        if usual:
-            name, grade_unit, price_unit, price = usual
-            lines.append(f'    {{ name = "{name}", grade = {quoted(column)}, grade_unit = "{grade_unit}", price = {price:g}, price_unit = "{price_unit}", recovery = 0.85, payable = 0.96, selling = 0 }},')
-    if not lines:
-        column = look.grades[0] if look.grades else "GRADE"
-        lines.append(f'    {{ name = "metal", grade = {quoted(column)}, grade_unit = "%", price = 8500, price_unit = "t", recovery = 0.85, payable = 0.96, selling = 0 }},')
-    return "\n".join(lines)
+    usual = [(column, found) for column in look.grades if (found := metal_of(column))] or [(look.grades[0] if look.grades else "GRADE", ("metal", "%", "t", 8500))]
+    return "\n".join(metal({"name": name, "grade": column, "grade_unit": unit_of(column) or grade_unit, "price": price, "price_unit": price_unit})
+                     for column, (name, grade_unit, price_unit, price) in usual)
 
 
 def in_formula(name: str) -> str:

@@ -13,13 +13,15 @@ import pandas as pd
 from . import gaps, subblocks
 from .column_names import PLACES, SIZES, which_columns
 from .csv_text import NO_PLACE, Dialect, dialect_of, head_of, names_of, number_column, numbers_among, read_frame
-from .errors import PlanError, meant
+from .errors import Gathered, PlanError, about, meant
 from .grid import Floats, Grid
+from .study_keys import refuse_wrong
 
 Ints = npt.NDArray[np.int64]
 OFF = 0.05                                   # of a block: how far a centre may be off the grid
 MOST_STEPS = 10 ** 9                         # blocks along an axis, so that their numbers are whole and fit
 SAMPLE = 50_000                              # centres, by which the grid that most are on is found
+NO_WEIGHT = 'fill it in, or take the row out; absent = [".."] in [model] counts it as 0, and a block of 0 tonnes is air'      # what to try where a weight is no number
 OURS = ("id", "ix", "iy", "iz", "tonnes", "rock", "row")
 
 
@@ -141,16 +143,7 @@ class TableKeys:
     skip: int | None = None
 
     def __post_init__(self) -> None:
-        if self.size is not None and (len(self.size) != 3 or not all(v > 0 for v in self.size)):
-            raise PlanError(f"size is {list(self.size)}, and has to be three numbers above 0", try_this="size = [20, 20, 10] in [model]")
-        for key, known in (("z", ("elevation", "depth")), ("missing", ("refuse", "air", "rock"))):
-            if getattr(self, key) not in known:
-                raise PlanError(f"{key} = {getattr(self, key)!r} in [model] is none of {', '.join(known)}")
-        for key, count in (("widen", self.widen), ("skip", self.skip or 0)):
-            if count < 0:
-                raise PlanError(f"{key} = {count} in [model] is less than none")
-        if self.decimal not in (None, ".", ","):
-            raise PlanError(f"decimal = {self.decimal!r} in [model] is neither a point nor a comma", try_this='decimal = ","')
+        refuse_wrong("model", vars(self))
 
     def dialect(self, path: Path) -> Dialect:
         found = dialect_of(path, self.encoding or "utf-8-sig")
@@ -185,29 +178,50 @@ def read_table(path: str | Path, **keys: Any) -> Model:
 
 def read_with(path: Path, keys: TableKeys) -> Model:
     """Reads a table of blocks, as `read_table` does."""
-    table, dialect = path.name, keys.dialect(path)
-    header = names_of(head_of(path, dialect.encoding, 1)[0], dialect.separator)
-    names = which_columns(header, keys.columns, table)
+    with about("model", "table"):
+        table, dialect = path.name, keys.dialect(path)
+        header = names_of(head_of(path, dialect.encoding, 1)[0], dialect.separator)
+    with about("model", "columns"):
+        names = which_columns(header, keys.columns, table)
     frame = read_frame(path, dialect, [names[key] for key in ("id", "rock") if key in names])
     notes = ["columns: " + ", ".join(f"{key} = {name}" for key, name in names.items())]
     if dialect.skip:
         notes.append(f"{dialect.skip} lines below the header hold no blocks")
     rows = int(frame.index[-1]) + 1
-    places = subblocks.Places(*(number_column(frame[names[key]], table, hint=NO_PLACE) for key in PLACES))
-    size = size_of(frame, names, keys, table, notes)
+    places = places_of(frame, names, keys, table)
+    with about("model", "size"):
+        size = size_of(frame, names, keys, table, notes)
     estimated(frame, names, keys.absent)
-    whole = subblocks.whole_blocks(frame, names, places, size, subblocks.Wanted(keys.regularise, keys.rotation, table))
+    with about("model", "regularise"):
+        whole = subblocks.whole_blocks(frame, names, places, size, subblocks.Wanted(keys.regularise, keys.rotation, table))
     notes += whole.notes
-    grid, index = on_grid(whole.places, size, keys, names, whole.frame.index, table)
-    blocks = columns_of(whole.frame, names, grid, index, table)
+    with about("model", "size"):
+        grid, index = on_grid(whole.places, size, keys, names, whole.frame.index, table)
+    with about("model", "columns"):
+        blocks = columns_of(whole.frame, names, grid, index, table)
     notes += light(blocks)
     row_block = np.full(rows, -1, np.int32)
     row_block[frame.index.to_numpy()] = whole.parent
     model = Model(blocks, grid, path.name.removesuffix(".gz").removesuffix(".csv"), notes, names, row_block, keys.z == "depth", path, keys.absent)
-    gaps.close(model, keys.missing, keys.fill, table)
+    with about("model", "missing"):
+        gaps.close(model, keys.missing, keys.fill, table)
     if keys.widen:
-        gaps.widen(model, keys.widen)
+        with about("model", "widen"):
+            gaps.widen(model, keys.widen)
     return model
+
+
+def places_of(frame: pd.DataFrame, names: Mapping[str, str], keys: TableKeys, table: str) -> subblocks.Places:
+    """The centres. Wrong cells of any of their columns, or of that of tonnes or density, are told together."""
+    wrong, found = Gathered(), {}
+    for key in PLACES:
+        with wrong.part("model", "columns", key):
+            found[key] = number_column(frame[names[key]], table, hint=NO_PLACE)
+    for key in [key for key in ("tonnes", "density") if key in names][:1]:
+        with wrong.part("model", "columns", key):
+            number_column(frame[names[key]], table, keys.absent, NO_WEIGHT)
+    wrong.tell()
+    return subblocks.Places(*(found[key] for key in PLACES))
 
 
 def size_of(frame: pd.DataFrame, names: Mapping[str, str], keys: TableKeys, table: str, notes: list[str]) -> tuple[float, float, float]:

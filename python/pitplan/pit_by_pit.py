@@ -10,7 +10,7 @@ import numpy.typing as npt
 import pandas as pd
 
 from .amounts import THOUSAND, exact_sum
-from .errors import PlanError
+from .study_keys import refuse_wrong
 
 if TYPE_CHECKING:
     from .shells import Shells
@@ -38,11 +38,7 @@ class Rates:
     discount: float = 0.10
 
     def __post_init__(self) -> None:
-        for name, value in (("mining_rate", self.mining), ("mill_rate", self.mill)):
-            if value is not None and not value > 0:
-                raise PlanError(f"{name} is {value!r}, and has to be tonnes a year above 0")
-        if not 0 <= self.discount < 1:
-            raise PlanError(f"discount is {self.discount!r}, and has to be a share from 0 to below 1, as 0.08")
+        refuse_wrong("shells", {"mining_rate": self.mining, "mill_rate": self.mill, "discount": self.discount})
 
     def over(self, rock: float, feed: float) -> Rates:
         """The rates, with those that weren't told for this much rock and feed."""

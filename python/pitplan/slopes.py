@@ -17,12 +17,13 @@ import numpy.typing as npt
 import pandas as pd
 
 from . import offsets as search
-from .errors import PlanError, meant
+from .errors import Gathered, KeyPath, PlanError, meant
 from .formula import text_of
 from .grid import Grid
 from .model import Model
 from .offsets import Angles, Offset, Pattern
 from .program import Pit
+from .study_keys import keys_of, refuse_wrong
 
 DEFAULT = "default"
 STEP = 15                               # degrees of bearing between two rows of the table of asked and built angles
@@ -70,18 +71,18 @@ class Slopes:
     _found: dict[tuple[Any, ...], dict[str, Pattern]] = field(default_factory=dict, init=False, repr=False, compare=False)
 
     def __post_init__(self) -> None:
-        if self.regions is not None and not isinstance(self.regions, Mapping):
-            raise PlanError(f"[slopes] regions is {self.regions!r}", try_this="regions = { NORTH = 38, SOUTH = [[0, 44], [180, 50]] }")
+        refuse_wrong("slopes", {name: value for name, value in vars(self).items() if name in keys_of("slopes")})
         if self.regions and not self.by:
-            raise PlanError("[slopes] has regions, and doesn't say which column names them", try_this='by = "SECTOR"')
+            raise PlanError("[slopes] has regions, and doesn't say which column names them", try_this='by = "SECTOR"', key=("slopes", "regions"))
         if self.by and not self.regions:
-            raise PlanError(f"[slopes] by is {self.by!r}, and no region has angles of its own", try_this="regions = { NORTH = 38 }")
+            raise PlanError(f"[slopes] by is {self.by!r}, and no region has angles of its own", try_this="regions = { NORTH = 38 }", key=("slopes", "by"))
         if DEFAULT in (self.regions or {}):
-            raise PlanError(f"[slopes] regions: {DEFAULT!r} is what the slopes of all other blocks are called", try_this="angles, for the blocks of no region; or another word in that column")
-        if self.levels is not None and not (isinstance(self.levels, int) and 1 <= self.levels <= search.MOST_LEVELS):
-            raise PlanError(f"[slopes] levels is {self.levels}, and has to be a whole number from 1 to {search.MOST_LEVELS}")
+            raise PlanError(f"[slopes] regions: {DEFAULT!r} is what the slopes of all other blocks are called", try_this="angles, for the blocks of no region; or another word in that column", key=("slopes", "regions", DEFAULT))
+        wrong = Gathered()
         for name in self.names:
-            self.wall(name, (1.0, 1.0, 1.0), 0.0)
+            with wrong.part(*key_of(name)):
+                self.wall(name, (1.0, 1.0, 1.0), 0.0)
+        wrong.tell()
 
     @property
     def names(self) -> list[str]:
@@ -91,12 +92,10 @@ class Slopes:
     def wall(self, region: str, size: tuple[float, float, float], rotation: float) -> search.Wall:
         """What is asked for in a region."""
         angles, where = self.angles if region == DEFAULT else (self.regions or {})[region], angles_key(region)
-        if not _are_angles(angles):
-            raise PlanError(f"[slopes] {where}: {angles!r} are no angles", try_this="45, or by bearing [[0, 38], [90, 45], [180, 50], [270, 45]]")
         try:
             return search.wall(size, angles, rotation)
         except search.SlopeError as error:
-            raise PlanError(f"[slopes] {where}: {error}") from None
+            raise PlanError(f"[slopes] {where}: {error}", key=key_of(region)) from None
 
     def patterns(self, grid: Grid) -> dict[str, Pattern]:
         """The offsets of each region and the wall that they make, "default" first; searched once for a size and rotation.
@@ -116,7 +115,7 @@ class Slopes:
         try:
             return searched(wall, self.safe, self.levels)
         except search.TooSteep as error:
-            raise PlanError(f"[slopes] {angles_key(region)}, safe = true: {error.what}", try_this=error.advice) from None
+            raise PlanError(f"[slopes] {angles_key(region)}, safe = true: {error.what}", try_this=error.advice, key=("slopes", "safe")) from None
 
     def offsets_by_region(self, grid: Grid) -> dict[str, list[Offset]]:
         """The offsets (dx, dy, dz) of each region, "default" first."""
@@ -149,12 +148,12 @@ class Slopes:
         if not self.regions:
             return np.zeros(len(model), np.int64)
         if self.by not in model.blocks.columns:
-            raise PlanError(f"[slopes] by: the table has no column {self.by!r}{meant(str(self.by), map(str, model.blocks.columns))}")
+            raise PlanError(f"[slopes] by: the table has no column {self.by!r}{meant(str(self.by), map(str, model.blocks.columns))}", key=("slopes", "by"))
         codes, there = pd.factorize(model.blocks[self.by])
         texts = [text_of(value) for value in there]
-        for name in self.regions:
-            if name not in texts:
-                raise PlanError(f"[slopes] no block has {self.by} = {name}{meant(name, sorted(texts))}")
+        wrong = Gathered()
+        wrong.add(PlanError(f"[slopes] no block has {self.by} = {name}{meant(name, sorted(texts))}", key=key_of(name)) for name in self.regions if name not in texts)
+        wrong.tell()
         index = {name: i for i, name in enumerate(self.names) if i}
         of_code = np.array([*(index.get(text, 0) for text in texts), 0], np.int64)       # the last is that of an empty cell, whose code is -1
         return cast(Ints, of_code[codes])
@@ -165,20 +164,15 @@ def angles_key(region: str) -> str:
     return "angles" if region == DEFAULT else f"regions, {region}"
 
 
+def key_of(region: str) -> KeyPath:
+    """The path of a region's angles in study.toml."""
+    return ("slopes", "angles") if region == DEFAULT else ("slopes", "regions", region)
+
+
 @functools.lru_cache(maxsize=64)
 def searched(wall: search.Wall, safe: bool, levels: int | None) -> Pattern:
     """As `offsets.search`; a wall that was asked for before, as by what-ifs over the same slopes, isn't searched again."""
     return search.search(wall, safe=safe, levels=levels)
-
-
-def _are_angles(angles: Any) -> bool:
-    """Whether these are a number, or pairs of numbers."""
-    def is_number(value: Any) -> bool:
-        return isinstance(value, (int, float)) and not isinstance(value, bool)
-    if is_number(angles):
-        return True
-    return isinstance(angles, Sequence) and not isinstance(angles, str) and len(angles) > 0 and all(
-        isinstance(pair, Sequence) and len(pair) == 2 and all(map(is_number, pair)) for pair in angles)
 
 
 def _pairs(there: npt.NDArray[np.bool_], of: npt.NDArray[np.bool_], offset: Offset) -> int:

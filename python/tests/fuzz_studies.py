@@ -160,7 +160,7 @@ def answer(folder, text, table, is_searched=True):
         if is_searched:
             count_pairs(told.slopes, model)
     except PlanError as error:
-        if not MESSAGE.fullmatch(str(error)):
+        if not all(MESSAGE.fullmatch(str(each)) for each in error.each()):
             raise AssertionError(f"a message of another form: {str(error)!r}") from error
         return f"status {status_of(error)}"
     return "read"

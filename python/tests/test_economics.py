@@ -64,7 +64,7 @@ def test_units(grade, price, much):
 
 def test_unknown_units_are_refused():
     assert "is 'g/t' meant?" in refusal(pp.Metal, "gold", "AU", price=1, grade_unit="g/ton", price_unit="oz")
-    assert "price_unit 'ounce' isn't known" in refusal(pp.Metal, "gold", "AU", price=1, grade_unit="g/t", price_unit="ounce")
+    assert "price_unit is 'ounce', and has to be" in refusal(pp.Metal, "gold", "AU", price=1, grade_unit="g/t", price_unit="ounce")
 
 
 @pytest.mark.parametrize("keys, said", [

@@ -16,10 +16,11 @@ def test_each_damaged_study_is_answered():
 
 def test_a_sample_that_is_not_answered_is_found(monkeypatch):
     """The fuzzer sees a traceback, and a message of another form."""
-    for error in (KeyError("x"), PlanError("two lines").__class__("x")):
-        if isinstance(error, PlanError):
-            error.args = ("two\nlines",)
+    class Odd(PlanError):
+        def __str__(self):
+            return "two\nlines"
 
+    for error in (KeyError("x"), Odd("x")):
         def failing(folder, error=error):
             raise error
         monkeypatch.setattr(fuzz_studies, "read_study_file", failing)

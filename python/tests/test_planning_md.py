@@ -7,7 +7,6 @@ anything, in a line or in place of lines. What `$ cat FILE` shows of a text of o
 
 puts what the commands print now in place of what the document shows, but for lines with `..`; read the difference.
 """
-import dataclasses
 import os
 import re
 import subprocess
@@ -102,32 +101,6 @@ def test_options_of_the_text_are_options_of_a_command():
     known |= set(re.findall(r"--[a-z][\w-]*", (DOCUMENT.parent.parent / "completions" / "pit.bash").read_text()))      # those of `pit`
     named = set(re.findall(r"(?<![\w-])--[a-z][\w-]*", DOCUMENT.read_text()))
     assert len(named) > 20 and named - known <= {"--help", "--no-install-recommends"}, named - known
-
-
-def test_the_table_of_keys_has_what_a_study_may_say():
-    """Each key of each section, and each unit, in the table and nowhere else."""
-    from pitplan.column_names import USUAL
-    from pitplan.economics import Economics, Metal
-    from pitplan.model import TableKeys
-    from pitplan.slopes import Slopes
-    from pitplan.study_file import RATES, SECTIONS
-    from pitplan.units import GRADES, PRICES
-    rows = [[cell.strip() for cell in line.strip("|").split(" | ")] for line in DOCUMENT.read_text().partition("\n## The keys of study.toml\n")[2].splitlines() if line.startswith("| ")][1:]
-    told, section, about = {}, "", {}
-    for head, keys, says in rows:
-        section = head.strip("`[] |") or section
-        found = re.findall(r"`(\w+)`", keys)
-        told.setdefault(section, []).extend(found)
-        about |= dict.fromkeys(found, says)
-    of = {"model": ["table", *names(TableKeys)], "economics": names(Economics), "slopes": names(Slopes), "shells": ["factors", *RATES]}
-    assert {key: sorted(value) for key, value in told.items()} == {key: sorted(value) for key, value in of.items()} and list(told) == list(SECTIONS)
-    assert set(re.findall(r"`(\w+)`", about["metals"])) == set(names(Metal)) and set(re.findall(r"`(\w+)`", about["columns"])) == set(USUAL)
-    assert f"one of {' '.join(GRADES)};" in about["metals"] and f"one of {' '.join(PRICES)};" in about["metals"]
-
-
-def names(kind):
-    """The keys that make a value of a dataclass."""
-    return [field.name for field in dataclasses.fields(kind) if field.init]
 
 
 def rewrite():

@@ -68,8 +68,8 @@ def test_regions_of_numbers_and_of_empty_cells(tmp_path):
 
 
 @pytest.mark.parametrize("words, said", [
-    (dict(angles=95), "from 5 to 89 degrees"), (dict(angles="45"), "'45' are no angles"), (dict(angles=[[0, 45], [380, 40]]), "a bearing is from 0 to 360"),
-    (dict(angles=[[0, 45, 3]]), "are no angles"), (dict(angles=[[0, 45], [0, 38]]), "two slopes"), (dict(angles=True), "are no angles"),
+    (dict(angles=95), "from 5 to 89 degrees"), (dict(angles="45"), "angles is '45', and has to be degrees"), (dict(angles=[[0, 45], [380, 40]]), "a bearing is from 0 to 360"),
+    (dict(angles=[[0, 45, 3]]), "has to be degrees"), (dict(angles=[[0, 45], [0, 38]]), "two slopes"), (dict(angles=True), "has to be degrees"),
     (dict(regions={"EAST": 38}), 'by = "SECTOR"'), (dict(by="SECTOR"), "regions = { NORTH = 38 }"), (dict(by="SECTOR", regions=[1]), "regions is"),
     (dict(by="SECTOR", regions={"EAST": 3}), r"regions, EAST: a slope is from 5"), (dict(levels=0), "levels is 0"), (dict(levels=2.5), "levels is 2.5")])
 def test_wrong_slopes(words, said):
@@ -142,7 +142,7 @@ def test_a_build_refuses_a_safe_wall_that_would_be_too_steep(tmp_path, angles, w
         ran = pitplan(word, study)
         assert ran.returncode == 3 and "Traceback" not in ran.stderr and not (study / "model").exists(), ran.stderr
         assert f"[slopes] {where}, safe = true: a wall that is nowhere steeper than asked can't be built in blocks of 2 x 2 x 15" in ran.stderr
-        assert re.search(r"the nearest is [\d.]+ degrees at bearing \d+, where 5\.0 are asked for\n  try: lower or wider blocks", ran.stderr)
+        assert re.search(r"the nearest is [\d.]+ degrees at bearing \d+, where 5\.0 are asked for\n  study.toml:\d+: safe = true\n  try: lower or wider blocks", ran.stderr)
 
 
 def test_the_command_shows_and_draws(tmp_path):

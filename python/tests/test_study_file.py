@@ -15,7 +15,7 @@ WRONG = [
     ('size = [20, 20, 15]', 'sise = [20, 20, 15]', "[model] has no key 'sise'; is 'size' meant?"),
     ('mining = 2.0', 'minning = 2.0', "[economics] has no mining"),
     ('mining = 2.0', 'mining = 2.0\ndilutoin = 0.1', "[economics] has no key 'dilutoin'; is 'dilution' meant?"),
-    ('recovery = 0.85', 'recovry = 0.85', "[economics] metals has no key 'recovry'; is 'recovery' meant?"),
+    ('recovery = 0.85', 'recovry = 0.85', "[economics] metal copper has no key 'recovry'; is 'recovery' meant?"),
     ('grade = "CU", ', '', "metal copper has no grade"),
     ('[slopes]', '[slope]', "the file has no section 'slope'; is 'slopes' meant?"),
     ('[slopes]', '[pictures]\nwidth = 8\n[slopes]', "the file has no section 'pictures'"),
@@ -23,7 +23,7 @@ WRONG = [
     ('discount = 0.08', 'discount = 8', "discount is 8"),
     ('mill_rate = 5e5', 'mill_rate = 0', "mill_rate is 0"),
     ('[0.6, 1.0, 1.2]', '[0.30, 1.20, 0.05]', "factors = { from = 0.30"),
-    ('[0.6, 1.0, 1.2]', '{ from = 0.3, to = 1.2 }', "needs three numbers"),
+    ('[0.6, 1.0, 1.2]', '{ from = 0.3, to = 1.2 }', "has to be a series as { from = 0.30"),
     ('[0.6, 1.0, 1.2]', '[600, 1000]', "a share of the price in whole thousandths, from 0 to 10\n  try: 0.6"),
     ('[0.6, 1.0, 1.2]', '[0.6, 0.60001]', "whole thousandths"),
     ('[0.6, 1.0, 1.2]', '"all"', "[shells] factors is 'all'"),
@@ -31,8 +31,8 @@ WRONG = [
     ('mining = 2.0', 'mining = ', "isn't TOML"),
     ('size = [20, 20, 15]', 'size = [20, 20, 15]\nregularise = "yes"', "has to be true or false"),
     ('size = [20, 20, 15]', 'size = [20, 20, 15]\nrotation = "north"', "has to be a number"),
-    ('size = [20, 20, 15]', 'size = [20, 20, 15]\ndecimal = "comma"', "decimal = 'comma' in [model] is neither a point nor a comma"),
-    ('size = [20, 20, 15]', 'size = [20, 20, 15]\nskip = -1', "skip = -1 in [model] is less than none"),
+    ('size = [20, 20, 15]', 'size = [20, 20, 15]\ndecimal = "comma"', "decimal is 'comma', and has to be \".\" or \",\""),
+    ('size = [20, 20, 15]', 'size = [20, 20, 15]\nskip = -1', "skip is -1, and has to be a whole number of at least 0"),
 ]
 
 

@@ -402,7 +402,7 @@ def test_widened(tmp_path):
 
 def test_unknown_keys_name_the_nearest(tmp_path):
     assert "is 'rotation' meant?" in refusal(tmp_path, table(3, 3, 2, 1), rotatoin=3)
-    assert "none of elevation, depth" in refusal(tmp_path, table(3, 3, 2, 1), z="up")
+    assert 'z is \'up\', and has to be "elevation" or "depth"' in refusal(tmp_path, table(3, 3, 2, 1), z="up")
     assert "three numbers above 0" in refusal(tmp_path, table(3, 3, 2, 1), size=(1, 2))
 
 

@@ -1,0 +1,40 @@
+"""An error as the terminal shows it: what is wrong, the line of study.toml that it concerns, further wrong cells, and what to try."""
+from __future__ import annotations
+
+from pathlib import Path
+
+from .errors import PlanError, in_a_line
+
+WIDEST = 160                                 # letters of a line of study.toml that are shown
+
+
+def lines_of(error: PlanError, study_toml: Path | None = None) -> list[str]:
+    """One error in lines, the first without a mark before it.
+
+    Parameters
+    ----------
+    study_toml : Path, optional
+        The file that the error's key is of.
+    """
+    place = place_of(error, study_toml)
+    found = [error.said, *([f"  {study_toml.name}:{place[0]}: {shortened(place[1].strip())}"] if study_toml and place else [])]
+    if error.cells:
+        found.append("  also " + ", ".join(f"row {cell.row + 2:,}: {in_a_line(cell.text)!r}" for cell in error.cells))
+    return found + ([f"  try: {in_a_line(error.try_this)}"] if error.try_this else [])
+
+
+def place_of(error: PlanError, study_toml: Path | None) -> tuple[int, str] | None:
+    """The line of study.toml that an error concerns, and its number; None where it concerns none, or the file can't be read."""
+    if not error.key or study_toml is None:
+        return None
+    from .study_lines import line_of
+    try:
+        return line_of(study_toml.read_text("utf-8-sig"), error.key)
+    except (OSError, UnicodeDecodeError, ImportError):
+        return None
+
+
+def shortened(text: str) -> str:
+    """A line without its end where it is long."""
+    text = in_a_line(text)
+    return text if len(text) <= WIDEST else text[:WIDEST - 2] + ".."
