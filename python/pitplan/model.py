@@ -48,6 +48,10 @@ class Model:
         The table.
     absent : sequence of str
         Cells that stand for "not estimated", for columns that still hold such cells.
+    parts : Parts or None
+        The sub-blocks that blocks were added up from, as long as the table is at hand.
+    fenced : (formulas, bool array of shape (len(self),)) or None
+        Of a stored model with sub-blocks the formulas of `forbid`, and the blocks that they keep.
     """
 
     blocks: pd.DataFrame
@@ -59,9 +63,17 @@ class Model:
     depth: bool = False
     source: Path | None = None
     absent: Sequence[str] = ()
+    parts: subblocks.Parts | None = None
+    fenced: tuple[Sequence[str], npt.NDArray[np.bool_]] | None = None
 
     def __len__(self) -> int:
         return len(self.blocks)
+
+    @property
+    def has_sub_blocks(self) -> bool:
+        """Whether several rows of the table are one block."""
+        used = self.row_block[self.row_block >= 0]
+        return len(np.unique(used)) < len(used)
 
     @property
     def table(self) -> str:
@@ -204,6 +216,9 @@ def read_with(path: Path, keys: TableKeys) -> Model:
     row_block = np.full(rows, -1, np.int32)
     row_block[frame.index.to_numpy()] = whole.parent
     model = Model(blocks, grid, path.name.removesuffix(".gz").removesuffix(".csv"), notes, names, row_block, keys.z == "depth", path, keys.absent)
+    if whole.tonnes is not None:
+        i, j, k = (at[whole.parent] for at in index)
+        model.parts = subblocks.Parts(columns_of(frame, names, grid, (i, j, k), table).assign(tonnes=whole.tonnes), whole.parent, np.arange(len(blocks)))
     gaps.close(model, keys.missing, keys.fill, table)
     if keys.widen:
         gaps.widen(model, keys.widen)

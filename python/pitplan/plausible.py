@@ -7,7 +7,7 @@ from __future__ import annotations
 import numpy as np
 
 from .amounts import THOUSAND, Priced
-from .economics import Economics, of_formula
+from .economics import Economics, holds
 from .model import Model
 
 LIGHTEST, HEAVIEST = 0.05, 10.0              # tonnes for each cubic unit of the coordinates, be these metres or feet
@@ -51,4 +51,4 @@ def of_worths(priced: Priced, economics: Economics) -> list[str]:
 def of_forbid(model: Model, economics: Economics) -> list[str]:
     """The formulas of `forbid` that hold for no block."""
     return [f"[economics] forbid = {formula!r} holds for no block, so it keeps nothing from being dug\n  try: the numbers in it, by the table's own coordinates and units"
-            for formula in economics.forbid if not np.any(of_formula(str(formula), model, "[economics] forbid"))]
+            for formula in economics.forbid if not np.any(holds(str(formula), model)[0])]

@@ -174,4 +174,4 @@ class Shells:
     @cached_property
     def touching(self) -> Bools:
         """Whether a block of the largest pit has such a slope, of shape (blocks,); those of a smaller pit are among them."""
-        return edges.touching(self)
+        return edges.touching(self.study)

@@ -23,6 +23,7 @@ from .grid import Grid
 from .model import Model
 from .offsets import Angles, Offset, Pattern
 from .program import Pit
+from .subblocks import coded
 
 DEFAULT = "default"
 STEP = 15                               # degrees of bearing between two rows of the table of asked and built angles
@@ -150,7 +151,7 @@ class Slopes:
             return np.zeros(len(model), np.int64)
         if self.by not in model.blocks.columns:
             raise PlanError(f"[slopes] by: the table has no column {self.by!r}{meant(str(self.by), map(str, model.blocks.columns))}")
-        codes, there = pd.factorize(model.blocks[self.by])
+        codes, there = pd.factorize(coded(model, [str(self.by)]).blocks[self.by])
         texts = [text_of(value) for value in there]
         for name in self.regions:
             if name not in texts:
