@@ -95,7 +95,7 @@ class Priced:
             larger = self.rounding
             while largest * float(self.rounding / larger) >= 1 << 61:
                 larger *= 10
-            raise PlanError(f"an amount of {largest / THOUSAND * float(self.rounding):g} for one block is too large to count with in units of {self.rounding:f}", try_this=f"rounding = {larger:f} in [economics]")
+            raise PlanError(f"an amount of {largest / THOUSAND * float(self.rounding):g} for one block is too large to count with in units of {self.rounding:f}", try_this=f"rounding = {larger.normalize():f} in [economics]")
 
     def of_part(self, part: slice, factor: int) -> Whole:
         """`thousandths` of some of the blocks, where `check_room` has passed."""

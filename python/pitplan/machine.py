@@ -4,7 +4,7 @@ Linux has two versions of control groups, and a machine may have both. Of either
 limits; a container that sees its own groups alone has them at the top. Memory that only holds pages of files isn't taken: the system gives
 it away where it is needed.
 
-The scripts of this repository use this module too (``tools/machine.py`` is a link to it), so it needs nothing but Python's own.
+The scripts of this repository use this module too, by ``tools/machine.py``, so it needs nothing but Python's own.
 """
 from __future__ import annotations
 

@@ -12,7 +12,7 @@ import pandas as pd
 
 from . import gaps, subblocks
 from .column_names import PLACES, SIZES, which_columns
-from .csv_text import NO_PLACE, Dialect, dialect_of, head_of, names_of, number_column, numbers_among, read_frame
+from .csv_text import NO_PLACE, NO_WEIGHT, Dialect, dialect_of, head_of, names_of, number_column, numbers_among, read_frame
 from .errors import PlanError, meant
 from .grid import Floats, Grid
 
@@ -362,10 +362,10 @@ def columns_of(frame: pd.DataFrame, names: Mapping[str, str], grid: Grid, index:
     own: dict[str, Any] = {"id": frame[names["id"]].to_numpy() if "id" in names else (frame.index.to_numpy() + 2).astype(str)}
     own |= {key: values.astype(np.int32) for key, values in zip(("ix", "iy", "iz"), index)}
     if "tonnes" in names:
-        weighed, tonnes = names["tonnes"], number_column(frame[names["tonnes"]], table)
+        weighed, tonnes = names["tonnes"], number_column(frame[names["tonnes"]], table, hint=NO_WEIGHT)
     elif "density" in names:
         weighed = names["density"]
-        tonnes = number_column(frame[weighed], table) * grid.volume
+        tonnes = number_column(frame[weighed], table, hint=NO_WEIGHT) * grid.volume
     else:
         raise PlanError("no column is known as tonnes or density", table=table, try_this='columns = { tonnes = "..." } in [model]')
     if (tonnes < 0).any():

@@ -44,7 +44,7 @@ def of_worths(priced: Priced, economics: Economics) -> list[str]:
     times = float(priced.revenue[ore].sum(dtype=float)) / max(costs, 1.0)
     found = [f"the ore brings {times:,.0f} times what digging and treating it costs\n  try: {units}"] if times > RICHEST else []
     brings = {metal.name: float(priced.metal[metal.name].sum()) * metal.price * metal.payable for metal in economics.metals}
-    return found + [f"{metal.name} brings {brings[metal.name] / sum(brings.values()):.2g} of what all metals bring\n  try: price, price_unit, grade_unit and recovery of {metal.name}"
+    return found + [f"{metal.name} brings {100 * brings[metal.name] / sum(brings.values()):.2g} % of what all metals bring\n  try: price, price_unit, grade_unit and recovery of {metal.name}"
                     for metal in economics.metals if metal.price > 0 and brings[metal.name] < LEAST * sum(brings.values())]
 
 

@@ -614,6 +614,7 @@ class AddedUp(Table):
         return all(abs(length - side) <= 1e-3 * side for length, side in zip(self.sizes(row), self.facts["grid"]["size"]))
 
     def number(self, row: int, column: str) -> float:
+        """Of a block: the sum of tonnes, its own place and size, what most of its tonnes have of a column of codes, and else the mean by tonnes."""
         rows = self.of[row]
         if column in self.lengths:
             return float(self.facts["grid"]["size"][self.lengths[column]])

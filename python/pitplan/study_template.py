@@ -28,7 +28,7 @@ mining_recovery = 1.0            # the share of the ore that reaches the mill
 rounding = 1                     # amounts of a block in whole units of currency
 forbid = []                      # blocks that may not be dug, as ["$x > 12000"]
 # grade_unit: % kg/t g/t ppm mg/kg ppb; price_unit: t kg g lb oz dmtu; recovery: a number, a column, a formula, or by rock;
-# payable: the share of the price that is paid; selling: what selling a unit of metal costs, whatever its price
+# payable: the share of the price that is paid; selling: what selling a unit of metal costs, whatever its price (payable doesn't lessen it)
 metals = [
 $metals
 ]

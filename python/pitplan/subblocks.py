@@ -11,7 +11,7 @@ import numpy.typing as npt
 import pandas as pd
 
 from .column_names import PLACES, SIZES
-from .csv_text import number_column
+from .csv_text import NO_WEIGHT, number_column
 from .errors import PlanError
 from .formula import stripped
 from .grid import Floats, Grid
@@ -247,9 +247,9 @@ def coded(model: Model, names: Collection[str]) -> Model:
 def weights(frame: pd.DataFrame, names: Mapping[str, str], parents: Parents) -> tuple[str, Floats]:
     """The column that says what a sub-block weighs, and its weight: tonnes, or its density times the share that it fills."""
     if "tonnes" in names:
-        return names["tonnes"], number_column(frame[names["tonnes"]], parents.table)
+        return names["tonnes"], number_column(frame[names["tonnes"]], parents.table, hint=NO_WEIGHT)
     if "density" in names:
-        return names["density"], number_column(frame[names["density"]], parents.table) * parents.share
+        return names["density"], number_column(frame[names["density"]], parents.table, hint=NO_WEIGHT) * parents.share
     raise PlanError("no column is known as tonnes or density", table=parents.table, try_this='columns = { tonnes = "..." } in [model]')
 
 

@@ -1,5 +1,6 @@
 """The tables of the shells, against sums by hand; the planner's own table back; where a pit touches the model's side."""
 import gzip
+import warnings
 from decimal import Decimal
 from types import SimpleNamespace
 
@@ -60,6 +61,18 @@ def test_discounting_by_hand(two_metals):
         assert said == pytest.approx(total)
     assert found.npv_best >= found.npv_worst and found.years == pytest.approx(sum(
         max(p.TONNES.sum() / 1e5, p.TONNES[p.ore].sum() * 0.99 / 5e4) for _, p in f[f["shell"] <= 2].groupby(["shell", "level"])))
+
+
+def test_a_rate_in_another_unit_is_refused_and_warns_of_nothing(two_metals):
+    """Thousands or millions of tonnes a year for tonnes; the years are the tonnes of the largest pit by the rate."""
+    rock = two_metals.table().rock_t.iloc[-1]
+    with warnings.catch_warnings():
+        warnings.simplefilter("error")
+        for name, rate in (("mill_rate", 1.5), ("mining_rate", 1e-300)):
+            with pytest.raises(pp.PlanError, match=rf"{name} = {rate:g}: the largest pit's .* tonnes would take [\d,]+ years"):
+                two_metals.table(**{name: rate})
+        found = two_metals.table(mining_rate=rock / 999, discount=0.99)
+        assert round(found.years.iloc[-1]) == 999 and np.isfinite(found.npv_best).all()
 
 
 def test_rates_that_are_not_told_take_the_largest_pit_in_15_years(two_metals):

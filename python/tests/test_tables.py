@@ -113,7 +113,8 @@ def test_separators_at_the_ends_of_lines_do_no_harm(tmp_path):
 
 @pytest.mark.parametrize("sep, decimal, tonnes, said", [(";", ",", "14.100", "column TONNES: the cell is '14.100', with a point"), ("\t", ",", "14.100", "column TONNES: the cell is '14.100', with a point"),
                                                         (";", ".", "14,100", "column TONNES: 18 cells are no numbers, the first is '14,100'"), ("\t", ".", "1,014,100", "take the thousands separators out"), (";", ",", "14.100,5", "take the thousands separators out"),
-                                                        (",", ".", "14'100", "take the thousands separators out"), (",", ".", "14\u00a0100", "take the thousands separators out")])
+                                                        (",", ".", "14'100", "take the thousands separators out"), (",", ".", "14\u00a0100", "take the thousands separators out"),
+                                                        (",", ".", "0,000", 'try: decimal = ","'), (";", ".", "", "try: its tonnes or density in that cell")])
 def test_a_thousands_separator_is_no_decimal(tmp_path, sep, decimal, tonnes, said):
     f = table(4, 3, 3, 1)
     f["TONNES"] = tonnes
