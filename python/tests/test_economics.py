@@ -247,6 +247,12 @@ def test_what_looks_like_another_unit_is_told(frame, keys, said):
     assert len(told) == len(said) and all(part in line for part, line in zip(said, told)), told
 
 
+def test_a_metals_share_of_what_all_bring_is_told_in_percent(frame):
+    told = costs(metals=(COPPER, pp.Metal("gold", "AU", price=60, grade_unit="g/t", price_unit="t")))
+    copper, gold = (frame.TONNES * frame.CU / 100 * 0.85 * 8500).sum(), (frame.TONNES * frame.AU / 1e6 * 60).sum()
+    assert strange(model_of(frame), told.priced(model_of(frame)), told)[0].startswith(f"gold brings {100 * gold / (copper + gold):.2g} % of what all metals bring")
+
+
 @pytest.mark.parametrize("factor, said", [(1, 0), (1000, 1), (0.001, 1), (0, 1)])
 def test_rock_that_is_too_light_or_too_heavy_is_told(frame, factor, said):
     frame = frame.copy()

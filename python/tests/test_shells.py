@@ -65,13 +65,14 @@ def test_discounting_by_hand(two_metals):
 
 def test_a_rate_in_another_unit_is_refused_and_warns_of_nothing(two_metals):
     """Thousands or millions of tonnes a year for tonnes; the years are the tonnes of the largest pit by the rate."""
-    rock = two_metals.table().rock_t.iloc[-1]
+    shells, _ = two_metals
+    rock = shells.table().rock_t.iloc[-1]
     with warnings.catch_warnings():
         warnings.simplefilter("error")
         for name, rate in (("mill_rate", 1.5), ("mining_rate", 1e-300)):
             with pytest.raises(pp.PlanError, match=rf"{name} = {rate:g}: the largest pit's .* tonnes would take [\d,]+ years"):
-                two_metals.table(**{name: rate})
-        found = two_metals.table(mining_rate=rock / 999, discount=0.99)
+                shells.table(**{name: rate})
+        found = shells.table(mining_rate=rock / 999, discount=0.99)
         assert round(found.years.iloc[-1]) == 999 and np.isfinite(found.npv_best).all()
 
 
