@@ -69,7 +69,8 @@ def repository(top, room):
     """A repository with this one's scripts, a library `small` and a program `pit`."""
     tree = Path(room) / "repository"
     scripts = [file.relative_to(top) for folder in ("tests", "tools") for file in (top / folder).glob("*.py")]
-    for file in ("build", "run-example", "tests/run", *scripts):
+    shared = [file.relative_to(top) for file in (top / "python" / "pitplan").rglob("*.py") if file.name in ("__init__.py", "machine.py")]
+    for file in ("build", "run-example", "tests/run", *scripts, *shared):
         (tree / file).parent.mkdir(parents=True, exist_ok=True)
         shutil.copy(top / file, tree / file)
     (tree / "crates.txt").write_text("small:\npit: small\n")

@@ -155,7 +155,7 @@ MAIN = """//! The program.
 //sh esac
 fn main() {}
 """
-FILES = ("build", "run-example", "install", "release", "tools/*.py", "tools/launcher", "tests/run", "tests/*.py", "python/packages", "python/pyproject.toml")
+FILES = ("build", "run-example", "install", "release", "tools/*.py", "python/pitplan/**/machine.py", "tools/launcher", "tests/run", "tests/*.py", "python/packages", "python/pyproject.toml")
 
 
 class Tree:

@@ -92,7 +92,10 @@ class Priced:
         """Raises PlanError where a product at a factor doesn't fit 64 bits."""
         largest = max(furthest(self.revenue) * max(factor, THOUSAND), furthest(self.processing) * THOUSAND, furthest(self.mining) * THOUSAND)
         if largest >= 1 << 61:
-            raise PlanError(f"an amount of {largest / THOUSAND * float(self.rounding):g} for one block is too large to count with", try_this="rounding = 1000 in [economics]")
+            larger = self.rounding
+            while largest * float(self.rounding / larger) >= 1 << 61:
+                larger *= 10
+            raise PlanError(f"an amount of {largest / THOUSAND * float(self.rounding):g} for one block is too large to count with in units of {self.rounding:f}", try_this=f"rounding = {larger.normalize():f} in [economics]")
 
     def of_part(self, part: slice, factor: int) -> Whole:
         """`thousandths` of some of the blocks, where `check_room` has passed."""

@@ -10,8 +10,6 @@ from importlib import resources
 from pathlib import Path
 from typing import TYPE_CHECKING, Any
 
-import numpy as np
-
 from . import __version__
 from .csv_text import Dialect
 from .digests import sha256
@@ -53,7 +51,7 @@ ACCEPTED, the number of blocks and the worth: the pit has all that its blocks re
 factor, over the files in model/. recheck.py compares these with the table, row by row.
 
 Nothing here shows that grades, densities, prices, costs and angles are true: read study.toml. Nor are these worked out again:
-discounted worths and years in tables/, sub-blocks that were added up, and what digging added blocks costs.
+discounted worths and years in tables/, and what digging added blocks costs.
 Walls are as steep as asked only as nearly as whole blocks can be: `pitplan slopes` prints by how much, for each bearing.
 docs/AUDIT.md of the repository of pit says what each check shows, line by line.
 """
@@ -151,8 +149,8 @@ def write_tables(shells: Shells, work: Path, rates: dict[str, Any]) -> None:
 
 def facts_of(study: Study, name: str, dialect: Dialect) -> dict[str, Any]:
     """How the table was read."""
-    model, used = study.model, study.model.row_block[study.model.row_block >= 0]
+    model = study.model
     return {"pitplan": __version__, "pit": study.manifest["pit"], "table": name, "sha256": study.manifest["source"]["sha256"], "dialect": asdict(dialect),
             "columns": model.columns, "depth": model.depth, "blocks": len(model), "pairs": study.manifest["pairs"], "currency": study.currency,
-            "settings": list(COLUMNS), "has_sub_blocks": bool(len(np.unique(used)) < len(used)),
+            "settings": list(COLUMNS), "has_sub_blocks": model.has_sub_blocks,
             "grid": {"origin": list(model.grid.origin), "size": list(model.grid.size), "shape": list(model.grid.shape), "rotation": model.grid.rotation}}

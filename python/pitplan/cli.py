@@ -3,6 +3,7 @@ from __future__ import annotations
 
 import errno
 import importlib
+import inspect
 import pkgutil
 import sys
 from pathlib import Path
@@ -26,6 +27,10 @@ def load_commands() -> None:
     for module in pkgutil.iter_modules([str(Path(__file__).parent)]):
         if module.name.startswith("commands_"):
             importlib.import_module(f"{__package__}.{module.name}")
+    for it in app.registered_commands:       # typer says "[default: None]" of what has no default
+        for parameter in inspect.signature(it.callback).parameters.values() if it.callback else ():
+            if getattr(parameter.default, "default", 0) in (None, ...):
+                parameter.default.show_default = False
     app.registered_commands.sort(key=lambda c: ORDER.index(c.callback.__name__) if c.callback and c.callback.__name__ in ORDER else len(ORDER))
 
 

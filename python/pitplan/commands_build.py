@@ -9,6 +9,7 @@ from typing import TYPE_CHECKING, Optional
 import typer
 from rich.markup import escape
 
+from .amounts import THOUSAND
 from .console import STUDY, app, described, err, print_columns, say, warn
 from .errors import PlanError
 from .next_command import command
@@ -79,6 +80,7 @@ def build(folder: Path = STUDY) -> None:
         told.slopes.heard = of_region(status)
         study = Study.create(told.path.parent, model, told.economics, told.slopes, keys=told.digest)
         study.named = folder
+        study.priced.check_room(max(told.factors, default=THOUSAND))
     for note in study.model.notes[len(model.notes):]:
         say("  " + note)
     print_tonnage(study)
@@ -122,7 +124,9 @@ def tell_strange(study: Study, told: StudyFile, model: Model) -> None:
     """How many blocks may not be dug, and what looks as if a unit were another one."""
     from .plausible import strange
     if told.economics.forbid:
-        say(f"{int(study.priced.forbidden.sum()):,} of {len(model):,} blocks may not be dug, by forbid")
+        part = int(told.economics.partly_forbidden(model).sum())
+        say(f"{int(study.priced.forbidden.sum()):,} of {len(model):,} blocks may not be dug, by forbid"
+            + (f"; of {part:,} of them it holds for some sub-blocks alone" if part else ""))
     for what in strange(model, study.priced, told.economics):
         warn(what)
 

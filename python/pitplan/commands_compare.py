@@ -77,12 +77,12 @@ def write(study: Study, found: Comparison, elevations: list[float]) -> Path:
 def summary(study: Study, found: Comparison) -> dict[str, Any]:
     """What an auditor asks of the comparison."""
     verdict = study.verdict(found.factor)
-    tonnes = study.model.blocks.tonnes.to_numpy(float)
+    tonnes, shut = study.model.blocks.tonnes.to_numpy(float), found.design.held & study.priced.forbidden
     told: dict[str, Any] = {"design": found.design.name, "notes": found.design.notes, "factor": found.factor / 1000, "pit_value_said": found.said, "is_closed": found.is_closed,
                             "blocks": int(found.design.held.sum()), "tonnes": float(tonnes[found.design.held].sum()), "worth": found.worth, "bound": found.bound, "gap": found.gap,
                             "best_blocks": int(found.optimum.sum()), "best_tonnes": float(tonnes[found.optimum].sum()),
                             "left_tonnes": float(found.benches.left_t.sum()), "over_tonnes": float(found.benches.over_t.sum()),
-                            "forbidden_blocks": int((found.design.held & study.priced.forbidden).sum()), "certificate": verdict["certificate"] if verdict else None, "model": study.key, "pit": study.manifest["pit"]}
+                            "forbidden_blocks": int(shut.sum()), "forbidden_tonnes": float(tonnes[shut].sum()), "certificate": verdict["certificate"] if verdict else None, "model": study.key, "pit": study.manifest["pit"]}
     if found.repair:
         told["repair"] = {"blocks": found.repair.blocks, "tonnes": found.repair.tonnes, "worth": found.repair.worth, "gap": found.repair.gap}
         told["broken_pairs"] = len(found.pairs)

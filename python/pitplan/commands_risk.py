@@ -59,6 +59,7 @@ def risk(folder: Path = STUDY,
     with doing("the pits of each likelihood are priced, and all is written"):
         pits = write_risk(found, factor)
     print_risk(found, factor, pits)
+    warn_of_edges(found)
 
 
 @contextmanager
@@ -160,6 +161,17 @@ def write_risk(found: Risk, factor: int) -> pd.DataFrame:
     save(section(found, factor), folder / "likelihood.png")
     page.write_likelihood(found, factor, folder / "likelihood.html", pits)
     return pits
+
+
+def warn_of_edges(found: Risk) -> None:
+    """Says of the smallest factor at which realisations' pits touch the model's side or reach its floor, of how many they are."""
+    from .edges import FLOOR, SIDE
+    from .risk import spelled_factor
+    for counts, (what, hint) in ((found.side, SIDE), (found.floor, FLOOR)):
+        at = next((i for i in range(len(found.factors)) if counts[i].any()), None)
+        if at is not None:
+            most = int(counts[at].max())
+            warn(f"at factor {spelled_factor(found.factors[at])} the pit of {int((counts[at] > 0).sum()):,} of {found.count:,} realisations {what.format(f'up to {most:,} blocks there')}\n  try: {hint}")
 
 
 def print_risk(found: Risk, factor: int, pits: pd.DataFrame) -> None:

@@ -125,8 +125,8 @@ def print_table(found: Shells, table: pd.DataFrame) -> None:
 
 def warn_of_edges(found: Shells) -> None:
     """Says of the smallest pit that touches the model's side, and of the smallest that reaches its floor, where that is."""
-    for count, what, hint in ((found.touches_edge, "touches the side of the model ({}): a place that the slope asks for isn't in the model, so no wall is held there", "a wider model, or widen in [model]"),
-                              (found.reaches_floor, "reaches the model's floor ({}): what lies deeper isn't in the model, so no pit can follow ore down there", "a model that goes deeper")):
+    from .edges import FLOOR, SIDE
+    for count, (what, hint) in ((found.touches_edge, SIDE), (found.reaches_floor, FLOOR)):
         first = next(((factor, n) for i, factor in enumerate(found.factors) if (n := count(i))), None)
         if first:
             last = count(len(found.factors) - 1)

@@ -2,14 +2,17 @@
 from __future__ import annotations
 
 from pathlib import Path
-from typing import Any, List, Optional, Tuple
+from typing import TYPE_CHECKING, Any, List, Optional, Tuple
 
 import typer
 from rich.markup import escape
 
-from .console import app, described, err, opened, out, results, say
+from .console import app, described, err, opened, out, results, say, warn
 from .errors import PlanError
 from .next_command import command
+
+if TYPE_CHECKING:
+    import pandas as pd
 
 WORDS: Any = typer.Argument(None, metavar="[STUDY] [CHANGES]...", help="The folder of the study, this one unless told; and changes, as price=-20..20 recovery=-5..5 mining=-10..10 processing=-10..10 (percent of themselves) slope=-3..3 (degrees). Without changes those of before.")
 
@@ -66,3 +69,16 @@ def write_what_ifs(study: Any) -> None:
         shown.add_row(row.what if by else "as planned", by, f"{row.blocks:,}", f"{row.rock_t / 1e6:,.2f}", f"{row.worth / 1e6:,.2f}", f"{row.difference / 1e6:+,.2f}" if by else "")
     out.print(shown)
     say(f"{folder}: vary.csv, tornado.png")
+    warn_of_edges(found)
+
+
+def warn_of_edges(found: pd.DataFrame) -> None:
+    """Says which what-ifs have a pit that touches the model's side or reaches its floor."""
+    from .edges import FLOOR, SIDE
+    from .vary import UNITS
+    for name, (what, hint) in (("side_blocks", SIDE), ("floor_blocks", FLOOR)):
+        there = found[found[name] > 0]
+        if len(there):
+            named = [f"{row.what} {row.by:+g}{UNITS[row.what]}" if row.what in UNITS else "as planned" for row in there.itertuples()]
+            many = f"of {len(there):,} of these {len(found):,} what-ifs" if len(there) > 3 else "of " + ", ".join(named)
+            warn(f"the pit {many} {what.format(f'up to {int(there[name].max()):,} blocks there')}\n  try: {hint}")

@@ -19,7 +19,7 @@ import numpy.typing as npt
 import pandas as pd
 
 from . import walls
-from .amounts import THOUSAND
+from .amounts import THOUSAND, spelled
 from .design import Design
 from .errors import Disagreement
 from .next_command import command
@@ -43,7 +43,7 @@ class Repair:
     blocks, tonnes : int, float
         What it has more than the design.
     worth, gap : str
-        Of the whole set, and how far that is below the bound.
+        Of the whole set, without what may not be dug, and how far that is below the bound.
     """
 
     held: Bools
@@ -68,10 +68,11 @@ class Comparison:
     is_closed : bool
         Whether it keeps the slopes.
     worth, bound : str
-        What the design and the best pit are worth at the factor: exact, in units of currency.
+        What the design and the best pit are worth at the factor: exact, in units of currency. Blocks that may not be dug are left
+        out of the design's worth: they have a price that keeps them from every pit.
     gap : str or None
-        How far the design is below the bound, at least 0. None where it breaks the slopes: it may be worth more than any pit
-        then, and `repair` has the distance.
+        How far the design is below the bound, at least 0 where it digs only what may be dug. None where it breaks the slopes: it may be
+        worth more than any pit then, and `repair` has the distance.
     repair : Repair or None
         Where it breaks the slopes.
     optimum : bool array of shape (blocks,)
@@ -122,7 +123,8 @@ def compare(study: Study, design: Design, factor: int = THOUSAND) -> Comparison:
     said, broken = certificate.judge(design.held), resting.broken(design.held)
     agree(said, design.held, broken, study.priced.worth_of(design.held, factor), study.priced.worth_of(optimum, factor))
     repair = None if said.is_closed else repaired(certificate, resting, design.held)
-    return Comparison(design, factor, said.said, said.is_closed, said.worth, said.bound, said.gap if said.is_closed else None, repair, optimum,
+    worth, gap = of_diggable(study, design.held, said, factor)
+    return Comparison(design, factor, said.said, said.is_closed, worth, said.bound, gap if said.is_closed else None, repair, optimum,
                       pairs_of(study, broken), walls.worst(study.model, resting, design.held, broken), by_bench(study, design.held, optimum, factor))
 
 
@@ -198,6 +200,15 @@ def agree(said: Valued, held: Bools, broken: tuple[Any, Any, Any], worth: str, b
         raise Disagreement(f"a closed set is worth {worth}, and pit proves that none is worth more than {bound}", try_this="tell the maintainers")
 
 
+def of_diggable(study: Study, held: Bools, said: Valued, factor: int) -> tuple[str, str]:
+    """What a set is worth without the blocks in it that may not be dug, and how far that is below the bound: `pit value` counts these at
+    the price that keeps them from every pit, so that its amounts say nothing of the set."""
+    if not (held & study.priced.forbidden).any():
+        return said.worth, said.gap
+    worth = study.priced.worth_of(held & ~study.priced.forbidden, factor)
+    return worth, spelled(Decimal(said.bound) - Decimal(worth))
+
+
 def repaired(certificate: Certificate, resting: Resting, held: Bools) -> Repair:
     """The least closed set that has a design, and `pit`'s word that it is closed."""
     study, factor = certificate.study, certificate.factor
@@ -207,7 +218,7 @@ def repaired(certificate: Certificate, resting: Resting, held: Bools) -> Repair:
     if not said.is_closed:
         raise Disagreement("the mended design isn't closed, by pit value", try_this="tell the maintainers")
     more = whole & ~held
-    return Repair(whole, int(more.sum()), float(study.model.blocks.tonnes.to_numpy(float)[more].sum()), said.worth, said.gap)
+    return Repair(whole, int(more.sum()), float(study.model.blocks.tonnes.to_numpy(float)[more].sum()), *of_diggable(study, whole, said, factor))
 
 
 def pairs_of(study: Study, broken: tuple[Any, Any, Any]) -> pd.DataFrame:
@@ -227,11 +238,11 @@ def by_bench(study: Study, held: Bools, optimum: Bools, factor: int) -> pd.DataF
     DataFrame
         ``bench`` (elevation of the blocks' centres), ``design_t`` and ``best_t`` (tonnes of each), ``left_t`` (in the best pit and
         not in the design), ``over_t`` (in the design and not in the best pit), ``left_ore_t`` and ``over_ore_t`` (of
-        these what would go to the mill), ``left_worth`` and ``over_worth``.
+        these what would go to the mill), ``left_worth`` and ``over_worth`` (without blocks that may not be dug).
     """
     grid, priced = study.model.grid, study.priced
     level, tonnes = study.model.blocks.iz.to_numpy(), study.model.blocks.tonnes.to_numpy(float)
-    ore, worth = tonnes * priced.milled(factor), priced.worth(factor)
+    ore, worth = tonnes * priced.milled(factor), np.where(priced.forbidden, 0.0, priced.worth(factor))
 
     def summed(mask: Bools, values: Any) -> Any:
         return np.bincount(level[mask], values[mask], grid.shape[2])[::-1]

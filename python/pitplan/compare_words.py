@@ -20,7 +20,14 @@ def closed_lines(found: Comparison, currency: str) -> list[str]:
     """What is said of a design that keeps the slopes."""
     if (found.design.held == found.optimum).all():
         return ["the design is the best pit"]
-    return [f"the design keeps the slopes, and is {money(str(found.gap), currency)} ({found.share(str(found.gap)):.2%}) below the proved bound"]
+    return [f"the design keeps the slopes, and is {distance(found, str(found.gap), currency)}"]
+
+
+def distance(found: Comparison, gap: str, currency: str) -> str:
+    """How far a worth is below the bound; above it only a set is that digs what no pit may."""
+    if gap.startswith("-"):
+        return f"{money(gap[1:], currency)} ({found.share(gap[1:]):.2%}) above the proved bound, which holds for pits that dig none of the blocks left out"
+    return f"{money(gap, currency)} ({found.share(gap):.2%}) below the proved bound"
 
 
 def broken_lines(found: Comparison, currency: str) -> list[str]:
@@ -35,19 +42,19 @@ def broken_lines(found: Comparison, currency: str) -> list[str]:
                      f"from {'block ' + wall['id'] if wall['id'] else 'an added block'} at ({wall['x']:,.1f}, {wall['y']:,.1f}), bench {wall['bench']:,.10g}; {wall['pairs']:,} pairs")
     more = len(found.walls) - 3
     lines += [f"  {more} more {'bearings' if more > 1 else 'bearing'} in walls.csv of pitplan compare"] if more > 0 else []
-    gap = found.repair.gap
     lines.append(f"to keep them it has to dig {found.repair.blocks:,} blocks more ({found.repair.tonnes / 1e6:,.2f} Mt); then it is worth {money(found.repair.worth, currency)}, "
-                 f"{money(gap, currency)} ({found.share(gap):.2%}) below the proved bound")
+                 + distance(found, found.repair.gap, currency))
     return lines
 
 
 def forbidden_lines(study: Study, held: Bools) -> list[str]:
-    """What is said of a design that digs what may not be dug: its worth has the price that keeps these blocks from every pit."""
+    """What is said of a design that digs what may not be dug: its worth leaves these blocks out."""
     shut = held & study.priced.forbidden
     if not shut.any():
         return []
     count, first = int(shut.sum()), str(study.model.blocks["id"].to_numpy()[shut][0]) or "an added block"
-    return [f"look: the design digs {count:,} {'blocks' if count > 1 else 'block'} that forbid keeps from being dug, as {first}: its worth counts them at a price that no pit pays, and says nothing"]
+    weight = study.model.blocks.tonnes.to_numpy(float)[shut].sum() / 1e6
+    return [f"look: the design digs {count:,} {'blocks' if count > 1 else 'block'} that forbid keeps from being dug, as {first}: {weight:,.2f} Mt, which are left out of its worth and of its distance from the bound"]
 
 
 def money(amount: str, currency: str) -> str:

@@ -23,13 +23,14 @@ from .errors import MOST_CELLS, Cell, PlanError, Remedy
 from .machine import free_memory
 
 SEPARATORS = ",;\t"
-THOUSANDS = re.compile(r"[+-]?\d{1,3}(([,'\s]\d{3})+(\.\d+)?|([.\s]\d{3})+,\d+)")
+THOUSANDS = re.compile(r"[+-]?[1-9]\d{0,2}(([,'\s]\d{3})+(\.\d+)?|([.\s]\d{3})+,\d+)")
 COMMA_DECIMAL = re.compile(r"([+-]?\d*),(\d+(?:[eE][+-]?\d+)?)")
 GROUPED = re.compile(r"[+-]?[1-9]\d{0,2}([.,])\d{3}(\1\d{3})*")       # a whole number with thousands separators, or one with three decimals
 SMALL, MOST_TIMES = 1 << 26, 200              # bytes that any table may unpack to, and how many times its size a larger one may
 HELD = 3                                     # bytes of memory that a byte of a table takes while it is read
 SAY_ENCODING = 'save it as "CSV UTF-8"; or tell init --encoding cp1252, or say encoding = "cp1252" in [model]'
 MOST_WORDS = 1000                            # different cells that a column of codes has at most; one of numbers with a mark among them has more
+NO_WEIGHT = "its tonnes or density in that cell: a cell that counts as \"not estimated\" weighs 0, and makes air of rock"
 NO_PLACE = "fill its place in, or take the row out"      # what to try where a coordinate is no number
 EMPTY = Remedy(("model", "absent"), [""], 'if an empty cell stands for "not estimated"', adds=True)
 PLAIN = re.compile(r"[+-]?(\d+\.?\d*|\.\d+)([eE][+-]?\d+)?")

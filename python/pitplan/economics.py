@@ -10,13 +10,15 @@ from decimal import Decimal
 from typing import Union
 
 import numpy as np
+import pandas as pd
 
 from .amounts import LARGEST_FACTOR, MOST, THOUSAND, Bools, Floats, Priced, Whole, exact_sum, rounding_of
 from .errors import MOST_CELLS, Cell, Gathered, KeyPath, PlanError, Remedy, about, meant
-from .formula import worked_out
+from .formula import names_in, worked_out
 from .gaps import AIR
 from .model import Model
 from .study_keys import METALS, refuse_wrong
+from .subblocks import coded
 from .units import metal_in_a_tonne
 
 BARE = re.compile(r"[A-Za-z0-9_-]+")         # a key of TOML that needs no quotes
@@ -98,7 +100,8 @@ class Economics:
     currency : str
         For tables and pictures.
     forbid : sequence of str
-        Formulas: blocks for which one of them holds may not be dug. Blocks without tonnes are air, which none of them keeps.
+        Formulas: blocks for which one of them holds may not be dug, be it for one of their sub-blocks alone. Blocks without tonnes are
+        air, which none of them keeps.
     """
 
     metals: Sequence[Metal]
@@ -135,6 +138,7 @@ class Economics:
         PlanError
             Where a column, a rock, a unit, a grade, a share or a cost is wrong: with the row where there is one.
         """
+        model = coded(model, self.codes())
         tonnes, read = model.blocks.tonnes.to_numpy(float), self.read_of(model)
         revenue, selling = np.zeros(len(model)), np.zeros(len(model))
         metal: dict[str, Floats] = {}
@@ -191,16 +195,34 @@ class Economics:
         return found
 
     def forbidden(self, model: Model) -> Bools:
-        """Which blocks may not be dug: those for which a formula of `forbid` holds. Air is never dug: air above a corridor would else
-        keep the rock beside the corridor, whose slopes lead through that air, from being dug too."""
+        """Which blocks may not be dug: those for which a formula of `forbid` holds, or for a sub-block of which one does. Air is never dug:
+        air above a corridor would else keep the rock beside the corridor, whose slopes lead through that air, from being dug too."""
         found: Bools = np.zeros(len(model), bool)
+        if model.fenced and list(model.fenced[0]) == list(self.forbid):
+            found[:len(model.fenced[1])] = model.fenced[1]           # blocks after those are air
+            return found
         for formula in self.forbid:
-            holds = of_formula(str(formula), model, "[economics] forbid")
-            if holds.dtype != bool:
-                raise PlanError(f"[economics] forbid = {formula!r} says neither yes nor no", try_this='as "XC > 12000"')
-            found |= holds.astype(bool)
+            found |= holds(str(formula), model)[0]
         found &= model.blocks.tonnes.to_numpy(float) > 0
         return found
+
+    def codes(self) -> set[str]:
+        """The columns that stand for codes: those that a comparison or `forbid` names. A metal's grade isn't one, whatever is asked of it:
+        of sub-blocks its mean is what the metal in the block comes to."""
+        amounts = [self.mining, self.processing, *(metal.recovery for metal in self.metals)]
+        compared = [names_in(text, is_compared=True) for text in amounts if isinstance(text, str)]
+        return set().union(*compared, *(names_in(str(text)) for text in self.forbid)) - {metal.grade for metal in self.metals}
+
+    def partly_forbidden(self, model: Model) -> Bools:
+        """Which blocks may not be dug for some of their sub-blocks alone, of shape (len(model),)."""
+        found = self.forbidden(model)
+        if model.parts is None:
+            return np.zeros(len(model), bool)
+        rows = np.zeros(len(model.parts.frame), bool)
+        for formula in self.forbid:
+            rows |= holds(str(formula), model)[1][:len(rows)]
+        free = np.bincount(model.parts.parent, ~rows & (model.parts.frame["tonnes"].to_numpy(float) > 0), len(model)) > 0
+        return found & free
 
 
 def number(what: str, value: object, least: float, most: float = math.inf) -> None:
@@ -266,15 +288,46 @@ def amount(what: str, given: Amount, model: Model) -> Floats:
 
 
 def of_formula(text: str, model: Model, what: str) -> Floats | Bools:
-    """What a formula gives for each block; 0 or no for air that was added, which weighs nothing, and stands where a formula that goes
-    by the ground may give no number."""
-    asked = (model.blocks["row"].to_numpy() >= 0) | (model.blocks["tonnes"].to_numpy(float) > 0)
+    """What a formula gives for each block."""
+    return of_rows(text, model.blocks, what)
+
+
+def of_rows(text: str, table: pd.DataFrame, what: str) -> Floats | Bools:
+    """What a formula gives for each row; 0 or no for air that was added, which weighs nothing, and stands where a formula that goes by the
+    ground may give no number."""
+    asked = (table["row"].to_numpy() >= 0) | (table["tonnes"].to_numpy(float) > 0)
     if asked.all():
-        return worked_out(text, model.blocks, what)
-    found = worked_out(text, model.blocks[asked], what)
-    each: Floats | Bools = np.zeros(len(model), found.dtype)
+        return worked_out(text, table, what)
+    found = worked_out(text, table[asked], what)
+    each: Floats | Bools = np.zeros(len(table), found.dtype)
     each[asked] = found
     return each
+
+
+def holds(formula: str, model: Model) -> tuple[Bools, Bools]:
+    """For which blocks a formula of `forbid` holds, and for which rows: of blocks that were added up, one of whose sub-blocks it holds
+    for that weighs something.
+
+    Raises
+    ------
+    PlanError
+        Where it says neither yes nor no, or asks for sub-blocks that aren't at hand.
+    """
+    parts, table = model.parts, model.blocks
+    block = np.arange(len(model))
+    if parts is not None:
+        is_added = table["row"].to_numpy() < 0
+        table = pd.concat([parts.frame, table[is_added]], ignore_index=True)
+        block = np.concatenate([parts.parent, block[is_added]])
+    elif model.has_sub_blocks:
+        raise PlanError(f"[economics] forbid = {formula!r}: for which sub-blocks does it hold? A model that was built doesn't have them any more", try_this="read the table again, and build")
+    found = of_rows(formula, table, "[economics] forbid")
+    if found.dtype != bool:
+        raise PlanError(f"[economics] forbid = {formula!r} says neither yes nor no", try_this='as "XC > 12000"')
+    rows = found.astype(bool) & ((table["tonnes"].to_numpy(float) > 0) | (parts is None))
+    each: Bools = np.zeros(len(model), bool)
+    each[block[rows]] = True
+    return each, rows
 
 
 def share(what: str, values: Floats, model: Model) -> Floats:

@@ -12,10 +12,15 @@ from .gaps import enclosed
 
 if TYPE_CHECKING:
     from .model import Model
-    from .shells import Shells
+    from .study import Study
 
 Bools = npt.NDArray[np.bool_]
 Ints = npt.NDArray[np.int64]
+
+
+# What is said of a pit that touches the model's side, or reaches its floor, and what to try; the first with how many blocks do.
+SIDE = ("touches the side of the model ({}): a place that the slope asks for isn't in the model, so no wall is held there", "a wider model, or widen in [model]")
+FLOOR = ("reaches the model's floor ({}): what lies deeper isn't in the model, so no pit can follow ore down there", "a model that goes deeper")
 
 
 def ground(model: Model) -> tuple[Ints, Ints]:
@@ -40,20 +45,20 @@ def ground(model: Model) -> tuple[Ints, Ints]:
     return top, low
 
 
-def touching(shells: Shells) -> Bools:
-    """Which blocks of the largest pit have a slope that asks for a place that isn't in the model and isn't air: beyond its sides, where
-    the ground goes on as high as in the nearest column; in a column that has no row; or below the lowest row of a column. Rows of air,
-    without tonnes, don't count: nothing has to hold there.
+def touching(study: Study) -> Bools:
+    """Which blocks have a slope that asks for a place that isn't in the model and isn't air: beyond its sides, where the ground goes on as
+    high as in the nearest column; in a column that has no row; or below the lowest row of a column. Rows of air, without tonnes, don't
+    count: nothing has to hold there.
 
     Returns
     -------
     bool array of shape (blocks,)
     """
-    study, b = shells.study, shells.study.model.blocks
+    b = study.model.blocks
     x, y, z = (b[name].to_numpy() for name in ("ix", "iy", "iz"))
-    found, inside = np.zeros(len(b), bool), (shells.shell < len(shells.factors)) & (b["tonnes"].to_numpy() > 0)
+    found, rock = np.zeros(len(b), bool), b["tonnes"].to_numpy() > 0
     for region, highest in enumerate(study.sides):
-        found |= inside & (study.region == region) & (z <= highest[x, y])
+        found |= rock & (study.region == region) & (z <= highest[x, y])
     return found
 
 

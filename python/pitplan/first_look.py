@@ -19,6 +19,7 @@ from .grid import Floats, Grid
 from .next_command import command
 from .slopes import DEFAULT
 from .study_template import aligned, metal, template
+from .subblocks import OFF
 
 UTF_8 = Dialect().encoding
 MARKS = ("-99", "-999", "-9999", "-99.0", "-999.0", "-1", "-1.0", "-", "--", "*", "N/A", "n/a", "NA", "#N/A", "NaN", "nan", "absent", "null", "NULL", "None",
@@ -224,7 +225,10 @@ def find_grid(look: Look, frame: pd.DataFrame, x: Floats, y: Floats, z: Floats) 
     if all(key in names for key in SIZES):
         lengths = [number_column(frame[names[key]], names[key]) for key in SIZES]
         look.size = (float(lengths[0].max()), float(lengths[1].max()), float(lengths[2].max()))
-        look.has_sub_blocks = any(bool((v < v.max() * (1 - 1e-6)).any()) for v in lengths)
+        is_whole = np.logical_and.reduce([v >= v.max() * (1 - OFF) for v in lengths])
+        look.has_sub_blocks = not is_whole.all()
+        if is_whole.any():                   # centres of sub-blocks are on no grid of whole blocks, and a fit to them is off
+            x, y, z = x[is_whole], y[is_whole], z[is_whole]
     level = z == pd.Series(z).mode().iloc[0]
     near = np.argsort((x[level] - np.median(x[level])) ** 2 + (y[level] - np.median(y[level])) ** 2)[:SAMPLE]
     across, along = steps(x[level][near], y[level][near])

@@ -74,6 +74,19 @@ def worked_out(text: str, table: pd.DataFrame, what: str) -> npt.NDArray[Any]:
     return each.astype(float)
 
 
+def names_in(text: str, is_compared: bool = False) -> set[str]:
+    """The columns that a formula names; with `is_compared` those alone that stand in a comparison. None where the text is no formula,
+    which `worked_out` tells."""
+    try:
+        tree = ast.parse(text.strip(), mode="eval")
+    except (SyntaxError, RecursionError, MemoryError, ValueError):
+        return set()
+    parts: list[ast.AST] = [node for node in ast.walk(tree) if not is_compared or isinstance(node, ast.Compare)]
+    nodes = [node for part in parts for node in ast.walk(part)]
+    plain = {node.id for node in nodes if isinstance(node, ast.Name)}
+    return plain | {str(node.args[0].value) for node in nodes if isinstance(node, ast.Call) and ast.unparse(node.func) == "column" and node.args and isinstance(node.args[0], ast.Constant)}
+
+
 def single_sign(text: str) -> str:
     """What to add where = stands in place of ==."""
     return "; is '==' meant?" if re.search(r"(?<![=<>!])=(?!=)", text) else ""

@@ -2,6 +2,7 @@
 from __future__ import annotations
 
 from collections.abc import Mapping
+from dataclasses import replace
 from typing import TYPE_CHECKING, Any
 
 import numpy as np
@@ -143,7 +144,10 @@ def widen(model: Model, n: int) -> None:
 
 
 def added(model: Model, new: pd.DataFrame, grid: Grid) -> None:
-    """Puts blocks behind those of the table; their coordinates are where they are."""
+    """Puts blocks after those of the table; their coordinates are where they are. The labels of `new` are the numbers of the blocks that
+    they are copies of."""
+    if model.parts:
+        model.parts = replace(model.parts, source=np.concatenate([model.parts.source, model.parts.source[new.index]]))
     new["row"], new["id"] = np.int32(-1), ""
     x, y, z = grid.world(new["ix"], new["iy"], new["iz"])
     for key, values in (("x", x), ("y", y), ("z", -z if model.depth else z)):

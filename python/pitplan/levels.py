@@ -40,7 +40,8 @@ def surfaces(study: Study, pits: Iterable[tuple[str, Bools]]) -> Levels:
     Raises
     ------
     PlanError
-        Where a pit has a block and not all above it, since one height can't show that.
+        Where a pit has a block and not all rock above it, since one height can't show that. Air within rock may be left out of it, as
+        it is of pushbacks.
     """
     index = study.model.index
     rock, high = placed(study.model.is_rock, index), index.shape[2]                     # rows of air above the ground are no ground
@@ -50,7 +51,7 @@ def surfaces(study: Study, pits: Iterable[tuple[str, Bools]]) -> Levels:
     for name, held in pits:
         dug = placed(held, index) & below
         level = np.where(dug.any(axis=2), dug.argmax(axis=2), ground)
-        hung = dug.sum(axis=2) != ground - level
+        hung = (rock & ~dug & (np.arange(high) >= level[:, :, None])).any(axis=2)
         if hung.any():
             raise overhang(study, name, index[(*np.argwhere(hung)[0], level[hung][0])], int(hung.sum()))
         out.append(level)

@@ -1,30 +1,78 @@
-"""How many processors and how much memory this process may use, by the system and by the container that it runs in."""
+"""How many processors and how much memory a process may use, by the system and by the control groups that a container or a scheduler sets.
+
+Linux has two versions of control groups, and a machine may have both. Of either the group of this process and each group above it may have
+limits; a container that sees its own groups alone has them at the top. Memory that only holds pages of files isn't taken: the system gives
+it away where it is needed.
+
+The scripts of this repository use this module too, by ``tools/machine.py``, so it needs nothing but Python's own.
+"""
 from __future__ import annotations
 
 import os
+import re
 from pathlib import Path
 
-
-def free_memory() -> int:
-    """Bytes of memory that are free on this machine, or in the container that this runs in."""
-    free = next((int(line.split()[1]) * 1024 for line in open("/proc/meminfo") if line.startswith("MemAvailable")), 1 << 30)
-    for most, used in (("/sys/fs/cgroup/memory.max", "/sys/fs/cgroup/memory.current"),
-                       ("/sys/fs/cgroup/memory/memory.limit_in_bytes", "/sys/fs/cgroup/memory/memory.usage_in_bytes")):
-        try:
-            limit, now = Path(most).read_text().strip(), Path(used).read_text().strip()
-            free = min(free, int(limit) - int(now)) if limit.isdigit() else free
-        except OSError:
-            pass
-    return max(free, 0)
+GROUPS = Path("/sys/fs/cgroup")
+OWN = Path("/proc/self/cgroup")
+MEMORY = Path("/proc/meminfo")
+UNKNOWN = 6_000_000_000                      # bytes, where neither the system nor a group says anything
+TWO = ""                                     # where version 2 stands beside the controllers of version 1
 
 
-def processors() -> int:
-    """The processors that this process may run on, or the whole ones of its container's quota, at least one."""
+def text_of(file: Path) -> str:
+    """What a file has; nothing where it can't be read."""
+    try:
+        return file.read_text()
+    except (OSError, ValueError):
+        return ""
+
+
+def number_in(text: str, pattern: str) -> int | None:
+    """The number that the first group of a pattern finds in a text."""
+    found = re.search(pattern, text, re.M)
+    return int(found[1]) if found else None
+
+
+def folders(controller: str, groups: Path = GROUPS, own: Path = OWN) -> list[Path]:
+    """The folders of this process's group and of those above it, from the top down.
+
+    Parameters
+    ----------
+    controller : str
+        Of version 1, as "memory"; `TWO` for version 2.
+    """
+    lines = [line.split(":", 2) for line in text_of(own).splitlines() if line.count(":") >= 2]
+    path = next((path for number, names, path in lines if (controller in names.split(",") if controller else number == "0" and not names)), "")
+    parts = [part for part in path.split("/") if part and part != ".."]
+    tops = [groups / controller] if controller else [groups, groups / "unified"]
+    return [top.joinpath(*parts[:count]) for top in tops for count in range(len(parts) + 1)]
+
+
+def processors(groups: Path = GROUPS, own: Path = OWN) -> int:
+    """How many processors this process may keep busy: those that it may run on, or the whole ones of its quota, at least one."""
     found = [len(os.sched_getaffinity(0))]
-    for files in (("/sys/fs/cgroup/cpu.max",), ("/sys/fs/cgroup/cpu/cpu.cfs_quota_us", "/sys/fs/cgroup/cpu/cpu.cfs_period_us")):
-        try:
-            quota, period = " ".join(Path(file).read_text() for file in files).split()
-        except (OSError, ValueError):
-            continue
-        found += [int(quota) // int(period)] if quota.isdigit() else []
+    for folder in folders(TWO, groups, own):
+        quota = re.match(r"(\d+) (\d+)", text_of(folder / "cpu.max"))
+        found += [int(quota[1]) // int(quota[2])] if quota and int(quota[2]) else []
+    for folder in folders("cpu", groups, own):
+        share, period = (number_in(text_of(folder / name), r"^(\d+)") for name in ("cpu.cfs_quota_us", "cpu.cfs_period_us"))
+        found += [share // period] if share and period else []
     return max(1, min(found))
+
+
+def free_memory(groups: Path = GROUPS, own: Path = OWN, memory: Path = MEMORY) -> int:
+    """How many bytes of memory this process may still take: what is free on the machine, and what its groups' limits leave."""
+    free = number_in(text_of(memory), r"^MemAvailable:\s+(\d+)")
+    found = [free * 1024] if free is not None else []
+    for folder in folders(TWO, groups, own):
+        for name in ("memory.max", "memory.high"):
+            found += left_of(folder / name, folder / "memory.stat", ("anon", "shmem"))
+    for folder in folders("memory", groups, own):
+        found += left_of(folder / "memory.limit_in_bytes", folder / "memory.stat", ("total_rss", "total_shmem"))
+    return max(0, min(found, default=UNKNOWN))
+
+
+def left_of(limit: Path, held: Path, taken: tuple[str, ...]) -> list[int]:
+    """What a group's limit leaves, by the kinds of memory that count as taken; nothing where there is no limit."""
+    most, stat = number_in(text_of(limit), r"^(\d+)"), text_of(held)
+    return [] if most is None else [most - sum(number_in(stat, rf"^{kind} (\d+)") or 0 for kind in taken)]

@@ -12,7 +12,7 @@ import pandas as pd
 
 from . import gaps, subblocks
 from .column_names import PLACES, SIZES, which_columns
-from .csv_text import NO_PLACE, Dialect, dialect_of, head_of, names_of, number_column, numbers_among, read_frame
+from .csv_text import NO_PLACE, NO_WEIGHT, Dialect, dialect_of, head_of, names_of, number_column, numbers_among, read_frame
 from .errors import Gathered, PlanError, about, meant
 from .grid import Floats, Grid
 from .study_keys import refuse_wrong
@@ -50,6 +50,10 @@ class Model:
         The table.
     absent : sequence of str
         Cells that stand for "not estimated", for columns that still hold such cells.
+    parts : Parts or None
+        The sub-blocks that blocks were added up from, as long as the table is at hand.
+    fenced : (formulas, bool array of shape (len(self),)) or None
+        Of a stored model with sub-blocks the formulas of `forbid`, and the blocks that they keep.
     """
 
     blocks: pd.DataFrame
@@ -61,9 +65,17 @@ class Model:
     depth: bool = False
     source: Path | None = None
     absent: Sequence[str] = ()
+    parts: subblocks.Parts | None = None
+    fenced: tuple[Sequence[str], npt.NDArray[np.bool_]] | None = None
 
     def __len__(self) -> int:
         return len(self.blocks)
+
+    @property
+    def has_sub_blocks(self) -> bool:
+        """Whether several rows of the table are one block."""
+        used = self.row_block[self.row_block >= 0]
+        return len(np.unique(used)) < len(used)
 
     @property
     def table(self) -> str:
@@ -203,6 +215,9 @@ def read_with(path: Path, keys: TableKeys) -> Model:
     row_block = np.full(rows, -1, np.int32)
     row_block[frame.index.to_numpy()] = whole.parent
     model = Model(blocks, grid, path.name.removesuffix(".gz").removesuffix(".csv"), notes, names, row_block, keys.z == "depth", path, keys.absent)
+    if whole.tonnes is not None:
+        i, j, k = (at[whole.parent] for at in index)
+        model.parts = subblocks.Parts(columns_of(frame, names, grid, (i, j, k), table).assign(tonnes=whole.tonnes), whole.parent, np.arange(len(blocks)))
     with about("model", "missing"):
         gaps.close(model, keys.missing, keys.fill, table)
     if keys.widen:
@@ -361,10 +376,10 @@ def columns_of(frame: pd.DataFrame, names: Mapping[str, str], grid: Grid, index:
     own: dict[str, Any] = {"id": frame[names["id"]].to_numpy() if "id" in names else (frame.index.to_numpy() + 2).astype(str)}
     own |= {key: values.astype(np.int32) for key, values in zip(("ix", "iy", "iz"), index)}
     if "tonnes" in names:
-        weighed, tonnes = names["tonnes"], number_column(frame[names["tonnes"]], table)
+        weighed, tonnes = names["tonnes"], number_column(frame[names["tonnes"]], table, hint=NO_WEIGHT)
     elif "density" in names:
         weighed = names["density"]
-        tonnes = number_column(frame[weighed], table) * grid.volume
+        tonnes = number_column(frame[weighed], table, hint=NO_WEIGHT) * grid.volume
     else:
         raise PlanError("no column is known as tonnes or density", table=table, try_this='columns = { tonnes = "..." } in [model]')
     if (tonnes < 0).any():

@@ -10,6 +10,7 @@ import numpy.typing as npt
 import pandas as pd
 
 from .amounts import THOUSAND, exact_sum
+from .errors import PlanError
 from .study_keys import refuse_wrong
 
 if TYPE_CHECKING:
@@ -17,6 +18,7 @@ if TYPE_CHECKING:
 
 Floats = npt.NDArray[np.float64]
 YEARS = 15                                   # that the largest pit takes, where no rate is given
+MOST_YEARS = 1000                            # that it may take: what needs longer has a rate in another unit
 
 
 @dataclass(frozen=True)
@@ -41,7 +43,10 @@ class Rates:
         refuse_wrong("shells", {"mining_rate": self.mining, "mill_rate": self.mill, "discount": self.discount})
 
     def over(self, rock: float, feed: float) -> Rates:
-        """The rates, with those that weren't told for this much rock and feed."""
+        """The rates, with those that weren't told for this much rock and feed. Raises PlanError where that takes more than `MOST_YEARS`."""
+        for name, rate, tonnes in (("mining_rate", self.mining, rock), ("mill_rate", self.mill, feed)):
+            if rate and tonnes > MOST_YEARS * rate:
+                raise PlanError(f"[shells] {name} = {rate:g}: the largest pit's {tonnes:,.0f} tonnes would take {min(tonnes / rate, 1e9):,.0f} years", try_this=f"{name} in tonnes a year, as {max(tonnes / YEARS, 1):.2g}; the pits stand, and aren't found again")
         return Rates(self.mining or max(rock / YEARS, 1.0), self.mill or max(feed / YEARS, 1.0), self.discount)
 
 

@@ -7,7 +7,7 @@ from __future__ import annotations
 import numpy as np
 
 from .amounts import THOUSAND, Priced
-from .economics import Economics, of_formula
+from .economics import Economics, holds
 from .model import Model
 
 LIGHTEST, HEAVIEST = 0.05, 10.0              # tonnes for each cubic unit of the coordinates, be these metres or feet
@@ -44,11 +44,11 @@ def of_worths(priced: Priced, economics: Economics) -> list[str]:
     times = float(priced.revenue[ore].sum(dtype=float)) / max(costs, 1.0)
     found = [f"the ore brings {times:,.0f} times what digging and treating it costs\n  try: {units}"] if times > RICHEST else []
     brings = {metal.name: float(priced.metal[metal.name].sum()) * metal.price * metal.payable for metal in economics.metals}
-    return found + [f"{metal.name} brings {brings[metal.name] / sum(brings.values()):.2g} of what all metals bring\n  try: price, price_unit, grade_unit and recovery of {metal.name}"
+    return found + [f"{metal.name} brings {100 * brings[metal.name] / sum(brings.values()):.2g} % of what all metals bring\n  try: price, price_unit, grade_unit and recovery of {metal.name}"
                     for metal in economics.metals if metal.price > 0 and brings[metal.name] < LEAST * sum(brings.values())]
 
 
 def of_forbid(model: Model, economics: Economics) -> list[str]:
     """The formulas of `forbid` that hold for no block."""
     return [f"[economics] forbid = {formula!r} holds for no block, so it keeps nothing from being dug\n  try: the numbers in it, by the table's own coordinates and units"
-            for formula in economics.forbid if not np.any(of_formula(str(formula), model, "[economics] forbid"))]
+            for formula in economics.forbid if not np.any(holds(str(formula), model)[0])]

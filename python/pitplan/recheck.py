@@ -536,7 +536,11 @@ class Table:
 
     def number(self, row: int, column: str) -> float:
         """A cell as a number; what stands for "not estimated" is 0."""
-        cell = self.word(row, column).strip()
+        return self.number_of(Table.word(self, row, column), row, column)
+
+    def number_of(self, word: str, row: int, column: str) -> float:
+        """What stands in a cell of a row as a number, likewise."""
+        cell = word.strip()
         if cell in self.absent:
             return 0.0
         plain = cell.replace(self.told["decimal"], ".")
@@ -544,10 +548,103 @@ class Table:
             raise Bad(f"{self.name}, row {row + 2}, column {column}: the cell is {shown(cell)}, and has to be a number")
         return 0.0 if float(plain) in self.marks else float(plain)
 
+    @cache
     def is_of_numbers(self, column: str) -> bool:
         """Whether each cell of a column is a number, empty, or stands for "not estimated"."""
-        cells = {self.word(row, column).strip() for row in self.rows}
+        cells = {Table.word(self, row, column).strip() for row in self.rows}
         return all(not cell or cell in self.absent or NUMBER.fullmatch(cell.replace(self.told["decimal"], ".")) for cell in cells)
+
+    def sizes(self, row: int) -> list[float]:
+        """How long a row's block is along the model's axes, by its own columns where there are such."""
+        columns, size = self.facts["columns"], self.facts["grid"]["size"]
+        return [Table.number(self, row, columns[key]) if key in columns else float(length) for key, length in zip(("dx", "dy", "dz"), size)]
+
+    def tonnes(self, row: int) -> float:
+        """Of a row's block: its tonnes, or its density times its volume."""
+        if "tonnes" in self.facts["columns"]:
+            return Table.number(self, row, self.facts["columns"]["tonnes"])
+        size, lengths = self.facts["grid"]["size"], self.sizes(row)
+        volume: float = size[0] * size[1] * size[2]
+        return Table.number(self, row, self.facts["columns"]["density"]) * (lengths[0] * lengths[1] * lengths[2] / volume) * volume
+
+
+class AddedUp(Table):
+    """The planner's table with its sub-blocks added up again: each whole block stands in its first row, with the means of its numbers, weighted
+    by tonnes, and of words and codes what most of its tonnes have.
+
+    Attributes
+    ----------
+    of : dict
+        The rows of each block, by its first.
+    """
+
+    def __init__(self, facts: dict[str, Any], absent: list[str], codes: set[str]) -> None:
+        self.parts = Table(facts, absent)
+        self.__dict__.update(self.parts.__dict__)            # read once
+        columns = facts["columns"]
+        self.places, self.lengths = {columns[key]: i for i, key in enumerate("xyz")}, {columns[key]: i for i, key in enumerate(("dx", "dy", "dz")) if key in columns}
+        self.weighed = columns.get("tonnes", columns.get("density"))
+        self.are_words = {columns.get("rock"), columns.get("id")}
+        self.codes = {column for column in self.names if column in codes or unicodedata.normalize("NFKC", column) in codes}
+        at = defaultdict[tuple[int, ...], list[int]](list)
+        for row in self.rows:
+            at[tuple(round(step) for step in local_steps(self, row, facts))].append(row)
+        self.of = {rows[0]: rows for rows in at.values()}
+        self.weight = {row: Table.tonnes(self, row) for row in self.rows}
+
+    def fault(self) -> str | None:
+        """What is wrong with the sub-blocks: one that lies over a side of its block, or more in a block than it holds."""
+        size = self.facts["grid"]["size"]
+        for first, rows in self.of.items():
+            filled = 0.0
+            for row in rows:
+                lengths = self.sizes(row)
+                filled += math.prod(lengths) / math.prod(size)
+                far = [abs(step - round(step)) + length / side / 2 for step, length, side in zip(local_steps(self, row, self.facts), lengths, size)]
+                if max(far) > 0.502:
+                    return f"row {row + 2} lies over a side of its block"
+            if filled > 1.002:
+                return f"the sub-blocks of the block of row {first + 2} fill {filled:.3f} of it"
+        return None
+
+    def most(self, row: int, column: str) -> str:
+        """The cell of a block that most of its tonnes have, the first of those with as many."""
+        tonnes, cell_of = dict[Any, float](), dict[Any, str]()
+        for part in self.of[row]:
+            cell = Table.word(self, part, column)
+            is_number = column not in self.are_words and self.is_of_numbers(column) and (cell.strip() or "" in self.absent)
+            value = Table.number(self, part, column) if is_number else cell.strip()
+            cell_of.setdefault(value, cell)
+            tonnes[value] = tonnes.get(value, 0.0) + self.weight[part]
+        return cell_of[max(tonnes, key=lambda value: tonnes[value])]          # max gives the first of several
+
+    def word(self, row: int, column: str) -> str:
+        return self.most(row, column) if row in self.of and len(self.of[row]) > 1 else super().word(row, column)
+
+    def is_whole(self, row: int) -> bool:
+        """Whether a row is a whole block, and no sub-block."""
+        return all(abs(length - side) <= 1e-3 * side for length, side in zip(self.sizes(row), self.facts["grid"]["size"]))
+
+    def number(self, row: int, column: str) -> float:
+        """Of a block: the sum of tonnes, its own place and size, what most of its tonnes have of a column of codes, and else the mean by tonnes."""
+        rows = self.of[row]
+        if column in self.lengths:
+            return float(self.facts["grid"]["size"][self.lengths[column]])
+        if column in self.places and not self.is_whole(row):
+            centre = centre_of(tuple(round(step) for step in local_steps(self, row, self.facts)), self.facts)
+            return centre[self.places[column]]
+        if column == self.weighed:
+            return self.tonnes(row) / (1.0 if "tonnes" in self.facts["columns"] else float(math.prod(self.facts["grid"]["size"])))
+        found = [Table.number(self, part, column) for part in rows]
+        if len(set(found)) == 1:
+            return found[0]
+        if column in self.codes:
+            return self.parts.number_of(self.most(row, column), row, column)
+        total = sum(self.weight[part] for part in rows)
+        return sum(self.weight[part] * value for part, value in zip(rows, found)) / total if total > 0 else 0.0
+
+    def tonnes(self, row: int) -> float:
+        return sum(self.weight[part] for part in self.of[row])
 
 
 @cache
@@ -648,7 +745,7 @@ class Economics:
 
     def __init__(self, told: dict[str, Any], table: Table, facts: dict[str, Any]) -> None:
         self.told, self.table, self.columns = told, table, facts["columns"]
-        self.volume: float = math.prod(facts["grid"]["size"])
+        self.of_parts = Economics(told, table.parts, facts) if isinstance(table, AddedUp) else None
         self.rounding = float(told.get("rounding", 1))
         self.has_words: dict[str, bool] = {}
         for i, metal in enumerate(told["metals"], 1):
@@ -658,10 +755,8 @@ class Economics:
         return self.table.word(row, self.columns["rock"]).strip() if "rock" in self.columns else "rock"
 
     def tonnes(self, row: int) -> float:
-        """Of a block: its tonnes, or its density times its volume."""
-        if "tonnes" in self.columns:
-            return self.table.number(row, self.columns["tonnes"])
-        return self.table.number(row, self.columns["density"]) * self.volume
+        """Of a block."""
+        return self.table.tonnes(row)
 
     def cell(self, row: int, name: str) -> Any:
         """What a formula gets for a column. Python reads some letters of a plain word as others that look alike, as the sign of micro as a
@@ -694,7 +789,9 @@ class Economics:
         return float(given)
 
     def is_fenced(self, row: int) -> bool:
-        """Whether a formula of forbid keeps the block of a row; it keeps no air, which has no tonnes."""
+        """Whether a formula of forbid keeps the block of a row, or one of its sub-blocks; it keeps no air, which has no tonnes."""
+        if self.of_parts and isinstance(self.table, AddedUp):
+            return any(map(self.of_parts.is_fenced, self.table.of[row]))
         return self.tonnes(row) > 0 and any(self.formula("forbid", text, row, yes_or_no) for text in self.told.get("forbid", ()))
 
     def of_row(self, row: int) -> Worked:
@@ -716,6 +813,25 @@ class Economics:
     def is_near(self, ours: float, theirs: int) -> bool:
         """Whether an amount in millionths is the nearest multiple of `rounding`."""
         return math.isfinite(ours) and theirs % round(self.rounding * MICRO) == 0 and abs(theirs / MICRO - ours) <= self.rounding * 0.500001 + 1e-9 * abs(ours)
+
+
+def codes_of(economics: dict[str, Any], by: str | None) -> set[str]:
+    """The columns that stand for codes: those that `by`, a comparison or `forbid` names, without the grades of metals."""
+    def names(tree: ast.AST) -> set[str]:
+        nodes = list(ast.walk(tree))
+        return {node.id for node in nodes if isinstance(node, ast.Name)} | {
+            str(node.args[0].value) for node in nodes if isinstance(node, ast.Call) and ast.unparse(node.func) == "column" and node.args and isinstance(node.args[0], ast.Constant)}
+
+    def tree_of(text: str) -> ast.AST:
+        try:
+            return parsed(text)
+        except UNWORKABLE:
+            return ast.Constant(0)               # a column whose name is no plain word, or no formula, which is told where it is worked out
+
+    amounts = [economics["mining"], economics["processing"], *(metal.get("recovery") for metal in economics["metals"])]
+    compared = [node for text in amounts if isinstance(text, str) for node in ast.walk(tree_of(text)) if isinstance(node, ast.Compare)]
+    found = set().union(*map(names, compared), *(names(tree_of(text)) for text in economics.get("forbid", ())))
+    return (found - {metal["grade"] for metal in economics["metals"]}) | ({by} if by else set())
 
 
 def slope_files() -> list[str]:
@@ -757,20 +873,19 @@ def check_facts(told: Told, blocks: Blocks, facts: dict[str, Any]) -> None:
 
 
 def check_table(told: Told, blocks: Blocks, facts: dict[str, Any]) -> OfRows | None:
-    """Each block's place, tonnes and amounts are those of its row of the planner's table. Gives what the rows say, None where a block
-    has several."""
+    """Each block's place, tonnes and amounts are those of its row of the planner's table, or of its sub-blocks added up again. Gives what
+    the rows say, None where they aren't those of the blocks."""
     model = study_of("model", "absent", "missing", "widen", "regularise")
     told.say("look", "the columns that were taken: " + ", ".join(f"{key} = {name}" for key, name in facts["columns"].items()))
-    if facts["has_sub_blocks"]:
-        told.check(model.get("regularise") is True, "study.toml asks for sub-blocks to be added up")
-        told.say("look", "sub-blocks were added up to whole blocks: what a block brings and costs isn't added up from the table here")
-        return None
-    table = Table(facts, model.get("absent", []))
+    table = table_of(told, facts, model)
     economics = Economics(economics_of(), table, facts)
     check_passed(told, table, facts)
     rows = [line.row - 2 for line in numbering()]
     known = [row for row in rows if row >= 0]
-    if not told.check(len(rows) == len(blocks.places) and sorted(known) == sorted(table.rows), f"each of the {len(table.rows):,} rows of the table is one block"):
+    wanted, what = list(table.rows), f"each of the {len(table.rows):,} rows of the table is one block"
+    if isinstance(table, AddedUp):
+        wanted, what = list(table.of), f"the {len(table.rows):,} rows of the table are {len(table.of):,} blocks, each in its first row"
+    if not told.check(len(rows) == len(blocks.places) and sorted(known) == sorted(wanted), what):
         return None
     steps: dict[str, Callable[[int, int], bool]] = {
         "place": lambda b, row: is_placed(table, row, blocks.places[b], facts),
@@ -784,6 +899,19 @@ def check_table(told: Told, blocks: Blocks, facts: dict[str, Any]) -> OfRows | N
     if strange:
         told.check(False, f"{len(strange):,} blocks have no row, and study.toml asks for none (widen, missing)")
     return OfRows(regions_of(table, rows), check_amounts(told, economics, blocks, rows, set(fenced)), fenced)
+
+
+def table_of(told: Told, facts: dict[str, Any], model: dict[str, Any]) -> Table:
+    """The planner's table, with its sub-blocks added up where it has such."""
+    absent = model.get("absent", [])
+    if not facts["has_sub_blocks"]:
+        return Table(facts, absent)
+    told.check(model.get("regularise") is True, "study.toml asks for sub-blocks to be added up")
+    codes = codes_of(economics_of(), study_of("slopes", "by").get("by"))
+    table = AddedUp(facts, absent, codes)
+    fault = table.fault()
+    told.check(fault is None, "each sub-block lies within its block, and none fill more than that" + (f": {fault}" if fault else ""))
+    return table
 
 
 def added_without_need(blocks: Blocks, rows: list[int]) -> list[int]:
@@ -862,15 +990,32 @@ def check_amounts(told: Told, economics: Economics, blocks: Blocks, rows: list[i
     return worked
 
 
-def is_placed(table: Table, row: int, place: tuple[int, ...], facts: dict[str, Any]) -> bool:
-    """Whether a row's coordinates are those of a place of the grid, to 0.06 of a block."""
+def local_steps(table: Table, row: int, facts: dict[str, Any]) -> list[float]:
+    """Where a row's coordinates are on the grid, in blocks from its first along the model's axes."""
     grid, columns = facts["grid"], facts["columns"]
+    east, north, up = (Table.number(table, row, columns[key]) for key in "xyz")
+    east, north, up = east - grid["origin"][0], north - grid["origin"][1], (-up if facts["depth"] else up) - grid["origin"][2]
+    turn = math.radians(grid["rotation"])
+    local = (east * math.cos(turn) - north * math.sin(turn), east * math.sin(turn) + north * math.cos(turn), up)
+    return [value / size for value, size in zip(local, grid["size"])]
+
+
+def centre_of(place: tuple[int, ...], facts: dict[str, Any]) -> tuple[float, ...]:
+    """The coordinates of the centre of a place of the grid, as the table counts them."""
+    grid = facts["grid"]
     u, v, up = (i * size for i, size in zip(place, grid["size"]))
     turn = math.radians(grid["rotation"])
     x = grid["origin"][0] + u * math.cos(turn) + v * math.sin(turn)
     y = grid["origin"][1] - u * math.sin(turn) + v * math.cos(turn)
-    z = (grid["origin"][2] + up) * (-1 if facts["depth"] else 1)
-    return all(abs(table.number(row, columns[key]) - value) <= 0.06 * size for key, value, size in zip("xyz", (x, y, z), (min(grid["size"][:2]),) * 2 + (grid["size"][2],)))
+    return x, y, (grid["origin"][2] + up) * (-1 if facts["depth"] else 1)
+
+
+def is_placed(table: Table, row: int, place: tuple[int, ...], facts: dict[str, Any]) -> bool:
+    """Whether a row's coordinates are those of a place of the grid, to 0.06 of a block; of sub-blocks, whether they lie nearest to it."""
+    if isinstance(table, AddedUp):
+        return all(tuple(round(step) for step in local_steps(table, part, facts)) == place for part in table.of[row])
+    grid, columns = facts["grid"], facts["columns"]
+    return all(abs(table.number(row, columns[key]) - value) <= 0.06 * size for key, value, size in zip("xyz", centre_of(place, facts), (min(grid["size"][:2]),) * 2 + (grid["size"][2],)))
 
 
 class Sum:

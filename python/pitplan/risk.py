@@ -25,7 +25,7 @@ import numpy as np
 import numpy.typing as npt
 import pandas as pd
 
-from . import kept_json, store
+from . import edges, kept_json, store
 from .amounts import THOUSAND, Priced, spelled
 from .column_names import PLACES
 from .csv_text import dialect_beside, number_column, read_frame
@@ -416,6 +416,8 @@ class Risk:
         A row for each realisation and factor: realisation, factor (a share of the price), blocks, rock_t, worth.
     hits : uint16 array of shape (factors, blocks)
         In how many realisations' pits a block is.
+    side, floor : int arrays of shape (factors, realisations)
+        How many blocks of each pit ask for a place beside the model, and how many are the lowest of their column; see `edges`.
 
     Raises
     ------
@@ -433,6 +435,8 @@ class Risk:
         self.study, self.setup, self.factors, self.count = study, setup, setup.factors, len(setup.digests)
         self.hits: npt.NDArray[np.uint16] = np.zeros((len(self.factors), study.manifest["blocks"]), np.uint16)
         tonnes = lean_model(study, setup.economics).blocks.tonnes.to_numpy(float)
+        self.side, self.floor = np.zeros((2, len(self.factors), self.count), np.int64)
+        touching, on_floor = edges.touching(study), edges.on_floor(study.model)
         rows = []
         for r in range(self.count):
             one, below = Realisation(study, setup, r), np.zeros(study.manifest["blocks"], bool)
@@ -443,6 +447,7 @@ class Risk:
                     raise Disagreement(f"realisation {r}: the pit at {self.factors[i - 1] / THOUSAND:g} isn't within that at {factor / THOUSAND:g}, and pit proves that it is",
                                        try_this="were results of several models mixed in this folder?")
                 self.hits[i] += mask
+                self.side[i, r], self.floor[i, r] = np.count_nonzero(mask & touching), np.count_nonzero(mask & on_floor)
                 below = mask
                 rows.append({"realisation": r, "factor": factor / THOUSAND, "blocks": verdict["count"], "rock_t": float(tonnes[mask].sum()), "worth": float(verdict["worth"])})
         self.runs = pd.DataFrame(rows)

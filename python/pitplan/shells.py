@@ -174,4 +174,5 @@ class Shells:
     @cached_property
     def touching(self) -> Bools:
         """Whether a block of the largest pit has such a slope, of shape (blocks,); those of a smaller pit are among them."""
-        return edges.touching(self)
+        touching: Bools = edges.touching(self.study) & (self.shell < len(self.factors))
+        return touching

@@ -24,6 +24,7 @@ from .model import Model
 from .offsets import Angles, Offset, Pattern
 from .program import Pit
 from .study_keys import keys_of, refuse_wrong
+from .subblocks import coded
 
 DEFAULT = "default"
 STEP = 15                               # degrees of bearing between two rows of the table of asked and built angles
@@ -149,7 +150,7 @@ class Slopes:
             return np.zeros(len(model), np.int64)
         if self.by not in model.blocks.columns:
             raise PlanError(f"[slopes] by: the table has no column {self.by!r}{meant(str(self.by), map(str, model.blocks.columns))}", key=("slopes", "by"))
-        codes, there = pd.factorize(model.blocks[self.by])
+        codes, there = pd.factorize(coded(model, [str(self.by)]).blocks[self.by])
         texts = [text_of(value) for value in there]
         wrong = Gathered()
         wrong.add(PlanError(f"[slopes] no block has {self.by} = {name}{meant(name, sorted(texts))}", key=key_of(name)) for name in self.regions if name not in texts)

@@ -47,7 +47,7 @@ def save(path: Path, model: Model, priced: Priced, region: npt.NDArray[np.int64]
         arrays |= {WORDS + name: words_as_bytes(values)} if values.dtype.kind not in "iufb" else {COLUMN + name: values.to_numpy()}
     g = model.grid
     told = {"origin": g.origin, "size": g.size, "shape": g.shape, "rotation": g.rotation, "name": model.name, "notes": model.notes, "depth": model.depth,
-            "columns": model.columns, "order": list(map(str, model.blocks.columns)), "blocks": len(model), "rounding": str(priced.rounding), "feed": priced.feed}
+            "fenced": list(model.fenced[0]) if model.fenced else None, "columns": model.columns, "order": list(map(str, model.blocks.columns)), "blocks": len(model), "rounding": str(priced.rounding), "feed": priced.feed}
     np.savez(path, told=np.frombuffer(json.dumps(told).encode(), np.uint8), **arrays)
 
 
@@ -83,7 +83,8 @@ def load_model(path: Path) -> Model:
         told = told_of(file)
         columns = {name: file[COLUMN + name] if COLUMN + name in file.files else bytes_as_words(file[WORDS + name], told["blocks"]) for name in told["order"]}
         grid = Grid(three(told["origin"]), three(told["size"]), three(told["shape"]), told["rotation"])
-        return Model(pd.DataFrame(columns, copy=False), grid, told["name"], told["notes"], told["columns"], file["row_block"], told["depth"])
+        fenced = (told["fenced"], file["forbidden"]) if told.get("fenced") is not None else None
+        return Model(pd.DataFrame(columns, copy=False), grid, told["name"], told["notes"], told["columns"], file["row_block"], told["depth"], fenced=fenced)
 
 
 def load_priced(path: Path) -> Priced:

@@ -22,6 +22,7 @@ import time
 from collections.abc import Callable, Iterator, Sequence
 from concurrent.futures import ThreadPoolExecutor
 from contextlib import contextmanager, suppress
+from dataclasses import replace
 from functools import cached_property
 from pathlib import Path
 from typing import TYPE_CHECKING, TypedDict, cast
@@ -196,9 +197,12 @@ class Study:
         """
         from .slopes import count_pairs, write_prec
         from .steep_ground import with_air
+        from .subblocks import coded
         folder, pit = Path(folder), program or Pit()
-        model = with_air(model, slopes)
+        model = with_air(coded(model, economics.codes() | ({slopes.by} if slopes.by else set())), slopes)
         priced = economics.priced(model)
+        if model.has_sub_blocks:
+            model = replace(model, fenced=(economics.forbid, priced.forbidden))
         region = slopes.region_of(model)
         folder.mkdir(parents=True, exist_ok=True)
         sweep(folder, ".model.*")

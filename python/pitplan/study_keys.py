@@ -231,7 +231,7 @@ KEYS = (
     Key("economics", "mining_recovery", "number", "the share of the ore that reaches the mill", "Mining recovery", "share", least=0, most=1, above=True, default=1.0),
     Key("economics", "rounding", "number", "what amounts of a block are rounded to, 1 for whole units of currency; at most six decimals", "Rounding", "{currency}", least=0, above=True, most=1e12, default=1,
         note="amounts of a block in whole units of currency"),
-    Key("economics", "forbid", "formulas", "formulas; blocks for which one holds may not be dug. They keep no rows of air, which have no tonnes; `build` says how many blocks they keep", "May not be dug", default=[],
+    Key("economics", "forbid", "formulas", "formulas; blocks for which one holds may not be dug. Of sub-blocks one is enough. They keep no rows of air, which have no tonnes; `build` says how many blocks they keep", "May not be dug", default=[],
         note='blocks that may not be dug, as ["$x > 12000"]'),
     Key("economics", METALS, "metals", "what is sold: a list of tables, one for each metal, with the keys below", "Metals", is_needed=True, instead='metals = [ { name = "copper", grade = "CU", price = 8500 } ]',
         example="[\n$metals\n]", note=" ", before="grade_unit: " + " ".join(GRADES) + "; price_unit: " + " ".join(PRICES) + "; recovery: a number, a column, a formula, or by rock;\n"
@@ -256,7 +256,7 @@ KEYS = (
     Key(METALS, "price_unit", "choice", "that the price is for; oz is a troy ounce, dmtu is 1 % of a tonne", "For each", choices=tuple(PRICES), default="t"),
     Key(METALS, "recovery", "amount", "the share of the metal in the mill's feed that is recovered", "Recovery", "share", default=1.0, example="0.85"),
     Key(METALS, "payable", "number", "the share of the price that is paid", "Payable", "share", least=0, most=1, default=1.0, example="0.96"),
-    Key(METALS, "selling", "number", "what selling a unit of metal costs, whatever its price; `payable` doesn't touch it. The charge for a penalty element", "Selling", "{currency} a unit", least=0, default=0.0, example="0"),
+    Key(METALS, "selling", "number", "what selling a unit of metal costs, whatever its price; `payable` doesn't touch it, so where a contract pays a share of the price less the charge, give that share of the charge. The charge for a penalty element", "Selling", "{currency} a unit", least=0, default=0.0, example="0"),
 )
 
 

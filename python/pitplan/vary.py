@@ -14,7 +14,7 @@ from typing import TYPE_CHECKING, Any
 
 import pandas as pd
 
-from . import kept_json
+from . import edges, kept_json
 from .amounts import THOUSAND
 from .economics import Amount, Economics
 from .errors import PlanError, meant
@@ -216,7 +216,8 @@ def table(study: Study) -> pd.DataFrame:
     -------
     DataFrame
         A row for the study itself and for each change: what, by, unit, factor (a share of the price), blocks, rock_t, worth,
-        and difference, the worth less that of the study itself.
+        difference (the worth less that of the study itself), and how many blocks of the pit ask for a place beside the model
+        (side_blocks) and are the lowest of their column (floor_blocks); see `edges`.
 
     Raises
     ------
@@ -231,12 +232,15 @@ def table(study: Study) -> pd.DataFrame:
         of = task(asked, change)
         one, factor = study if of.name == BASE else scenario(study, of.name), of.factors[0]
         one.verify()
-        mask, verdict = one.mask(factor)[:len(tonnes)], one.verdict(factor)      # blocks after those are air, which other slopes lead through
+        held, verdict = one.mask(factor), one.verdict(factor)
+        mask = held[:len(tonnes)]                # blocks after those are air, which other slopes lead through
         assert verdict is not None               # its mask has just been read
         rows.append({"what": change.what if change else BASE, "by": change.by if change else 0.0, "unit": UNITS[change.what].strip() if change else "",
-                     "factor": factor / THOUSAND, "blocks": verdict["count"], "rock_t": float(tonnes[mask].sum()), "worth": float(verdict["worth"])})
+                     "factor": factor / THOUSAND, "blocks": verdict["count"], "rock_t": float(tonnes[mask].sum()), "worth": float(verdict["worth"]),
+                     "side_blocks": int((held & edges.touching(one)).sum()), "floor_blocks": int((held & edges.on_floor(one.model)).sum())})
     found = pd.DataFrame(rows)
-    return found.assign(difference=found.worth - found.worth.iloc[0])
+    found.insert(7, "difference", found.worth - found.worth.iloc[0])
+    return found
 
 
 def tornado(found: pd.DataFrame, currency: str = "$") -> Figure:

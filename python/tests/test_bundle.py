@@ -198,14 +198,48 @@ def test_codes_blanks_and_empty_cells_are_read_alike(tmp_path):
     assert status == 0, lines
 
 
-def test_sub_blocks_are_said_to_be_no_part_of_it(tmp_path):
-    folder = bundled(tmp_path)
-    facts = json.loads((folder / "facts.json").read_text())
-    (folder / "facts.json").write_text(json.dumps({**facts, "has_sub_blocks": True}))
-    replaced(folder / "study.toml", "size =", "regularise = true\nsize =")
-    summed(folder)
-    ran = subprocess.run([sys.executable, str(folder / "recheck.py"), os.environ["PIT"]], capture_output=True, text=True)
-    assert ran.returncode == 0 and re.search(r"^look +sub-blocks were added up", ran.stdout, re.M)
+PARTS = """[model]
+table = "t.csv"
+size = [20, 20, 15]
+regularise = true
+
+[economics]
+mining = "where(ZONE == 3, 2.0, 2.5)"
+processing = { OXI = 7.5, SUL = 9.0 }
+forbid = ["LAKE == 1"]
+metals = [ { name = "copper", grade = "CU", price = 8500, recovery = 0.85 } ]
+
+[slopes]
+angles = 45
+by = "ZONE"
+regions = { 3 = 38 }
+
+[shells]
+factors = [1.0]
+"""
+
+
+def test_sub_blocks_are_added_up_again(tmp_path):
+    """The first block is cut: 9 m of the bench are of zone 3 and oxide, 6 m of zone 2, sulphide and under the lake. What is changed in one of
+    its parts is found."""
+    frame = mines.table(5, 5, 3, 3).assign(XINC=20.0, YINC=20.0, ZINC=15.0, ZONE=3, LAKE=0, DENSITY=2.3).drop(columns="TONNES")
+    upper = frame.iloc[[0]].assign(ZC=frame.ZC[0] + 4.5, ZINC=6.0, ZONE=2, LAKE=1, ROCK="SUL", CU=1.5)
+    lower = frame.iloc[[0]].assign(ZC=frame.ZC[0] - 3, ZINC=9.0, ROCK="OXI", CU=0.5)
+    folder = bundled(tmp_path, PARTS, pd.concat([frame.iloc[1:], upper, lower], ignore_index=True))
+    lines, status = rechecked(folder)
+    assert status == 0 and len(lines) == 1, lines
+    path = folder / "table" / "t.csv"
+    rows, line = path.read_text(), ",".join(map(str, upper.iloc[0].tolist()))
+    cells = {name: i for i, name in enumerate(rows.splitlines()[0].split(","))}
+    for name, value, told in (("CU", "1.6", "what each block brings and costs"), ("LAKE", "0", "what each block brings and costs"), ("ZINC", "7.0", "each sub-block lies within its block"),
+                              ("DENSITY", "9", "the tonnage of each block"), ("ZC", "200.0", "are 55 blocks, each in its first row")):
+        changed = line.split(",")
+        changed[cells[name]] = value
+        assert rows.count(line) == 1
+        path.write_text(rows.replace(line, ",".join(changed)))
+        summed(folder)
+        lines, status = rechecked(folder)
+        assert status == 1 and any(found.startswith("WRONG") and told in found for found in lines), (name, lines)
 
 
 FILES = [bundle.SUMS, "README.txt", "facts.json", "plainly.py", "recheck.py", "study.toml", "table/t.csv", "verdicts.json",

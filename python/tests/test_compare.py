@@ -19,7 +19,7 @@ from shapely.geometry import Point, Polygon
 
 import pitplan as pp
 from mines import STUDY_TOML, costs, study_of, table, written_study
-from pitplan import compare, compare_plan, compare_words, design, surface, walls
+from pitplan import commands_compare, compare, compare_plan, compare_words, design, surface, walls
 from pitplan.resting import Resting
 from pitplan.valued import Valued
 from pitplan.walls import worst
@@ -167,8 +167,25 @@ def test_a_design_that_digs_what_may_not_be_dug_is_told(tmp_path):
     x = made.model.blocks["XC"].to_numpy(float)
     lines = compare_words.forbidden_lines(made, x < 5030)
     first = made.model.blocks["id"].to_numpy()[x < 5010][0]
-    assert len(lines) == 1 and f"digs {int((x < 5010).sum())} blocks that forbid keeps from being dug, as {first}:" in lines[0]
+    weight = made.model.blocks.tonnes[x < 5010].sum() / 1e6
+    assert len(lines) == 1 and f"digs {int((x < 5010).sum())} blocks that forbid keeps from being dug, as {first}: {weight:.2f} Mt," in lines[0]
     assert compare_words.forbidden_lines(made, x > 5010) == []
+
+
+def test_what_may_not_be_dug_is_left_out_of_a_designs_worth(tmp_path):
+    """The design is the whole mine: its worth is that of the blocks which may be dug, worked out here from the table."""
+    made = study_of(tmp_path, table(6, 5, 4, 3), economics=costs(forbid=["XC < 5010"]))
+    made.shells([1000])
+    b = made.model.blocks
+    found = compare.compare(made, design.Design("all", np.ones(len(b), bool), np.zeros(len(b), bool)))
+    revenue, treating, digging = np.rint(b.tonnes * b.CU / 100 * 0.85 * 8500), np.rint(b.tonnes * np.where(b.rock == "OXI", 7.5, 9)), np.rint(b.tonnes * 2)
+    worth = int((np.maximum(revenue - treating, 0) - digging)[b.XC >= 5010].sum())
+    assert found.is_closed and int(found.worth) == worth and int(found.gap) == int(found.bound) - worth
+    assert round(int(found.bound) - found.benches.left_worth.sum() + found.benches.over_worth.sum()) == worth
+    assert int(found.gap) < 0 and "above the proved bound, which holds for pits that dig none of the blocks left out" in compare_words.verdict_lines(found, "$")[1]
+    assert compare_words.distance(dataclasses.replace(found, bound="200"), "50", "$") == "$ 50 (25.00%) below the proved bound"
+    told = commands_compare.summary(made, found)
+    assert told["worth"] == str(worth) and told["forbidden_tonnes"] == pytest.approx(b.tonnes[b.XC < 5010].sum())
 
 
 SAID = "DESIGN 2 11\nOPEN 2\nNEEDS 0 2\nNEEDS 1 2\nBEST 3 1 GAP -10\n"

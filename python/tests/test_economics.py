@@ -9,7 +9,8 @@ import pytest
 from hypothesis import given, strategies as st
 
 import pitplan as pp
-from mines import COPPER, SIZE, costs, table
+from mines import COPPER, SIZE, STUDY_TOML, costs, table, written_study
+from pitplan import commands_build
 from pitplan.amounts import Priced, exact_sum, rounding_of, spelled
 from pitplan.formula import worked_out
 from pitplan.plausible import of_tonnes, strange
@@ -126,6 +127,20 @@ def test_sums_are_exact(values):
     assert exact_sum(np.array(values, np.int64)) == sum(values)
 
 
+def test_amounts_too_large_for_the_rounding_are_told_by_build(tmp_path):
+    """Before any pit is looked for, and with a rounding that does."""
+    text = STUDY_TOML.replace("price = 8500", "price = 8.5e8").replace("mining = 2.0", "mining = 2.0\nrounding = 0.000001")
+    folder = written_study(tmp_path / "s", text=text)
+    with pytest.raises(pp.PlanError, match="too large to count with in units of 0.000001") as told:
+        commands_build.build(folder)
+    found = told.value.try_this.split(" in ")[0]
+    (folder / "study.toml").write_text(text.replace("rounding = 0.000001", found))
+    commands_build.build(folder)
+    (folder / "study.toml").write_text(text.replace("rounding = 0.000001", f"rounding = {Decimal(found.split()[-1]) / 10:f}"))
+    with pytest.raises(pp.PlanError, match="too large"):
+        commands_build.build(folder)
+
+
 @given(st.lists(st.tuples(st.integers(0, 10 ** 9), st.integers(0, 10 ** 9), st.integers(-10 ** 9, 10 ** 9)), min_size=1, max_size=20), st.integers(0, 10_000),
        st.sampled_from(["0.01", "1", "1000", "0.000001"]))
 def test_worths_are_exact(blocks, factor, rounding):
@@ -230,6 +245,12 @@ def test_what_looks_like_another_unit_is_told(frame, keys, said):
     found = model_of(frame)
     told = strange(found, costs(**keys).priced(found), costs(**keys))
     assert len(told) == len(said) and all(part in line for part, line in zip(said, told)), told
+
+
+def test_a_metals_share_of_what_all_bring_is_told_in_percent(frame):
+    told = costs(metals=(COPPER, pp.Metal("gold", "AU", price=60, grade_unit="g/t", price_unit="t")))
+    copper, gold = (frame.TONNES * frame.CU / 100 * 0.85 * 8500).sum(), (frame.TONNES * frame.AU / 1e6 * 60).sum()
+    assert strange(model_of(frame), told.priced(model_of(frame)), told)[0].startswith(f"gold brings {100 * gold / (copper + gold):.2g} % of what all metals bring")
 
 
 @pytest.mark.parametrize("factor, said", [(1, 0), (1000, 1), (0.001, 1), (0, 1)])

@@ -41,6 +41,15 @@ def test_the_page_has_every_command_and_every_status(texts):
     assert re.findall(r"^\.TP\n\.B (\d+)$", page, re.M) == [str(number) for number in (0, NO, 2, WRONG, MACHINE, STOPPED)]
 
 
+def test_an_option_without_a_default_says_none_of_one():
+    from pitplan import cli
+    from typer.testing import CliRunner
+    cli.load_commands()
+    for name in cli.ORDER:
+        said = CliRunner().invoke(cli.app, [name, "--help"]).output
+        assert "--help" in said and "default: None" not in said, said
+
+
 def test_words_that_an_option_may_have_are_in_its_help_text():
     pages = {name: (TOP / "docs" / f"{name}.1").read_text().replace("\\-", "-").split(".TP\n") for name in ("pit", "pitplan")}
     for (command, option), words in completions.VALUES.items():

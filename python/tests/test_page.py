@@ -17,6 +17,7 @@ from browsers import Firefox, chromium, opened, ready
 from mines import costs, shells_of, study_of, table as mine, written_study
 from pitplan import compare, design, levels, page, page_views
 from pitplan.commands_pictures import page as page_command
+from pitplan.phases import Phases
 from pitplan.risk import Realisation
 from test_risk import done, prepared
 
@@ -421,6 +422,17 @@ def test_the_design_is_dashed_and_the_best_pit_is_a_full_line(design_view, shell
     patterns(design_view, True)
     assert shares["beyond the best pit"] and all(0.3 < share < 0.9 for share in shares["beyond the best pit"]), shares
     assert shares["left by the design"] and min(shares["left by the design"]) > 0.95, shares
+
+
+def test_air_within_rock_is_no_overhang(tmp_path):
+    """Air weighs nothing and is in no pushback; a pushback that leads through it has all rock above it."""
+    frame = mine(9, 8, 5, 5)
+    shells = study_of(tmp_path, frame[(frame.ZC != 130) | (frame.XC < 5050)], missing="air").shells([600, 1000])
+    found, b = Phases(shells), shells.study.model.blocks
+    levels = page_views.phases(found).levels
+    dug = b[found.pushback > 0]
+    lowest = dug.groupby(["ix", "iy"]).iz.min()
+    assert (shells.holds(1) & (b.tonnes == 0)).any() and all(levels[-1][at] == low for at, low in lowest.items())
 
 
 # A mine with blocks that may not be dug, whose corners and benches need one and two decimals, and its easting alone of both.

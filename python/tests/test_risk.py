@@ -14,7 +14,7 @@ import pytest
 
 import pitplan as pp
 from mines import SIZE, costs, study_of, table, written_study
-from pitplan import risk
+from pitplan import edges, risk
 from pitplan.model import TableKeys
 from pitplan.task import Task, Tasks, task_of
 from processes import command, gone, waited_for
@@ -379,6 +379,12 @@ def test_the_command_goes_on_and_its_tables(tmp_path, program):
     run = command("risk", folder, "--workers", 2)
     said, faults = run.communicate(timeout=120)
     assert run.returncode == 0, faults
+    study = pp.Study(folder)
+    touching, floor = edges.touching(study), edges.on_floor(study.model)
+    pits = [risk.realisation(study, r).mask(800) for r in range(4)]
+    for there, what in ((touching, "touches the side of the model"), (floor, "reaches the model's floor")):
+        counts = [int((pit & there).sum()) for pit in pits]
+        assert any(counts) and f"look: at factor 0.8 the pit of {sum(map(bool, counts))} of 4 realisations {what} (up to {max(counts):,} blocks there)" in faults
     assert "3 of 3" in faults and "\nthe pits are read and added up again\n" in faults and "realisation 2 " not in faults and (folder / "runs/r0002/f00800/verdict.json").stat().st_mtime_ns == stamp
     found = risk.Risk(pp.Study(folder))
     for name, frame in (("risk", found.table()), ("risk_runs", found.runs), ("likelihood_pits", found.pits(1000)), ("likelihood", found.of_blocks())):

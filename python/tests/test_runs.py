@@ -334,16 +334,31 @@ def test_a_table_stays_whole_on_a_full_disk_which_is_told_by_the_file(tmp_path, 
     assert small_disks.done("sh", "-c", f"cd {out} && sha256sum *.csv") == before
 
 
-@pytest.mark.parametrize("files, wanted", [({}, 8), ({"cpu.max": "max 100000\n"}, 8), ({"cpu.max": "250000 100000\n"}, 2), ({"cpu.max": "50000 100000\n"}, 1),
-                                           ({"cpu/cpu.cfs_quota_us": "300000\n", "cpu/cpu.cfs_period_us": "100000\n"}, 3),
-                                           ({"cpu/cpu.cfs_quota_us": "-1\n", "cpu/cpu.cfs_period_us": "100000\n"}, 8)])
-def test_processors_are_those_of_the_container(tmp_path, monkeypatch, files, wanted):
+TWO = "0::/system.slice/slurmstepd.scope/job_7/step_0\n"
+ONE = "11:memory:/slurm/uid_0/job_7\n5:cpu,cpuacct:/slurm/uid_0/job_7\n0::/init.scope\n"
+JOB, STEP, OLD = "system.slice/slurmstepd.scope/job_7", "system.slice/slurmstepd.scope/job_7/step_0", "slurm/uid_0/job_7"
+LIMITS = [("", {}, 8, 64), (TWO, {"cpu.max": "max 100000", "memory.max": "max"}, 8, 64), (TWO, {"cpu.max": "250000 100000", "memory.max": "9"}, 2, 9), (TWO, {f"{STEP}/cpu.max": "50000 100000"}, 1, 64),
+          (TWO, {f"{JOB}/memory.max": "16", f"{JOB}/memory.stat": "anon 3\nfile 12\nshmem 1", f"{JOB}/cpu.max": "300000 100000", f"{STEP}/memory.max": "max"}, 3, 12),      # a job within a node
+          (TWO, {f"{JOB}/memory.max": "max", f"{STEP}/memory.high": "20", f"{STEP}/memory.current": "20"}, 8, 20),       # what is taken are pages of files
+          (TWO, {"system.slice/other/memory.max": "1", "system.slice/other/cpu.max": "100000 100000"}, 8, 64),
+          (ONE, {f"memory/{OLD}/memory.limit_in_bytes": "10", f"memory/{OLD}/memory.stat": "cache 9\ntotal_cache 9\ntotal_rss 4", f"cpu/{OLD}/cpu.cfs_quota_us": "400000", f"cpu/{OLD}/cpu.cfs_period_us": "100000"}, 4, 6),
+          (ONE, {"memory/slurm/memory.limit_in_bytes": "30", f"memory/{OLD}/memory.limit_in_bytes": "50", "cpu/cpu.cfs_quota_us": "-1", "cpu/cpu.cfs_period_us": "100000"}, 8, 30),
+          (ONE, {"unified/init.scope/memory.max": "7"}, 8, 7), ("4:memory:/docker/ab\n", {"memory/memory.limit_in_bytes": "5"}, 8, 5)]
+
+
+@pytest.mark.parametrize("own, files, count, free", LIMITS)
+def test_processors_and_memory_are_those_of_the_process(tmp_path, monkeypatch, own, files, count, free):
+    """By its own control group and those above it, of either version; amounts in gigabytes, of which the machine has 64."""
+    groups = tmp_path / "groups"
     for name, text in files.items():
-        (tmp_path / name).parent.mkdir(exist_ok=True)
-        (tmp_path / name).write_text(text)
-    monkeypatch.setattr(machine, "Path", lambda file: tmp_path / file.removeprefix("/sys/fs/cgroup/"))
+        (groups / name).parent.mkdir(parents=True, exist_ok=True)
+        (groups / name).write_text((text if "cpu." in name else re.sub(r"\d+$", lambda found: found[0] + "0" * 9, text, flags=re.M)) + "\n")
+    (tmp_path / "own").write_text(own)
+    (tmp_path / "meminfo").write_text("MemTotal: 99 kB\nMemAvailable:   62500000 kB\n")
     monkeypatch.setattr(os, "sched_getaffinity", lambda process: set(range(8)))
-    assert machine.processors() == wanted
+    assert machine.processors(groups, tmp_path / "own") == count
+    assert machine.free_memory(groups, tmp_path / "own", tmp_path / "meminfo") == free * 10 ** 9
+    assert machine.free_memory(groups / "none", tmp_path / "none", tmp_path / "none") == machine.UNKNOWN
 
 
 def test_workers_go_by_free_memory(tmp_path, monkeypatch):

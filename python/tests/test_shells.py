@@ -1,5 +1,6 @@
 """The tables of the shells, against sums by hand; the planner's own table back; where a pit touches the model's side."""
 import gzip
+import warnings
 from decimal import Decimal
 from types import SimpleNamespace
 
@@ -60,6 +61,19 @@ def test_discounting_by_hand(two_metals):
         assert said == pytest.approx(total)
     assert found.npv_best >= found.npv_worst and found.years == pytest.approx(sum(
         max(p.TONNES.sum() / 1e5, p.TONNES[p.ore].sum() * 0.99 / 5e4) for _, p in f[f["shell"] <= 2].groupby(["shell", "level"])))
+
+
+def test_a_rate_in_another_unit_is_refused_and_warns_of_nothing(two_metals):
+    """Thousands or millions of tonnes a year for tonnes; the years are the tonnes of the largest pit by the rate."""
+    shells, _ = two_metals
+    rock = shells.table().rock_t.iloc[-1]
+    with warnings.catch_warnings():
+        warnings.simplefilter("error")
+        for name, rate in (("mill_rate", 1.5), ("mining_rate", 1e-300)):
+            with pytest.raises(pp.PlanError, match=rf"{name} = {rate:g}: the largest pit's .* tonnes would take [\d,]+ years"):
+                shells.table(**{name: rate})
+        found = shells.table(mining_rate=rock / 999, discount=0.99)
+        assert round(found.years.iloc[-1]) == 999 and np.isfinite(found.npv_best).all()
 
 
 def test_rates_that_are_not_told_take_the_largest_pit_in_15_years(two_metals):
@@ -248,9 +262,8 @@ def test_the_side_is_looked_at_by_the_slopes_of_each_block_s_region(tmp_path):
     """Of each block of a full box, of which one half has flat slopes: these lead out of the box from further within."""
     frame = flat(9, 8, 4, (4, 4, 0)).assign(SECTOR=lambda f: np.where(f.XC < 80, "WEST", "EAST"))
     study = study_of(tmp_path, frame, pp.Slopes(50, by="SECTOR", regions={"EAST": 25}))
-    every = SimpleNamespace(study=study, factors=[1000], shell=np.zeros(len(frame), np.int16))
     steep, low = (np.array(list(leading_out(study, only=name))) for name in ("default", "EAST"))
-    assert (edges.touching(every) == np.array(list(leading_out(study)))).all() and (low > steep).any() and (low >= steep).all()
+    assert (edges.touching(study) == np.array(list(leading_out(study)))).all() and (low > steep).any() and (low >= steep).all()
 
 
 def test_a_notch_in_the_side_and_low_ground_beside_a_pit(tmp_path):
@@ -292,14 +305,14 @@ def test_each_block_that_touches_the_side(seed):
     blocks = pd.DataFrame({**dict(zip(("ix", "iy", "iz"), places.T.astype(np.int32))), "tonnes": r.choice([0.0, 5.0], n, p=[0.2, 0.8])})
     model = pp.Model(blocks, pp.Grid((0.0, 0.0, 0.0), (1.0, 1.0, 1.0), shape))
     offsets = [[[*map(int, r.integers(-2, 3, 2)), int(r.integers(1, 4))] for _ in range(r.integers(1, 6))] for _ in range(2)]
-    region, shell = r.integers(0, 2, n), r.integers(0, 3, n)
+    region = r.integers(0, 2, n)
     free, _ = ndimage.label(np.pad(~there.any(axis=2), 1, constant_values=True))
     where = np.where(there.any(axis=2), "rows", np.where(free[1:-1, 1:-1] == free[0, 0], "", "shaft"))
     top, low = edges.ground(model)
-    shells = SimpleNamespace(study=SimpleNamespace(model=model, region=region, sides=list(edges.highest_touching(model, offsets))), shell=shell, factors=[600, 1000])
+    study = SimpleNamespace(model=model, region=region, sides=list(edges.highest_touching(model, offsets)))
     rock = blocks["tonnes"].to_numpy() > 0
-    wanted = [bool(shell[b] < 2 and rock[b] and asks_for(places[b], where, offsets[region[b]], top, low)) for b in range(n)]
-    assert edges.touching(shells).tolist() == wanted
+    wanted = [bool(rock[b] and asks_for(places[b], where, offsets[region[b]], top, low)) for b in range(n)]
+    assert edges.touching(study).tolist() == wanted
 
 
 def with_air(f, levels):

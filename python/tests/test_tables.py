@@ -1,5 +1,6 @@
 """What a table may look like, and what is said where it is wrong."""
 import gzip
+import math
 
 import numpy as np
 import pandas as pd
@@ -9,6 +10,7 @@ from hypothesis import given, strategies as st
 import pitplan as pp
 from mines import SIZE, costs, table
 from pitplan import formula
+from pitplan.first_look import look_at
 
 
 def read(folder, frame, name="t.csv", text=None, **keys):
@@ -111,7 +113,8 @@ def test_separators_at_the_ends_of_lines_do_no_harm(tmp_path):
 
 @pytest.mark.parametrize("sep, decimal, tonnes, said", [(";", ",", "14.100", "column TONNES: the cell is '14.100', with a point"), ("\t", ",", "14.100", "column TONNES: the cell is '14.100', with a point"),
                                                         (";", ".", "14,100", "column TONNES: 18 cells are no numbers, the first is '14,100'"), ("\t", ".", "1,014,100", "take the thousands separators out"), (";", ",", "14.100,5", "take the thousands separators out"),
-                                                        (",", ".", "14'100", "take the thousands separators out"), (",", ".", "14\u00a0100", "take the thousands separators out")])
+                                                        (",", ".", "14'100", "take the thousands separators out"), (",", ".", "14\u00a0100", "take the thousands separators out"),
+                                                        (",", ".", "0,000", 'try: decimal = ","'), (";", ".", "", "try: its tonnes or density in that cell")])
 def test_a_thousands_separator_is_no_decimal(tmp_path, sep, decimal, tonnes, said):
     f = table(4, 3, 3, 1)
     f["TONNES"] = tonnes
@@ -297,6 +300,42 @@ def test_sub_blocks_weigh_by_density_and_size(tmp_path):
     model = read(tmp_path, f.assign(ID=["a", "b", "c"]), size=(20, 20, 10), regularise=True)
     assert model.blocks["id"].tolist() == ["a", "c"] and model.blocks["row"].tolist() == [0, 2]      # both of the first row, whichever is the heaviest
     assert model.blocks.tonnes.tolist() == [10000, 10000] and model.blocks.CU.round(6).tolist() == [0.4, 0.5] and model.blocks.rock.tolist() == ["B", "A"]
+
+
+CODED = pd.DataFrame({"XC": [10, 30, 30, 50, 50, 50.], "YC": 10., "ZC": [5, 2.5, 7.5, 2, 5.5, 8.5], "XINC": 20., "YINC": 20., "ZINC": [10, 5, 5, 4, 3, 3.], "DENSITY": 1.9,
+                      "CU": [1, 0.5, 0.5, 0, 1, 1.], "SECTOR": [3, 3, 3, 1, 2, 2], "LAKE": [0, 0, 0, 1, 0, 0], "ROCK": ["A", "A", "A", "B", "A", "A "]})
+
+
+def test_codes_of_sub_blocks_stay_codes(tmp_path):
+    """1.9 times 3 by 1.9 is 2.9999999999999996; the third block has 4 m of sector 1 under the lake, and twice 3 m of sector 2."""
+    model = read(tmp_path, CODED, size=(20, 20, 10), regularise=True, widen=1)
+    assert model.blocks.SECTOR[:2].tolist() == [3, 3] and model.blocks.rock[:3].tolist() == ["A", "A", "A"] and model.blocks.CU[2].round(9) == 0.6
+    by, told = pp.Slopes(45, by="SECTOR", regions={"3": 40, "2": 42}), costs(mining="where(SECTOR == 3, 1, where(SECTOR == 2, 2, 9))", processing="where(CU > 0.7, 5, 6)", forbid=["LAKE == 1"])
+    for now in (model, pp.Study.create(tmp_path / "s", model, told, by).model):
+        priced = told.priced(now)
+        assert by.region_of(now).tolist() == [1, 1, 2] + [1] * 7 + [2] * 5          # a copy beside the model has its block's
+        assert priced.forbidden.tolist() == [False, False, True] + [False] * 12 and priced.mining[:2].tolist() == [7600, 7600]
+        assert priced.processing[:3].tolist() == [38000, 45600, 45600] and now.blocks.SECTOR[2] == (1.6 if now is model else 2)          # by the mean grade, 0.6
+    assert told.partly_forbidden(model)[:3].tolist() == [False, False, True]
+    assert any("SECTOR is taken as a code: of 1 blocks" in note for note in now.notes)
+
+
+@pytest.mark.parametrize("rotation", [0, 33])
+def test_coordinates_of_sub_blocks_may_be_rounded(tmp_path, rotation):
+    """To a millimetre, as packages write them; and the look of the table tells how it is turned, by whole blocks alone."""
+    size, t = (12.5, 12.5, 6), math.radians(rotation)
+    f = table(9, 8, 3, 4, rotation, size).assign(XINC=12.5, YINC=12.5, ZINC=6.0)
+    cut = f.sample(frac=0.4, random_state=1)
+    parts = [cut.assign(XC=cut.XC + off * math.cos(t), YC=cut.YC - off * math.sin(t), XINC=long, TONNES=cut.TONNES * long / 12.5) for off, long in ((-1.5625, 9.375), (4.6875, 3.125))]
+    g = pd.concat([f.drop(cut.index), *parts]).round({"XC": 3, "YC": 3, "XINC": 3})
+    found, whole = read(tmp_path, g, size=size, rotation=rotation, regularise=True).blocks, read(tmp_path, f, size=size, rotation=rotation).blocks
+    order = ["ix", "iy", "iz"]
+    found, whole = found.sort_values(order), whole.sort_values(order)
+    assert (found[order].to_numpy() == whole[order].to_numpy()).all() and np.allclose(found.tonnes, whole.tonnes)
+    g.to_csv(tmp_path / "u.csv", index=False)
+    assert look_at(tmp_path / "u.csv").rotation == rotation
+    off = g.assign(XC=g.XC.where(g.XINC > 4, g.XC + 0.2 * math.cos(t)), YC=g.YC.where(g.XINC > 4, g.YC - 0.2 * math.sin(t)))
+    assert "the sub-block lies over a side of a whole block" in refusal(tmp_path, off, size=size, rotation=rotation, regularise=True)
 
 
 def test_a_bad_cell_among_sub_blocks_isnt_lost(tmp_path):

@@ -7,7 +7,7 @@ import pytest
 
 import pitplan as pp
 from mines import COPPER, costs, study_of, table, written_study
-from pitplan import vary
+from pitplan import edges, vary
 from pitplan.task import Tasks
 from pitplan.vary import Change, changes_of
 from processes import command
@@ -116,6 +116,10 @@ def test_the_command_and_its_chart(tmp_path):
     assert run.returncode == 0, faults
     frame = pd.read_csv(folder / "out/vary.csv")
     assert len(frame) == 7 and list(frame.what.unique()) == ["base", "price", "mining", "slope"]
+    study = pp.Study(folder)
+    for column, there, what in (("side_blocks", edges.touching(study), "touches the side of the model"), ("floor_blocks", edges.on_floor(study.model), "reaches the model's floor")):
+        assert frame[column].iloc[0] == (study.mask(1000) & there).sum() and frame[column].max() > 0
+        assert f"{what} (up to {frame[column].max():,} blocks there)" in faults
     for row in frame.iloc[1:].itertuples():
         assert f"{row.difference / 1e6:+,.2f}" in said
     assert (folder / "out/tornado.png").read_bytes().startswith(b"\x89PNG")
