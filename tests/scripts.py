@@ -163,8 +163,8 @@ def version_is_up_to_date(top):
 
 
 def pages_are_right(top):
-    """Whether all links of the pages lead somewhere, what they name is in the code, and no sentence or page is too long."""
-    wrong = pages.broken_links(top) + pages.unknown_names(top) + pages.misplaced_crates(top) + pages.long_sentences(top) + pages.long_pages(top)
+    """Whether all links of the pages lead somewhere, what they name is in the code, no sentence or page is too long, and none names a path of a machine."""
+    wrong = pages.broken_links(top) + pages.unknown_names(top) + pages.misplaced_crates(top) + pages.long_sentences(top) + pages.long_pages(top) + pages.machine_paths(top)
     return not wrong, "\n".join(wrong)
 
 
@@ -182,13 +182,16 @@ def wrong_pages_are_told(tree):
 
 
 def long_pages_are_told(tree):
-    """Whether a sentence of 41 words is told, and none of 40, of code or of a quotation; and a page of too many words."""
+    """Whether a sentence of 41 words is told, and none of 40, of code or of a quotation; and a page of too many words, or with a path of a
+    machine."""
     text = "Is %s.\n\n> %s\n\n    %s\n\n| %s; %s |\n\nIs %s\n%s.\n" % (("so " * 39).strip(), "so " * 50, "so " * 50, "so " * 30, "so " * 30, ("so " * 20).strip(), ("so " * 20).strip())
     (tree / "docs").mkdir(exist_ok=True)
     (tree / "docs" / "DECISIONS.md").write_text(text + "\n\n".join(["So."] * 4_500))
-    told = [one for one in pages.long_sentences(tree) if "DECISIONS" in one] + pages.long_pages(tree)
-    (tree / "docs" / "DECISIONS.md").unlink()
-    return len(told) == 2 and "of 41 words" in told[0] and "at most 4500" in told[1], "\n".join(told)
+    (tree / "docs" / "GATE.md").write_text("As in /home/somebody/log, and in `docs/tmp/x` or https://example.org/home/y.\n")
+    told = [one for one in pages.long_sentences(tree) if "DECISIONS" in one] + pages.long_pages(tree) + pages.machine_paths(tree)
+    for name in ("DECISIONS.md", "GATE.md"):
+        (tree / "docs" / name).unlink()
+    return len(told) == 3 and "of 41 words" in told[0] and "at most 4500" in told[1] and "names /home/somebody/log" in told[2], "\n".join(told)
 
 
 def the_statement_is_of_the_sources(top):

@@ -8,8 +8,8 @@ import pytest
 from hypothesis import given, strategies as st
 
 import pitplan as pp
-from mines import SIZE, costs, table
-from pitplan import formula
+from mines import SIZE, STUDY_TOML, costs, table, written_study
+from pitplan import commands_build, formula
 from pitplan.first_look import look_at
 
 
@@ -318,6 +318,15 @@ def test_codes_of_sub_blocks_stay_codes(tmp_path):
         assert priced.processing[:3].tolist() == [38000, 45600, 45600] and now.blocks.SECTOR[2] == (1.6 if now is model else 2)          # by the mean grade, 0.6
     assert told.partly_forbidden(model)[:3].tolist() == [False, False, True]
     assert any("SECTOR is taken as a code: of 1 blocks" in note for note in now.notes)
+
+
+def test_build_says_which_codes_are_mixed_and_what_forbid_keeps_in_part(tmp_path, capsys):
+    text = STUDY_TOML.replace("size = [20, 20, 15]", "size = [20, 20, 10]\nregularise = true").replace("mining = 2.0", "mining = 2.0\nforbid = ['LAKE == 1', 'XC < 20']")
+    text = text.replace("angles = 45", "angles = 45\nby = 'SECTOR'\nregions = { 3 = 40 }").replace("processing = { OXI = 7.5, SUL = 9.0 }", "processing = 9")
+    commands_build.build(written_study(tmp_path / "s", CODED, text))
+    said = capsys.readouterr().out
+    assert "SECTOR is taken as a code: of 1 blocks with several values each has that of the most tonnes" in said
+    assert "2 of 3 blocks may not be dug, by forbid; of 1 of them it holds for some sub-blocks alone" in said
 
 
 @pytest.mark.parametrize("rotation", [0, 33])
