@@ -444,23 +444,59 @@ def no_answer_without_proof_is_told(tree):
     return quick == 1 and told in said and "ACCEPTED" not in said + more and status == 1 and "pit NOT PROVED" in more, said + more
 
 
+ANSWER = "ACCEPTED 90 71040\n"
+PAGE = "A mine of copper and gold under a hill, planned from its table at nine prices, is on this page: examples/hill/out/pits.html\n"
+
+
+def planned(tree, packages, user=0, fails=False):
+    """A tree with the hill, whose pitplan needs these packages, on a machine of this user, where apt-get and sudo tell their words."""
+    log = tree.room / "planned"
+    log.write_text("")
+    tree.write("examples/hill/study.toml", "")
+    tree.write("python/packages", "# needed\n%s\n# its tests\npython3-more\n" % "\n".join(packages))
+    tree.write("bin/pitplan", "#!/bin/sh\necho \"$* $PIT\" >> %s\n" % log, 0o755)
+    tree.write("../kit/bin/id", "#!/bin/sh\necho %d\n" % user, 0o755)
+    tree.write("../kit/bin/apt-get", "#!/bin/sh\necho \"apt-get $*\" >> %s\nexit %d\n" % (log, fails), 0o755)
+    tree.write("../kit/bin/sudo", "#!/bin/sh\n[ $1 = -n ] && [ %d = 1000 ] || exit 1\nshift\nexec \"$@\"\n" % user, 0o755)
+    return log
+
+
 def the_page_of_the_example_is_made(tree):
     tree.ran("build")
-    tree.write("examples/copper/study.toml", "")
-    log = tree.room / "planned"
-    tree.write("bin/pitplan", "#!/bin/sh\necho \"$* $PIT\" >> %s\n" % log, 0o755)
+    log = planned(tree, ["python3", "python3-json"])
     made = tree.ran("run-example")
     steps = log.read_text().splitlines()
     quick = tree.ran("run-example", "--quick")
-    tree.write("bin/pitplan", "#!/bin/sh\necho pitplan needs the Python package pandas: apt-get >&2\nexit 1\n", 0o755)
-    lacking = tree.ran("run-example")
     tree.write("bin/pitplan", "#!/bin/sh\nexit 3\n", 0o755)
     failed = tree.ran("run-example")
-    answer = "ACCEPTED 90 71040\n"
-    well = steps == ["%s examples/copper %s/out/pit" % (step, tree.top) for step in ("build", "shells", "page")] and quick == (0, answer)
-    well = well and made == (0, answer + "The same mine planned from its table, with a mill and five prices, is on this page: examples/copper/out/pits.html\n")
-    well = well and lacking == (0, answer + "No page of the example: pitplan needs the Python package pandas: apt-get\n")
-    return well and failed == (1, answer + "No page of the example; what pitplan said is in out/pitplan.log\n"), repr([made, lacking, failed])
+    well = steps == ["%s examples/hill %s/out/pit" % (step, tree.top) for step in ("build", "shells", "page")] and quick == (0, ANSWER)
+    well = well and made == (0, ANSWER + PAGE)
+    return well and failed == (1, ANSWER + "No page of the example; what pitplan said is in out/pitplan.log\n"), repr([made, failed])
+
+
+def packages_are_installed_beside_the_proof(tree):
+    """By root, and by sudo where it asks for no password; they are those that pitplan needs and its tests don't."""
+    lines = ["apt-get update -q", "apt-get install -y -q -o DPkg::Lock::Timeout=600 --no-install-recommends python3 python3-nowhere libjs-nothing"]
+    told = []
+    for user in (0, 1000):                   # the second time everything is built already
+        log = planned(tree, ["python3", "python3-nowhere", "libjs-nothing"], user)
+        status, said = tree.ran("run-example")
+        where = [said.find(it) for it in ("are being installed; what apt-get says is in out/packages.log", ANSWER, PAGE)]
+        steps = log.read_text().splitlines()
+        told.append((status, steps[:2] == lines, [line.split()[0] for line in steps[2:]] == ["build", "shells", "page"], -1 not in where, user or where[0] < said.find("function is proved"), said))
+    return all(all(it[1:5]) and it[0] == 0 for it in told), repr(told)
+
+
+def packages_that_cannot_be_installed_are_told_by_one_command(tree):
+    tree.ran("build")
+    command = "    sudo sh -c 'apt-get update && apt-get install -y --no-install-recommends python3-nowhere'\n"
+    told = []
+    for user, fails, why in ((1001, False, ""), (0, True, "; what apt-get said is in out/packages.log")):
+        log = planned(tree, ["python3-nowhere"], user, fails)
+        status, said = tree.ran("run-example")
+        well = said.endswith("No page of the example, since Debian's packages for it lack%s. This installs them; then ./run-example again:\n%s" % (why, command))
+        told.append((status == 0 and well and "out/pit" not in log.read_text(), said))
+    return all(well for well, _ in told), repr(told)
 
 
 def an_unknown_word_is_refused(tree):
@@ -644,6 +680,8 @@ CASES = [
     the_gate_tries_edits_over_its_own_libraries, each_edit_that_shows_nothing_fails_the_gate, what_is_proved_is_kept_where_one_fails, a_crate_of_few_functions_gets_one_process,
     limits_of_a_container_count, an_answer_comes_before_any_proof, an_answer_comes_while_crates_are_proved, an_answer_that_comes_late_is_left_off, quick_stops_after_the_first_answer, no_answer_without_proof_is_told,
     the_page_of_the_example_is_made,
+    packages_are_installed_beside_the_proof,
+    packages_that_cannot_be_installed_are_told_by_one_command,
     an_unknown_word_is_refused, install_copies_the_program, the_launcher_changes_nothing_else, install_brings_pitplan_where_its_packages_are, pitplan_names_the_packages_that_it_lacks,
     two_folders_make_the_same_release, a_release_holds_what_it_should, a_release_holds_pitplan,
     a_release_is_compared_with_another_build, another_program_fails_the_comparison, what_is_not_committed_is_not_released,

@@ -128,8 +128,10 @@ def marks_in(frame: pd.DataFrame, names: dict[str, str]) -> tuple[list[str], dic
     places or names."""
     kept = {names[key] for key in (*PLACES, *SIZES, "id", "rock") if key in names}
     where: dict[str, list[str]] = {}
+    numbers = frame.select_dtypes("number")
+    plain = set(numbers.columns[((numbers.min() >= 0) & ~numbers.isna().any()).to_numpy()])      # all at once: a table may have 100,000 columns
     for name in frame.columns:
-        if name not in kept:
+        if name not in kept and name not in plain:
             for mark in marks_of(frame[name]):
                 where.setdefault(mark, []).append(str(name))
     return list(where), where

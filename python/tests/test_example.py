@@ -37,3 +37,12 @@ def test_the_examples_are_what_their_scripts_write(tmp_path):
         subprocess.run([sys.executable, str(tmp_path / "examples" / script)], check=True)
         for name in names:
             assert (tmp_path / "examples" / name).read_bytes() == (TOP / "examples" / name).read_bytes()
+
+
+def test_the_mine_of_run_example_is_that_of_the_walk():
+    text = re.search(r"    \$ cat hill/study\.toml\n((?:    .*\n|\n)+?)\nWhat each key", (TOP / "docs" / "PLANNING.md").read_text())[1]
+    walk = "".join(line.removeprefix("    ") for line in text.splitlines(True))
+    path = TOP / "examples" / "hill" / "study.toml"
+    assert path.read_text() == walk.replace('"../examples/hill.csv"', '"../hill.csv"')
+    told = read_study_file(path.parent)
+    assert len(told.read_model()) == 5041 and len(told.factors) == 9
