@@ -367,6 +367,20 @@ def test_a_what_if_leads_out_of_no_study(asked_for):
         path.write_text(kept)
 
 
+def test_a_manifest_names_no_file_of_another_folder(asked_for):
+    """Nor one whose digest is right: a bundle copies what a manifest names."""
+    path, other = asked_for / "model" / "manifest.json", asked_for.parent / "secret.toml"
+    other.write_text("a secret")
+    kept = path.read_text()
+    try:
+        for name in ("../../secret.toml", str(other), "..", ""):
+            path.write_text(changed(kept, ["files", name], hashlib.sha256(b"a secret").hexdigest()))
+            with pytest.raises(PlanError, match="manifest.json is damaged: files is"):
+                pp.Study(asked_for)
+    finally:
+        path.write_text(kept)
+
+
 @pytest.mark.parametrize("where, text", [("angles", "angles = {0}"), ("regions", 'angles = 45\nby = "SECTOR"\nregions = {{ WEST = [[0, {0}]] }}'), ("processing", "processing = {{ OXI = {0}, SUL = 9.0 }}"),
                                          ("size", "size = [20, 20, {0}]"), ("factors", "factors = [0.6, {0}]"), ("mining_rate", "mining_rate = {0}")])
 @pytest.mark.parametrize("digits", [400, 5000])
