@@ -10,7 +10,7 @@ import sys
 import time
 from pathlib import Path
 
-sys.path.insert(0, str(Path(__file__).resolve().parent.parent / "python" / "pitplan"))
+sys.path.insert(0, str(Path(__file__).resolve().parent.parent / "python" / "pitplan" / "slopes"))
 import offsets  # noqa: E402  (alone: the package around it needs more than the standard library)
 
 TURNED = [(0, 45), (90, 45), (180, 38), (270, 45)]

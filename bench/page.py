@@ -28,14 +28,14 @@ TOP = Path(__file__).resolve().parent.parent
 sys.path[:0] = [str(TOP / "python"), str(TOP / "python/tests")]
 
 from browsers import chromium, opened
-from pitplan import page
-from pitplan.economics import Economics, Metal
-from pitplan.grid import Grid
-from pitplan.compare import Comparison, by_bench
-from pitplan.design import Design
-from pitplan.model import Model
-from pitplan.phases import Phases
-from pitplan.shells import Shells
+from pitplan.views import page
+from pitplan.model.economics import Economics, Metal
+from pitplan.model.grid import Grid
+from pitplan.plans.compare import Comparison, by_bench
+from pitplan.plans.design import Design
+from pitplan.model.model import Model
+from pitplan.plans.phases import Phases
+from pitplan.study.shells import Shells
 
 
 # Reading a pixel waits until the picture is drawn, which `opened` doesn't.

@@ -18,8 +18,10 @@ from pitplan import FACTORS, OUT, STUDY, TOP, mine, timed
 
 LIMIT = "goal: 20 s and 1,500 MB for dxf, vtu and csv together"
 BEFORE = """import pitplan as pp
-from pitplan import compare, compare_plan, design, export_csv, export_dxf, export_gpkg, export_vtu, phases
-from pitplan.export_gpkg import system_of
+from pitplan.plans import compare, design, phases
+from pitplan.views import compare_plan
+from pitplan.views.export import csv as export_csv, dxf as export_dxf, gpkg as export_gpkg, vtu as export_vtu
+from pitplan.views.export.gpkg import system_of
 import geopandas, ezdxf, meshio, shapely.ops, scipy.ndimage, vtkmodules.all as vtk
 from vtkmodules.util.numpy_support import numpy_to_vtk, numpy_to_vtkIdTypeArray
 import numpy as np

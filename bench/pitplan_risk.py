@@ -23,8 +23,9 @@ HERE = Path(__file__).resolve().parent
 sys.modules.pop("pitplan")
 sys.path.insert(0, str(HERE.parent / "python"))
 import pitplan as pp  # noqa: E402
-from pitplan import local, risk  # noqa: E402
-from pitplan.task import Task  # noqa: E402
+from pitplan.tasks import local
+from pitplan.plans import risk  # noqa: E402
+from pitplan.plans.task_line import Task  # noqa: E402
 
 ECONOMICS = {"mining": 2.2, "processing": 9.0, "mill": ["OXI", "SUL"]}
 

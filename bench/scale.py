@@ -56,7 +56,7 @@ def with_pitplan():
 def built(name):
     """The study of a model, with a realisation asked for; nothing of it is done."""
     pp, mines = with_pitplan()
-    from pitplan import risk
+    from pitplan.plans import risk
     nx, ny, nz, levels = MODELS[name]
     table, folder = mines.mine(f"scale{nx}x{ny}x{nz}", nx, ny, nz), HERE / "out" / name
     economics = pp.Economics(metals=(pp.Metal("copper", "CU", price=8500, recovery=0.86),), mining=2.2, processing=9.0, mill=["OXI", "SUL"])
@@ -100,7 +100,8 @@ def one_task(folder, number):
     """What `Tasks.do` does for a realisation, step by step, in a process of its own."""
     sys.path.insert(0, str(HERE.parent / "python"))
     with step("start"):
-        from pitplan.task import Task, Tasks
+        from pitplan.plans.task_line import Task
+        from pitplan.tasks.task import Tasks
         tasks, task = Tasks(Path(folder)), Task("realisation", number, FACTORS)
         study = tasks.study(task)
         tasks.verify(task)
@@ -117,7 +118,8 @@ def tables(folder):
     """What `pitplan risk` does when all is found, in a process of its own: all is opened once, and for each realisation its prices
     are worked out, its pits are read and added up again, and the nine pits of a likelihood are added up at its prices."""
     sys.path.insert(0, str(HERE.parent / "python"))
-    from pitplan import Study, risk
+    from pitplan import Study
+    from pitplan.plans import risk
     with step("open"):
         study = Study(folder)
         study.verify()
@@ -313,8 +315,8 @@ class Case:
 def asked_mb(pairs):
     """What `pitplan submit` asks a scheduler for."""
     with_pitplan()
-    from pitplan.engines import SPARE
-    from pitplan.task import memory_by_size
+    from pitplan.tasks.engines import SPARE
+    from pitplan.tasks.task import memory_by_size
     return SPARE * memory_by_size(BLOCKS, round(pairs)) / 1e6
 
 
@@ -337,8 +339,8 @@ def show_case(case):
 
 def show_limits(case):
     """Where such a study meets a limit, the nearest first where that can be said."""
-    from pitplan.engines import Limits
-    from pitplan.offsets import PAIRS
+    from pitplan.tasks.engines import Limits
+    from pitplan.slopes.offsets import PAIRS
 
     from simulated_cluster import Cluster
     node = Cluster()

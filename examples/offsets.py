@@ -9,7 +9,7 @@ between two bearings the slope changes evenly.
 
 Offsets that the others imply are left out. Standard error says by how much the wall errs: on average over all bearings
 at most 0.5 degrees, and nowhere more than 1, or it says that this can't be held and what can. Python's standard library
-is enough; the search is in python/pitplan/offsets.py of this repository, or in the pitplan that is installed.
+is enough; the search is in python/pitplan/slopes/offsets.py of this repository, or in the pitplan that is installed.
 """
 from __future__ import annotations
 
@@ -20,7 +20,7 @@ import shutil
 import sys
 from pathlib import Path
 
-SEARCH = Path("pitplan") / "offsets.py"
+SEARCH = Path("pitplan") / "slopes" / "offsets.py"
 INSTALLED = "python", "lib/pontihaw", "lib/python3/dist-packages"        # beside bin/pitplan of the repository, of ./install, of Debian's package
 
 
@@ -29,7 +29,7 @@ def places():
     yield Path(__file__).resolve().parent.parent / "python" / SEARCH
     package, command = importlib.util.find_spec("pitplan"), shutil.which("pitplan")
     if package:
-        yield from (Path(folder) / SEARCH.name for folder in package.submodule_search_locations or ())
+        yield from (Path(folder).parent / SEARCH for folder in package.submodule_search_locations or ())
     if command:
         yield from (Path(command).resolve().parent.parent / folder / SEARCH for folder in INSTALLED)
 

@@ -533,13 +533,13 @@ def the_launcher_changes_nothing_else(tree):
 def install_brings_pitplan_where_its_packages_are(tree):
     """The command works from anywhere, with its package beside the program; where packages are missing, pit alone is installed."""
     shutil.copy(Path(__file__).resolve().parent.parent / "bin/pitplan", tree.top / "bin/pitplan")
-    tree.write("python/pitplan/cli.py", "def main():\n    print('planned by', __file__)\n")
+    tree.write("python/pitplan/cli/main.py", "def main():\n    print('planned by', __file__)\n")
     tree.write("python/pitplan/left.html", "")
     first = tree.ran("install", str(tree.room / "bin"))
     (tree.top / "python/pitplan/left.html").unlink()
     statuses = [first[0], tree.ran("install", str(tree.room / "bin"))[0], tree.ran("install", str(tree.room / "elsewhere"))[0]]
     answers = [subprocess.run([str(tree.room / at / "pitplan")], cwd="/", stdout=subprocess.PIPE, text=True).stdout for at in ("bin", "elsewhere")]
-    wanted = ["planned by %s/pontihaw/pitplan/cli.py\n" % (tree.room.resolve() / at) for at in ("lib", "elsewhere/lib")]
+    wanted = ["planned by %s/pontihaw/pitplan/cli/main.py\n" % (tree.room.resolve() / at) for at in ("lib", "elsewhere/lib")]
     share = ["share/man/man1/pit.1", "share/man/man1/pitplan.1", "share/bash-completion/completions/pit", "share/zsh/site-functions/_pitplan", "share/fish/vendor_completions.d/pit.fish"]
     well = statuses == [0] * 3 and answers == wanted and all((tree.room / it).exists() for it in share) and not (tree.room / "lib/pontihaw/pitplan/left.html").exists()
     tree.write("python/packages", "# the package itself\npython3\npython3-nowhere\nlibjs-three\n# its tests\npython3-more\n")
@@ -550,7 +550,7 @@ def install_brings_pitplan_where_its_packages_are(tree):
 
 def pitplan_names_the_packages_that_it_lacks(tree):
     shutil.copy(Path(__file__).resolve().parent.parent / "bin/pitplan", tree.top / "bin/pitplan")
-    tree.write("python/pitplan/cli.py", "import nowhere\n")
+    tree.write("python/pitplan/cli/main.py", "import nowhere\n")
     ran = subprocess.run([str(tree.top / "bin/pitplan")], stdout=subprocess.PIPE, stderr=subprocess.STDOUT, text=True)
     needed = [it for it in (tree.top / "python/packages").read_text().partition("# its tests")[0].splitlines() if it and it[0] != "#"]
     wanted = "pitplan needs the Python package nowhere: sudo apt-get install --no-install-recommends %s\n" % " ".join(needed)
@@ -589,7 +589,7 @@ def a_release_holds_what_it_should(tree):
                for at in ("pit-0.1.0-x86_64-linux/pit", "installed/usr/bin/pit")]
     needs = re.search(r"^Depends: (.*)$", (tree.room / "control/control").read_text(), re.M)[1]
     wanted = ["pit-0.1.0-x86_64-linux/lib/pontihaw/pit", "installed/usr/lib/pontihaw/pit"]
-    wanted += ["pit-0.1.0-x86_64-linux/" + it for it in ("LICENSE", "README.md", "pit.1", "examples/copper/copper.prec", "python/pitplan/offsets.py")]
+    wanted += ["pit-0.1.0-x86_64-linux/" + it for it in ("LICENSE", "README.md", "pit.1", "examples/copper/copper.prec", "python/pitplan/slopes/offsets.py")]
     wanted += ["installed/usr/share/man/man1/pit.1.gz", "installed/usr/share/doc/pit/examples/copper/copper.cert"]
     commit = subprocess.run(["git", "rev-parse", "HEAD"], cwd=tree.top, stdout=subprocess.PIPE, text=True).stdout.strip()
     about = files["BUILT.txt"].decode()
@@ -607,7 +607,7 @@ def a_release_holds_pitplan(tree):
     own = [line for line in (tree.top / "python/packages").read_text().partition("# its tests")[0].splitlines() if line and line[0] != "#"]
     needs = control["Depends"].split(", ")
     share = "installed/usr/share/"
-    wanted = ["installed/usr/bin/pit", "installed/usr/bin/pitplan", "installed/usr/lib/python3/dist-packages/pitplan/offsets.py", share + "man/man1/pit.1.gz", share + "man/man1/pitplan.1.gz",
+    wanted = ["installed/usr/bin/pit", "installed/usr/bin/pitplan", "installed/usr/lib/python3/dist-packages/pitplan/slopes/offsets.py", share + "man/man1/pit.1.gz", share + "man/man1/pitplan.1.gz",
               share + "doc/pitplan/examples/copper/copper.cert", share + "doc/pitplan/copyright"]
     wanted += [share + path % name for name in ("pit", "pitplan") for path in ("bash-completion/completions/%s", "zsh/vendor-completions/_%s", "fish/vendor_completions.d/%s.fish")]
     missing = [it for it in wanted if not (tree.room / it).exists()]
@@ -616,7 +616,7 @@ def a_release_holds_pitplan(tree):
     metadata = next(text for name, text in held.items() if name.endswith("METADATA"))
     well = [it.partition(" ")[0] for it in needs] == ["libc6", *own] and len(own) > 10 and "python3 (>= 3.11)" in needs
     well = well and (control["Package"], control["Provides"], control["Conflicts"], control["Replaces"]) == ("pitplan", "pit (= 0.1.0)", "pit", "pit")
-    well = well and not missing and "pitplan/offsets.py" in held and "\nVersion: 0.1.0\n" in metadata and "pitplan = pitplan.cli:main" in "".join(held.values())
+    well = well and not missing and "pitplan/slopes/offsets.py" in held and "\nVersion: 0.1.0\n" in metadata and "pitplan = pitplan.cli.main:main" in "".join(held.values())
     return well, said + repr([missing, control, metadata])
 
 

@@ -79,6 +79,6 @@ def try_packaged(top, pit):
 
 def fuzz(top, minutes, seed):
     """Throws damaged studies at pitplan for so many minutes: each is answered by a result or a message, never by a traceback."""
-    words = [PYTHON, "tests/fuzz_studies.py", str(10**9), str(60 * minutes), str(seed)]
+    words = [PYTHON, "tests/support/fuzz_studies.py", str(10**9), str(60 * minutes), str(seed)]
     well = subprocess.run(words, cwd=top / "python", stdin=subprocess.DEVNULL).returncode == 0
     return int(well), int(not well)

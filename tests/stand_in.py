@@ -181,7 +181,7 @@ class Tree:
         for name in ("copper.prec", "copper.upit", "copper.cert"):
             self.write("examples/copper/" + name, name)
         of_shells = ["completions/%s.%s" % (name, shell) for name in ("pit", "pitplan") for shell in ("bash", "zsh", "fish")]
-        for name in ("README.md", "CHANGELOG.md", "LICENSE", "docs/pit.1", "docs/pitplan.1", "docs/GUIDE.md", "python/pitplan/offsets.py", *of_shells):
+        for name in ("README.md", "CHANGELOG.md", "LICENSE", "docs/pit.1", "docs/pitplan.1", "docs/GUIDE.md", "python/pitplan/slopes/offsets.py", *of_shells):
             self.write(name, "# a text\n")
         self.write("python/pitplan/__init__.py", "__version__ = '0.1.0'\n")
         self.write("bin/pitplan", "#!/bin/sh\n", 0o755)

@@ -14,8 +14,8 @@ ASKED = r"""
 import json, sys
 sys.path.insert(0, sys.argv[1])
 import click
-import pitplan.cli as cli
-import pitplan.console as console
+import pitplan.cli.main as cli
+import pitplan.cli.console as console
 from pitplan import __version__
 from typer.main import get_command
 

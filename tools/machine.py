@@ -4,4 +4,4 @@ from pathlib import Path
 
 sys.path.append(str(Path(__file__).resolve().parent.parent / "python"))
 
-from pitplan.machine import free_memory, processors  # noqa: E402, F401
+from pitplan.base.machine import free_memory, processors  # noqa: E402, F401

@@ -49,7 +49,7 @@ def programs(folder, library, program):
 def documents():
     """The texts that the README leads to, and the example that they type commands on."""
     return ["README.md", "CHANGELOG.md", "LICENSE", *names_in("docs", "*.md"), *names_in("docs/pictures"), *names_in("examples"), *names_in("examples/copper"),
-            *names_in("examples/hill"), "python/pitplan/offsets.py"]  # which examples/offsets.py runs
+            *names_in("examples/hill"), "python/pitplan/slopes/offsets.py"]  # which examples/offsets.py runs
 
 
 def completions(command, paths=None):

@@ -32,14 +32,14 @@ def needed():
 def sources():
     """The files of the Python package, by their path below python/."""
     folder = tree.TOP / "python"
-    return sorted(it.relative_to(folder) for it in folder.glob("pitplan/*") if it.is_file())
+    return sorted(it.relative_to(folder) for it in folder.glob("pitplan/**/*") if it.is_file() and "__pycache__" not in it.parts)
 
 
 def wheel(time, room):
     """The wheel, by setuptools: its name and its bytes, which hang on the files and the time of the commit."""
     folder = Path(room) / "wheel"
-    (folder / "pitplan").mkdir(parents=True)
     for name, source in {**{it: Path("python") / it for it in sources()}, "pyproject.toml": "python/pyproject.toml", "LICENSE": "LICENSE"}.items():
+        (folder / name).parent.mkdir(parents=True, exist_ok=True)
         shutil.copyfile(tree.TOP / source, folder / name)
         (folder / name).chmod(0o644)
     made = subprocess.run([PYTHON, "-I", "-c", "from setuptools import build_meta; build_meta.build_wheel('made')"], cwd=folder,

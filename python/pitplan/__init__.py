@@ -17,11 +17,11 @@ from typing import Any
 
 __version__ = "0.1.0"
 # Where each name is: they are imported when they are asked for, so that `pitplan --help` needs no pandas.
-WHERE = {"Economics": "economics", "Metal": "economics", "PlanError": "errors", "NotAccepted": "errors", "Disagreement": "errors", "MachineError": "errors",
-         "Grid": "grid", "Model": "model", "read_table": "model", "Accepted": "program", "Stated": "program", "Pit": "program", "Shells": "shells", "factors": "shells",
-         "Slopes": "slopes", "Study": "study", "Phases": "phases", "Design": "design", "Comparison": "compare",
-         "Risk": "risk", "Task": "task", "Tasks": "task", "run_dask": "engines", "run_local": "local"}
-MODULES = {"plot": "pictures"}
+WHERE = {"Economics": "model.economics", "Metal": "model.economics", "PlanError": "base.errors", "NotAccepted": "base.errors", "Disagreement": "base.errors", "MachineError": "base.errors",
+         "Grid": "model.grid", "Model": "model.model", "read_table": "model.model", "Accepted": "pit.program", "Stated": "pit.program", "Pit": "pit.program", "Shells": "study.shells", "factors": "study.shells",
+         "Slopes": "slopes.slopes", "Study": "study.study", "Phases": "plans.phases", "Design": "plans.design", "Comparison": "plans.compare",
+         "Risk": "plans.risk", "Task": "plans.task_line", "Tasks": "tasks.task", "run_dask": "tasks.engines", "run_local": "tasks.local"}
+MODULES = {"plot": "views.pictures"}
 __all__ = [*WHERE, *MODULES, "page"]
 
 
@@ -31,5 +31,5 @@ def __getattr__(name: str) -> Any:
     if name in MODULES:
         return importlib.import_module(f".{MODULES[name]}", __name__)
     if name == "page":
-        return importlib.import_module(".page", __name__)
+        return importlib.import_module(".views.page", __name__)
     raise AttributeError(f"module {__name__!r} has no attribute {name!r}")

@@ -9,7 +9,8 @@ from hypothesis import HealthCheck, settings
 
 HERE = Path(__file__).resolve().parent
 sys.path.insert(0, str(HERE.parent))
-sys.path.insert(0, str(HERE))
+# helpers are in support; some files of tests use what others have
+sys.path[:0] = [str(folder) for folder in (HERE / "support", *sorted(HERE.iterdir())) if folder.is_dir()]
 
 # Begun in the background of a script, tests ignore ctrl-C, and so would each process that they start and stop by it.
 signal.signal(signal.SIGINT, signal.default_int_handler)
@@ -29,7 +30,7 @@ def pytest_collection_modifyitems(items):
 @pytest.fixture(scope="session", autouse=True)
 def program():
     """Every test needs `pit`: PIT, or the one on the path, or the repository's own build."""
-    from pitplan.program import found_program
+    from pitplan.pit.program import found_program
     os.environ["PIT"] = found_program()
     return os.environ["PIT"]
 

@@ -5,7 +5,7 @@ import sys
 from pathlib import Path
 
 PYTHON = Path(__file__).resolve().parents[1]
-LINES, ARGUMENTS = 40, 6
+LINES, ARGUMENTS = 60, 6
 
 
 def test_mypy_is_content():
@@ -13,8 +13,17 @@ def test_mypy_is_content():
     assert ran.returncode == 0, ran.stdout
 
 
+def test_black_has_laid_out_every_file():
+    top = PYTHON.parent
+    folders = ["python", "tools", "tests", "bench", "examples", "docs"]
+    names = ["build", "release", "bin/pitplan", "tests/run", "tests/day"]
+    words = ["/usr/bin/black", "--check", "--quiet", "--config", PYTHON / "pyproject.toml"]
+    ran = subprocess.run([*words, *folders, *names], cwd=top)
+    assert ran.returncode == 0, "black --config python/pyproject.toml " + " ".join(folders + names)
+
+
 def functions():
-    for path in sorted((PYTHON / "pitplan").glob("*.py")):
+    for path in sorted((PYTHON / "pitplan").rglob("*.py")):
         for node in ast.walk(ast.parse(path.read_text())):
             if isinstance(node, (ast.FunctionDef, ast.AsyncFunctionDef)):
                 yield path, node
@@ -45,7 +54,7 @@ def test_functions_take_few_arguments():
 
 def public():
     """Functions of modules and methods of classes, without those within others, and without names that begin with _."""
-    for path in sorted((PYTHON / "pitplan").glob("*.py")):
+    for path in sorted((PYTHON / "pitplan").rglob("*.py")):
         tree = ast.parse(path.read_text())
         for owner in (tree, *(node for node in tree.body if isinstance(node, ast.ClassDef))):
             yield from ((path, node) for node in owner.body if isinstance(node, ast.FunctionDef) and not node.name.startswith("_"))

@@ -39,8 +39,8 @@ def said(folder, *words, **around):
 def test_it_holds_the_package_and_nothing_else(wheel):
     with zipfile.ZipFile(wheel) as held:
         names = {name for name in held.namelist() if ".dist-info/" not in name}
-    there = {f"pitplan/{path.name}" for path in (TOP / "python" / "pitplan").iterdir() if path.is_file()}
-    assert names == there and "pitplan/page.html" in names
+    there = {path.relative_to(TOP / "python").as_posix() for path in (TOP / "python" / "pitplan").rglob("*") if path.is_file() and path.parent.name != "__pycache__"}
+    assert names == there and "pitplan/views/page.html" in names
 
 
 def test_it_works_where_it_is_installed(installed):

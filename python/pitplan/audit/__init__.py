@@ -1,0 +1,1 @@
+"""What an auditor gets, and what `pitplan doctor` looks at."""

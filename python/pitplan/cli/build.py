@@ -1,0 +1,165 @@
+"""`pitplan init` and `pitplan build`."""
+from __future__ import annotations
+
+import sys
+from collections.abc import Sequence
+from pathlib import Path
+from typing import TYPE_CHECKING, Optional
+
+import typer
+from rich.markup import escape
+
+from ..base.amounts import THOUSAND
+from ..base.errors import PlanError
+from ..base.next_command import command
+from ..table.study_keys import keys_of
+from .console import STUDY, app, described, err, print_columns, say, warn
+
+if TYPE_CHECKING:
+    from rich.status import Status
+
+    from ..model.model import Model
+    from ..slopes.slopes import Heard
+    from ..study.study import Study
+    from ..study.study_file import StudyFile
+
+
+@app.command()
+def init(table: Path = typer.Argument(..., help="A table of blocks: CSV or CSV.gz."),
+         folder: Optional[Path] = typer.Option(None, "--study", help="The folder of the new study; the table's name without its ending unless told."),
+         column: list[str] = typer.Option([], "--column", "-c", metavar="KEY=NAME", help=f"What a column is, as x=este, where its name isn't a usual one. May be given several times. KEY is one of {', '.join(keys_of('model')['columns'].choices)}."),
+         encoding: Optional[str] = typer.Option(None, "--encoding", help="Of the table where it isn't UTF-8, as cp1252."),
+         is_forced: bool = typer.Option(False, "--force", help="Write over a study.toml that is there.")) -> None:
+    """Look at a table of blocks, and write a study.toml for it."""
+    from ..base.whole_file import whole_file
+    from ..study.first_look import look_at, written
+    from ..study.study import near
+    look = look_at(table, dict(map(named, column)), encoding)
+    folder = folder or Path(table.name.removesuffix(".gz").removesuffix(".csv"))
+    path = folder / "study.toml"
+    if path.exists() and not is_forced:
+        raise PlanError(f"{path} is there already", try_this="--force writes over it, --study names another folder")
+    if folder.exists() and not folder.is_dir():
+        raise PlanError(f"{folder} is a file, and a study is a folder", try_this="--study names another folder")
+    folder.mkdir(parents=True, exist_ok=True)
+    with whole_file(path) as part:
+        part.write_text(written(look, near(table, folder)))
+    say(f"{table}: {look.rows:,} rows")
+    say("  columns: " + ", ".join(f"{key} = {name}" for key, name in look.names.items()))
+    say(f"  grades: {', '.join(look.grades) or 'none found'}")
+    if look.region:
+        say(f"  regions of slopes, if you want them: {look.region} ({', '.join(look.regions)})")
+    if look.size:
+        say(f"  blocks of {' x '.join(f'{v:g}' for v in look.size)}" + (f", turned by {look.rotation:g} degrees" if look.rotation else "")
+                  + (", with sub-blocks" if look.has_sub_blocks else ""))
+    for note in look.notes:
+        warn(note, "  ")
+    say(f"{path} is written: put your own prices, costs and slopes there, then: {command('build', folder)}")
+
+
+def named(said: str) -> tuple[str, str]:
+    """A key and the name of its column, from KEY=NAME."""
+    key, sign, name = said.partition("=")
+    if not sign:
+        raise PlanError(f"--column {said} is no KEY=NAME", try_this="--column x=este")
+    return key.strip(), name.strip()
+
+
+@app.command()
+def build(folder: Path = STUDY) -> None:
+    """Read the table, work out what each block brings and costs, and make the slopes."""
+    from ..study.study import Study
+    from .slopes import key_of, print_patterns
+    told = described(folder)
+    with err.status("reading the table"):
+        model = told.read_model()
+    say(f"{told.table.name}: {len(model):,} blocks of {' x '.join(f'{v:g}' for v in model.grid.size)} on a grid of {' x '.join(map(str, model.grid.shape))}")
+    for note in model.notes:
+        say("  " + note)
+    with err.status("prices and slopes") as status:
+        told.slopes.heard = of_region(status)
+        study = Study.create(told.path.parent, model, told.economics, told.slopes, keys=told.digest)
+        study.named = folder
+        study.priced.check_room(max(told.factors, default=THOUSAND))
+    for note in study.model.notes[len(model.notes):]:
+        say("  " + note)
+    print_tonnage(study)
+    tell_strange(study, told, model)
+    print_patterns(told.slopes, study.model.grid)
+    set_aside(study, key_of(told.slopes, study.model.grid))
+    print_size(study, told)
+
+
+def of_region(status: Status) -> Heard:
+    """Says which region's slopes are begun: on a terminal in place of the line before, else a line for each, for logs."""
+    def heard(name: str, at: int, count: int) -> None:
+        said = f"slopes of {name}, {at} of {count}"
+        if err.is_terminal:
+            status.update(escape(said))
+        else:
+            print(said, file=sys.stderr, flush=True)
+    return heard
+
+
+def set_aside(study: Study, walls: str) -> None:
+    """Puts the tables and pictures of the model before out of the way of the new one's, and says so."""
+    from ..study import older
+    folder = study.folder / "out"
+    moved, changed = older.set_aside(folder, {study.key, walls})
+    if moved:
+        say(f"{folder / older.OLDER} has what was written of the model before: {', '.join(moved)}")
+    for name in changed:
+        warn(f"{folder / name} is of the model before; it was changed since it was written, so it stays there")
+
+
+def print_tonnage(study: Study) -> None:
+    """The grade-tonnage line of each rock."""
+    from ..model.tonnage import by_rock
+    lines = by_rock(study.model, study.priced, study.manifest["metals"])
+    columns = [list(map(str, lines[lines.columns[0]])), *(cells_of(lines[name].tolist()) for name in lines.columns[1:])]
+    print_columns("in place, at the full price; metals as recovered", list(map(str, lines.columns)), list(zip(*columns)), words=1)
+
+
+def tell_strange(study: Study, told: StudyFile, model: Model) -> None:
+    """How many blocks may not be dug, and what looks as if a unit were another one."""
+    from ..model.plausible import strange
+    if told.economics.forbid:
+        part = int(told.economics.partly_forbidden(model).sum())
+        say(f"{int(study.priced.forbidden.sum()):,} of {len(model):,} blocks may not be dug, by forbid"
+            + (f"; of {part:,} of them it holds for some sub-blocks alone" if part else ""))
+    for what in strange(model, study.priced, told.economics):
+        warn(what)
+
+
+def cells_of(values: Sequence[int | float]) -> list[str]:
+    """The numbers of a column as a table shows them, all with as many decimals: 3 where the greatest is below 100, one less for each
+    digit more, and none for whole numbers. What is no number is an empty cell.
+
+    >>> cells_of([178.4, 52.12, float("nan")]), cells_of([5041, 12])
+    (['178.40', '52.12', ''], ['5,041', '12'])
+    """
+    if all(isinstance(value, int) for value in values):
+        return [f"{value:,}" for value in values]
+    greatest = max((abs(value) for value in values if value == value), default=0.0)
+    places = next((places for places, most in ((3, 100), (2, 1_000), (1, 10_000)) if round(greatest, places) < most), 0)
+    return ["" if value != value else f"{value:,.{places}f}" for value in values]
+
+
+def print_size(study: Study, told: StudyFile) -> None:
+    """The first guess of what a pit will take."""
+    from ..study.workers import guess_of, workers_for
+    guess = guess_of(study)
+    count = len(told.factors)
+    workers = workers_for(study)
+    say(f"{guess.pairs:,} pairs of a block and a predecessor. A pit will take about {guess.memory / 1e6:,.0f} MB and {duration(guess.seconds)}; "
+              f"all {count}, {workers} at a time, {duration(guess.seconds * count / workers)}")
+    say(f"built in {study.folder}; then: {command('shells', study.named)}")
+
+
+def duration(seconds: float) -> str:
+    """A time in words."""
+    if seconds < 1:
+        return "less than a second"
+    if seconds < 120:
+        return f"{seconds:.0f} seconds"
+    return f"{seconds / 60:.0f} minutes" if seconds < 7200 else f"{seconds / 3600:.1f} hours"

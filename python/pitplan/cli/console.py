@@ -1,0 +1,139 @@
+"""What all commands share: the application, where they print, and how they find a study."""
+from __future__ import annotations
+
+import sys
+from collections.abc import Sequence
+from pathlib import Path
+from typing import TYPE_CHECKING, Any
+
+from ..base.later import lazily
+
+lazily("typer.rich_utils")                   # typer loads it with itself, and only help and errors ask for it
+
+import click
+import typer
+from rich.console import Console
+from rich.markup import escape
+from typer.core import TyperGroup
+
+from .. import __version__
+from ..base.errors import PlanError
+from ..base.next_command import command
+
+if TYPE_CHECKING:
+    from ..study.shells import Shells
+    from ..study.study import Study
+    from ..study.study_file import StudyFile
+
+
+
+class InOrder(TyperGroup):
+    """The commands as they were registered, and not by the alphabet."""
+
+    def list_commands(self, ctx: click.Context) -> list[str]:
+        return list(self.commands)
+
+
+app = typer.Typer(cls=InOrder, add_completion=True, no_args_is_help=True, pretty_exceptions_enable=False, rich_markup_mode=None, context_settings={"help_option_names": ["-h", "--help"]},
+                  help="From a planner's table of blocks to proved pits, tables and pictures. Every best pit that it shows is proved by `pit`.",
+                  epilog="Exit status: 0 done; 1 no, where pit check refuses or a check of pitplan fails; 2 wrong words; 3 a file is wrong; 4 the machine (memory, disk); 130 stopped.")
+out = Console(width=None if sys.stdout.isatty() else 160, soft_wrap=not sys.stdout.isatty(), highlight=False)
+err = Console(stderr=True, highlight=False)
+study_toml: Path | None = None               # that was read last, whose lines errors show
+STUDY: Any = typer.Argument(Path("."), help="The folder of the study, with its study.toml.", show_default="this folder")
+
+
+def tell_version(is_asked: bool) -> None:
+    if is_asked:
+        out.print(f"pitplan {__version__}")
+        raise typer.Exit
+
+
+@app.callback()
+def before_any_command(version: bool = typer.Option(False, "--version", help="Print the version.", is_eager=True, callback=tell_version)) -> None:
+    """Options that need no command."""
+
+
+def say(text: str) -> None:
+    """Prints a text as it is: names of the planner's may look like rich's marks."""
+    out.print(escape(text), soft_wrap=True)
+
+
+def warn(text: str, indent: str = "") -> None:
+    """Says what the planner should look at."""
+    err.print(f"{indent}[yellow]look:[/yellow] {escape(text)}", soft_wrap=True)
+
+
+def warn_of_room(wanted: int | None, count: int) -> None:
+    """Says where fewer work at a time than were asked for."""
+    if wanted and count < wanted:
+        warn(f"{count} of {wanted} workers: free memory has no room for more")
+
+
+def print_columns(title: str, names: Sequence[str], rows: Sequence[Sequence[str]], words: int = 0, has_total: bool = False) -> None:
+    """Prints a table of texts; the first `words` columns stand left, and a total below a gap. Where the screen is narrow the headings go over several
+    lines and the gaps shrink, and no figure is cut off."""
+    from rich.box import SIMPLE_HEAD
+    from rich.table import Table
+    widths = [max((len(row[i]) for row in rows), default=0) for i in range(len(names))]
+    is_narrow = sum(max(len(name), width) + 3 for name, width in zip(names, widths)) + 1 > out.width
+    shown = Table(title=escape(title), title_justify="left", box=SIMPLE_HEAD, padding=(0, 0) if is_narrow else (0, 1), show_edge=not is_narrow)
+    for i, (name, width) in enumerate(zip(names, widths)):
+        shown.add_column(escape(name), justify="left" if i < words else "right", min_width=width)
+    for left, row in zip(reversed(range(len(rows))), rows):
+        shown.add_row(*map(escape, row), end_section=has_total and left == 1)
+    out.print(shown, crop=False)
+
+
+def described(folder: Path) -> StudyFile:
+    """What the study's study.toml says."""
+    global study_toml
+    from ..study.study_file import path_of, read_study_file
+    study_toml = path_of(folder)
+    return read_study_file(folder)
+
+
+def opened(folder: Path) -> Study:
+    """The study as it was built.
+
+    Raises
+    ------
+    PlanError
+        Where it wasn't built, or study.toml or the table has changed since.
+    """
+    from ..base.digests import sha256_unless_known
+    from ..study.study import Study
+    told = described(folder)
+    study = Study(told.path.parent, named=folder)
+    if study.manifest["keys"] != told.digest:
+        raise PlanError(f"{told.path} has changed since the study was built", try_this=command("build", folder))
+    source = study.manifest["source"]
+    if source and told.table.is_file() and sha256_unless_known(told.table) != source["sha256"]:
+        raise PlanError("the table has changed since the study was built", table=told.table, try_this=command("build", folder))
+    return study
+
+
+def shells_of(folder: Path) -> tuple[Shells, dict[str, float]]:
+    """The shells at all factors of study.toml, and the rates for `Shells.table`; nothing is run.
+
+    Raises
+    ------
+    PlanError
+        Where a pit hasn't been run yet.
+    """
+    from ..study.shells import Shells
+    told = described(folder)
+    study = opened(folder)
+    missing = [factor for factor in told.factors if not study.verdict(factor)]
+    if missing:
+        raise PlanError(f"{len(missing)} of {len(told.factors)} pits haven't been run, the first at factor {missing[0] / 1000:g}", try_this=command("shells", folder))
+    return Shells(study, told.factors), told.rates
+
+
+def results(study: Study) -> Path:
+    """The folder for tables and pictures, made where it isn't there. What is written there from now on is noted as of this model."""
+    from ..study import older
+    folder = study.folder / "out"
+    folder.mkdir(exist_ok=True)
+    older.watch(folder, study.key)
+    return folder

@@ -1,0 +1,382 @@
+"""From grades, prices, recoveries and costs to what each block brings and costs."""
+from __future__ import annotations
+
+import json
+import math
+import re
+from collections.abc import Mapping, Sequence
+from dataclasses import dataclass, field
+from decimal import Decimal
+from typing import Union
+
+import numpy as np
+import pandas as pd
+
+from ..base.amounts import LARGEST_FACTOR, MOST, THOUSAND, Bools, Floats, Priced, Whole, exact_sum, rounding_of
+from ..base.errors import MOST_CELLS, Cell, Gathered, KeyPath, PlanError, Remedy, about, meant
+from ..base.units import metal_in_a_tonne
+from ..table.column_names import AIR
+from ..table.formula import names_in, worked_out
+from ..table.study_keys import METALS, refuse_wrong
+from .model import Model
+from .subblocks import coded
+
+BARE = re.compile(r"[A-Za-z0-9_-]+")         # a key of TOML that needs no quotes
+# A number, a column of the table, a formula over columns, or a number by rock with "other" for the rest.
+Amount = Union[float, str, Mapping[str, float]]
+
+
+@dataclass(frozen=True)
+class Metal:
+    """A metal that is sold.
+
+    Parameters
+    ----------
+    name : str
+    grade : str
+        The column of its grade.
+    price : float
+        Of a unit of metal, at factor 1.
+    grade_unit, price_unit : str
+        As in `units.GRADES` and `units.PRICES`.
+    recovery : number, column, formula, or mapping by rock
+        The share of the metal in the mill's feed that is recovered, from 0 to 1.
+    payable : float
+        The share of the price that is paid, from 0 to 1: what the smelter keeps and what is owed as a share of the
+        price (a royalty) taken off.
+    selling : float
+        What selling a unit of metal costs, whatever its price: counted as a cost of processing, so no factor scales it. A penalty
+        element has a price of 0 and its charge here.
+    """
+
+    name: str
+    grade: str
+    price: float
+    grade_unit: str = "%"
+    price_unit: str = "t"
+    recovery: Amount = 1.0
+    payable: float = 1.0
+    selling: float = 0.0
+
+    def __post_init__(self) -> None:
+        refuse_wrong(METALS, vars(self), f"[economics] metal {self.name}", ("economics", METALS, self.name))
+
+    def content(self) -> float:
+        """Units of metal, as the price counts them, in a tonne at a grade of 1."""
+        return metal_in_a_tonne(self.name, self.grade_unit, self.price_unit)
+
+
+@dataclass(frozen=True)
+class Read:
+    """What the keys of [economics] say of each block, in arrays of shape (blocks,): grades and recoveries by metal, costs a tonne."""
+
+    to_mill: Bools
+    grade: dict[str, Floats]
+    recovery: dict[str, Floats]
+    processing: Floats
+    mining: Floats
+    forbidden: Bools
+
+
+@dataclass(frozen=True)
+class Economics:
+    """What blocks bring and cost: the section [economics] of ``study.toml``.
+
+    Parameters
+    ----------
+    metals : sequence of Metal
+    mining : number, column, formula, or mapping by rock
+        What digging a tonne costs, be it ore or waste.
+    processing : the same
+        What treating a tonne of the mill's feed costs.
+    mill : sequence of str, optional
+        The rocks that the mill takes; all but air unless told.
+    dilution : float
+        Tonnes of waste, at no grade, that come to the mill with each tonne of ore, from 0 to 1.
+    mining_recovery : float
+        The share of the ore that reaches the mill, above 0 and at most 1.
+    rounding : float
+        What amounts are rounded to: 1 is whole units of currency. At most six decimals.
+    currency : str
+        For tables and pictures.
+    forbid : sequence of str
+        Formulas: blocks for which one of them holds may not be dug, be it for one of their sub-blocks alone. Blocks without tonnes are
+        air, which none of them keeps.
+    """
+
+    metals: Sequence[Metal]
+    mining: Amount
+    processing: Amount
+    mill: Sequence[str] | None = None
+    dilution: float = 0.0
+    mining_recovery: float = 1.0
+    rounding: float = 1.0
+    currency: str = "$"
+    forbid: Sequence[str] = field(default_factory=tuple)
+
+    def __post_init__(self) -> None:
+        if not self.metals:
+            raise PlanError("[economics] has no metals", try_this='metals = [ { name = "copper", grade = "CU", price = 8500 } ]', key=("economics", METALS))
+        names = [metal.name for metal in self.metals]
+        if len(set(names)) < len(names):
+            raise PlanError(f"[economics] two metals are called {next(n for n in names if names.count(n) > 1)}", key=("economics", METALS))
+        refuse_wrong("economics", {name: value for name, value in vars(self).items() if name not in (METALS, "rounding")})
+        with about("economics", "rounding"):
+            rounding_of(self.rounding)
+
+    @property
+    def feed(self) -> float:
+        """Tonnes that the mill gets for each tonne of ore in place."""
+        return self.mining_recovery * (1 + self.dilution)
+
+    @np.errstate(over="ignore", invalid="ignore")        # in_whole refuses what is no number, with its row
+    def priced(self, model: Model) -> Priced:
+        """Revenue, processing and mining of each block, in whole multiples of `rounding`.
+
+        Raises
+        ------
+        PlanError
+            Where a column, a rock, a unit, a grade, a share or a cost is wrong: with the row where there is one.
+        """
+        model = coded(model, self.codes())
+        tonnes, read = model.blocks.tonnes.to_numpy(float), self.read_of(model)
+        revenue, selling = np.zeros(len(model)), np.zeros(len(model))
+        metal: dict[str, Floats] = {}
+        for m in self.metals:
+            units = tonnes * self.mining_recovery * read.grade[m.name] * m.content() * read.recovery[m.name] * read.to_mill
+            metal[m.name] = units
+            revenue += units * m.price * m.payable
+            selling += units * m.selling
+        processing = tonnes * self.feed * read.processing * read.to_mill + selling
+        mining = tonnes * read.mining
+        rounding = rounding_of(self.rounding)
+        whole = [in_whole(name, values, rounding, model) for name, values in (("revenue", revenue), ("processing", processing), ("mining", mining))]
+        found = Priced(whole[0], whole[1], whole[2], rounding, metal, read.grade, self.feed, read.forbidden)
+        if found.forbidden.any():
+            found.mining[found.forbidden] = fence_price(found, rounding)
+        return found
+
+    def read_of(self, model: Model) -> Read:
+        """What the keys say of each block.
+
+        Raises
+        ------
+        PlanError
+            With each error that hangs on no other one.
+        """
+        wrong, grade, recovery, costs = Gathered(), dict[str, Floats](), dict[str, Floats](), dict[str, Floats]()
+        to_mill = forbidden = np.zeros(len(model), bool)
+        with wrong.part("economics", "mill"):
+            to_mill = self.to_mill(model)
+        for m in self.metals:
+            at, what = ("economics", METALS, m.name), f"recovery of {m.name}"
+            with wrong.part(*at, "grade"):
+                grade[m.name] = grades_of(m, model)
+            with wrong.part(*at, "recovery"):
+                recovery[m.name] = share(what, amount(what, m.recovery, model), model)
+        for name in ("processing", "mining"):
+            with wrong.part("economics", name):
+                costs[name] = cost(name, getattr(self, name), model)
+        with wrong.part("economics", "forbid"):
+            forbidden = self.forbidden(model)
+        wrong.tell()
+        return Read(to_mill, grade, recovery, costs["processing"], costs["mining"], forbidden)
+
+    def to_mill(self, model: Model) -> Bools:
+        """Whether a block may go to the mill: its rock is one that the mill takes, and it is a block of the table."""
+        rock, kinds = model.blocks.rock, [str(kind) for kind in model.blocks.rock.unique()]
+        wrong = Gathered()
+        for name in self.mill or ():
+            if name not in kinds:
+                wrong.add([PlanError(f"[economics] mill: no block is of rock {name!r}{meant(name, kinds)}", key=("economics", "mill"))])
+        wrong.tell()
+        takes = rock.isin(list(self.mill)) if self.mill is not None else rock != AIR
+        found: Bools = takes.to_numpy() & (model.blocks["row"].to_numpy() >= 0)
+        return found
+
+    def forbidden(self, model: Model) -> Bools:
+        """Which blocks may not be dug: those for which a formula of `forbid` holds, or for a sub-block of which one does. Air is never dug:
+        air above a corridor would else keep the rock beside the corridor, whose slopes lead through that air, from being dug too."""
+        found: Bools = np.zeros(len(model), bool)
+        if model.fenced and list(model.fenced[0]) == list(self.forbid):
+            found[:len(model.fenced[1])] = model.fenced[1]           # blocks after those are air
+            return found
+        for formula in self.forbid:
+            found |= holds(str(formula), model)[0]
+        found &= model.blocks.tonnes.to_numpy(float) > 0
+        return found
+
+    def codes(self) -> set[str]:
+        """The columns that stand for codes: those that a comparison or `forbid` names. A metal's grade isn't one, whatever is asked of it:
+        of sub-blocks its mean is what the metal in the block comes to."""
+        amounts = [self.mining, self.processing, *(metal.recovery for metal in self.metals)]
+        compared = [names_in(text, is_compared=True) for text in amounts if isinstance(text, str)]
+        return set().union(*compared, *(names_in(str(text)) for text in self.forbid)) - {metal.grade for metal in self.metals}
+
+    def partly_forbidden(self, model: Model) -> Bools:
+        """Which blocks may not be dug for some of their sub-blocks alone, of shape (len(model),)."""
+        found = self.forbidden(model)
+        if model.parts is None:
+            return np.zeros(len(model), bool)
+        rows = np.zeros(len(model.parts.frame), bool)
+        for formula in self.forbid:
+            rows |= holds(str(formula), model)[1][:len(rows)]
+        free = np.bincount(model.parts.parent, ~rows & (model.parts.frame["tonnes"].to_numpy(float) > 0), len(model)) > 0
+        return found & free
+
+
+def number(what: str, value: object, least: float, most: float = math.inf) -> None:
+    """Refuses what is no number from `least` to `most`."""
+    if isinstance(value, bool) or not isinstance(value, (int, float)) or not least <= value <= most or not math.isfinite(value):
+        span = f"from {least:g} to {most:g}" if math.isfinite(most) else f"of at least {least:g}"
+        raise PlanError(f"{what} is {value!r}, and has to be a number {span}")
+
+
+def grades_of(metal: Metal, model: Model) -> Floats:
+    """The grade of each block, 0 for blocks that were added."""
+    found = model.numbers(metal.grade, f"metal {metal.name}")
+    found[model.blocks["row"].to_numpy() < 0] = 0.0
+    too_rich = found * metal.content() > metal_in_a_tonne(metal.name, "%", metal.price_unit) * 100 * (1 + 1e-9)
+    if (found < 0).any():
+        raise wrong_grade(metal, model, found, found < 0)
+    if too_rich.any():
+        raise wrong_grade(metal, model, found, too_rich)
+    return found
+
+
+def wrong_grade(metal: Metal, model: Model, grades: Floats, wrong: Bools) -> PlanError:
+    """The error of grades below 0, or of more than the whole rock."""
+    at, row = int(np.argmax(wrong)), model.blocks["row"].to_numpy()
+    more = f"; {int(wrong.sum()):,} cells are so" if wrong.sum() > 1 else ""
+    cells = [Cell(int(row[i]), f"{grades[i]:g}") for i in np.flatnonzero(wrong)[1:MOST_CELLS]]
+    key: KeyPath = ("economics", METALS, metal.name, "grade")
+    if grades[at] >= 0:
+        what, hint = f"in {metal.grade_unit} is more than the whole rock", "another grade_unit"
+        return PlanError(f"{grades[at]:g} {what}{more}", table=model.table, row=int(row[at]), column=metal.grade, try_this=hint, key=(*key[:-1], "grade_unit")).with_cells(cells)
+    mark = Remedy(("model", "absent"), [f"{grades[at]:g}"], 'if that stands for "not estimated"', adds=True)
+    is_mark = len(np.unique(grades[wrong])) == 1          # else it is what kriging leaves
+    return PlanError(f"{grades[at]:g} is below 0{more}", table=model.table, row=int(row[at]), column=metal.grade, try_this=mark if is_mark else "0 in their place, if the estimation left them so", key=key).with_cells(cells)
+
+
+def amount(what: str, given: Amount, model: Model) -> Floats:
+    """An amount for each block: a number, a column, a formula, or by rock.
+
+    Raises
+    ------
+    PlanError
+        Where nothing is said of a rock, a cell is no number, or a formula is none.
+    """
+    b = model.blocks
+    if isinstance(given, bool) or not isinstance(given, (int, float, str, Mapping)):
+        raise PlanError(f"{what} is {given!r}", try_this="a number, a column, a formula, or { rock = number, other = number }")
+    if isinstance(given, (int, float)):
+        return np.full(len(b), float(given))
+    if isinstance(given, str):
+        return model.numbers(given, what) if given in b.columns else of_formula(given, model, what).astype(float)
+    kinds = [str(kind) for kind in b.rock.unique()]
+    unsaid = sorted(set(kinds) - set(given) - {AIR})
+    if unsaid and "other" not in given:
+        strange = next((name for name in given if name not in kinds), None)
+        raise PlanError(f"{what}: nothing is said of rock {', '.join(rock or 'without a name, an empty cell' for rock in unsaid)}{meant(strange, unsaid) if strange else ''}",
+                        table=model.table, row=row_at(model, int(np.argmax(b.rock == unsaid[0]))), try_this=f"{{ {unsaid[0] if BARE.fullmatch(unsaid[0]) else json.dumps(unsaid[0], ensure_ascii=False)} = .. }}, or {{ other = .. }} for the rest")
+    for rock, value in given.items():
+        number(f"{what} of rock {rock}", value, -math.inf)
+        if "other" in given and rock not in (*kinds, "other", AIR):        # else a misspelt rock counts as one of the others
+            raise PlanError(f"{what}: no block is of rock {rock!r}{meant(rock, kinds)}")
+    found: Floats = b.rock.map({kind: float(given.get(kind, given.get("other", 0.0))) for kind in kinds}).to_numpy(float)
+    return found
+
+
+def of_formula(text: str, model: Model, what: str) -> Floats | Bools:
+    """What a formula gives for each block."""
+    return of_rows(text, model.blocks, what)
+
+
+def of_rows(text: str, table: pd.DataFrame, what: str) -> Floats | Bools:
+    """What a formula gives for each row; 0 or no for air that was added, which weighs nothing, and stands where a formula that goes by the
+    ground may give no number."""
+    asked = (table["row"].to_numpy() >= 0) | (table["tonnes"].to_numpy(float) > 0)
+    if asked.all():
+        return worked_out(text, table, what)
+    found = worked_out(text, table[asked], what)
+    each: Floats | Bools = np.zeros(len(table), found.dtype)
+    each[asked] = found
+    return each
+
+
+def holds(formula: str, model: Model) -> tuple[Bools, Bools]:
+    """For which blocks a formula of `forbid` holds, and for which rows: of blocks that were added up, one of whose sub-blocks it holds
+    for that weighs something.
+
+    Raises
+    ------
+    PlanError
+        Where it says neither yes nor no, or asks for sub-blocks that aren't at hand.
+    """
+    parts, table = model.parts, model.blocks
+    block = np.arange(len(model))
+    if parts is not None:
+        is_added = table["row"].to_numpy() < 0
+        table = pd.concat([parts.frame, table[is_added]], ignore_index=True)
+        block = np.concatenate([parts.parent, block[is_added]])
+    elif model.has_sub_blocks:
+        raise PlanError(f"[economics] forbid = {formula!r}: for which sub-blocks does it hold? A model that was built doesn't have them any more", try_this="read the table again, and build")
+    found = of_rows(formula, table, "[economics] forbid")
+    if found.dtype != bool:
+        raise PlanError(f"[economics] forbid = {formula!r} says neither yes nor no", try_this='as "XC > 12000"')
+    rows = found.astype(bool) & ((table["tonnes"].to_numpy(float) > 0) | (parts is None))
+    each: Bools = np.zeros(len(model), bool)
+    each[block[rows]] = True
+    return each, rows
+
+
+def share(what: str, values: Floats, model: Model) -> Floats:
+    """Refuses shares that aren't from 0 to 1."""
+    wrong = (values < 0) | (values > 1)
+    if wrong.any():
+        at = int(np.argmax(wrong))
+        raise PlanError(f"{what} is {values[at]:g}, and a share is from 0 to 1", table=model.table, row=row_at(model, at))
+    return values
+
+
+def cost(what: str, given: Amount, model: Model) -> Floats:
+    """What a tonne costs, at least 0."""
+    values = amount(what, given, model)
+    wrong = values < 0
+    if wrong.any():
+        at = int(np.argmax(wrong))
+        raise PlanError(f"{what} costs {values[at]:g} a tonne here, less than nothing, and so for {int(wrong.sum()):,} blocks", table=model.table,
+                        row=row_at(model, at), try_this=f"max(0, {given}), if the formula runs below 0" if isinstance(given, str) else None)
+    return values
+
+
+def row_at(model: Model, block: int) -> int | None:
+    row = int(model.blocks["row"].iloc[block])
+    return row if row >= 0 else None
+
+
+def in_whole(name: str, values: Floats, rounding: Decimal, model: Model) -> Whole:
+    """Amounts in whole multiples of `rounding`, half to even."""
+    most = float(MOST)
+    if not np.abs(values).max(initial=0.0) <= most:            # so also where a product is no number
+        at = int(np.argmax(np.abs(values)))
+        raise PlanError(f"a {name} of {values[at]:g} for one block: is a unit wrong?", table=model.table, row=row_at(model, at))
+    whole: Whole = np.rint(values / float(rounding)).astype(np.int64)
+    return whole
+
+
+def fence_price(priced: Priced, rounding: Decimal) -> int:
+    """What digging a forbidden block is made to cost: more than the whole mine brings at the largest factor, so that no best
+    pit has one. Where that is more than `pit` reads, the most that it reads; `Study.adds_up` looks whether a pit has one then.
+
+    Raises
+    ------
+    PlanError
+        Where the mine brings more than half of that at the full price.
+    """
+    price = exact_sum(priced.revenue) * LARGEST_FACTOR // THOUSAND + 1
+    if price * rounding > MOST:
+        price = int(MOST / rounding)
+        if price <= 2 * exact_sum(priced.revenue):
+            raise PlanError("[economics] forbid: the mine brings too much for an amount that keeps blocks from being dug", try_this="prices and costs in thousands")
+    return price

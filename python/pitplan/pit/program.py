@@ -1,0 +1,520 @@
+"""The one place that runs `pit`: what comes out is an `Accepted` or a `Stated`, or an error in the planner's terms."""
+from __future__ import annotations
+
+import gzip
+import hashlib
+import os
+import re
+import shutil
+import signal
+import subprocess
+import sys
+import threading
+from collections.abc import Callable, Iterable, Iterator, Sequence
+from contextlib import contextmanager, nullcontext
+from dataclasses import InitVar, dataclass
+from functools import cached_property
+from pathlib import Path
+from typing import Union
+
+import numpy as np
+import numpy.typing as npt
+
+from ..base.errors import Disagreement, MachineError, NotAccepted, PlanError
+from .valued import Valued
+
+Progress = Callable[[int, int], None]
+Heard = Callable[[str], None]                # a line of `--progress`
+Word = Union[str, int, Path]
+TOP = Path(__file__).resolve().parents[3]
+BUILT = (TOP / "out" / "pit", TOP / "crates" / "pit" / "out" / "pit")      # where this repository's build puts it
+PIECE = 1 << 20
+HEAD = 4                                     # lines before the PIT lines of a certificate
+BEHIND = (b"SOURCE ", b"REST ", b"SINK ", b"END")
+ROOM = "make room on the disk, and start the same command again: what is done is kept"
+HINTS = {"No space left on device": ROOM, "Disk quota exceeded": ROOM,
+         "UNSETTLED": "the run was cut off before its pit was proved: tell the maintainers of this mine",
+         "TooLarge": "the amounts are too large together: rounding = 1000 in [economics], or prices and costs in thousands",
+         "memory": "memory was refused: fewer --workers", "device": "a file couldn't be read or written: is the disk full?"}
+BEGUN = object()                             # what only Pit.check hands to an Accepted, and Pit.series to a Stated
+MOST_FACTORS = 64                            # of one run of `pit shells`
+ABOVE = 1 << 30                              # of a block that no pit of a series has: above all factors
+
+
+@dataclass(frozen=True)
+class Accepted:
+    """A pit that `pit check` has accepted. `Pit.check` alone makes one, of the very bytes that were checked.
+
+    Attributes
+    ----------
+    count : int
+        How many blocks the pit has.
+    worth : str
+        What it is worth at its factor, as `pit` spells it.
+    blocks : int array of shape (count,)
+        The numbers of its blocks, ascending.
+    factor : int
+        Of the revenue, in thousandths.
+    certificate : str
+        The sha256 of the certificate.
+    size : int
+        Of the model, in blocks.
+    """
+
+    count: int
+    worth: str
+    blocks: npt.NDArray[np.int64]
+    factor: int
+    certificate: str
+    size: int
+    begun: InitVar[object] = None
+
+    def __post_init__(self, begun: object) -> None:
+        if begun is not BEGUN:
+            raise TypeError("an Accepted is made by Pit.check alone")
+
+    @property
+    def mask(self) -> npt.NDArray[np.bool_]:
+        """Whether a block is in the pit, of shape (blocks of the model,)."""
+        found = np.zeros(self.size, bool)
+        found[self.blocks] = True
+        return found
+
+
+@dataclass(frozen=True)
+class Stated:
+    """A pit as `pit shells --by-block` states it. `Pit.series` alone makes one, of one run's lines and table of blocks.
+
+    No certificate of it is kept. That it is the best pit at its factor rests on the program: it is proved to check each pit with a
+    flow before it prints a line.
+
+    Attributes
+    ----------
+    count : int
+        How many blocks the pit has, by the line.
+    worth : str
+        What it is worth at its factor, by the line.
+    factor : int
+        Of the revenue, in thousandths.
+    mask : bool array of shape (size,)
+        Whether a block is in the pit, by the table of blocks.
+    """
+
+    count: int
+    worth: str
+    factor: int
+    mask: npt.NDArray[np.bool_]
+    begun: InitVar[object] = None
+
+    def __post_init__(self, begun: object) -> None:
+        if begun is not BEGUN:
+            raise TypeError("a Stated is made by Pit.series alone")
+
+    @property
+    def size(self) -> int:
+        """Of the model, in blocks."""
+        return len(self.mask)
+
+    @property
+    def certificate(self) -> None:
+        """There is none."""
+        return None
+
+
+@dataclass(frozen=True)
+class Files:
+    """The three files of a model with a mill."""
+
+    prec: Path
+    blocks: Path
+    settings: Path
+
+    def words(self) -> list[Word]:
+        return ["--prec", self.prec, "--blocks", self.blocks, "--settings", self.settings]
+
+
+def found_program() -> str:
+    """Where `pit` is: as PIT in the environment says, on the path, where this repository builds it, or beside the command.
+
+    Raises
+    ------
+    PlanError
+        Where it is nowhere.
+    """
+    named = os.environ.get("PIT")
+    if named:
+        where = shutil.which(named)
+        if not where:
+            raise PlanError(f"PIT in the environment is {named!r}, and there is no such program")
+        return str(Path(where).resolve())
+    beside = Path(sys.argv[0]).resolve().parent / "pit"
+    where = shutil.which("pit") or next((str(path) for path in (*BUILT, beside) if os.access(path, os.X_OK)), None)
+    if not where:
+        raise PlanError("the program pit isn't there", try_this="./install in the repository, or PIT=/path/to/pit")
+    return where
+
+
+class Pit:
+    """The program `pit`.
+
+    Parameters
+    ----------
+    program : str or Path, optional
+        Where it is; found as `found_program` says unless told.
+    """
+
+    def __init__(self, program: str | Path | None = None) -> None:
+        self.program = str(program) if program else found_program()
+        self.running: set[subprocess.Popen[bytes]] = set()
+        self.is_stopped = False
+        self.lock = threading.Lock()
+
+    def version(self) -> list[str]:
+        """The lines of ``pit --version``."""
+        try:
+            return self.run(["--version"]).strip().splitlines()
+        except PlanError:
+            return ["unknown"]
+
+    def slopes(self, blocks: Path, settings: Path, out: Path) -> None:
+        """Writes the predecessors of each block, by the offsets that `settings` lists."""
+        self.run(["slopes", "--blocks", blocks, "--pattern", "settings", "--settings", settings, "--verbose"], out)
+
+    def best(self, files: Files, factor: int, certificate: Path, progress: Progress | None = None, keeps: bool = True) -> Accepted:
+        """The best pit at a factor: its certificate is written, then checked as the file that was written, and kept packed.
+
+        Parameters
+        ----------
+        factor : int
+            Of the revenue, in thousandths.
+        certificate : Path
+            The file to write; when it is done, it lies packed at the same name with ``.gz`` behind.
+        progress : function, optional
+            Is told how many blocks of how many are settled.
+        keeps : bool
+            Whether the certificate is kept; otherwise only its digest is.
+
+        Raises
+        ------
+        NotAccepted
+            Where there was no certificate, or the check refuses it.
+        """
+        more: list[Word] = ["--progress"] if progress else []
+        said = self.run(["solve", *files.words(), "--factor", factor, "--verbose", *more], certificate, settled(progress) if progress else None)
+        if said:
+            raise NotAccepted(f"pit solve at factor {factor / 1000:g}: {said.strip()}", try_this=hint_of(said))
+        with packed(certificate) if keeps else nullcontext() as kept:
+            found = self.check(files, certificate, kept)
+        certificate.unlink()
+        return found
+
+    def check(self, files: Files, certificate: Path, kept: gzip.GzipFile | None = None) -> Accepted:
+        """Lets `pit check` judge a certificate. The bytes of the file are read once: handed to `pit check`, digested, and
+        their PIT lines read, so that what is accepted is what is returned.
+
+        Parameters
+        ----------
+        certificate : Path
+            Packed where its name ends in ``.gz``.
+        kept : GzipFile, optional
+            The same bytes are written to it.
+
+        Raises
+        ------
+        NotAccepted
+            Where it doesn't answer ACCEPTED.
+        """
+        lines = PitLines()
+
+        def pieces() -> Iterator[bytes]:
+            with gzip.open(certificate, "rb") if certificate.suffix == ".gz" else open(certificate, "rb") as file:
+                while data := file.read(PIECE):
+                    lines.take(data)
+                    if kept:
+                        kept.write(data)
+                    yield data
+        line = self.run(["check", *files.words(), "--verbose", "/dev/stdin"], fed=pieces()).strip()
+        found = re.fullmatch(r"ACCEPTED (\d+) (-?[\d.]+)", line)
+        if not found:
+            raise NotAccepted(f"pit check: {line}", try_this=hint_of(line))
+        size, factor, blocks = lines.found()
+        if len(blocks) != int(found[1]):
+            raise NotAccepted(f"pit check counts {found[1]} blocks, and the certificate has {len(blocks)} PIT lines")
+        return Accepted(int(found[1]), found[2], blocks, factor, lines.digest.hexdigest(), size, BEGUN)
+
+    def value(self, files: Files, design: Path, certificate: Path) -> Valued:
+        """Lets `pit value` judge a design beside the pit of a certificate, at its factor.
+
+        Parameters
+        ----------
+        design : Path
+            A text with the number of a block in each line.
+        certificate : Path
+            As `pit solve` wrote it.
+
+        Raises
+        ------
+        NotAccepted
+            Where the certificate is refused.
+        """
+        said = self.run(["value", *files.words(), "--verbose", "--best", certificate, design])
+        return Valued.of_answer(said, hint_of(said))
+
+    @cached_property
+    def states_blocks(self) -> bool:
+        """Whether its `shells` has the option `--by-block`, which older ones haven't."""
+        try:
+            return "--by-block" in self.run(["shells", "--help"])
+        except PlanError:
+            return False
+
+    def series(self, files: Files, factors: Sequence[int], work: Path, workers: int = 1, proved: Callable[[int], None] | None = None) -> list[Stated]:
+        """The best pits at up to `MOST_FACTORS` factors, from one run of `pit shells --by-block`.
+
+        Parameters
+        ----------
+        factors : sequence of int
+            In thousandths, ascending.
+        work : Path
+            A folder for the settings and the table of blocks.
+        workers : int
+            Factors that are solved at a time.
+        proved : function, optional
+            Is told each factor whose pit is proved.
+
+        Raises
+        ------
+        NotAccepted
+            Where `pit` finds no pit at one of the factors.
+        Disagreement
+            Where its lines and its table of blocks aren't of these factors and this model.
+        """
+        settings, table = work / "series.toml", work / "by_block.csv"
+        settings.write_text(files.settings.read_text() + f"factors = {list(factors)}\n")
+        words: list[Word] = [*Files(files.prec, files.blocks, settings).words(), "--by-block", table, "--workers", workers, "--verbose"]
+        said = self.run(["shells", *words, *(["--progress"] if proved else [])], heard=each_proved(proved) if proved else None)
+        lines = re.findall(r"^SHELL (\d+) (\d+) (-?[\d.]+)$", said, re.MULTILINE)
+        if not lines:
+            raise NotAccepted(f"pit shells: {said.strip()}", try_this=hint_of(said))
+        if [int(factor) for factor, _, _ in lines] != list(factors) or len(lines) != said.count("\n"):
+            raise Disagreement(f"pit shells was asked for {len(factors)} factors, and its lines are of others", try_this="tell the maintainers")
+        shell = shell_of_blocks(table, factors)
+        return [Stated(int(count), worth, int(factor), shell <= int(factor), BEGUN) for factor, count, worth in lines]
+
+    def run(self, words: Sequence[Word], out: Path | None = None, heard: Heard | None = None, fed: Iterable[bytes] | None = None) -> str:
+        """Runs `pit`.
+
+        Parameters
+        ----------
+        words : sequence
+            Of its command line.
+        out : Path, optional
+            The file that its standard output is written to.
+        heard : function, optional
+            Is told each line that says how far it is.
+        fed : iterable of bytes, optional
+            What it gets on its standard input; all of it is gone through, also where `pit` reads no more.
+
+        Returns
+        -------
+        str
+            Its standard output; with `out`, nothing where it is done, and the answer where that is no.
+
+        Raises
+        ------
+        PlanError, MachineError
+            Where it ended with another status than 0 or 1, or by a signal: with its own words, and what to try.
+        """
+        told: list[str] = []
+        with open(out, "wb") if out else open(os.devnull, "wb") as target:
+            run = self.started(words, target.fileno() if out else subprocess.PIPE, subprocess.PIPE if fed is not None else subprocess.DEVNULL)
+            ear = threading.Thread(target=listen, args=(run, told, heard), daemon=True)
+            ear.start()
+            try:
+                feed(run, fed or ())
+                text = run.stdout.read().decode(errors="replace") if run.stdout else ""
+                status = run.wait()
+            except BaseException:
+                ended_now(run)
+                run.wait()
+                raise
+            finally:
+                ear.join()
+                with self.lock:
+                    self.running.discard(run)
+        if status == 1 and out:
+            return out.read_text(errors="replace")[:1000]
+        if status in (0, 1):
+            return text
+        raise self.ended(str(words[0]), status, " ".join(told))
+
+    def started(self, words: Sequence[Word], output: int, given: int) -> subprocess.Popen[bytes]:
+        """Starts `pit`, so that it ends when this process does: setpriv is of util-linux, which Debian always has."""
+        setpriv = shutil.which("setpriv")
+        before = [setpriv, "--pdeathsig", "KILL", "--"] if setpriv else []
+        with self.lock:
+            if self.is_stopped:
+                raise KeyboardInterrupt
+            try:
+                run = subprocess.Popen([*before, self.program, *map(str, words)], stdin=given, stdout=output,
+                                       stderr=subprocess.PIPE, process_group=0)      # ctrl-C is for this process, which ends it
+            except OSError as error:
+                raise MachineError(f"{self.program} can't be started: {error.strerror}") from None
+            self.running.add(run)
+        return run
+
+    def stop(self) -> None:
+        """Ends all that runs, and starts nothing more."""
+        with self.lock:
+            self.is_stopped = True
+            for run in self.running:
+                ended_now(run)
+
+    def ended(self, command: str, status: int, fault: str) -> PlanError:
+        """The error of a run that ended with another status than 0 or 1."""
+        if self.is_stopped:
+            return MachineError("stopped")
+        how = f"was ended by {signal.Signals(-status).name}" if status < 0 else f"ended with status {status}"
+        hint = "fewer --workers: memory was short, or somebody ended it" if status == -signal.SIGKILL else hint_of(fault)
+        kind = MachineError if status < 0 or status == 4 else PlanError
+        return kind(f"pit {command} {how}" + (f": {fault}" if fault else ""), try_this=hint)
+
+
+@contextmanager
+def packed(certificate: Path) -> Iterator[gzip.GzipFile]:
+    """The packed file beside a certificate, for its bytes."""
+    with open(certificate.with_name(certificate.name + ".gz"), "wb") as target, gzip.GzipFile("", "wb", 1, target, mtime=0) as kept:
+        yield kept
+
+
+def ended_now(run: subprocess.Popen[bytes]) -> None:
+    """Ends a run and all that it started: it is the first of a process group of its own."""
+    if run.poll() is None:
+        os.killpg(run.pid, signal.SIGKILL)
+
+
+def hint_of(said: str) -> str | None:
+    return next((hint for key, hint in HINTS.items() if key in said), None)
+
+
+def listen(run: subprocess.Popen[bytes], told: list[str], heard: Heard | None) -> None:
+    """Takes in what `pit` says on standard error: how far it is, and what is wrong."""
+    assert run.stderr is not None
+    for raw in run.stderr:
+        line = raw.decode(errors="replace").rstrip()
+        if not line.startswith("progress:"):
+            told.append(line)
+        elif heard:
+            heard(line)
+
+
+def settled(progress: Progress) -> Heard:
+    """Tells of how many blocks `pit solve` says that they are settled."""
+    def heard(line: str) -> None:
+        found = re.match(r"progress: (\d+) of (\d+) blocks settled", line)
+        if found:
+            progress(int(found[1]), int(found[2]))
+    return heard
+
+
+def each_proved(proved: Callable[[int], None]) -> Heard:
+    """Tells each factor of which `pit shells` says that its pit is proved."""
+    def heard(line: str) -> None:
+        found = re.match(r"progress: factor (\d+): the pit is proved", line)
+        if found:
+            proved(int(found[1]))
+    return heard
+
+
+def shell_of_blocks(table: Path, factors: Sequence[int]) -> npt.NDArray[np.int64]:
+    """The first factor whose pit has each block, in thousandths, of shape (blocks,); above all factors where none has it.
+
+    Raises
+    ------
+    Disagreement
+        Where the table isn't one of all blocks, ascending, with these factors.
+    """
+    import pandas as pd
+    try:
+        found = pd.read_csv(table, dtype={"block": np.int64, "shell": np.float64}, keep_default_na=False, na_values=[""], skip_blank_lines=False)
+        block, shell = found["block"].to_numpy(), found["shell"].to_numpy()
+        is_right = list(found.columns) == ["block", "shell"] and (block == np.arange(len(block))).all() and np.isin(shell[~np.isnan(shell)], list(factors)).all()
+    except (ValueError, KeyError, OverflowError):
+        is_right = False
+    if not is_right:
+        raise Disagreement("the table of blocks that pit shells wrote isn't one of all blocks and these factors", try_this="is the disk full? else tell the maintainers")
+    first: npt.NDArray[np.int64] = np.nan_to_num(shell, nan=float(ABOVE)).astype(np.int64)
+    return first
+
+
+def feed(run: subprocess.Popen[bytes], pieces: Iterable[bytes]) -> None:
+    """Hands bytes to a run, as long as it takes them."""
+    takes = run.stdin is not None
+    for piece in pieces:
+        try:
+            if takes and run.stdin:
+                run.stdin.write(piece)
+        except BrokenPipeError:
+            takes = False
+    try:
+        if run.stdin:
+            run.stdin.close()
+    except BrokenPipeError:
+        pass
+
+
+class PitLines:
+    """The PIT lines of a certificate that goes by in pieces, and the sha256 of all of it; the flow is only digested.
+
+    Attributes
+    ----------
+    digest : hash object
+    """
+
+    def __init__(self) -> None:
+        self.digest = hashlib.sha256()
+        self.rest, self.head, self.is_over = b"", list[bytes](), False
+        self.blocks: list[npt.NDArray[np.int64]] = []
+
+    def take(self, data: bytes) -> None:
+        """Takes in the next piece."""
+        self.digest.update(data)
+        if self.is_over:
+            return
+        data = self.rest + data
+        if not self.head:
+            if data.count(b"\n") < HEAD:
+                self.rest = data
+                return
+            *self.head, data = data.split(b"\n", HEAD)
+        cut = data.rfind(b"\n") + 1
+        piece, self.rest = data[:cut], data[cut:]
+        ends = [at for at in map(piece.find, BEHIND) if at >= 0]
+        if ends:
+            piece, self.is_over = piece[:min(ends)], True
+        self.blocks.append(numbers_in(piece))
+
+    def found(self) -> tuple[int, int, npt.NDArray[np.int64]]:
+        """How many blocks the certificate's model has, its factor in thousandths, and the blocks of its PIT lines.
+
+        Raises
+        ------
+        NotAccepted
+            Where its first lines say neither.
+        """
+        size, factor = (self.head[i].split()[-1] if len(self.head) == HEAD and self.head[i] else b"" for i in (1, 2))
+        if not factor.isdigit() or not size.isdigit():
+            raise NotAccepted("a certificate without a factor: is it of another kind of model?")
+        return int(size), int(factor), np.concatenate(self.blocks) if self.blocks else np.empty(0, np.int64)
+
+
+def numbers_in(lines: bytes) -> npt.NDArray[np.int64]:
+    """The numbers of lines ``PIT b``."""
+    if lines.translate(None, b"0123456789PIT \n"):
+        raise NotAccepted("a certificate has other lines between its PIT lines")
+    if not lines:
+        return np.empty(0, np.int64)
+    found: npt.NDArray[np.int64] = np.fromstring(lines.replace(b"PIT ", b"").decode(), dtype=np.int64, sep="\n")
+    if len(found) != lines.count(b"\n"):
+        raise NotAccepted("a certificate has other lines between its PIT lines")
+    return found

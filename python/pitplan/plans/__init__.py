@@ -1,0 +1,1 @@
+"""What is asked of proved pits: pushbacks, widths, designs, what-ifs, realisations."""

@@ -1,0 +1,140 @@
+"""Pushbacks: what each of some chosen pits adds to the one before it, bench by bench, as a scheduler takes it in."""
+from __future__ import annotations
+
+from typing import TYPE_CHECKING, Any
+
+import numpy as np
+import numpy.typing as npt
+import pandas as pd
+
+from ..base.amounts import THOUSAND
+from ..base.errors import PlanError
+from ..model import outlines
+from ..study.pit_by_pit import Cells
+from . import widths
+
+if TYPE_CHECKING:
+    from ..study.shells import Shells
+
+SUMMED = ("blocks", "rock_t", "ore_t", "waste_t", "feed_t", "worth")
+
+
+class Phases:
+    """The pushbacks of a series of pits: the first pit, and what each further one adds.
+
+    Parameters
+    ----------
+    shells : Shells
+        Of the chosen factors alone. Each pushback is the difference of two best pits as `pit` states them, so after each the
+        mine is a proved pit.
+    mining_width : float, optional
+        The least width that machines need, in the unit of the coordinates.
+
+    Attributes
+    ----------
+    pushback : int16 array of shape (blocks,)
+        The pushback that digs a block, counted from 1; 0 where none does, and of air.
+
+    Raises
+    ------
+    PlanError
+        Where two of the pits are the same, or the first is empty: there is no such pushback then; or where the mining width
+        isn't above 0.
+    """
+
+    def __init__(self, shells: Shells, mining_width: float | None = None) -> None:
+        if mining_width is not None and not mining_width > 0:
+            raise PlanError(f"the mining width is {mining_width:g}, and has to be above 0")
+        self.shells, self.mining_width = shells, mining_width
+        count = len(shells.factors)
+        self.pushback: npt.NDArray[np.int16] = np.where(shells.dug < count, shells.dug + 1, 0).astype(np.int16)
+        there = np.bincount(self.pushback, minlength=count + 1)[1:]
+        if (there == 0).any():
+            i = int(np.argmin(there))
+            before = f"the pit at {shells.factors[i] / THOUSAND:g} is that at {shells.factors[i - 1] / THOUSAND:g}" if i else f"the pit at {shells.factors[0] / THOUSAND:g} is empty"
+            raise PlanError(f"{before}: there is no pushback {i + 1}", try_this="leave that factor out, or take factors that lie further apart")
+
+    def __len__(self) -> int:
+        return len(self.shells.factors)
+
+    def benches(self, base: int = THOUSAND) -> pd.DataFrame:
+        """A row for each pushback and bench that it has blocks on, in the order of digging: pushback by pushback, from the top.
+
+        Parameters
+        ----------
+        base : int
+            The factor, in thousandths, at which ore and worths count.
+
+        Returns
+        -------
+        DataFrame
+            ``pushback`` (from 1), ``factor`` (of its pit, as a share of the price), ``bench`` (elevation of its blocks' centres),
+            ``toe``, ``crest``; ``blocks``, ``rock_t``, ``ore_t``, ``waste_t`` (tonnes in place; ore is what goes to the
+            mill), ``strip`` (waste by ore), ``feed_t`` (what the mill gets), ``worth``; for each metal ``grade_<metal>`` and
+            ``metal_<metal>``; ``width`` (the thinnest, see `widths.widths`), and with a mining width ``narrow_blocks`` and
+            ``narrow_t``: what lies where it is less.
+        """
+        shells = self.shells
+        grid, cells = shells.study.model.grid, Cells.of(shells, base)
+        cube = outlines.cube_of(shells.study.model, self.pushback, 0)
+        tonnes = outlines.cube_of(shells.study.model, shells.study.model.blocks.tonnes.to_numpy(float), 0.0)
+        rows = []
+        for i, down in np.argwhere(cells.blocks > 0).tolist():
+            level = grid.shape[2] - 1 - down
+            here = cube[:, :, level] == i + 1
+            if not here.any():
+                continue                     # air alone
+            toe, centre, crest = grid.world(0, 0, [level - 0.5, level, level + 0.5])[2].tolist()
+            found = cells.at(i, down) | {"blocks": int(here.sum())}
+            rock = {name: found.pop(name) for name in ("blocks", "rock_t", "ore_t", "waste_t")}
+            mill = {"strip": rock["waste_t"] / rock["ore_t"] if rock["ore_t"] else np.nan, "feed_t": rock["ore_t"] * shells.study.priced.feed}
+            row = {"pushback": i + 1, "factor": shells.factors[i] / THOUSAND, "bench": centre, "toe": toe, "crest": crest}
+            rows.append(row | rock | mill | found | self.room(here, tonnes[:, :, level]))
+        return pd.DataFrame(rows)
+
+    def room(self, plane: npt.NDArray[np.bool_], tonnes: npt.NDArray[np.float64]) -> dict[str, Any]:
+        """How wide a pushback is on a bench."""
+        sx, sy, _ = self.shells.study.model.grid.size
+        found = widths.widths(plane, (sx, sy), self.mining_width or 0.0)
+        row: dict[str, Any] = {"width": widths.thinnest(found, (sx, sy))}
+        if self.mining_width is not None:
+            narrow = plane & (found < self.mining_width)
+            row |= {"narrow_blocks": int(narrow.sum()), "narrow_t": float(tonnes[narrow].sum())}
+        return row
+
+    def table(self, base: int = THOUSAND, benches: pd.DataFrame | None = None) -> pd.DataFrame:
+        """A row for each pushback: the sums of `benches`, grades by tonnes of ore, and the thinnest width with its bench.
+
+        Parameters
+        ----------
+        base : int
+        benches : DataFrame, optional
+            As `benches` gives it, where it is there already.
+
+        Returns
+        -------
+        DataFrame
+            ``pushback``, ``factor``, ``top`` and ``bottom`` (the crest of its highest bench, the toe of its lowest), ``benches``
+            (how many), the columns of `benches` from ``blocks`` on, and ``width_bench``, where it is thinnest.
+        """
+        found = self.benches(base) if benches is None else benches
+        names = [str(name)[len("metal_"):] for name in found.columns if str(name).startswith("metal_")]
+        rows = []
+        for (pushback, factor), part in found.groupby(["pushback", "factor"], sort=True):
+            ore = float(part.ore_t.sum())
+            row: dict[str, Any] = {"pushback": pushback, "factor": factor, "top": part.crest.max(), "bottom": part.toe.min(), "benches": len(part)}
+            row |= {name: part[name].sum() for name in SUMMED}
+            row["strip"] = float(row["waste_t"]) / ore if ore else np.nan
+            for name in names:
+                row[f"grade_{name}"] = float((part[f"grade_{name}"].fillna(0) * part.ore_t).sum()) / ore if ore else np.nan
+                row[f"metal_{name}"] = part[f"metal_{name}"].sum()
+            at = part.width.idxmin()
+            row |= {"width": part.width[at], "width_bench": part.bench[at]}
+            row |= {name: part[name].sum() for name in ("narrow_blocks", "narrow_t") if name in part}
+            rows.append(row)
+        return pd.DataFrame(rows)
+
+    def of_blocks(self) -> pd.DataFrame:
+        """The pushback of each block: ``id``, ``row`` (as a spreadsheet counts it; 0 for blocks that were added), ``pushback``."""
+        model = self.shells.study.model
+        return pd.DataFrame({"id": model.blocks["id"].to_numpy(), "row": model.table_row, "pushback": self.pushback})

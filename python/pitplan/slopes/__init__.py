@@ -1,0 +1,1 @@
+"""From slope angles to offsets, and to the `.prec` file that `pit slopes` writes."""

@@ -1,0 +1,171 @@
+"""The planner's tables of the shells: pit by pit, and bench by bench."""
+from __future__ import annotations
+
+from dataclasses import dataclass
+from decimal import Decimal
+from typing import TYPE_CHECKING, Any
+
+import numpy as np
+import numpy.typing as npt
+import pandas as pd
+
+from ..base.amounts import THOUSAND, exact_sum
+from ..base.errors import PlanError
+from ..table.study_keys import refuse_wrong
+
+if TYPE_CHECKING:
+    from .shells import Shells
+
+Floats = npt.NDArray[np.float64]
+YEARS = 15                                   # that the largest pit takes, where no rate is given
+MOST_YEARS = 1000                            # that it may take: what needs longer has a rate in another unit
+
+
+@dataclass(frozen=True)
+class Rates:
+    """How quickly a mine works, and what later money is worth.
+
+    Parameters
+    ----------
+    mining : float, optional
+        Tonnes of rock a year; the largest pit in `YEARS` years unless told.
+    mill : float, optional
+        Tonnes of the mill's feed a year; likewise.
+    discount : float
+        A year, as a share: 0.08 is 8 %.
+    """
+
+    mining: float | None = None
+    mill: float | None = None
+    discount: float = 0.10
+
+    def __post_init__(self) -> None:
+        refuse_wrong("shells", {"mining_rate": self.mining, "mill_rate": self.mill, "discount": self.discount})
+
+    def over(self, rock: float, feed: float) -> Rates:
+        """The rates, with those that weren't told for this much rock and feed. Raises PlanError where that takes more than `MOST_YEARS`."""
+        for name, rate, tonnes in (("mining_rate", self.mining, rock), ("mill_rate", self.mill, feed)):
+            if rate and tonnes > MOST_YEARS * rate:
+                raise PlanError(f"[shells] {name} = {rate:g}: the largest pit's {tonnes:,.0f} tonnes would take {min(tonnes / rate, 1e9):,.0f} years", try_this=f"{name} in tonnes a year, as {max(tonnes / YEARS, 1):.2g}; the pits stand, and aren't found again")
+        return Rates(self.mining or max(rock / YEARS, 1.0), self.mill or max(feed / YEARS, 1.0), self.discount)
+
+
+@dataclass(frozen=True)
+class Cells:
+    """What lies in each shell on each bench from the top: arrays of shape (factors, benches)."""
+
+    rock: Floats
+    ore: Floats
+    worth: Floats
+    metal: dict[str, Floats]
+    graded: dict[str, Floats]                # ore tonnes times their grade
+    blocks: Floats
+
+    @classmethod
+    def of(cls, shells: Shells, base: int) -> Cells:
+        """Adds up the blocks of each shell on each bench; ore is what goes to the mill at the factor `base` (in thousandths)."""
+        m, p, s = shells.study.model, shells.study.priced, len(shells.factors)
+        nz = m.grid.shape[2]
+        cell = shells.shell.astype(np.int64) * nz + (nz - 1 - m.blocks.iz.to_numpy())
+        tonnes, ore = m.blocks.tonnes.to_numpy(float), p.milled(base)
+
+        def summed(values: npt.NDArray[Any]) -> Floats:
+            found: Floats = np.bincount(cell, values, (s + 1) * nz).astype(float).reshape(s + 1, nz)[:s]
+            return found
+        return cls(summed(tonnes), summed(tonnes * ore), summed(p.worth(base)), {k: summed(v * ore) for k, v in p.metal.items()},
+                   {k: summed(v * tonnes * ore) for k, v in p.grade.items()}, summed(np.ones(len(m))))
+
+
+    def at(self, i: int, down: int) -> dict[str, Any]:
+        """What lies in shell i (from 0) on the bench so far down from the top, in the columns of `benches`."""
+        rock, ore = float(self.rock[i, down]), float(self.ore[i, down])
+        found: dict[str, Any] = {"blocks": int(self.blocks[i, down]), "rock_t": rock, "ore_t": ore, "waste_t": rock - ore, "worth": float(self.worth[i, down])}
+        for name in self.metal:
+            found[f"grade_{name}"] = float(self.graded[name][i, down]) / ore if ore else np.nan
+            found[f"metal_{name}"] = float(self.metal[name][i, down])
+        return found
+
+
+def table(shells: Shells, base: int, rates: Rates) -> pd.DataFrame:
+    """A row for each pit, with everything that lies in it.
+
+    Parameters
+    ----------
+    shells : Shells
+    base : int
+        The factor, in thousandths, at which ore, worths and discounted worths count.
+    rates : Rates
+
+    Returns
+    -------
+    DataFrame
+        ``factor`` (share of the price), ``blocks``; ``rock_t``, ``ore_t``, ``waste_t`` (tonnes in place; ore is what goes to
+        the mill at the base factor), ``strip`` (waste by ore), ``feed_t`` (what the mill gets), ``worth_at_factor`` (text:
+        what `pit` proved), ``worth_at_base`` (exact, rounded to a float at the end), ``npv_best`` (dug shell by
+        shell), ``npv_worst`` (the pit bench by bench), ``years``; and for each metal ``grade_<metal>`` (of the ore in
+        place, in its own unit) and ``metal_<metal>`` (recovered, in the unit of its price).
+    """
+    p, c = shells.study.priced, Cells.of(shells, base)
+    rates = rates.over(float(c.rock.sum()), float(c.ore.sum()) * p.feed)
+    rows, worths = [], worths_of(shells, base)
+    for i, factor in enumerate(shells.factors):
+        rock, ore = float(c.rock[:i + 1].sum()), float(c.ore[:i + 1].sum())
+        best, worst = (discounted(order(c.rock[:i + 1]), order(c.ore[:i + 1]) * p.feed, order(c.worth[:i + 1]), rates) for order in (by_shell, by_bench))
+        row: dict[str, Any] = {"factor": factor / THOUSAND, "blocks": int(c.blocks[:i + 1].sum()), "rock_t": rock, "ore_t": ore, "waste_t": rock - ore,
+                               "strip": (rock - ore) / ore if ore else np.nan, "feed_t": ore * p.feed, "worth_at_factor": shells.verdicts[i]["worth"],
+                               "worth_at_base": float(Decimal(worths[i])), "npv_best": best[0], "npv_worst": worst[0], "years": best[1]}
+        for name in p.metal:
+            row[f"grade_{name}"] = float(c.graded[name][:i + 1].sum()) / ore if ore else np.nan
+            row[f"metal_{name}"] = float(c.metal[name][:i + 1].sum())
+        rows.append(row)
+    return pd.DataFrame(rows)
+
+
+def worths_of(shells: Shells, base: int) -> list[str]:
+    """What each pit is worth at the factor `base`, exactly: its shells are added up, each once, since a pit has all of the one before it."""
+    p, total, found = shells.study.priced, 0, []
+    worth = p.thousandths(base)
+    for i in range(len(shells.factors)):
+        total += exact_sum(worth[shells.shell == i])
+        found.append(p.spelled(total))
+    return found
+
+
+def by_shell(values: Floats) -> Floats:
+    """Pieces in the order of the best case: shell after shell, each from the top."""
+    return values.ravel()
+
+
+def by_bench(values: Floats) -> Floats:
+    """Pieces in the order of the worst case: the whole pit bench after bench."""
+    summed: Floats = values.sum(axis=0)
+    return summed
+
+
+def discounted(rock: Floats, feed: Floats, worth: Floats, rates: Rates) -> tuple[float, float]:
+    """The worth of pieces that are dug one after the other, each as quickly as digging and milling allow, discounted to the
+    middle of its time; and how many years all of them take.
+
+    Parameters
+    ----------
+    rock, feed, worth : arrays of one shape
+        Tonnes, tonnes, and units of currency of each piece.
+    """
+    assert rates.mining and rates.mill
+    takes = np.maximum(rock / rates.mining, feed / rates.mill)
+    ends = np.cumsum(takes)
+    return float(np.sum(worth / (1 + rates.discount) ** (ends - takes / 2))), float(ends[-1]) if len(ends) else 0.0
+
+
+def benches(shells: Shells, base: int) -> pd.DataFrame:
+    """A row for each bench and shell that has blocks there, from the top.
+
+    Returns
+    -------
+    DataFrame
+        ``bench`` (elevation of its blocks' centres), ``shell`` (share of the price), ``blocks``, ``rock_t``, ``ore_t``,
+        ``waste_t``, ``worth`` (at the base factor), and for each metal ``grade_<metal>`` and ``metal_<metal>``, as in `table`.
+    """
+    g, c = shells.study.model.grid, Cells.of(shells, base)
+    return pd.DataFrame([{"bench": g.origin[2] + (g.shape[2] - 1 - down) * g.size[2], "shell": shells.factors[i] / THOUSAND} | c.at(i, down)
+                         for down, i in np.argwhere(c.blocks.T > 0).tolist()])

@@ -1,0 +1,77 @@
+"""What is written of the keys of study.toml for people and for editors: the tables of docs/STUDY.md, and a JSON Schema.
+
+    python3 -m pitplan.study.study_reference docs/STUDY.md
+
+puts the tables into the document anew, in place of those that stand between its marks.
+"""
+from __future__ import annotations
+
+import re
+import sys
+from pathlib import Path
+from typing import Any
+
+from ..base.errors import spelled
+from ..table.study_keys import KEYS, KINDS, METALS, NEEDED, SECTIONS, Key
+
+BEGIN, END = "<!-- keys: made by study_reference.py -->\n", "<!-- end of keys -->\n"
+HEAD = "| Key | What it says | What it may be | Unless given |\n|---|---|---|---|\n"
+DIALECT = "https://json-schema.org/draft/2020-12/schema"
+
+
+def tables() -> str:
+    """The tables of the reference, one for each section and one for a metal."""
+    titles = {section: f"## [{section}]" for section in SECTIONS} | {METALS: "## A metal of [economics]"}
+    return "\n".join(f"{title}\n\n{HEAD}" + "".join(row(key) for key in KEYS if key.section == section) for section, title in titles.items())
+
+
+def row(key: Key) -> str:
+    """A row of a table."""
+    unit = f"; {key.unit.replace('{currency}', 'currency')}" if key.unit else ""
+    default = "needed" if key.is_needed else f"`{spelled(key.default)}`" if key.default is not None else ""
+    return f"| `{key.name}` | {key.help} | {in_cell(key.must)}{in_cell(unit)} | {default} |\n".replace("|  |", "| |")
+
+
+def in_cell(text: str) -> str:
+    return text.replace("|", "\\|")
+
+
+def with_tables(document: str) -> str:
+    """A document with the tables anew between its marks."""
+    before, _, rest = document.partition(BEGIN)
+    return before + BEGIN + "\n" + tables() + "\n" + END + rest.partition(END)[2]
+
+
+def schema() -> dict[str, Any]:
+    """A JSON Schema of study.toml, for editors that complete and check a TOML file by one."""
+    sections = {section: table_of(section) for section in SECTIONS}
+    return {"$schema": DIALECT, "title": "study.toml of pitplan", "type": "object", "properties": sections, "required": list(NEEDED), "additionalProperties": False}
+
+
+def table_of(section: str) -> dict[str, Any]:
+    """The schema of a section, or of a metal."""
+    keys = [key for key in KEYS if key.section == section]
+    return {"type": "object", "properties": {key.name: value_of(key) for key in keys}, "required": [key.name for key in keys if key.is_needed], "additionalProperties": False}
+
+
+def value_of(key: Key) -> dict[str, Any]:
+    """The schema of a value."""
+    found: dict[str, Any] = {**KINDS[key.kind].schema, "description": re.sub(r"`", "", key.help)}
+    if key.default is not None:
+        found["default"] = key.default
+    if key.kind == "choice":
+        found["enum"] = list(key.choices)
+    if key.kind == "columns":
+        found["properties"], found["additionalProperties"] = {name: {"type": "string"} for name in key.choices}, False
+    if key.kind == "metals":
+        found["items"] = table_of(METALS)
+    bounds = {"exclusiveMinimum" if key.above else "minimum": key.least, "exclusiveMaximum" if key.below else "maximum": key.most}
+    limits = {name: value for name, value in bounds.items() if abs(value) != float("inf")}
+    if found.get("type") == "array" and limits:
+        found["items"] = {**found["items"], **limits}
+    return found if found.get("type") == "array" else {**found, **limits}
+
+
+if __name__ == "__main__":
+    path = Path(sys.argv[1])
+    path.write_text(with_tables(path.read_text()))

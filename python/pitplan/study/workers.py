@@ -1,0 +1,147 @@
+"""Several pits at a time on this machine: a thread for each, that waits for its `pit`."""
+from __future__ import annotations
+
+from collections.abc import Callable, Sequence
+from concurrent.futures import FIRST_COMPLETED, Future, ThreadPoolExecutor, wait
+from dataclasses import dataclass
+from typing import TYPE_CHECKING
+
+from ..base.errors import MachineError
+from ..base.machine import free_memory, processors
+from ..pit.program import MOST_FACTORS
+
+if TYPE_CHECKING:
+    from .study import Study, Told, Verdict
+
+PER_BLOCK, PER_PAIR = 350, 22                # bytes of `pit solve`: a tenth more than was measured at 84,000 blocks, 0.4 and 2.6 million pairs
+OWN = 40                                     # bytes a block of this process, for each pit at a time
+SHARE = 0.8                                  # of the free memory, that may be taken
+SECONDS_A_BLOCK, SECONDS_A_PAIR = 2.5e-6, 1.4e-7       # of `pit solve` and `pit check`, likewise
+
+
+@dataclass(frozen=True)
+class Guess:
+    """What finding one pit will take, about."""
+
+    pairs: int
+    memory: int
+    seconds: float
+
+
+def guess_of(study: Study) -> Guess:
+    """A first guess by the number of blocks and of pairs; how long a mine takes depends on the mine."""
+    blocks, pairs = study.manifest["blocks"], study.manifest["pairs"]
+    return Guess(pairs, memory_of(blocks, pairs), blocks * SECONDS_A_BLOCK + pairs * SECONDS_A_PAIR)
+
+
+def memory_of(blocks: int, pairs: int) -> int:
+    """Bytes that finding one pit takes, about."""
+    return blocks * (PER_BLOCK + OWN) + pairs * PER_PAIR
+
+
+def workers_for(study: Study, wanted: int | None = None) -> int:
+    """How many pits are found at a time: as asked or as there are processors, and no more than free memory has room for."""
+    room = int(SHARE * free_memory() / guess_of(study).memory)
+    return max(1, min(wanted or processors(), room))
+
+
+def run_all(study: Study, factors: Sequence[int], workers: int | None = None, told: Told | None = None) -> None:
+    """Finds the pits that aren't there yet. A `pit` that somebody ends, as the system does where memory is short, is started
+    once more, alone, when the others are done.
+
+    Raises
+    ------
+    PlanError
+        As `Study.run`; what runs then is ended, and what is done is kept.
+    KeyboardInterrupt
+        The same.
+    """
+    study.program.is_stopped = False
+    left = missing(factors, study.certified, told)
+    if left:
+        with study.verifying() as sure:      # nothing is kept before the files are known to be those of the build
+            for factor in at_once(study, sorted(left, reverse=True), workers_for(study, workers), told, sure):
+                one(study, factor, told, sure)
+
+
+def missing(factors: Sequence[int], there: Callable[[int], Verdict | None], told: Told | None) -> list[int]:
+    """The factors whose pits aren't there; of the others it tells that they are done."""
+    left = [factor for factor in factors if not there(factor)]
+    for factor in factors:
+        if told and factor not in left:
+            told(factor, "done", 1.0)
+    return left
+
+
+def run_series(study: Study, factors: Sequence[int], workers: int | None = None, told: Told | None = None) -> None:
+    """Finds the pits that aren't there yet, without certificates: one run of `pit shells` for each `MOST_FACTORS` of them. A run that
+    somebody ends, as the system does where memory is short, is started once more, one factor at a time.
+
+    Raises
+    ------
+    PlanError
+        As `Study.run_series`; what runs then is ended, and the runs that are done are kept.
+    KeyboardInterrupt
+        The same.
+    """
+    study.program.is_stopped = False
+    left = missing(sorted(factors), study.verdict, told)
+    if not left:
+        return
+    with study.verifying() as sure, ThreadPoolExecutor(1) as pool:
+        for at in range(0, len(left), MOST_FACTORS):
+            some = left[at:at + MOST_FACTORS]
+            try:
+                series(study, pool, some, min(workers_for(study, workers), len(some)), told, sure)
+            except MachineError as error:
+                if "SIGKILL" not in error.what:
+                    raise
+                if told:
+                    told(some[-1], "killed", 0.0)
+                series(study, pool, some, 1, told, sure)
+
+
+def series(study: Study, pool: ThreadPoolExecutor, factors: Sequence[int], workers: int, told: Told | None, sure: Callable[[], None]) -> None:
+    """One run of `pit shells`; what the tables of a series need is read beside it."""
+    running = pool.submit(study.run_series, factors, workers, told, sure)
+    try:
+        study.read_ahead()
+        running.result()
+    except BaseException:
+        study.program.stop()
+        study.program.is_stopped = False
+        raise
+
+
+def one(study: Study, factor: int, told: Told | None, sure: Callable[[], None]) -> Verdict:
+    """Runs one factor, and tells that it is done."""
+    done = study.run(factor, told, sure)
+    if told:
+        told(factor, "done", 1.0)
+    return done
+
+
+def at_once(study: Study, factors: Sequence[int], workers: int, told: Told | None, sure: Callable[[], None]) -> list[int]:
+    """Runs all factors, the dearest first, and returns those whose `pit` was killed."""
+    killed: list[int] = []
+    with ThreadPoolExecutor(workers) as pool:
+        running: dict[Future[Verdict], int] = {pool.submit(one, study, factor, told, sure): factor for factor in factors}
+        try:
+            study.read_ahead()
+            while running:
+                for future in wait(running, return_when=FIRST_COMPLETED).done:
+                    factor = running.pop(future)
+                    try:
+                        future.result()
+                    except MachineError as error:
+                        if "SIGKILL" not in error.what:
+                            raise
+                        killed.append(factor)
+                        if told:
+                            told(factor, "killed", 0.0)
+        except BaseException:
+            study.program.stop()
+            for future in running:
+                future.cancel()
+            raise
+    return killed

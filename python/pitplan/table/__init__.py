@@ -1,0 +1,1 @@
+"""The planner's table as text: what its columns are, formulas over them, cells as numbers."""

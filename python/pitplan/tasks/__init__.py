@@ -1,0 +1,1 @@
+"""Units of work on this machine and on others."""

@@ -1,0 +1,79 @@
+"""Blocks as a table for any other program: a row for each block with its place, its shell, its worth and where it goes."""
+from __future__ import annotations
+
+import os
+from collections.abc import Sequence
+from typing import TYPE_CHECKING, Any
+
+import numpy as np
+import numpy.typing as npt
+import pandas as pd
+
+from ...base.amounts import THOUSAND
+from ...table.spreadsheets import write_table
+
+if TYPE_CHECKING:
+    from ...study.shells import Shells
+
+
+def table_of(shells: Shells, columns: Sequence[str] | None = None, is_whole: bool = False) -> pd.DataFrame:
+    """A row for each block, in the order of `pit`'s numbers.
+
+    Parameters
+    ----------
+    columns : sequence of str, optional
+        Of the table, written behind the others; none unless told.
+    is_whole : bool
+        Whether all blocks are listed, or the rock of the largest pit alone.
+
+    Returns
+    -------
+    DataFrame
+        ``id``, ``row`` (of the table, as a spreadsheet counts it; 0 for a block that was added), ``x``, ``y``, ``z`` (the
+        centre; z is an elevation), ``rock``, ``tonnes``, ``shell`` (the factor of the first pit that has it, as a share of the
+        price), ``worth`` (at factor 1) and ``to`` (``mill`` or ``waste``, at factor 1).
+    """
+    from .vtu import columns_of, free
+    study, count = shells.study, len(shells.factors)
+    kept = np.arange(len(study.model)) if is_whole else np.flatnonzero(shells.dug < count)
+    b = study.model.blocks.iloc[kept]
+    x, y, z = (np.round(values[kept], 6) for values in study.model.xyz())
+    shares = np.array([*(factor / THOUSAND for factor in shells.factors), np.nan])
+    found = pd.DataFrame({"id": b["id"].to_numpy(), "row": study.model.table_row[kept], "x": x, "y": y, "z": z, "rock": b["rock"].to_numpy(), "tonnes": b["tonnes"].to_numpy(),
+                          "shell": shares[shells.shell[kept]], "worth": np.round(study.priced.worth(THOUSAND)[kept], 6),
+                          "to": np.where(study.priced.milled(THOUSAND)[kept], "mill", "waste")})
+    for name in columns_of(study.model, columns or ()):
+        found[free(name) if name not in found else f"{name} of the table"] = b[name].to_numpy()
+    return found
+
+
+def spelled_once(values: npt.NDArray[np.float64]) -> npt.NDArray[Any]:
+    """Numbers as CSV has them, where few of them differ, as places on a grid: each is spelled once. Other numbers stay."""
+    few, which = np.unique(values, return_inverse=True)
+    if 4 * len(few) > len(values):
+        return values
+    found: npt.NDArray[Any] = np.array(["" if value != value else repr(value) for value in few.tolist()], dtype=object)[which]
+    return found
+
+
+def write(shells: Shells, path: str | os.PathLike[str], columns: Sequence[str] | None = None, is_whole: bool = False) -> int:
+    """Writes `table_of` as CSV; words that a spreadsheet would run as formulas are `harmless`.
+
+    Returns
+    -------
+    int
+        How many rows were written.
+
+    Raises
+    ------
+    PlanError
+        Where the table has no such column.
+    OSError
+        Where the file can't be written. What was there stays then.
+    """
+    found = table_of(shells, columns, is_whole)
+    for name in found.columns:
+        if found[name].dtype.kind == "f":
+            found[name] = spelled_once(found[name].to_numpy())
+    write_table(found, path)
+    return len(found)

@@ -1,0 +1,140 @@
+"""Blocks for ParaView: VTU with a hexahedron for each block, where it is, with its shell, its worth and the table's columns."""
+from __future__ import annotations
+
+import os
+from collections.abc import Sequence
+from typing import TYPE_CHECKING, Any
+
+import numpy as np
+import numpy.typing as npt
+import pandas as pd
+
+from ...base.amounts import THOUSAND
+from ...base.errors import PlanError, meant
+from ...base.whole_file import whole_file
+from ...model.model import OURS
+from ...table.spreadsheets import write_table
+
+if TYPE_CHECKING:
+    from ...model.model import Model
+    from ...study.shells import Shells
+
+Bools = npt.NDArray[np.bool_]
+Ints = npt.NDArray[np.int64]
+# The corners of a hexahedron in the order of VTK_HEXAHEDRON: the lower face counterclockwise, then the upper one.
+CORNERS = ((0, 0, 0), (1, 0, 0), (1, 1, 0), (0, 1, 0), (0, 0, 1), (1, 0, 1), (1, 1, 1), (0, 1, 1))
+OWN = ("block", "shell", "worth")
+MOST_WORDS = 10_000                          # different words of a column that are numbered
+
+
+def write(shells: Shells, path: str | os.PathLike[str], columns: Sequence[str] | None = None, is_whole: bool = False) -> pd.DataFrame:
+    """Writes blocks as hexahedra in true coordinates, also of a turned model.
+
+    Each cell has ``shell`` (the factor of the first pit that has it, as a share of the price; not a number where none has),
+    ``worth`` (at factor 1, in units of currency), ``block`` (its number in `pit`'s files), and the table's columns. A
+    column of TRUE and FALSE has 1 and 0; another one of words is numbered, in the order of the words.
+
+    Parameters
+    ----------
+    shells : Shells
+    path : str or path
+    columns : sequence of str, optional
+        Of the table; all columns of numbers, of TRUE and FALSE, and the rock unless told.
+    is_whole : bool
+        Whether all blocks are written, or the rock of the largest pit alone.
+
+    Returns
+    -------
+    DataFrame
+        ``column``, ``number``, ``word``: what the numbers of columns of words stand for. It is written too, beside `path`, with
+        the ending ``.words.csv``, where there are such columns.
+
+    Raises
+    ------
+    PlanError
+        Where the table has no such column, or one has more than 10,000 different words.
+    OSError
+        Where the file can't be written. What was there stays then.
+    """
+    mesh, words = mesh_of(shells, columns, is_whole)
+    with whole_file(path) as part:
+        mesh.write(part, file_format="vtu")
+    if len(words):
+        write_table(words, os.fspath(path) + ".words.csv")
+    return words
+
+
+def mesh_of(shells: Shells, columns: Sequence[str] | None = None, is_whole: bool = False) -> tuple[Any, pd.DataFrame]:
+    """The blocks as a `meshio.Mesh`, as PyVista and others take it, and what numbers stand for; see `write`."""
+    import meshio
+    model, count = shells.study.model, len(shells.factors)
+    kept = np.arange(len(model)) if is_whole else np.flatnonzero(shells.dug < count)
+    points, cells = hexahedra(model, kept)
+    shares = np.array([*(factor / THOUSAND for factor in shells.factors), np.nan])
+    data: dict[str, npt.NDArray[Any]] = {"shell": shares[shells.shell[kept]], "worth": shells.study.priced.worth(THOUSAND)[kept], "block": kept.astype(np.int32)}
+    legend = []
+    for name in columns_of(model, columns):
+        values = model.blocks[name].iloc[kept]
+        if values.dtype.kind in "iufb":
+            data[free(name)] = values.to_numpy().astype(np.int32 if values.dtype.kind == "b" else values.dtype)
+            continue
+        truths = yes_or_no(values)
+        codes, found = (truths, []) if truths is not None else numbered(values, name, model.name)
+        data[free(name)] = codes
+        legend += [(name, i, word) for i, word in enumerate(found)]
+    mesh = meshio.Mesh(points, [("hexahedron", cells)], cell_data={name: [values] for name, values in data.items()})
+    return mesh, pd.DataFrame(legend, columns=["column", "number", "word"])
+
+
+def hexahedra(model: Model, kept: Ints) -> tuple[npt.NDArray[np.float64], Ints]:
+    """The corners of blocks, each once, of shape (corners, 3); and the eight corners of each block, of shape (len(kept), 8)."""
+    nx, ny, nz = (n + 1 for n in model.grid.shape)
+    b = model.blocks
+    ix, iy, iz = (b[name].to_numpy()[kept].astype(np.int64) for name in ("ix", "iy", "iz"))
+    key = np.stack([((iz + c) * ny + iy + d) * nx + ix + a for a, d, c in CORNERS], axis=1)
+    used = np.zeros(nx * ny * nz, bool)
+    used[key] = True
+    number = np.cumsum(used) - 1
+    at = np.flatnonzero(used)
+    east, north, up = model.grid.world(at % nx - 0.5, at // nx % ny - 0.5, at // (nx * ny) - 0.5)
+    return np.column_stack([east, north, up]), number[key]
+
+
+def columns_of(model: Model, wanted: Sequence[str] | None) -> list[str]:
+    """The columns to write: those that are asked for, or all of numbers, those of TRUE and FALSE, and the rock.
+
+    Raises PlanError where the table has no such column.
+    """
+    there = [str(name) for name in model.blocks.columns]
+    if wanted is None:
+        kinds = model.blocks.dtypes
+        return [name for name in there if name == "rock" or name == "tonnes"
+                or (name not in OURS and (kinds[name].kind in "iufb" or yes_or_no(model.blocks[name]) is not None))]
+    for name in wanted:
+        if name not in there:
+            raise PlanError(f"the table has no column {name!r}{meant(name, there)}")
+    return list(dict.fromkeys(wanted))
+
+
+def free(name: str) -> str:
+    """The name of a column in the file: the table's own, but for names that this package writes itself."""
+    return f"{name} of the table" if name in OWN else name
+
+
+def yes_or_no(values: pd.Series) -> npt.NDArray[np.int32] | None:
+    """1 for each TRUE, in any spelling, and 0 for each FALSE or empty cell; None for a column that has another word, or neither."""
+    code, kinds = pd.factorize(values)
+    words = [str(kind).strip().upper() for kind in kinds]
+    if not {"TRUE", "FALSE"} & set(words) or not set(words) <= {"TRUE", "FALSE", ""}:
+        return None
+    found: npt.NDArray[np.int32] = np.array([*(word == "TRUE" for word in words), False], np.int32)[code]
+    return found
+
+
+def numbered(values: pd.Series, name: str, table: str) -> tuple[npt.NDArray[np.int32], list[str]]:
+    """Words as numbers from 0, in the order of the words."""
+    words = values.fillna("").astype(str)
+    codes, found = pd.factorize(words, sort=True)
+    if len(found) > MOST_WORDS:
+        raise PlanError(f"has {len(found):,} different words, and they are numbered in a file for ParaView", table=table, column=name, try_this="leave that column out")
+    return codes.astype(np.int32), [str(word) for word in found]
