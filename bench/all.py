@@ -25,7 +25,10 @@ RUNS = [
     ("`.blocks` alone, three columns of which none is chosen", ["check.py", "--blocks"]),
     ("`pit slopes`: reading, looking up and writing", ["slopes.py"]),
     ("Whole runs of `pit solve`, by pseudoflow", ["solve_peers.py"]),
-    ("Mines of 3 to 15 million blocks, solved with no further options", ["large.py", "--rounds", "1"]),
+    (
+        "Mines of 3 to 15 million blocks, solved with no further options",
+        ["large.py", "--rounds", "1"],
+    ),
     ("Growth: one deposit in blocks of seven sizes", ["growth.py"]),
     ("The push-relabel machine", ["solve.py"]),
     ("Traces of runs", ["traces.py"]),
@@ -48,14 +51,29 @@ def processor():
 
 
 def machine():
-    kit = subprocess.run(["rt", "version"], stdout=subprocess.PIPE, text=True).stdout.strip() if in_path("rt") else "no kit"
-    compiler = subprocess.run(["g++", "--version"], stdout=subprocess.PIPE, text=True).stdout.split("\n")[0]
+    kit = (
+        subprocess.run(["rt", "version"], stdout=subprocess.PIPE, text=True).stdout.strip()
+        if in_path("rt")
+        else "no kit"
+    )
+    compiler = subprocess.run(["g++", "--version"], stdout=subprocess.PIPE, text=True).stdout.split(
+        "\n"
+    )[0]
     return "%s, %d logical cores of %s, Linux %s; `pit` by %s, the peers by %s." % (
-        time.strftime("%Y-%m-%d, %H:%M UTC", time.gmtime()), os.cpu_count(), processor(), platform.release(), kit, compiler)
+        time.strftime("%Y-%m-%d, %H:%M UTC", time.gmtime()),
+        os.cpu_count(),
+        processor(),
+        platform.release(),
+        kit,
+        compiler,
+    )
 
 
 def in_path(name):
-    return any(os.access(os.path.join(folder, name), os.X_OK) for folder in os.environ.get("PATH", "").split(":"))
+    return any(
+        os.access(os.path.join(folder, name), os.X_OK)
+        for folder in os.environ.get("PATH", "").split(":")
+    )
 
 
 def ticks():
@@ -70,18 +88,40 @@ def measured(title, words):
     print("\n## %s\n" % title, flush=True)
     began, (stolen, whole) = time.monotonic(), ticks()
     clock = time.strftime("%H:%M UTC", time.gmtime())
-    done = subprocess.run([sys.executable, str(HERE / words[0]), *words[1:]], stdin=subprocess.DEVNULL,
-                          stdout=subprocess.PIPE, stderr=subprocess.STDOUT, text=True, errors="replace")
+    done = subprocess.run(
+        [sys.executable, str(HERE / words[0]), *words[1:]],
+        stdin=subprocess.DEVNULL,
+        stdout=subprocess.PIPE,
+        stderr=subprocess.STDOUT,
+        text=True,
+        errors="replace",
+    )
     after, total = ticks()
-    print("`bench/%s`, %s, %d s, %d %% of the processors' time taken by the host.\n" % (
-        " ".join(words), clock, time.monotonic() - began, round(100 * (after - stolen) / max(1, total - whole))))
-    print(done.stdout.rstrip() if done.returncode == 0 else "FAILED with status %d:\n\n%s" % (done.returncode, done.stdout.rstrip()), flush=True)
+    print(
+        "`bench/%s`, %s, %d s, %d %% of the processors' time taken by the host.\n"
+        % (
+            " ".join(words),
+            clock,
+            time.monotonic() - began,
+            round(100 * (after - stolen) / max(1, total - whole)),
+        )
+    )
+    print(
+        done.stdout.rstrip()
+        if done.returncode == 0
+        else "FAILED with status %d:\n\n%s" % (done.returncode, done.stdout.rstrip()),
+        flush=True,
+    )
     return done.returncode == 0
 
 
 def main():
-    words = argparse.ArgumentParser(description=__doc__, formatter_class=argparse.RawDescriptionHelpFormatter)
-    words.add_argument("--only", nargs="+", metavar="WORD", help="run those whose command has one of these words")
+    words = argparse.ArgumentParser(
+        description=__doc__, formatter_class=argparse.RawDescriptionHelpFormatter
+    )
+    words.add_argument(
+        "--only", nargs="+", metavar="WORD", help="run those whose command has one of these words"
+    )
     wanted = words.parse_args().only
     chosen = [it for it in RUNS if not wanted or any(word in " ".join(it[1]) for word in wanted)]
     if not chosen:

@@ -16,18 +16,33 @@ import sys
 import tempfile
 from pathlib import Path
 
-from common import PIT, adopt_orphans, arguments, best, files_of, model, peer, rounds, size_of, table
+from common import (
+    PIT,
+    adopt_orphans,
+    arguments,
+    best,
+    files_of,
+    model,
+    peer,
+    rounds,
+    size_of,
+    table,
+)
 
 
 def certificate_of(mine, group, folder):
     cert = os.path.join(folder, f"{mine.name}.cert")
     if group == "worth":
-        subprocess.run([peer("boost_bk"), mine.prec, mine.upit, cert], check=True, stdout=subprocess.DEVNULL)
+        subprocess.run(
+            [peer("boost_bk"), mine.prec, mine.upit, cert], check=True, stdout=subprocess.DEVNULL
+        )
         return cert
     with open(cert, "wb") as out:
         solved = subprocess.run([str(PIT), "solve"] + files_of(mine), stdout=out)
     if solved.returncode != 0:
-        sys.exit(f"bench: pit solve has no certificate for {mine.name}; --group worth takes Boost's")
+        sys.exit(
+            f"bench: pit solve has no certificate for {mine.name}; --group worth takes Boost's"
+        )
     return cert
 
 
@@ -36,15 +51,47 @@ def check(models, given):
     for mine in models:
         with tempfile.TemporaryDirectory() as folder:
             cert = certificate_of(mine, given.group, folder)
-            ours, theirs = rounds([[str(PIT), "check"] + files_of(mine) + [cert],
-                                   [peer("checker"), mine.prec, mine.upit, cert]], given.rounds, given.core)
+            ours, theirs = rounds(
+                [
+                    [str(PIT), "check"] + files_of(mine) + [cert],
+                    [peer("checker"), mine.prec, mine.upit, cert],
+                ],
+                given.rounds,
+                given.core,
+            )
         if len({r.output for r in ours + theirs}) != 1 or not ours[0].output.startswith("ACCEPTED"):
-            sys.exit(f"bench: {mine.name}: the programs disagree or refuse:\n{ours[-1].output}\n{theirs[-1].output}")
+            sys.exit(
+                f"bench: {mine.name}: the programs disagree or refuse:\n{ours[-1].output}\n{theirs[-1].output}"
+            )
         blocks, pairs = size_of(mine.prec)
         (cpu, peak), (their_cpu, their_peak) = best(ours), best(theirs)
-        rows.append([mine.name, f"{blocks:,}", f"{pairs:,}", f"{cpu:.3f}", f"{their_cpu:.3f}", f"{cpu / their_cpu:.1f}",
-                     f"{peak:.1f}", f"{their_peak:.1f}", f"{peak / their_peak:.1f}"])
-    table(["model", "blocks", "pairs", "pit s", "peer s", "ratio", "pit peak MB", "peer peak MB", "ratio"], rows)
+        rows.append(
+            [
+                mine.name,
+                f"{blocks:,}",
+                f"{pairs:,}",
+                f"{cpu:.3f}",
+                f"{their_cpu:.3f}",
+                f"{cpu / their_cpu:.1f}",
+                f"{peak:.1f}",
+                f"{their_peak:.1f}",
+                f"{peak / their_peak:.1f}",
+            ]
+        )
+    table(
+        [
+            "model",
+            "blocks",
+            "pairs",
+            "pit s",
+            "peer s",
+            "ratio",
+            "pit peak MB",
+            "peer peak MB",
+            "ratio",
+        ],
+        rows,
+    )
 
 
 def truncated(folder):
@@ -64,16 +111,46 @@ def readers(models, given):
     with tempfile.TemporaryDirectory() as folder:
         cert = truncated(folder)
         for mine in models:
-            ours, theirs = rounds([[str(PIT), "check"] + files_of(mine) + [cert],
-                                   [peer("checker"), mine.prec, mine.upit, cert]], given.rounds, given.core)
+            ours, theirs = rounds(
+                [
+                    [str(PIT), "check"] + files_of(mine) + [cert],
+                    [peer("checker"), mine.prec, mine.upit, cert],
+                ],
+                given.rounds,
+                given.core,
+            )
             came_to_the_certificate(mine, ours + theirs)
             size = (os.path.getsize(mine.prec) + os.path.getsize(mine.upit)) / 1e6
             (cpu, peak), (their_cpu, their_peak) = best(ours), best(theirs)
-            rows.append([mine.name, f"{size:.1f}", f"{cpu:.3f}", f"{their_cpu:.3f}", f"{size / cpu:.0f}",
-                         f"{size / their_cpu:.0f}", f"{cpu / their_cpu:.1f}", f"{peak:.1f}", f"{their_peak:.1f}",
-                         f"{peak / their_peak:.1f}"])
-    table(["model", "MB read", "pit s", "peer s", "pit MB/s", "peer MB/s", "ratio", "pit peak MB", "peer peak MB",
-           "ratio"], rows)
+            rows.append(
+                [
+                    mine.name,
+                    f"{size:.1f}",
+                    f"{cpu:.3f}",
+                    f"{their_cpu:.3f}",
+                    f"{size / cpu:.0f}",
+                    f"{size / their_cpu:.0f}",
+                    f"{cpu / their_cpu:.1f}",
+                    f"{peak:.1f}",
+                    f"{their_peak:.1f}",
+                    f"{peak / their_peak:.1f}",
+                ]
+            )
+    table(
+        [
+            "model",
+            "MB read",
+            "pit s",
+            "peer s",
+            "pit MB/s",
+            "peer MB/s",
+            "ratio",
+            "pit peak MB",
+            "peer peak MB",
+            "ratio",
+        ],
+        rows,
+    )
 
 
 def prec(models, given):
@@ -84,24 +161,57 @@ def prec(models, given):
         with tempfile.TemporaryDirectory() as folder:
             upit = os.path.join(folder, "none.upit")
             Path(upit).write_text(f"NBLOCKS: {blocks}\nOBJECTIVE_FUNCTION:\n")
-            ours, theirs = rounds([[str(PIT), "check"] + files_of(mine._replace(upit=upit)) + [truncated(folder)],
-                                   [peer("prec_reader"), mine.prec, str(blocks)]], given.rounds, given.core)
+            ours, theirs = rounds(
+                [
+                    [str(PIT), "check"] + files_of(mine._replace(upit=upit)) + [truncated(folder)],
+                    [peer("prec_reader"), mine.prec, str(blocks)],
+                ],
+                given.rounds,
+                given.core,
+            )
         came_to_the_certificate(mine, ours)
         if any(r.output != f"{pairs} pairs" for r in theirs):
             sys.exit(f"bench: {mine.name}: the peer reads other pairs: {theirs[-1].output}")
         size = os.path.getsize(mine.prec) / 1e6
         (cpu, peak), (their_cpu, their_peak) = best(ours), best(theirs)
-        rows.append([mine.name, f"{pairs:,}", f"{size:.1f}", f"{cpu:.3f}", f"{their_cpu:.3f}", f"{size / cpu:.0f}",
-                     f"{size / their_cpu:.0f}", f"{cpu / their_cpu:.1f}", f"{peak:.1f}", f"{peak / size:.1f}"])
-    table(["model", "pairs", "MB read", "pit s", "peer s", "pit MB/s", "peer MB/s", "ratio", "pit peak MB", "times the file"],
-          rows)
+        rows.append(
+            [
+                mine.name,
+                f"{pairs:,}",
+                f"{size:.1f}",
+                f"{cpu:.3f}",
+                f"{their_cpu:.3f}",
+                f"{size / cpu:.0f}",
+                f"{size / their_cpu:.0f}",
+                f"{cpu / their_cpu:.1f}",
+                f"{peak:.1f}",
+                f"{peak / size:.1f}",
+            ]
+        )
+    table(
+        [
+            "model",
+            "pairs",
+            "MB read",
+            "pit s",
+            "peer s",
+            "pit MB/s",
+            "peer MB/s",
+            "ratio",
+            "pit peak MB",
+            "times the file",
+        ],
+        rows,
+    )
 
 
 def write_blocks(file, n, mistake):
     """A .blocks file of n blocks with three columns; its last line, where there is a mistake, has no place."""
     with open(file, "w") as out:
         for b in range(n):
-            out.write(f"{b} {b % 200} {b // 200 % 200} {b // 40000} {b % 97}.{b % 10} {b * 7 % 1000} {b % 3000}.25\n")
+            out.write(
+                f"{b} {b % 200} {b // 200 % 200} {b // 40000} {b % 97}.{b % 10} {b * 7 % 1000} {b % 3000}.25\n"
+            )
         if mistake:
             out.write("the end\n")
 
@@ -113,24 +223,65 @@ def blocks(given):
         with tempfile.TemporaryDirectory() as folder:
             file = os.path.join(folder, "model.blocks")
             write_blocks(file, n, True)
-            ours, theirs = rounds([[str(PIT), "slopes", "--blocks", file, "--pattern", "five"],
-                                   [peer("blocks_reader"), file]], given.rounds, given.core)
+            ours, theirs = rounds(
+                [
+                    [str(PIT), "slopes", "--blocks", file, "--pattern", "five"],
+                    [peer("blocks_reader"), file],
+                ],
+                given.rounds,
+                given.core,
+            )
             size = os.path.getsize(file) / 1e6
         wanted = f"Text({n + 1})"
         if any(r.status != 3 or wanted not in r.output for r in ours + theirs):
-            sys.exit(f"bench: the programs don't name {wanted}:\n{ours[-1].output}\n{theirs[-1].output}")
+            sys.exit(
+                f"bench: the programs don't name {wanted}:\n{ours[-1].output}\n{theirs[-1].output}"
+            )
         (cpu, peak), (their_cpu, their_peak) = best(ours), best(theirs)
-        rows.append([f"{n:,}", f"{size:.1f}", f"{cpu:.3f}", f"{their_cpu:.3f}", f"{size / cpu:.0f}",
-                     f"{size / their_cpu:.0f}", f"{cpu / their_cpu:.1f}", f"{peak:.1f}", f"{peak / size:.1f}"])
-    table(["blocks", "MB read", "pit s", "peer s", "pit MB/s", "peer MB/s", "ratio", "pit peak MB", "times the file"], rows)
+        rows.append(
+            [
+                f"{n:,}",
+                f"{size:.1f}",
+                f"{cpu:.3f}",
+                f"{their_cpu:.3f}",
+                f"{size / cpu:.0f}",
+                f"{size / their_cpu:.0f}",
+                f"{cpu / their_cpu:.1f}",
+                f"{peak:.1f}",
+                f"{peak / size:.1f}",
+            ]
+        )
+    table(
+        [
+            "blocks",
+            "MB read",
+            "pit s",
+            "peer s",
+            "pit MB/s",
+            "peer MB/s",
+            "ratio",
+            "pit peak MB",
+            "times the file",
+        ],
+        rows,
+    )
 
 
 def main():
     words = arguments(__doc__, ["marvin", "mclim", "b350k", "b2m"])
-    words.add_argument("--readers", action="store_true", help="read the model alone: the certificate is cut short")
+    words.add_argument(
+        "--readers", action="store_true", help="read the model alone: the certificate is cut short"
+    )
     words.add_argument("--prec", action="store_true", help="read and index .prec files alone")
-    words.add_argument("--blocks", action="store_true", help="read .blocks files alone, which are made for it")
-    words.add_argument("--group", choices=["pair", "worth"], default="pair", help="what the certificates' amounts count")
+    words.add_argument(
+        "--blocks", action="store_true", help="read .blocks files alone, which are made for it"
+    )
+    words.add_argument(
+        "--group",
+        choices=["pair", "worth"],
+        default="pair",
+        help="what the certificates' amounts count",
+    )
     given = words.parse_args()
     adopt_orphans()
     if given.blocks:

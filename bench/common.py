@@ -42,7 +42,12 @@ GENERATED = {
 Model = namedtuple("Model", "name prec upit blocks settings")
 Run = namedtuple("Run", "status output cpu peak wall")
 
-ENDINGS = (".prec", ".upit", ".blocks", ".toml")  # of a model's files, as Model has them; the last one is made last
+ENDINGS = (
+    ".prec",
+    ".upit",
+    ".blocks",
+    ".toml",
+)  # of a model's files, as Model has them; the last one is made last
 
 START = 'exec 3<&0; { read go <&3; exec "$@" </dev/null >&2 3<&-; } & echo $!'
 SUBREAPER = 36  # prctl's PR_SET_CHILD_SUBREAPER
@@ -50,12 +55,23 @@ SUBREAPER = 36  # prctl's PR_SET_CHILD_SUBREAPER
 
 def arguments(doc, models):
     """A parser with the options that every benchmark of models has."""
-    words = argparse.ArgumentParser(description=doc, formatter_class=argparse.RawDescriptionHelpFormatter)
-    words.add_argument("--models", nargs="+", default=models, metavar="MODEL",
-                       help="names (%s), which are generated where they aren't there, or PREFIX of PREFIX.prec and PREFIX.upit"
-                            % ", ".join(GENERATED))
-    words.add_argument("--rounds", type=int, default=3, metavar="N", help="the best of N rounds counts (3)")
-    words.add_argument("--core", type=int, default=0, metavar="N", help="the core on which everything runs (0)")
+    words = argparse.ArgumentParser(
+        description=doc, formatter_class=argparse.RawDescriptionHelpFormatter
+    )
+    words.add_argument(
+        "--models",
+        nargs="+",
+        default=models,
+        metavar="MODEL",
+        help="names (%s), which are generated where they aren't there, or PREFIX of PREFIX.prec and PREFIX.upit"
+        % ", ".join(GENERATED),
+    )
+    words.add_argument(
+        "--rounds", type=int, default=3, metavar="N", help="the best of N rounds counts (3)"
+    )
+    words.add_argument(
+        "--core", type=int, default=0, metavar="N", help="the core on which everything runs (0)"
+    )
     return words
 
 
@@ -71,7 +87,11 @@ def model(name):
     if name in GENERATED and not prefix.with_suffix(".toml").exists():
         MODELS.mkdir(exist_ok=True)
         room = Path(tempfile.mkdtemp(dir=MODELS))
-        subprocess.run([peer("generator"), str(room / name)] + GENERATED[name].split(), check=True, stdout=subprocess.DEVNULL)
+        subprocess.run(
+            [peer("generator"), str(room / name)] + GENERATED[name].split(),
+            check=True,
+            stdout=subprocess.DEVNULL,
+        )
         for ending in ENDINGS:
             os.replace(room / (name + ending), prefix.with_suffix(ending))
         shutil.rmtree(room)
@@ -119,8 +139,12 @@ def run(words, core):
     waits for a line until the shell has ended, so that the shell can't take its usage.
     """
     with tempfile.TemporaryFile() as out:
-        shell = subprocess.Popen(["taskset", "-c", str(core), "sh", "-c", START, "sh"] + words,
-                                 stdin=subprocess.PIPE, stdout=subprocess.PIPE, stderr=out)
+        shell = subprocess.Popen(
+            ["taskset", "-c", str(core), "sh", "-c", START, "sh"] + words,
+            stdin=subprocess.PIPE,
+            stdout=subprocess.PIPE,
+            stderr=out,
+        )
         pid = int(shell.stdout.readline())
         shell.stdout.close()
         shell.wait()
@@ -154,5 +178,11 @@ def table(head, rows):
     widths = [max(len(row[i]) for row in rows) for i in range(len(head))]
     rows.insert(1, ["-" * width for width in widths])
     for row in rows:
-        print("| " + " | ".join(cell.rjust(width) if i else cell.ljust(width)
-                                for i, (cell, width) in enumerate(zip(row, widths))) + " |")
+        print(
+            "| "
+            + " | ".join(
+                cell.rjust(width) if i else cell.ljust(width)
+                for i, (cell, width) in enumerate(zip(row, widths))
+            )
+            + " |"
+        )

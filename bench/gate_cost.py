@@ -41,7 +41,10 @@ def task_of(pid):
     except OSError:
         return None
     of_edit = [kind for begin, kind in ROOMS.items() if room.startswith(begin)]
-    return words[words.index("--crate-name") + 1], of_edit[0] if of_edit else "tests" if "--test" in words else "proof"
+    return (
+        words[words.index("--crate-name") + 1],
+        of_edit[0] if of_edit else "tests" if "--test" in words else "proof",
+    )
 
 
 def processes():
@@ -61,7 +64,9 @@ class Watcher(threading.Thread):
     def __init__(self):
         super().__init__(daemon=True)
         self.tasks, self.seconds, self.is_over = {}, {}, False
-        self.own = {os.getpid()}  # this process and those below it; who is seen with a parent that isn't one never is
+        self.own = {
+            os.getpid()
+        }  # this process and those below it; who is seen with a parent that isn't one never is
 
     def look(self):
         found = processes()
@@ -73,7 +78,9 @@ class Watcher(threading.Thread):
                 self.tasks[key] = None
                 if parent in self.own:
                     self.own.add(pid)
-                    self.tasks[key] = task_of(pid) or (self.tasks.get((parent, above[2])) if above else None)
+                    self.tasks[key] = task_of(pid) or (
+                        self.tasks.get((parent, above[2])) if above else None
+                    )
             if self.tasks[key]:
                 self.seconds[key] = seconds
 
@@ -95,7 +102,11 @@ def lines_in(folder, pattern, is_wanted=lambda file: True):
 
 
 def planted_in(file):
-    return sum(line.startswith("edit: ") for line in file.read_text().splitlines()) if file.exists() else 0
+    return (
+        sum(line.startswith("edit: ") for line in file.read_text().splitlines())
+        if file.exists()
+        else 0
+    )
 
 
 def is_test(file):
@@ -105,22 +116,47 @@ def is_test(file):
 def sizes(crate):
     """Lines of code, of tests, of definitions and of proofs, and how many edits the kit tries, how many are tried by function, and how many are planted."""
     folder = TOP / "crates" / crate
-    return (lines_in(folder / "src", "*.rt", lambda file: not is_test(file)), lines_in(folder / "src", "*.rt", is_test),
-            lines_in(folder / "specs", "*.antt"), lines_in(folder / "proofs", "*.antt"),
-            *(len(list((folder / shelf).glob("*.edit"))) for shelf in ("must-fail", "edits")), planted_in(folder / "planted.edits"))
+    return (
+        lines_in(folder / "src", "*.rt", lambda file: not is_test(file)),
+        lines_in(folder / "src", "*.rt", is_test),
+        lines_in(folder / "specs", "*.antt"),
+        lines_in(folder / "proofs", "*.antt"),
+        *(len(list((folder / shelf).glob("*.edit"))) for shelf in ("must-fail", "edits")),
+        planted_in(folder / "planted.edits"),
+    )
 
 
 def row(name, counts, seconds):
-    return "| %s | %s | %s |" % (name, " | ".join("{:,}".format(count) for count in counts), " | ".join("{:,.0f} s".format(it) for it in seconds))
+    return "| %s | %s | %s |" % (
+        name,
+        " | ".join("{:,}".format(count) for count in counts),
+        " | ".join("{:,.0f} s".format(it) for it in seconds),
+    )
 
 
 def print_table(seconds):
-    crates = [line.split(":")[0].strip() for line in (TOP / "crates.txt").read_text().splitlines() if line.split("#")[0].strip()]
-    rows = [(sizes(crate), [seconds.get(crate, {}).get(kind, 0.0) for kind in KINDS]) for crate in crates]
-    print("\n| Crate | Code | Tests | Definitions | Proofs | Edits of the kit | by function | planted | Proof | With tests | Edits of the kit | by function |\n|" + "---|" * 12)
+    crates = [
+        line.split(":")[0].strip()
+        for line in (TOP / "crates.txt").read_text().splitlines()
+        if line.split("#")[0].strip()
+    ]
+    rows = [
+        (sizes(crate), [seconds.get(crate, {}).get(kind, 0.0) for kind in KINDS])
+        for crate in crates
+    ]
+    print(
+        "\n| Crate | Code | Tests | Definitions | Proofs | Edits of the kit | by function | planted | Proof | With tests | Edits of the kit | by function |\n|"
+        + "---|" * 12
+    )
     for crate, (counts, used) in zip(crates, rows):
         print(row("`%s`" % crate, counts, used))
-    print(row("all", map(sum, zip(*(counts for counts, _ in rows))), map(sum, zip(*(used for _, used in rows)))))
+    print(
+        row(
+            "all",
+            map(sum, zip(*(counts for counts, _ in rows))),
+            map(sum, zip(*(used for _, used in rows))),
+        )
+    )
 
 
 def main():
@@ -131,7 +167,10 @@ def main():
     watcher.join()
     print_table(watcher.table())
     used = resource.getrusage(resource.RUSAGE_CHILDREN)
-    print("%.0f processor seconds in all, %.0f s by the clock" % (used.ru_utime + used.ru_stime, time.monotonic() - began))
+    print(
+        "%.0f processor seconds in all, %.0f s by the clock"
+        % (used.ru_utime + used.ru_stime, time.monotonic() - began)
+    )
     return status
 
 

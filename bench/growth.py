@@ -18,7 +18,9 @@ LARGE = 2_000_000
 
 
 def solved(mine, core, certificate):
-    done = run(["sh", "-c", 'exec "$@" > "$0"', certificate, str(PIT), "solve", *files_of(mine)], core)
+    done = run(
+        ["sh", "-c", 'exec "$@" > "$0"', certificate, str(PIT), "solve", *files_of(mine)], core
+    )
     if done.status:
         sys.exit("bench: %s: pit solve ended with the status %d" % (mine.name, done.status))
     return done
@@ -29,12 +31,26 @@ def row(mine, given):
     blocks, pairs = size_of(mine.prec)
     with tempfile.TemporaryDirectory() as folder:
         certificate = folder + "/" + mine.name
-        runs = [solved(mine, given.core, certificate) for _ in range(given.rounds if blocks < LARGE else min(2, given.rounds))]
+        runs = [
+            solved(mine, given.core, certificate)
+            for _ in range(given.rounds if blocks < LARGE else min(2, given.rounds))
+        ]
         pit = Path(certificate).read_text().count("\nPIT ")
     cpu, peak = min(it.cpu for it in runs), min(it.peak for it in runs)
     each = 1e9 * cpu / pairs
-    boost = run([peer("boost_bk"), mine.prec, mine.upit], given.core).cpu if blocks < LARGE else None
-    cells = [mine.name, f"{blocks:,}", f"{pairs:,}", f"{pit:,}", "%.3f" % cpu, "%.0f" % each, "%.0f" % (1e9 * boost / pairs) if boost else "", f"{peak:,.0f}"]
+    boost = (
+        run([peer("boost_bk"), mine.prec, mine.upit], given.core).cpu if blocks < LARGE else None
+    )
+    cells = [
+        mine.name,
+        f"{blocks:,}",
+        f"{pairs:,}",
+        f"{pit:,}",
+        "%.3f" % cpu,
+        "%.0f" % each,
+        "%.0f" % (1e9 * boost / pairs) if boost else "",
+        f"{peak:,.0f}",
+    ]
     print("measured: " + ", ".join(cells), file=sys.stderr, flush=True)
     return cells, each
 
@@ -44,9 +60,24 @@ def main():
     given = words.parse_args()
     adopt_orphans()
     rows = [row(model(name), given) for name in given.models]
-    table(["model", "blocks", "pairs", "pit: blocks", "solve CPU s", "ns a pair", "Boost's", "peak MB"], [cells for cells, _ in rows])
+    table(
+        [
+            "model",
+            "blocks",
+            "pairs",
+            "pit: blocks",
+            "solve CPU s",
+            "ns a pair",
+            "Boost's",
+            "peak MB",
+        ],
+        [cells for cells, _ in rows],
+    )
     each = [it for _, it in rows]
-    print("\nThe largest by the smallest mine: %.1f times for a pair; by the least: %.1f times." % (each[-1] / each[0], each[-1] / min(each)))
+    print(
+        "\nThe largest by the smallest mine: %.1f times for a pair; by the least: %.1f times."
+        % (each[-1] / each[0], each[-1] / min(each))
+    )
 
 
 if __name__ == "__main__":

@@ -17,7 +17,9 @@ from common import PIT, adopt_orphans, arguments, files_of, model, peer, run, si
 
 def accepted(words):
     """What a check prints, in one line."""
-    done = subprocess.run(words, stdin=subprocess.DEVNULL, stdout=subprocess.PIPE, stderr=subprocess.STDOUT, text=True)
+    done = subprocess.run(
+        words, stdin=subprocess.DEVNULL, stdout=subprocess.PIPE, stderr=subprocess.STDOUT, text=True
+    )
     return done.stdout.strip()
 
 
@@ -26,8 +28,10 @@ def solved(mine, core, folder):
     certificate = folder + "/" + mine.name
     script = 'exec "$@" > "$0"'
     done = run(["sh", "-c", script, certificate, str(PIT), "solve", *files_of(mine)], core)
-    return done, [accepted([str(PIT), "check", *files_of(mine), certificate]),
-                  accepted([peer("checker"), mine.prec, mine.upit, certificate])]
+    return done, [
+        accepted([str(PIT), "check", *files_of(mine), certificate]),
+        accepted([peer("checker"), mine.prec, mine.upit, certificate]),
+    ]
 
 
 def row(mine, given):
@@ -45,11 +49,19 @@ def row(mine, given):
 
 def main():
     words = arguments(__doc__, ["rich3m", "b10m", "b15m"])
-    words.add_argument("--room", default=None, metavar="FOLDER", help="where the certificates lie meanwhile (the system's folder)")
+    words.add_argument(
+        "--room",
+        default=None,
+        metavar="FOLDER",
+        help="where the certificates lie meanwhile (the system's folder)",
+    )
     given = words.parse_args()
     adopt_orphans()
     results = [row(model(name), given) for name in given.models]
-    table(["model", "blocks", "pairs", "both checks", "solve CPU s", "peak MB"], [cells for cells, _ in results])
+    table(
+        ["model", "blocks", "pairs", "both checks", "solve CPU s", "peak MB"],
+        [cells for cells, _ in results],
+    )
     passed = sum(good for _, good in results)
     print("\n%d passed, %d failed" % (passed, len(results) - passed))
     return 0 if passed == len(results) else 1

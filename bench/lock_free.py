@@ -20,7 +20,10 @@ from pathlib import Path
 from common import PIT, adopt_orphans, model, peer, run, size_of, table
 
 MOST_STEPS = 1 << 40
-PART = {"newman": 10_000_000, "zuck": 100_000_000}  # steps of a run that is cut short: fewer than the whole run makes
+PART = {
+    "newman": 10_000_000,
+    "zuck": 100_000_000,
+}  # steps of a run that is cut short: fewer than the whole run makes
 KINDS = [
     ("1 worker, one lock", ["--method", "push-relabel", "--group", "scaled", "--workers", "1"]),
     ("2 workers, one lock", ["--method", "push-relabel", "--group", "scaled", "--workers", "2"]),
@@ -66,8 +69,17 @@ def whole_runs(name, files, rounds, cores):
                 sys.exit(f"bench: {name}, {kind}: {said}, and the peer {wanted}")
             runs[kind].append(done)
     first = min(r.wall for r in runs[KINDS[0][0]])
-    return [[name, kind, wanted.split()[0], f"{min(r.wall for r in own):.2f}", f"{min(r.cpu for r in own):.2f}",
-             f"{min(r.wall for r in own) / first:.2f}"] for kind, own in runs.items()]
+    return [
+        [
+            name,
+            kind,
+            wanted.split()[0],
+            f"{min(r.wall for r in own):.2f}",
+            f"{min(r.cpu for r in own):.2f}",
+            f"{min(r.wall for r in own) / first:.2f}",
+        ]
+        for kind, own in runs.items()
+    ]
 
 
 def steps_a_second(name, files, rounds, cores):
@@ -76,23 +88,36 @@ def steps_a_second(name, files, rounds, cores):
     seconds = {kind: [] for kind, _ in KINDS}
     for _ in range(rounds):
         for kind, more in KINDS:
-            all_of_it, one = (taken(solve(files, more, steps), cores, 1).wall for steps in (part, 1))
+            all_of_it, one = (
+                taken(solve(files, more, steps), cores, 1).wall for steps in (part, 1)
+            )
             seconds[kind].append(all_of_it - one)
     first = min(seconds[KINDS[0][0]])
-    return [[name, kind, f"{part:,}", f"{min(s):.2f}", f"{part / min(s):,.0f}", f"{min(s) / first:.2f}"]
-            for kind, s in seconds.items()]
+    return [
+        [name, kind, f"{part:,}", f"{min(s):.2f}", f"{part / min(s):,.0f}", f"{min(s) / first:.2f}"]
+        for kind, s in seconds.items()
+    ]
 
 
 def chain(blocks, room):
     """Half of the blocks worth 2, each resting on the next one up, under as many worth -1."""
-    prec, upit = (str(Path(room) / ("chain%d%s" % (blocks, ending))) for ending in (".prec", ".upit"))
-    Path(prec).write_text("".join("%d 1 %d\n" % (b, b + 1) for b in range(blocks - 1)) + "%d 0\n" % (blocks - 1))
-    Path(upit).write_text("NBLOCKS: %d\nOBJECTIVE_FUNCTION:\n" % blocks + "".join("%d %d\n" % (b, 2 if 2 * b < blocks else -1) for b in range(blocks)))
+    prec, upit = (
+        str(Path(room) / ("chain%d%s" % (blocks, ending))) for ending in (".prec", ".upit")
+    )
+    Path(prec).write_text(
+        "".join("%d 1 %d\n" % (b, b + 1) for b in range(blocks - 1)) + "%d 0\n" % (blocks - 1)
+    )
+    Path(upit).write_text(
+        "NBLOCKS: %d\nOBJECTIVE_FUNCTION:\n" % blocks
+        + "".join("%d %d\n" % (b, 2 if 2 * b < blocks else -1) for b in range(blocks))
+    )
     return ["--prec", prec, "--upit", upit]
 
 
 def main():
-    words = argparse.ArgumentParser(description=__doc__, formatter_class=argparse.RawDescriptionHelpFormatter)
+    words = argparse.ArgumentParser(
+        description=__doc__, formatter_class=argparse.RawDescriptionHelpFormatter
+    )
     words.add_argument("--rounds", type=int, default=3, metavar="N")
     words.add_argument("--cores", default=f"0-{os.cpu_count() - 1}", metavar="LIST")
     words.add_argument("--to-the-end", action="store_true")
@@ -101,8 +126,20 @@ def main():
     adopt_orphans()
     if given.one_core:
         with tempfile.TemporaryDirectory() as room:
-            rows = [row for blocks in (200, 400) for row in whole_runs("chain of %d" % blocks, chain(blocks, room), given.rounds, given.cores.split("-")[0])]
-        table(["model", "run", "blocks of the pit", "s passed", "CPU s", "times one locked worker"], rows)
+            rows = [
+                row
+                for blocks in (200, 400)
+                for row in whole_runs(
+                    "chain of %d" % blocks,
+                    chain(blocks, room),
+                    given.rounds,
+                    given.cores.split("-")[0],
+                )
+            ]
+        table(
+            ["model", "run", "blocks of the pit", "s passed", "CPU s", "times one locked worker"],
+            rows,
+        )
         return
     with tempfile.TemporaryDirectory() as room:
         files = {}
@@ -110,12 +147,26 @@ def main():
             mine = model(name)
             print(f"{name}: {size_of(mine.prec)[0]:,} blocks")
             files[name] = ["--prec", mine.prec, "--upit", in_thousands(mine.upit, room)]
-        whole = [row for name in (PART if given.to_the_end else ["newman"])
-                 for row in whole_runs(name, files[name], given.rounds if name == "newman" else 1, given.cores)]
-        table(["model", "run", "blocks of the pit", "s passed", "CPU s", "times one locked worker"], whole)
+        whole = [
+            row
+            for name in (PART if given.to_the_end else ["newman"])
+            for row in whole_runs(
+                name, files[name], given.rounds if name == "newman" else 1, given.cores
+            )
+        ]
+        table(
+            ["model", "run", "blocks of the pit", "s passed", "CPU s", "times one locked worker"],
+            whole,
+        )
         print()
-        part = [row for name in PART for row in steps_a_second(name, files[name], given.rounds, given.cores)]
-        table(["model", "run", "steps", "s passed", "steps a second", "times one locked worker"], part)
+        part = [
+            row
+            for name in PART
+            for row in steps_a_second(name, files[name], given.rounds, given.cores)
+        ]
+        table(
+            ["model", "run", "steps", "s passed", "steps a second", "times one locked worker"], part
+        )
 
 
 if __name__ == "__main__":

@@ -22,7 +22,7 @@ try:
 except ModuleNotFoundError:
     if sys.executable == PYTHON:
         raise
-    os.execv(PYTHON, [PYTHON, *sys.argv])    # another Python on the path, without Debian's packages
+    os.execv(PYTHON, [PYTHON, *sys.argv])  # another Python on the path, without Debian's packages
 
 TOP = Path(__file__).resolve().parent.parent
 sys.path[:0] = [str(TOP / "python"), str(TOP / "python/tests")]
@@ -45,18 +45,55 @@ g.readPixels(0, 0, 1, 1, g.RGBA, g.UNSIGNED_BYTE, new Uint8Array(4)); return per
 
 def made_up(columns, levels, pits):
     """Shells of cones about the middle, ragged by a block as pits are."""
-    i, j, k = (v.ravel() for v in np.meshgrid(np.arange(columns), np.arange(columns), np.arange(levels), indexing="ij"))
+    i, j, k = (
+        v.ravel()
+        for v in np.meshgrid(
+            np.arange(columns), np.arange(columns), np.arange(levels), indexing="ij"
+        )
+    )
     ragged = np.random.default_rng(1).normal(0, 0.7, (columns, columns))[i, j]
     out = np.hypot(i - columns / 2, j - columns / 2) + ragged
-    blocks = pd.DataFrame({"id": "", "ix": i, "iy": j, "iz": k, "tonnes": 16_000.0, "rock": "ore", "row": np.arange(len(i)), "CU": np.maximum(0.0, 0.8 - out / columns)})
-    model = Model(blocks, Grid((430_000.0, 7_215_000.0, 1_007.5), (20.0, 20.0, 15.0), (columns, columns, levels), 30.0), "made-up")
-    economics = Economics(metals=(Metal("copper", "CU", price=8500, recovery=0.85),), mining=2.2, processing=9.0)
+    blocks = pd.DataFrame(
+        {
+            "id": "",
+            "ix": i,
+            "iy": j,
+            "iz": k,
+            "tonnes": 16_000.0,
+            "rock": "ore",
+            "row": np.arange(len(i)),
+            "CU": np.maximum(0.0, 0.8 - out / columns),
+        }
+    )
+    model = Model(
+        blocks,
+        Grid(
+            (430_000.0, 7_215_000.0, 1_007.5), (20.0, 20.0, 15.0), (columns, columns, levels), 30.0
+        ),
+        "made-up",
+    )
+    economics = Economics(
+        metals=(Metal("copper", "CU", price=8500, recovery=0.85),), mining=2.2, processing=9.0
+    )
     shells = Shells.__new__(Shells)
-    shells.study = SimpleNamespace(model=model, currency="$", priced=economics.priced(model), key="0" * 64,
-                                   manifest={"currency": "$", "metals": {"copper": {"grade": "CU", "grade_unit": "%", "price_unit": "t"}}})
+    shells.study = SimpleNamespace(
+        model=model,
+        currency="$",
+        priced=economics.priced(model),
+        key="0" * 64,
+        manifest={
+            "currency": "$",
+            "metals": {"copper": {"grade": "CU", "grade_unit": "%", "price_unit": "t"}},
+        },
+    )
     shells.factors = [300 + 50 * n for n in range(pits)]
-    shells.shell = np.clip((out + (levels - 1 - k)) / (0.6 * columns) * pits, 0, pits).astype(np.int16)
-    shells.verdicts = [{"count": int((shells.shell <= n).sum()), "worth": "0", "certificate": None} for n in range(pits)]
+    shells.shell = np.clip((out + (levels - 1 - k)) / (0.6 * columns) * pits, 0, pits).astype(
+        np.int16
+    )
+    shells.verdicts = [
+        {"count": int((shells.shell <= n).sum()), "worth": "0", "certificate": None}
+        for n in range(pits)
+    ]
     return shells
 
 
@@ -74,11 +111,29 @@ def designed(shells):
     """A smaller pit, moved east, beside the last but one."""
     study, grid = shells.study, shells.study.model.grid
     blocks, best = study.model.blocks, shells.holds(len(shells.factors) - 2)
-    out = np.hypot(blocks.ix - grid.shape[0] / 2 - 2, blocks.iy - grid.shape[1] / 2) + grid.shape[2] - 1 - blocks.iz
+    out = (
+        np.hypot(blocks.ix - grid.shape[0] / 2 - 2, blocks.iy - grid.shape[1] / 2)
+        + grid.shape[2]
+        - 1
+        - blocks.iz
+    )
     held = (out < 0.5 * grid.shape[0]).to_numpy()
     worth, bound = study.priced.worth_of(held, 1000), study.priced.worth_of(best, 1000)
     none = pd.DataFrame()
-    return Comparison(Design("design", held, np.zeros(len(held), bool)), 1000, "REFUSED NotTight", True, worth, bound, "0", None, best, none, none, by_bench(study, held, best, 1000))
+    return Comparison(
+        Design("design", held, np.zeros(len(held), bool)),
+        1000,
+        "REFUSED NotTight",
+        True,
+        worth,
+        bound,
+        "0",
+        None,
+        best,
+        none,
+        none,
+        by_bench(study, held, best, 1000),
+    )
 
 
 def main():
@@ -100,8 +155,10 @@ def main():
                 ready.append(browser.execute_script(DRAWN) / 1000)
             finally:
                 browser.quit()
-        print(f"{len(shells.study.model):,} blocks, {asked.pits} pits: {file.stat().st_size / 1e6:.2f} MB, written in {min(wrote):.2f} processor seconds, "
-              f"ready after {min(ready):.1f} s (load {os.getloadavg()[0]:.0f} on {os.cpu_count()} cores)")
+        print(
+            f"{len(shells.study.model):,} blocks, {asked.pits} pits: {file.stat().st_size / 1e6:.2f} MB, written in {min(wrote):.2f} processor seconds, "
+            f"ready after {min(ready):.1f} s (load {os.getloadavg()[0]:.0f} on {os.cpu_count()} cores)"
+        )
 
 
 if __name__ == "__main__":

@@ -26,7 +26,7 @@ try:
 except ModuleNotFoundError:
     if sys.executable == PYTHON:
         raise
-    os.execv(PYTHON, [PYTHON, *sys.argv])    # another Python on the path, without Debian's packages
+    os.execv(PYTHON, [PYTHON, *sys.argv])  # another Python on the path, without Debian's packages
 
 HERE = Path(__file__).resolve().parent
 TOP = HERE.parent
@@ -42,8 +42,14 @@ began = time.process_time()
 {call}
 print(json.dumps([time.process_time() - began, resource.getrusage(resource.RUSAGE_SELF).ru_maxrss * 1024 / 1e6]))
 """
-READ = [("pandas.read_csv", "import pandas", "pandas.read_csv({0!r})"),
-        ("pitplan.read_table", "import pitplan; pitplan.read_table", "pitplan.read_table({0!r}, size=(20, 20, 15))")]
+READ = [
+    ("pandas.read_csv", "import pandas", "pandas.read_csv({0!r})"),
+    (
+        "pitplan.read_table",
+        "import pitplan; pitplan.read_table",
+        "pitplan.read_table({0!r}, size=(20, 20, 15))",
+    ),
+]
 
 
 def smooth(shape, seed, waves=12):
@@ -64,12 +70,27 @@ def mine(name, nx, ny, nz, seed=1):
     u, v, w = i / nx, j / ny, k / nz
     top = np.rint(nz * (0.9 + 0.05 * np.cos(5 * u[:, :, 0]) * np.sin(4 * v[:, :, 0]))).astype(int)
     bodies = [(0.45, 0.5, 0.45, 0.16, 0.12, 0.30, 0.9), (0.62, 0.38, 0.35, 0.10, 0.10, 0.25, 0.7)]
-    core = sum(g * np.exp(-(((u - a) / d) ** 2 + ((v - b) / e) ** 2 + ((w - c) / f) ** 2)) for a, b, c, d, e, f, g in bodies)
+    core = sum(
+        g * np.exp(-(((u - a) / d) ** 2 + ((v - b) / e) ** 2 + ((w - c) / f) ** 2))
+        for a, b, c, d, e, f, g in bodies
+    )
     copper = core * np.exp(0.5 * smooth((nx, ny, nz), seed) - 0.12)
     keep = k < top[:, :, None]
-    rock = np.where(top[:, :, None] - k < 2, "OVB", np.where(k > 0.62 * top[:, :, None], "OXI", "SUL"))
-    frame = pd.DataFrame({"BLOCKID": [f"B{n:07d}" for n in range(int(keep.sum()))], "XC": 430_000 + 20.0 * i[keep], "YC": 7_215_000 + 20.0 * j[keep], "ZC": 1_007.5 + 15.0 * k[keep],
-                          "SG": np.round(2.6 + 0.03 * smooth((nx, ny, nz), seed + 1)[keep], 3), "CU": np.round(copper[keep], 4), "AU": np.round(0.3 * copper[keep], 4), "ROCK": rock[keep]})
+    rock = np.where(
+        top[:, :, None] - k < 2, "OVB", np.where(k > 0.62 * top[:, :, None], "OXI", "SUL")
+    )
+    frame = pd.DataFrame(
+        {
+            "BLOCKID": [f"B{n:07d}" for n in range(int(keep.sum()))],
+            "XC": 430_000 + 20.0 * i[keep],
+            "YC": 7_215_000 + 20.0 * j[keep],
+            "ZC": 1_007.5 + 15.0 * k[keep],
+            "SG": np.round(2.6 + 0.03 * smooth((nx, ny, nz), seed + 1)[keep], 3),
+            "CU": np.round(copper[keep], 4),
+            "AU": np.round(0.3 * copper[keep], 4),
+            "ROCK": rock[keep],
+        }
+    )
     frame.to_csv(path.with_suffix(".part"), index=False)
     os.replace(path.with_suffix(".part"), path)
     return path
@@ -78,14 +99,22 @@ def mine(name, nx, ny, nz, seed=1):
 def timed(before, call):
     """Processor seconds of a call in a fresh process, and megabytes of that process's peak."""
     text = TIMED.format(python=str(TOP / "python"), before=before, call=call)
-    return json.loads(subprocess.run([PYTHON, "-I", "-c", text], check=True, stdout=subprocess.PIPE, text=True).stdout.splitlines()[-1])
+    return json.loads(
+        subprocess.run(
+            [PYTHON, "-I", "-c", text], check=True, stdout=subprocess.PIPE, text=True
+        ).stdout.splitlines()[-1]
+    )
 
 
 def reading(rounds):
     path = mine("table1m", 128, 120, 74)
     rows = sum(1 for _ in open(path)) - 1
-    print(f"## A table of {rows:,} rows and 8 columns, {path.stat().st_size / 1e6:.0f} MB\n\n| | CPU s | peak MB | times pandas |\n|---|---|---|---|")
-    taken = [[timed(before, call.format(str(path))) for _, before, call in READ] for _ in range(rounds)]      # in turns
+    print(
+        f"## A table of {rows:,} rows and 8 columns, {path.stat().st_size / 1e6:.0f} MB\n\n| | CPU s | peak MB | times pandas |\n|---|---|---|---|"
+    )
+    taken = [
+        [timed(before, call.format(str(path))) for _, before, call in READ] for _ in range(rounds)
+    ]  # in turns
     best = [min(column, key=lambda t: t[0]) for column in zip(*taken)]
     for (name, _, _), (seconds, peak) in zip(READ, best):
         print(f"| `{name}` | {seconds:.2f} | {peak:.0f} | {seconds / best[0][0]:.2f} |")
@@ -99,16 +128,21 @@ def seconds_of(who):
 
 def one_pit(study, rounds):
     """The processor seconds of this process around one pit, beside those of `pit`."""
-    study.run(1000)                          # loads what a run needs
+    study.run(1000)  # loads what a run needs
     best = None
     for _ in range(rounds):
         shutil.rmtree(study.place(1000))
         before = [seconds_of(who) for who in (resource.RUSAGE_SELF, resource.RUSAGE_CHILDREN)]
         study.run(1000)
-        own, pit = (seconds_of(who) - was for who, was in zip((resource.RUSAGE_SELF, resource.RUSAGE_CHILDREN), before))
+        own, pit = (
+            seconds_of(who) - was
+            for who, was in zip((resource.RUSAGE_SELF, resource.RUSAGE_CHILDREN), before)
+        )
         best = min(best or (own / pit, own, pit), (own / pit, own, pit))
     share, own, pit = best
-    print(f"## One pit of {study.manifest['blocks']:,} blocks and {study.manifest['pairs']:,} pairs\n\n| `pit solve` and `pit check`, CPU s | Python around them, CPU s | share |\n|---|---|---|")
+    print(
+        f"## One pit of {study.manifest['blocks']:,} blocks and {study.manifest['pairs']:,} pairs\n\n| `pit solve` and `pit check`, CPU s | Python around them, CPU s | share |\n|---|---|---|"
+    )
     print(f"| {pit:.2f} | {own:.3f} | {100 * share:.1f} % |\n")
 
 
@@ -120,6 +154,7 @@ def alone(study, workers):
         with tempfile.NamedTemporaryFile(dir=study.folder) as cert:
             subprocess.run([pit, "solve", *words, "--factor", str(factor)], stdout=cert, check=True)
             subprocess.run([pit, "check", *words, cert.name], stdout=subprocess.DEVNULL, check=True)
+
     began = time.time()
     with ThreadPoolExecutor(workers) as pool:
         list(pool.map(run, sorted(FACTORS, reverse=True)))
@@ -131,9 +166,22 @@ def one_run(study, workers):
     with tempfile.TemporaryDirectory(dir=study.folder) as work:
         settings = Path(work, "series.toml")
         settings.write_text(study.settings_file.read_text() + f"factors = {FACTORS}\n")
-        words = ["--prec", study.prec_file, "--blocks", study.blocks_file, "--settings", settings, "--by-block", Path(work, "by_block.csv"), "--workers", str(workers)]
+        words = [
+            "--prec",
+            study.prec_file,
+            "--blocks",
+            study.blocks_file,
+            "--settings",
+            settings,
+            "--by-block",
+            Path(work, "by_block.csv"),
+            "--workers",
+            str(workers),
+        ]
         began = time.time()
-        subprocess.run([study.program.program, "shells", *words], stdout=subprocess.DEVNULL, check=True)
+        subprocess.run(
+            [study.program.program, "shells", *words], stdout=subprocess.DEVNULL, check=True
+        )
         return time.time() - began
 
 
@@ -149,14 +197,30 @@ def series(study, rounds, workers, bare_runs, more):
         bare = bare_runs(study, workers)
         used.append(seconds_of(resource.RUSAGE_CHILDREN))
         began = time.time()
-        subprocess.run([str(TOP / "bin" / "pitplan"), "shells", str(study.folder), "--workers", str(workers), *more], check=True, stdout=subprocess.DEVNULL, stderr=subprocess.DEVNULL,
-                       env={**os.environ, "PIT": study.program.program})
+        subprocess.run(
+            [
+                str(TOP / "bin" / "pitplan"),
+                "shells",
+                str(study.folder),
+                "--workers",
+                str(workers),
+                *more,
+            ],
+            check=True,
+            stdout=subprocess.DEVNULL,
+            stderr=subprocess.DEVNULL,
+            env={**os.environ, "PIT": study.program.program},
+        )
         took = time.time() - began
         used.append(seconds_of(resource.RUSAGE_CHILDREN))
         pairs.append((took, bare, used[2] - used[1], used[1] - used[0]))
     ours, bare, ours_cpu, bare_cpu = min(pairs, key=lambda pair: pair[0] / pair[1])
-    print(f"## {len(FACTORS)} shells of {study.manifest['blocks']:,} blocks, {workers} at a time\n\n| | `{' '.join(['pitplan shells', *more])}` | its {'runs' if more else 'run'} of `pit` alone | times |\n|---|---|---|---|")
-    print(f"| seconds that passed | {ours:.1f} | {bare:.1f} | {ours / bare:.2f} |\n| CPU s | {ours_cpu:.1f} | {bare_cpu:.1f} | {ours_cpu / bare_cpu:.2f} |\n")
+    print(
+        f"## {len(FACTORS)} shells of {study.manifest['blocks']:,} blocks, {workers} at a time\n\n| | `{' '.join(['pitplan shells', *more])}` | its {'runs' if more else 'run'} of `pit` alone | times |\n|---|---|---|---|"
+    )
+    print(
+        f"| seconds that passed | {ours:.1f} | {bare:.1f} | {ours / bare:.2f} |\n| CPU s | {ours_cpu:.1f} | {bare_cpu:.1f} | {ours_cpu / bare_cpu:.2f} |\n"
+    )
 
 
 STUDY = """[model]
@@ -175,12 +239,17 @@ factors = {factors}
 
 
 def main():
-    words = argparse.ArgumentParser(description=__doc__, formatter_class=argparse.RawDescriptionHelpFormatter)
+    words = argparse.ArgumentParser(
+        description=__doc__, formatter_class=argparse.RawDescriptionHelpFormatter
+    )
     words.add_argument("--rounds", type=int, default=3)
     words.add_argument("--workers", type=int, default=3)
     words.add_argument("--only", choices=["read", "pit", "shells", "series"])
     asked = words.parse_args()
-    print(f"{time.strftime('%Y-%m-%d, %H:%M UTC', time.gmtime())}, {os.cpu_count()} logical cores, load {os.getloadavg()[0]:.0f}\n", flush=True)
+    print(
+        f"{time.strftime('%Y-%m-%d, %H:%M UTC', time.gmtime())}, {os.cpu_count()} logical cores, load {os.getloadavg()[0]:.0f}\n",
+        flush=True,
+    )
     if asked.only in (None, "read"):
         reading(asked.rounds)
     OUT.mkdir(exist_ok=True)
@@ -200,9 +269,14 @@ def main():
 def built(table):
     """The study of a table, built in a folder of its own."""
     with tempfile.TemporaryDirectory(dir=OUT) as folder:
-        Path(folder, "study.toml").write_text(STUDY.format(table=str(table), factors=[factor / 1000 for factor in FACTORS]))
-        subprocess.run([str(TOP / "bin" / "pitplan"), "build", folder], check=True, stdout=subprocess.DEVNULL)
+        Path(folder, "study.toml").write_text(
+            STUDY.format(table=str(table), factors=[factor / 1000 for factor in FACTORS])
+        )
+        subprocess.run(
+            [str(TOP / "bin" / "pitplan"), "build", folder], check=True, stdout=subprocess.DEVNULL
+        )
         import pitplan as pp
+
         yield pp.Study(folder)
 
 

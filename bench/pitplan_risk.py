@@ -17,7 +17,7 @@ from pathlib import Path
 import numpy as np
 import pandas as pd
 
-import pitplan as bench_pitplan       # bench/pitplan.py, which makes the mines
+import pitplan as bench_pitplan  # bench/pitplan.py, which makes the mines
 
 HERE = Path(__file__).resolve().parent
 sys.modules.pop("pitplan")
@@ -35,14 +35,26 @@ def built(nx, ny, nz, count):
     name = f"risk{nx}x{ny}x{nz}"
     table = bench_pitplan.mine(name, nx, ny, nz)
     folder = HERE / "out" / name
-    economics = pp.Economics(metals=(pp.Metal("copper", "CU", price=8500, recovery=0.86),), **ECONOMICS)
+    economics = pp.Economics(
+        metals=(pp.Metal("copper", "CU", price=8500, recovery=0.86),), **ECONOMICS
+    )
     try:
         study = pp.Study(folder)
     except pp.PlanError:
-        study = pp.Study.create(folder, pp.read_table(table, size=(20, 20, 15)), economics, pp.Slopes(45))
+        study = pp.Study.create(
+            folder, pp.read_table(table, size=(20, 20, 15)), economics, pp.Slopes(45)
+        )
     grades = pd.read_csv(table, usecols=["CU"]).CU.to_numpy(np.float32)
     chance = np.random.default_rng(1)
-    np.save(folder / "sims.npy", np.stack([grades * chance.lognormal(0, 0.3, len(grades)).astype(np.float32) for _ in range(count)]))
+    np.save(
+        folder / "sims.npy",
+        np.stack(
+            [
+                grades * chance.lognormal(0, 0.3, len(grades)).astype(np.float32)
+                for _ in range(count)
+            ]
+        ),
+    )
     risk.prepare(study, economics, folder / "sims.npy", [1000])
     shutil.rmtree(folder / "runs", ignore_errors=True)
     return study
@@ -56,7 +68,12 @@ def seconds_of(who):
 def start_alone(study):
     """The processor seconds of a process of the engine that gets no task: what its start costs."""
     before = seconds_of(resource.RUSAGE_CHILDREN)
-    subprocess.run([str(HERE.parent / "bin" / "pitplan"), "task", str(study.folder), "-"], stdin=subprocess.DEVNULL, check=True, env={**os.environ, "PIT": study.program.program})
+    subprocess.run(
+        [str(HERE.parent / "bin" / "pitplan"), "task", str(study.folder), "-"],
+        stdin=subprocess.DEVNULL,
+        check=True,
+        env={**os.environ, "PIT": study.program.program},
+    )
     return seconds_of(resource.RUSAGE_CHILDREN) - before
 
 
@@ -66,10 +83,17 @@ def engine(count):
     before = [seconds_of(who) for who in (resource.RUSAGE_SELF, resource.RUSAGE_CHILDREN)]
     factors = np.linspace(300, 1200, count).astype(int).tolist()
     local.run_local(study, [Task("run", "base", (factor,)) for factor in factors], workers)
-    own, tasks = (seconds_of(who) - was for who, was in zip((resource.RUSAGE_SELF, resource.RUSAGE_CHILDREN), before))
+    own, tasks = (
+        seconds_of(who) - was
+        for who, was in zip((resource.RUSAGE_SELF, resource.RUSAGE_CHILDREN), before)
+    )
     own += start * workers
-    print(f"## The engine of this machine: {count} factors of {study.manifest['blocks']:,} blocks, {workers} at a time\n")
-    print(f"Its own process and the start of its workers {own:.2f} CPU s; all of it {own + tasks - start * workers:.1f} CPU s; share {100 * own / (own + tasks - start * workers):.1f} %\n")
+    print(
+        f"## The engine of this machine: {count} factors of {study.manifest['blocks']:,} blocks, {workers} at a time\n"
+    )
+    print(
+        f"Its own process and the start of its workers {own:.2f} CPU s; all of it {own + tasks - start * workers:.1f} CPU s; share {100 * own / (own + tasks - start * workers):.1f} %\n"
+    )
 
 
 def realisations(count):
@@ -79,8 +103,12 @@ def realisations(count):
     took, cpu = time.time() - began, seconds_of(resource.RUSAGE_CHILDREN) - before
     began, own = time.time(), seconds_of(resource.RUSAGE_SELF)
     found = risk.Risk(study)
-    print(f"## {found.count} realisations of {study.manifest['blocks']:,} blocks at one factor, four at a time\n")
-    print(f"{cpu:.1f} CPU s in {took:.0f} s, at a load of {os.getloadavg()[0]:.0f} on {os.cpu_count()} processors; all of them read and checked again: {seconds_of(resource.RUSAGE_SELF) - own:.1f} CPU s\n")
+    print(
+        f"## {found.count} realisations of {study.manifest['blocks']:,} blocks at one factor, four at a time\n"
+    )
+    print(
+        f"{cpu:.1f} CPU s in {took:.0f} s, at a load of {os.getloadavg()[0]:.0f} on {os.cpu_count()} processors; all of them read and checked again: {seconds_of(resource.RUSAGE_SELF) - own:.1f} CPU s\n"
+    )
 
 
 if __name__ == "__main__":

@@ -30,7 +30,9 @@ def fill(room, name, uses, source):
         for part in PARTS:
             if (TOP / "crates" / crate / part).is_dir():
                 shutil.copytree(TOP / "crates" / crate / part, room / "crates" / crate / part)
-    (room / "crates.txt").write_text("".join(line + "\n" for line in lines.values()) + "%s: %s\n" % (name, " ".join(uses)))
+    (room / "crates.txt").write_text(
+        "".join(line + "\n" for line in lines.values()) + "%s: %s\n" % (name, " ".join(uses))
+    )
     shutil.copy(TOP / "HANDLES", room)
     (room / ".git").mkdir()  # which tells the kit that the top is here
     made = room / "crates" / name
@@ -49,7 +51,9 @@ def program(room, name, uses, source):
     MODELS.mkdir(exist_ok=True)
     with open(log, "w") as said:
         # it runs the program too, and fails where that ends otherwise than a gate wants: that is nothing to us
-        subprocess.run(["rt", "ci"], cwd=room, stdin=subprocess.DEVNULL, stdout=said, stderr=subprocess.STDOUT)
+        subprocess.run(
+            ["rt", "ci"], cwd=room, stdin=subprocess.DEVNULL, stdout=said, stderr=subprocess.STDOUT
+        )
     if not (made / "out" / name).exists():
         sys.exit(f"bench: the program isn't proved: see {log}")
     return str(made / "out" / name)

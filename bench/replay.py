@@ -11,7 +11,16 @@ from pathlib import Path
 
 from common import MODELS, PIT, adopt_orphans, arguments, files_of, model, run, table
 
-READ_EXCESS, READ_CAPACITY, READ_LABEL, TAKE, GIVE, TAKE_EXCESS, GIVE_EXCESS, RAISE = "RE RC RL TC GC TE GE RA".split()
+(
+    READ_EXCESS,
+    READ_CAPACITY,
+    READ_LABEL,
+    TAKE,
+    GIVE,
+    TAKE_EXCESS,
+    GIVE_EXCESS,
+    RAISE,
+) = "RE RC RL TC GC TE GE RA".split()
 SINK, FORWARD, BACKWARD, SOURCE = range(4)
 
 
@@ -110,7 +119,9 @@ def trace_of(mine, limit):
 
 def main():
     words = arguments(__doc__, ["newman"])
-    words.add_argument("--steps", type=int, default=10_000_000, metavar="N", help="how many steps (10000000)")
+    words.add_argument(
+        "--steps", type=int, default=10_000_000, metavar="N", help="how many steps (10000000)"
+    )
     given = words.parse_args()
     adopt_orphans()
     rows = []
@@ -123,7 +134,16 @@ def main():
             raise SystemExit("bench: %s: %s" % (name, runs[0].output))
         cpu, peak = min(r.cpu for r in runs), min(r.peak for r in runs)
         size = trace.stat().st_size
-        rows.append([mine.name, f"{given.steps:,}", f"{size / 1e6:.0f}", f"{cpu:.2f}", f"{given.steps / cpu:,.0f}", f"{peak:.0f}"])
+        rows.append(
+            [
+                mine.name,
+                f"{given.steps:,}",
+                f"{size / 1e6:.0f}",
+                f"{cpu:.2f}",
+                f"{given.steps / cpu:,.0f}",
+                f"{peak:.0f}",
+            ]
+        )
     table(["model", "steps", "trace MB", "s", "steps a second", "peak MB"], rows)
 
 

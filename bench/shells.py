@@ -19,7 +19,18 @@ import tempfile
 from collections import Counter
 from pathlib import Path
 
-from common import PIT, adopt_orphans, arguments, best, model, priced_files_of, rounds, run, size_of, table
+from common import (
+    PIT,
+    adopt_orphans,
+    arguments,
+    best,
+    model,
+    priced_files_of,
+    rounds,
+    run,
+    size_of,
+    table,
+)
 
 
 def factors_of(settings):
@@ -30,11 +41,19 @@ def factors_of(settings):
 def shells_of(mine, runs):
     """What the runs print, which must be one and the same: count and worth of each factor's pit."""
     lines = [line.split() for line in runs[0].output.splitlines()]
-    if any(r.status != 0 or r.output != runs[0].output for r in runs) or any(len(line) != 4 for line in lines):
-        sys.exit(f"bench: {mine.name}: the runs of pit shells differ, or have no table:\n{runs[0].output[:2000]}")
+    if any(r.status != 0 or r.output != runs[0].output for r in runs) or any(
+        len(line) != 4 for line in lines
+    ):
+        sys.exit(
+            f"bench: {mine.name}: the runs of pit shells differ, or have no table:\n{runs[0].output[:2000]}"
+        )
     counts = [int(count) for _, _, count, _ in lines]
-    if [factor for _, factor, _, _ in lines] != factors_of(mine.settings) or counts != sorted(counts):
-        sys.exit(f"bench: {mine.name}: not the factors of the settings, or not nested:\n{runs[0].output}")
+    if [factor for _, factor, _, _ in lines] != factors_of(mine.settings) or counts != sorted(
+        counts
+    ):
+        sys.exit(
+            f"bench: {mine.name}: not the factors of the settings, or not nested:\n{runs[0].output}"
+        )
     return {factor: f"{count} {worth}" for _, factor, count, worth in lines}
 
 
@@ -51,27 +70,47 @@ def pit_of(mine, solved, core):
 
 def beside_one_solve(mine, given, shells):
     """The row of one model, and the shells."""
-    solve = [str(PIT), "solve"] + priced_files_of(mine) + ["--method", given.method, "--factor", given.factor]
+    solve = (
+        [str(PIT), "solve"]
+        + priced_files_of(mine)
+        + ["--method", given.method, "--factor", given.factor]
+    )
     one, all_factors = rounds([solve, shells], given.rounds, given.core)
     found = shells_of(mine, all_factors)
     pit = pit_of(mine, one[-1], given.core)
     if found.get(given.factor, pit) != pit:
-        sys.exit(f"bench: {mine.name}: at factor {given.factor} shells says {found[given.factor]}, and solve {pit}")
+        sys.exit(
+            f"bench: {mine.name}: at factor {given.factor} shells says {found[given.factor]}, and solve {pit}"
+        )
     (cpu, peak), (shells_cpu, shells_peak) = best(one), best(all_factors)
     blocks, pairs = size_of(mine.prec)
-    return [mine.name, f"{blocks:,}", f"{pairs:,}", str(len(found)), f"{cpu:.3f}", f"{shells_cpu:.3f}", f"{shells_cpu / cpu:.1f}",
-            f"{peak:.1f}", f"{shells_peak:.1f}", f"{shells_peak / peak:.2f}"], found
+    return [
+        mine.name,
+        f"{blocks:,}",
+        f"{pairs:,}",
+        str(len(found)),
+        f"{cpu:.3f}",
+        f"{shells_cpu:.3f}",
+        f"{shells_cpu / cpu:.1f}",
+        f"{peak:.1f}",
+        f"{shells_peak:.1f}",
+        f"{shells_peak / peak:.2f}",
+    ], found
 
 
 def by_workers(mine, given, shells, found):
     """The rows of one model."""
-    runs = rounds([shells + ["--workers", str(n)] for n in given.workers], given.rounds, given.cores)
+    runs = rounds(
+        [shells + ["--workers", str(n)] for n in given.workers], given.rounds, given.cores
+    )
     if shells_of(mine, [r for own in runs for r in own]) != found:
         sys.exit(f"bench: {mine.name}: other shells on several cores")
     first, rows = min(r.wall for r in runs[0]), []
     for n, own in zip(given.workers, runs):
         wall, (cpu, peak) = min(r.wall for r in own), best(own)
-        rows.append([mine.name, str(n), f"{wall:.2f}", f"{wall / first:.2f}", f"{cpu:.2f}", f"{peak:.1f}"])
+        rows.append(
+            [mine.name, str(n), f"{wall:.2f}", f"{wall / first:.2f}", f"{cpu:.2f}", f"{peak:.1f}"]
+        )
     return rows
 
 
@@ -79,7 +118,9 @@ def counts_in(file):
     """How many blocks the table of blocks has up to each of its shells."""
     shells = [line.split(",")[1] for line in Path(file).read_text().splitlines()[1:]]
     held = Counter(int(shell) for shell in shells if shell)
-    return {str(factor): sum(held[k] for k in held if k <= factor) for factor in sorted(held)}, len(shells)
+    return {str(factor): sum(held[k] for k in held if k <= factor) for factor in sorted(held)}, len(
+        shells
+    )
 
 
 def with_table(mine, given, shells, found):
@@ -90,19 +131,48 @@ def with_table(mine, given, shells, found):
         counts, blocks = counts_in(file)
         megabytes = os.path.getsize(file) / 1e6
     said = {factor: int(line.split()[0]) for factor, line in found.items()}
-    if shells_of(mine, plain + tabled) != found or any(said[factor] != count for factor, count in counts.items()):
+    if shells_of(mine, plain + tabled) != found or any(
+        said[factor] != count for factor, count in counts.items()
+    ):
         sys.exit(f"bench: {mine.name}: the table of blocks isn't that of the lines")
     (cpu, peak), (tabled_cpu, tabled_peak) = best(plain), best(tabled)
-    return [mine.name, f"{blocks:,}", f"{megabytes:.1f}", f"{cpu:.3f}", f"{tabled_cpu:.3f}", f"{tabled_cpu / cpu:.3f}",
-            f"{peak:.1f}", f"{tabled_peak:.1f}"]
+    return [
+        mine.name,
+        f"{blocks:,}",
+        f"{megabytes:.1f}",
+        f"{cpu:.3f}",
+        f"{tabled_cpu:.3f}",
+        f"{tabled_cpu / cpu:.3f}",
+        f"{peak:.1f}",
+        f"{tabled_peak:.1f}",
+    ]
 
 
 def main():
     words = arguments(__doc__, ["marvin", "b350k", "b2m"])
-    words.add_argument("--method", default="pseudoflow", metavar="M", help="the method of both commands (pseudoflow)")
-    words.add_argument("--workers", nargs="+", type=int, default=[1, 4], metavar="W", help="numbers of workers (1 and 4)")
-    words.add_argument("--cores", default="0-3", metavar="LIST", help="the cores of the runs by several workers, for taskset (0-3)")
-    words.add_argument("--factor", default="1000", metavar="K", help="the factor of the one solve (1000)")
+    words.add_argument(
+        "--method",
+        default="pseudoflow",
+        metavar="M",
+        help="the method of both commands (pseudoflow)",
+    )
+    words.add_argument(
+        "--workers",
+        nargs="+",
+        type=int,
+        default=[1, 4],
+        metavar="W",
+        help="numbers of workers (1 and 4)",
+    )
+    words.add_argument(
+        "--cores",
+        default="0-3",
+        metavar="LIST",
+        help="the cores of the runs by several workers, for taskset (0-3)",
+    )
+    words.add_argument(
+        "--factor", default="1000", metavar="K", help="the factor of the one solve (1000)"
+    )
     given = words.parse_args()
     adopt_orphans()
     rows, rows_by_workers, rows_with_table = [], [], []
@@ -115,11 +185,37 @@ def main():
         rows.append(row)
         rows_by_workers += by_workers(mine, given, shells, found)
         rows_with_table.append(with_table(mine, given, shells, found))
-    table(["model", "blocks", "pairs", "factors", "solve s", "shells s", "times", "solve peak MB", "shells peak MB", "times"], rows)
+    table(
+        [
+            "model",
+            "blocks",
+            "pairs",
+            "factors",
+            "solve s",
+            "shells s",
+            "times",
+            "solve peak MB",
+            "shells peak MB",
+            "times",
+        ],
+        rows,
+    )
     print()
     table(["model", "workers", "wall s", "of the first", "CPU s", "peak MB"], rows_by_workers)
     print()
-    table(["model", "blocks", "table MB", "shells s", "with --by-block s", "times", "peak MB", "with it MB"], rows_with_table)
+    table(
+        [
+            "model",
+            "blocks",
+            "table MB",
+            "shells s",
+            "with --by-block s",
+            "times",
+            "peak MB",
+            "with it MB",
+        ],
+        rows_with_table,
+    )
 
 
 if __name__ == "__main__":

@@ -111,12 +111,19 @@ def simulated(work: Work, cluster: Cluster, dies_at: float | None = None) -> Out
             lost += len(later)
         if dies_at is not None and now == int(dies_at) + 120:
             waiting, later = waiting + later, []
-        for node in sorted((node for node in nodes if node.is_up), key=lambda node: len(node.running)):
+        for node in sorted(
+            (node for node in nodes if node.is_up), key=lambda node: len(node.running)
+        ):
             while waiting and len(node.running) < most:
                 begin(node, waiting.pop(0), work, keeps)
         disk += second(nodes, work, cluster, keeps)
         now += 1
-    return Outcome(now / 3600, most * cluster.nodes, (disk + work.tasks * work.pits * work.kept_mb) / 1000, lost)
+    return Outcome(
+        now / 3600,
+        most * cluster.nodes,
+        (disk + work.tasks * work.pits * work.kept_mb) / 1000,
+        lost,
+    )
 
 
 def begin(node: Node, task: Task, work: Work, keeps: bool) -> None:

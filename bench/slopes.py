@@ -26,7 +26,13 @@ NINE = [(x, y, 1) for x in (-1, 0, 1) for y in (-1, 0, 1)]
 def cone(levels, run, rise):
     """The offsets of a cone."""
     reach = range(-levels * run // rise - 1, levels * run // rise + 2)
-    return [(x, y, z) for z in range(1, levels + 1) for x in reach for y in reach if (x * x + y * y) * rise * rise <= (z * run) ** 2]
+    return [
+        (x, y, z)
+        for z in range(1, levels + 1)
+        for x in reach
+        for y in reach
+        if (x * x + y * y) * rise * rise <= (z * run) ** 2
+    ]
 
 
 def places(sides, offset):
@@ -48,7 +54,8 @@ def less(whole, step):
 
 def reduced(offsets):
     """The offsets whose pairs are left in a full box: no two of the pattern lead to them over a block that is always there. Those
-    to which two lead only over blocks that may lie outside are refused, since their pairs can't be counted by the sides."""
+    to which two lead only over blocks that may lie outside are refused, since their pairs can't be counted by the sides.
+    """
     known = set(offsets)
     steps = {whole: [step for step in offsets if less(whole, step) in known] for whole in offsets}
     for whole, found in steps.items():
@@ -73,7 +80,11 @@ def shuffled(found):
 
 def under_ground(found):
     """The places below hills: about two thirds of the cube."""
-    return [(x, y, z) for x, y, z in found if z < 66 + 20 * math.sin(x / 9) * math.cos(y / 13) + 8 * math.sin(x * y / 7)]
+    return [
+        (x, y, z)
+        for x, y, z in found
+        if z < 66 + 20 * math.sin(x / 9) * math.cos(y / 13) + 8 * math.sin(x * y / 7)
+    ]
 
 
 def write_blocks(name, found):
@@ -85,11 +96,26 @@ def write_blocks(name, found):
 
 def beside(name, file):
     """A row for pattern nine beside the plain writer."""
-    ours, theirs = rounds([[str(PIT), "slopes", "--blocks", file, "--pattern", "nine"], [peer("slopes_writer"), file]], 3, 0)
+    ours, theirs = rounds(
+        [
+            [str(PIT), "slopes", "--blocks", file, "--pattern", "nine"],
+            [peer("slopes_writer"), file],
+        ],
+        3,
+        0,
+    )
     if ours[0].status != 0 or ours[0].output != theirs[0].output:
         sys.exit(f"bench: the two texts of {name} differ")
     (seconds, peak), (peer_seconds, peer_peak) = best(ours), best(theirs)
-    return [name, f"{seconds:.2f}", f"{peer_seconds:.2f}", f"{seconds / peer_seconds:.1f}", f"{peak:.0f}", f"{peer_peak:.0f}", f"{peak / peer_peak:.1f}"]
+    return [
+        name,
+        f"{seconds:.2f}",
+        f"{peer_seconds:.2f}",
+        f"{seconds / peer_seconds:.1f}",
+        f"{peak:.0f}",
+        f"{peer_peak:.0f}",
+        f"{peak / peer_peak:.1f}",
+    ]
 
 
 def measured(file, sides, words, offsets):
@@ -99,7 +125,15 @@ def measured(file, sides, words, offsets):
     wanted = sum(places(sides, offset) for offset in offsets)
     if answer.status != 0 or pairs != wanted:
         sys.exit(f"bench: {words}: status {answer.status}, {pairs} pairs and not {wanted}")
-    return [" ".join(words), f"{sides[0] * sides[1] * sides[2]:,}", f"{pairs:,}", f"{len(answer.output) / 1e6:.1f}", f"{answer.cpu:.2f}", f"{answer.wall:.2f}", f"{answer.peak:.0f}"]
+    return [
+        " ".join(words),
+        f"{sides[0] * sides[1] * sides[2]:,}",
+        f"{pairs:,}",
+        f"{len(answer.output) / 1e6:.1f}",
+        f"{answer.cpu:.2f}",
+        f"{answer.wall:.2f}",
+        f"{answer.peak:.0f}",
+    ]
 
 
 def compared(folder):

@@ -25,7 +25,12 @@ PART = 10_000_000  # of the smaller model's steps, so that a run of any number o
 
 def solve_words(mine, steps, program=PIT, group=None):
     """A limit of steps asks for the machine; the kind of amount is the program's own choice where none is given."""
-    return [str(program), "solve"] + files_of(mine) + ["--steps", str(steps)] + (["--group", group] if group else [])
+    return (
+        [str(program), "solve"]
+        + files_of(mine)
+        + ["--steps", str(steps)]
+        + (["--group", group] if group else [])
+    )
 
 
 def least(words, count, core, status):
@@ -46,8 +51,19 @@ def whole_run(count, core):
     other = least([peer("boost_bk"), mine.prec, mine.upit], count, core, 0)
     if check.output != "ACCEPTED " + other.output:
         sys.exit(f"bench: newman: {check.output} and {other.output}")
-    table(["model", "blocks", "blocks of the pit", "pit s", "peer s", "pit peak MB"],
-          [["newman", "1,060", other.output.split()[0], f"{own.cpu:.2f}", f"{other.cpu:.3f}", f"{own.peak:.1f}"]])
+    table(
+        ["model", "blocks", "blocks of the pit", "pit s", "peer s", "pit peak MB"],
+        [
+            [
+                "newman",
+                "1,060",
+                other.output.split()[0],
+                f"{own.cpu:.2f}",
+                f"{other.cpu:.3f}",
+                f"{own.peak:.1f}",
+            ]
+        ],
+    )
 
 
 def steps_a_second(count, core):
@@ -56,12 +72,26 @@ def steps_a_second(count, core):
     seconds = {group: [] for group in GROUPS}
     for _ in range(count):
         for group in GROUPS:
-            reading, running = (least(solve_words(mine, steps, group=group), 1, core, 1) for steps in (1, LIMIT))
+            reading, running = (
+                least(solve_words(mine, steps, group=group), 1, core, 1) for steps in (1, LIMIT)
+            )
             seconds[group].append(running.cpu - reading.cpu)
     pair = min(seconds["pair"])
-    table(["model", "blocks", "group", "steps", "s", "steps a second", "times pair"],
-          [["zuck", "9,400", group, f"{LIMIT:,}", f"{min(s):.2f}", f"{LIMIT / min(s):,.0f}", f"{min(s) / pair:.2f}"]
-           for group, s in seconds.items()])
+    table(
+        ["model", "blocks", "group", "steps", "s", "steps a second", "times pair"],
+        [
+            [
+                "zuck",
+                "9,400",
+                group,
+                f"{LIMIT:,}",
+                f"{min(s):.2f}",
+                f"{LIMIT / min(s):,.0f}",
+                f"{min(s) / pair:.2f}",
+            ]
+            for group, s in seconds.items()
+        ],
+    )
 
 
 def elapsed(words):
@@ -82,13 +112,19 @@ def steps_by_workers(count, unlocked):
             run_of = [elapsed(solve_words(mine, steps, program) + more) for steps in (PART, 1)]
             seconds[name].append(run_of[0] - run_of[1])
     first = min(seconds[programs[0][0]])
-    table(["run", "steps", "s passed", "steps a second", f"times {programs[0][0]}"],
-          [[name, f"{PART:,}", f"{min(s):.2f}", f"{PART / min(s):,.0f}", f"{min(s) / first:.2f}"]
-           for name, s in seconds.items()])
+    table(
+        ["run", "steps", "s passed", "steps a second", f"times {programs[0][0]}"],
+        [
+            [name, f"{PART:,}", f"{min(s):.2f}", f"{PART / min(s):,.0f}", f"{min(s) / first:.2f}"]
+            for name, s in seconds.items()
+        ],
+    )
 
 
 def main():
-    words = argparse.ArgumentParser(description=__doc__, formatter_class=argparse.RawDescriptionHelpFormatter)
+    words = argparse.ArgumentParser(
+        description=__doc__, formatter_class=argparse.RawDescriptionHelpFormatter
+    )
     words.add_argument("--rounds", type=int, default=3, metavar="N")
     words.add_argument("--core", type=int, default=0, metavar="N")
     words.add_argument("--unlocked", type=Path, metavar="PROGRAM")

@@ -12,7 +12,19 @@ ratio. This is a measurement and no test: it holds no time against a limit.
 """
 import tempfile
 
-from common import PIT, adopt_orphans, arguments, best, files_of, model, peer, rounds, run, size_of, table
+from common import (
+    PIT,
+    adopt_orphans,
+    arguments,
+    best,
+    files_of,
+    model,
+    peer,
+    rounds,
+    run,
+    size_of,
+    table,
+)
 
 
 def answer_of(checker, mine, solved, core):
@@ -27,27 +39,61 @@ def answer_of(checker, mine, solved, core):
 
 
 def row(mine, program, more, checker, given):
-    ours, theirs = rounds([[str(PIT), "solve"] + files_of(mine) + more, [program, mine.prec, mine.upit]],
-                          given.rounds, given.core)
+    ours, theirs = rounds(
+        [[str(PIT), "solve"] + files_of(mine) + more, [program, mine.prec, mine.upit]],
+        given.rounds,
+        given.core,
+    )
     answer, other = answer_of(checker, mine, ours[-1], given.core), theirs[-1].output
     blocks, pairs = size_of(mine.prec)
     (cpu, peak), (their_cpu, their_peak) = best(ours), best(theirs)
     agree = answer == other
-    return [mine.name, f"{blocks:,}", f"{pairs:,}", answer if agree else f"{answer}, PEER {other}",
-            f"{cpu:.3f}", f"{their_cpu:.3f}", f"{cpu / their_cpu:.2f}" if agree else "-",
-            f"{peak:.1f}", f"{their_peak:.1f}", f"{peak / their_peak:.2f}" if agree else "-"]
+    return [
+        mine.name,
+        f"{blocks:,}",
+        f"{pairs:,}",
+        answer if agree else f"{answer}, PEER {other}",
+        f"{cpu:.3f}",
+        f"{their_cpu:.3f}",
+        f"{cpu / their_cpu:.2f}" if agree else "-",
+        f"{peak:.1f}",
+        f"{their_peak:.1f}",
+        f"{peak / their_peak:.2f}" if agree else "-",
+    ]
 
 
 def main():
     words = arguments(__doc__, ["zuck", "marvin", "mclim", "b350k", "b2m"])
-    words.add_argument("--peer", metavar="PROGRAM", help="bench/peers/boost_bk where it is left out")
-    words.add_argument("--options", default="", metavar="OPTIONS", help="more options for `pit solve`, as one argument")
+    words.add_argument(
+        "--peer", metavar="PROGRAM", help="bench/peers/boost_bk where it is left out"
+    )
+    words.add_argument(
+        "--options",
+        default="",
+        metavar="OPTIONS",
+        help="more options for `pit solve`, as one argument",
+    )
     given = words.parse_args()
     adopt_orphans()
     program, checker = given.peer or peer("boost_bk"), peer("checker")
-    rows = [row(model(name), program, given.options.split(), checker, given) for name in given.models]
-    table(["model", "blocks", "pairs", "pit: blocks, worth", "pit s", "peer s", "ratio", "pit peak MB", "peer peak MB",
-           "ratio"], rows)
+    rows = [
+        row(model(name), program, given.options.split(), checker, given) for name in given.models
+    ]
+    table(
+        [
+            "model",
+            "blocks",
+            "pairs",
+            "pit: blocks, worth",
+            "pit s",
+            "peer s",
+            "ratio",
+            "pit peak MB",
+            "peer peak MB",
+            "ratio",
+        ],
+        rows,
+    )
 
 
 if __name__ == "__main__":

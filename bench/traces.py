@@ -18,7 +18,12 @@ ROOM = 1 << 24
 
 def words(mine, steps, trace=None):
     traced = ["--trace", trace, "--room", str(ROOM)] if trace else []
-    return [str(PIT), "solve"] + files_of(mine) + ["--method", "push-relabel", "--steps", str(steps)] + traced
+    return (
+        [str(PIT), "solve"]
+        + files_of(mine)
+        + ["--method", "push-relabel", "--steps", str(steps)]
+        + traced
+    )
 
 
 def row(name, steps, count, core, folder):
@@ -34,14 +39,37 @@ def row(name, steps, count, core, folder):
     with open(trace, "rb") as file:
         made = sum(chunk.count(b"\n") for chunk in iter(lambda: file.read(1 << 20), b"")) - 2
     size = os.path.getsize(trace)
-    return [name, f"{made:,}", f"{a.cpu:.3f}", f"{b.cpu:.3f}", f"{b.cpu / a.cpu:.2f}", f"{size / 1e6:.0f}", f"{a.peak:.1f}", f"{b.peak:.1f}"]
+    return [
+        name,
+        f"{made:,}",
+        f"{a.cpu:.3f}",
+        f"{b.cpu:.3f}",
+        f"{b.cpu / a.cpu:.2f}",
+        f"{size / 1e6:.0f}",
+        f"{a.peak:.1f}",
+        f"{b.peak:.1f}",
+    ]
 
 
 def main():
     count, core = 3, 0
     with tempfile.TemporaryDirectory() as folder:
-        table(["model", "steps", "s", "with --trace s", "times", "trace MB", "peak MB", "with --trace peak MB"],
-              [row(*part, count, core, folder) for part in (("newman", 1_000_000_000), ("zuck", 1_000_000), ("zuck", 10_000_000))])
+        table(
+            [
+                "model",
+                "steps",
+                "s",
+                "with --trace s",
+                "times",
+                "trace MB",
+                "peak MB",
+                "with --trace peak MB",
+            ],
+            [
+                row(*part, count, core, folder)
+                for part in (("newman", 1_000_000_000), ("zuck", 1_000_000), ("zuck", 10_000_000))
+            ],
+        )
 
 
 if __name__ == "__main__":

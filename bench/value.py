@@ -28,12 +28,24 @@ def row_of(mine, given):
     with tempfile.TemporaryDirectory() as folder:
         cert, design = certificate_of(mine, "pair", folder), upper_half(blocks, folder)
         value = [str(PIT), "value"] + files_of(mine)
-        checked, alone, compared = rounds([[str(PIT), "check"] + files_of(mine) + [cert], value + [design],
-                                           value + ["--best", cert, design]], given.rounds, given.core)
+        checked, alone, compared = rounds(
+            [
+                [str(PIT), "check"] + files_of(mine) + [cert],
+                value + [design],
+                value + ["--best", cert, design],
+            ],
+            given.rounds,
+            given.core,
+        )
     if any(run.status for run in checked + alone + compared):
         sys.exit(f"bench: {mine.name}: a run ended otherwise:\n{compared[-1].output}")
-    if not compared[-1].output.startswith(f"DESIGN {blocks - blocks // 2} ") or alone[-1].output not in compared[-1].output:
-        sys.exit(f"bench: {mine.name}: the two answers disagree:\n{alone[-1].output}\n{compared[-1].output}")
+    if (
+        not compared[-1].output.startswith(f"DESIGN {blocks - blocks // 2} ")
+        or alone[-1].output not in compared[-1].output
+    ):
+        sys.exit(
+            f"bench: {mine.name}: the two answers disagree:\n{alone[-1].output}\n{compared[-1].output}"
+        )
     cpu, peak = best(checked)
     told = [mine.name, f"{blocks:,}", f"{pairs:,}", f"{cpu:.3f}", f"{peak:.1f}"]
     for runs in (alone, compared):
@@ -45,8 +57,22 @@ def row_of(mine, given):
 def main():
     given = arguments(__doc__, ["marvin", "b350k", "b2m"]).parse_args()
     adopt_orphans()
-    table(["model", "blocks", "pairs", "check s", "MB", "value s", "times", "MB", "value --best s", "times", "MB"],
-          [row_of(model(name), given) for name in given.models])
+    table(
+        [
+            "model",
+            "blocks",
+            "pairs",
+            "check s",
+            "MB",
+            "value s",
+            "times",
+            "MB",
+            "value --best s",
+            "times",
+            "MB",
+        ],
+        [row_of(model(name), given) for name in given.models],
+    )
 
 
 if __name__ == "__main__":

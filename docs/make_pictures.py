@@ -17,21 +17,27 @@ from pathlib import Path
 from PIL import Image
 
 TOP = Path(__file__).resolve().parent.parent
-MOST = 150_000                       # bytes of a picture in the repository
-COLOURS = 160                        # enough for flat areas, small swatches and lettering, a third of the bytes
+MOST = 150_000  # bytes of a picture in the repository
+COLOURS = 160  # enough for flat areas, small swatches and lettering, a third of the bytes
 
 
 def text_of(name):
     """The text that stands below `cat NAME` in PLANNING.md."""
     lines = (TOP / "docs/PLANNING.md").read_text().split("\n")
     start = lines.index(f"    $ cat {name}") + 1
-    end = next(i for i in range(start, len(lines)) if lines[i].startswith("    $ ") or lines[i] and not lines[i].startswith("    "))
+    end = next(
+        i
+        for i in range(start, len(lines))
+        if lines[i].startswith("    $ ") or lines[i] and not lines[i].startswith("    ")
+    )
     return "\n".join(line[4:] for line in lines[start:end])
 
 
 def pitplan(*words, may_refuse=False):
     """Runs a command and gives the pictures and pages that it prints; one that compares may say no."""
-    ran = subprocess.run([str(TOP / "bin/pitplan"), *map(str, words)], stdout=subprocess.PIPE, text=True)
+    ran = subprocess.run(
+        [str(TOP / "bin/pitplan"), *map(str, words)], stdout=subprocess.PIPE, text=True
+    )
     if ran.returncode > may_refuse:
         sys.exit(f"pitplan {' '.join(map(str, words))} ended with status {ran.returncode}")
     return [Path(path) for path in re.findall(r"\S+\.(?:png|html)", ran.stdout)]
@@ -48,27 +54,58 @@ return [from.left + scrollX, from.top + scrollY, Math.max(from.right, to.right) 
 def photographed(browser, page, target, steps, part=None):
     """A page as a browser shows it, after some steps."""
     from browsers import opened
+
     opened(browser, page)
     for script, *words in steps:
         browser.execute_script(script, *words)
-    clip = browser.execute_script(PART, *part) if part else browser.execute_script("return [0, 0, innerWidth, Math.min(document.documentElement.scrollHeight, 1200)]")
-    shot = browser.execute_cdp_cmd("Page.captureScreenshot", {"captureBeyondViewport": True, "clip": dict(zip(("x", "y", "width", "height"), clip), scale=1)})
+    clip = (
+        browser.execute_script(PART, *part)
+        if part
+        else browser.execute_script(
+            "return [0, 0, innerWidth, Math.min(document.documentElement.scrollHeight, 1200)]"
+        )
+    )
+    shot = browser.execute_cdp_cmd(
+        "Page.captureScreenshot",
+        {
+            "captureBeyondViewport": True,
+            "clip": dict(zip(("x", "y", "width", "height"), clip), scale=1),
+        },
+    )
     target.write_bytes(base64.b64decode(shot["data"]))
 
 
 def walked(study):
     """The walk of PLANNING.md as far as pictures need it: their paths by name, and the two pages."""
-    (study / "study.toml").write_text(text_of("hill/study.toml").replace("../examples", str(TOP / "examples")))
-    sims = text_of("sims.py").replace("examples/hill.csv", str(TOP / "examples/hill.csv")).replace("sims.npy", str(study / "sims.npy"))
+    (study / "study.toml").write_text(
+        text_of("hill/study.toml").replace("../examples", str(TOP / "examples"))
+    )
+    sims = (
+        text_of("sims.py")
+        .replace("examples/hill.csv", str(TOP / "examples/hill.csv"))
+        .replace("sims.npy", str(study / "sims.npy"))
+    )
     subprocess.run(["/usr/bin/python3", "-c", sims], check=True)
     for command in ("build", "slopes", "shells"):
         pitplan(command, study)
     graph, plan, section = pitplan("plot", study)
     pitplan("compare", study, "--surface", TOP / "examples/hill-design.dxf", may_refuse=True)
     design = next((study / "out/compare-hill-design").glob("plan-*.png"))
-    pages = pitplan("page", study, "--phases", "0.4,1.0", "--design", TOP / "examples/hill-design.dxf")
+    pages = pitplan(
+        "page", study, "--phases", "0.4,1.0", "--design", TOP / "examples/hill-design.dxf"
+    )
     pitplan("risk", study, "--realisations", study / "sims.npy")
-    return {"slopes": study / "out/slopes.png", "pit-by-pit": graph, "plan": plan, "section": section, "design": design}, pages[0], study / "out/likelihood.html"
+    return (
+        {
+            "slopes": study / "out/slopes.png",
+            "pit-by-pit": graph,
+            "plan": plan,
+            "section": section,
+            "design": design,
+        },
+        pages[0],
+        study / "out/likelihood.html",
+    )
 
 
 def main():
@@ -76,15 +113,25 @@ def main():
     target.mkdir(parents=True, exist_ok=True)
     sys.path.insert(0, str(TOP / "python/tests"))
     from browsers import chromium
+
     with tempfile.TemporaryDirectory() as place:
         study = Path(place) / "hill"
         study.mkdir()
         pictures, page, likelihood = walked(study)
         browser = chromium(size="1180,1000")
         try:
-            for name, wide, path, steps, part in (("page", 1440, page, [(HIDE,)], None), ("page-pushbacks", 1180, page, [(CHOOSE, "1")], ("section", "section")),
-                                                  ("page-design", 1180, page, [(CHOOSE, "2"), (CUT, "z", -1)], ("section", "section")),
-                                                  ("likelihood", 1180, likelihood, [], ("section", "section"))):
+            for name, wide, path, steps, part in (
+                ("page", 1440, page, [(HIDE,)], None),
+                ("page-pushbacks", 1180, page, [(CHOOSE, "1")], ("section", "section")),
+                (
+                    "page-design",
+                    1180,
+                    page,
+                    [(CHOOSE, "2"), (CUT, "z", -1)],
+                    ("section", "section"),
+                ),
+                ("likelihood", 1180, likelihood, [], ("section", "section")),
+            ):
                 pictures[name] = study / f"{name}.png"
                 browser.set_window_size(wide, 900)
                 photographed(browser, path, pictures[name], steps, part)
@@ -92,7 +139,9 @@ def main():
             browser.quit()
         for name, picture in pictures.items():
             file = target / f"hill-{name}.png"
-            Image.open(picture).convert("RGB").quantize(COLOURS, method=Image.Quantize.MAXCOVERAGE, dither=Image.Dither.NONE).save(file, optimize=True)
+            Image.open(picture).convert("RGB").quantize(
+                COLOURS, method=Image.Quantize.MAXCOVERAGE, dither=Image.Dither.NONE
+            ).save(file, optimize=True)
             size = file.stat().st_size
             print(f"{file}: {size:,} bytes")
             if size > MOST:

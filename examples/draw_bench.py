@@ -13,11 +13,21 @@ import sys
 def read_blocks(path):
     """The place (x, y, z) of each block, by its number."""
     with open(path, encoding="utf-8", errors="replace") as file:
-        records = [line.replace(":", " ").split() for line in file if not line.lstrip(" \t:").startswith("%")]
+        records = [
+            line.replace(":", " ").split()
+            for line in file
+            if not line.lstrip(" \t:").startswith("%")
+        ]
     try:
-        return {block: (x, y, z) for block, x, y, z in (map(int, record[:4]) for record in records if record)}
+        return {
+            block: (x, y, z)
+            for block, x, y, z in (map(int, record[:4]) for record in records if record)
+        }
     except ValueError:
-        sys.exit("%s is no .blocks file: a line of it doesn't begin with the number, x, y and z of a block" % path)
+        sys.exit(
+            "%s is no .blocks file: a line of it doesn't begin with the number, x, y and z of a block"
+            % path
+        )
 
 
 def read_pit(path, blocks):
@@ -27,7 +37,10 @@ def read_pit(path, blocks):
     if not lines[0].startswith("PITCERT "):
         sys.exit("%s is no certificate: its first line is '%s'" % (path, lines[0][:40]))
     if "BLOCKS %d" % blocks not in lines[1:2]:
-        sys.exit("%s is of another model: it says '%s', and there are %d blocks" % (path, "".join(lines[1:2]), blocks))
+        sys.exit(
+            "%s is of another model: it says '%s', and there are %d blocks"
+            % (path, "".join(lines[1:2]), blocks)
+        )
     return {int(line.split()[1]) for line in lines if line.startswith("PIT ")}
 
 
@@ -50,7 +63,8 @@ def picture(places, pit, bench, row):
     title = "z = %d from above" % bench
     width = max(len(title) + 3, len(plan[0]) + 8)
     return [title.ljust(width) + "section at y = %d" % row] + [
-        (marks.ljust(width) + section_line).rstrip() for marks, section_line in zip(plan, beside)]
+        (marks.ljust(width) + section_line).rstrip() for marks, section_line in zip(plan, beside)
+    ]
 
 
 def chosen(word, what, there):

@@ -15,11 +15,11 @@ from collections import deque
 from pathlib import Path
 
 ACROSS, ALONG, BENCHES = 11, 9, 3
-COST = 1_400            # dollars to dig a block, whatever it holds
-MINING = 950            # of these, dollars to dig a block that isn't treated
-PROCESSING = 780        # dollars to treat a block in the mill
-PRICE = 260             # dollars for a unit of grade
-BIG = 1 << 60           # a block's count in the number that stands for a pair of worth and count
+COST = 1_400  # dollars to dig a block, whatever it holds
+MINING = 950  # of these, dollars to dig a block that isn't treated
+PROCESSING = 780  # dollars to treat a block in the mill
+PRICE = 260  # dollars for a unit of grade
+BIG = 1 << 60  # a block's count in the number that stands for a pair of worth and count
 
 
 def number(x, y, z):
@@ -71,7 +71,16 @@ def planners_row(x, y, z):
     """A block of copper.csv: blocks of 10 metres, kilograms of copper in a tonne at 8.50 dollars each, and dollars a tonne."""
     t = tonnes(x, y, z)
     copper = revenue(x, y, z) / (8.5 * t)
-    return "C%03d,%d,%d,%d,%d,%.6f,%.6f,%.6f" % (number(x, y, z), 5005 + 10 * x, 2005 + 10 * y, 1285 + 10 * z, t, copper, mining(x, y, z) / t, processing(x, y, z) / t)
+    return "C%03d,%d,%d,%d,%d,%.6f,%.6f,%.6f" % (
+        number(x, y, z),
+        5005 + 10 * x,
+        2005 + 10 * y,
+        1285 + 10 * z,
+        t,
+        copper,
+        mining(x, y, z) / t,
+        processing(x, y, z) / t,
+    )
 
 
 def predecessors(x, y, z):
@@ -79,8 +88,11 @@ def predecessors(x, y, z):
     if z + 1 == BENCHES:
         return []
     steps = [(0, 0), (1, 0), (-1, 0), (0, 1), (0, -1)]
-    return sorted(number(x + dx, y + dy, z + 1) for dx, dy in steps
-                  if 0 <= x + dx < ACROSS and 0 <= y + dy < ALONG)
+    return sorted(
+        number(x + dx, y + dy, z + 1)
+        for dx, dy in steps
+        if 0 <= x + dx < ACROSS and 0 <= y + dy < ALONG
+    )
 
 
 class Network:
@@ -170,21 +182,55 @@ def main():
     def write(name, lines):
         (folder / name).write_text("".join(line + "\n" for line in lines))
 
-    write("copper.blocks", ["%d %d %d %d %d %d" % (b, *place, grade(*place), values[b]) for b, place in enumerate(places)])
+    write(
+        "copper.blocks",
+        [
+            "%d %d %d %d %d %d" % (b, *place, grade(*place), values[b])
+            for b, place in enumerate(places)
+        ],
+    )
     columns = [revenue, cost, tonnes, processing, mining]
-    write("priced.blocks", [" ".join(map(str, [b, *place] + [column(*place) for column in columns])) for b, place in enumerate(places)])
-    write("settings.toml", ["revenue = 0    # the first column after z in priced.blocks", "cost = 1       # the second",
-                            "tonnes = 2     # the third",
-                            "factors = [500, 650, 800, 1000, 1200]    # of the price of the revenues, in thousandths",
-                            "report = 1000  # the factor at which `pit report` counts worths"])
-    write("mill.toml", ["revenue = 0     # the first column after z in priced.blocks",
-                        "processing = 3  # the fourth: what it costs to treat a block in the mill",
-                        "mining = 4      # the fifth: what it costs to dig it, be it ore or waste", "tonnes = 2",
-                        "factors = [500, 650, 800, 1000, 1200]"])
-    write("copper.csv", ["ID,X,Y,Z,TONNES,CU_KGT,MINING,MILL", *(planners_row(*place) for place in places)])
-    write("copper.prec", ["%d %d%s" % (b, len(ps), "".join(" %d" % p for p in ps)) for b, ps in enumerate(above)])
-    write("copper.upit", ["NAME: copper", "TYPE: UPIT", "NBLOCKS: %d" % len(values), "OBJECTIVE_FUNCTION:"]
-          + ["%d %d" % pair for pair in enumerate(values)] + ["EOF"])
+    write(
+        "priced.blocks",
+        [
+            " ".join(map(str, [b, *place] + [column(*place) for column in columns]))
+            for b, place in enumerate(places)
+        ],
+    )
+    write(
+        "settings.toml",
+        [
+            "revenue = 0    # the first column after z in priced.blocks",
+            "cost = 1       # the second",
+            "tonnes = 2     # the third",
+            "factors = [500, 650, 800, 1000, 1200]    # of the price of the revenues, in thousandths",
+            "report = 1000  # the factor at which `pit report` counts worths",
+        ],
+    )
+    write(
+        "mill.toml",
+        [
+            "revenue = 0     # the first column after z in priced.blocks",
+            "processing = 3  # the fourth: what it costs to treat a block in the mill",
+            "mining = 4      # the fifth: what it costs to dig it, be it ore or waste",
+            "tonnes = 2",
+            "factors = [500, 650, 800, 1000, 1200]",
+        ],
+    )
+    write(
+        "copper.csv",
+        ["ID,X,Y,Z,TONNES,CU_KGT,MINING,MILL", *(planners_row(*place) for place in places)],
+    )
+    write(
+        "copper.prec",
+        ["%d %d%s" % (b, len(ps), "".join(" %d" % p for p in ps)) for b, ps in enumerate(above)],
+    )
+    write(
+        "copper.upit",
+        ["NAME: copper", "TYPE: UPIT", "NBLOCKS: %d" % len(values), "OBJECTIVE_FUNCTION:"]
+        + ["%d %d" % pair for pair in enumerate(values)]
+        + ["EOF"],
+    )
     write("copper.cert", certificate(values, pairs))
 
 

@@ -11,11 +11,11 @@ import sys
 from pathlib import Path
 
 CENTRE = (430_350.0, 7_215_085.0)
-TURN = math.radians(120)      # the bearing of the oval's long axis
-LONG, SHORT = 100.0, 60.0     # metres from the centre to the bottom's edge
+TURN = math.radians(120)  # the bearing of the oval's long axis
+LONG, SHORT = 100.0, 60.0  # metres from the centre to the bottom's edge
 BOTTOM, TOP, STEP = 1_010, 1_130, 10
-SLOPE, STEEP = 43.0, 47.0     # degrees
-RAMP = 20.0                   # metres
+SLOPE, STEEP = 43.0, 47.0  # degrees
+RAMP = 20.0  # metres
 SIDES = 32
 
 
@@ -27,7 +27,11 @@ def corner(side, height):
     ramp_at = BOTTOM + (TOP - BOTTOM) * (side % SIDES) / SIDES
     out = (height - BOTTOM) / math.tan(math.radians(slope)) + (RAMP if height > ramp_at else 0.0)
     x, y = (LONG + out) * math.cos(around), (SHORT + out) * math.sin(around)
-    return (CENTRE[0] + x * math.sin(TURN) + y * math.cos(TURN), CENTRE[1] + x * math.cos(TURN) - y * math.sin(TURN), float(height))
+    return (
+        CENTRE[0] + x * math.sin(TURN) + y * math.cos(TURN),
+        CENTRE[1] + x * math.cos(TURN) - y * math.sin(TURN),
+        float(height),
+    )
 
 
 def faces():
@@ -35,7 +39,12 @@ def faces():
     for side in range(SIDES):
         yield [(*CENTRE, float(BOTTOM)), corner(side, BOTTOM), corner(side + 1, BOTTOM)]
         for height in range(BOTTOM, TOP, STEP):
-            yield [corner(side, height), corner(side + 1, height), corner(side + 1, height + STEP), corner(side, height + STEP)]
+            yield [
+                corner(side, height),
+                corner(side + 1, height),
+                corner(side + 1, height + STEP),
+                corner(side, height + STEP),
+            ]
 
 
 def record(face):

@@ -21,7 +21,11 @@ import sys
 from pathlib import Path
 
 SEARCH = Path("pitplan") / "slopes" / "offsets.py"
-INSTALLED = "python", "lib/pontihaw", "lib/python3/dist-packages"        # beside bin/pitplan of the repository, of ./install, of Debian's package
+INSTALLED = (
+    "python",
+    "lib/pontihaw",
+    "lib/python3/dist-packages",
+)  # beside bin/pitplan of the repository, of ./install, of Debian's package
 
 
 def places():
@@ -29,7 +33,9 @@ def places():
     yield Path(__file__).resolve().parent.parent / "python" / SEARCH
     package, command = importlib.util.find_spec("pitplan"), shutil.which("pitplan")
     if package:
-        yield from (Path(folder).parent / SEARCH for folder in package.submodule_search_locations or ())
+        yield from (
+            Path(folder).parent / SEARCH for folder in package.submodule_search_locations or ()
+        )
     if command:
         yield from (Path(command).resolve().parent.parent / folder / SEARCH for folder in INSTALLED)
 
@@ -39,7 +45,9 @@ def search_module():
     file = next((place for place in places() if place.is_file()), None)
     found = file and importlib.util.spec_from_file_location("pitplan_offsets", file)
     if not found or found.loader is None:
-        sys.exit("offsets.py: no pitplan is installed: install it, or run this script where it lies in the repository")
+        sys.exit(
+            "offsets.py: no pitplan is installed: install it, or run this script where it lies in the repository"
+        )
     module = importlib.util.module_from_spec(found)
     sys.modules[found.name] = module
     found.loader.exec_module(module)
@@ -65,21 +73,49 @@ def slopes(word):
     for pair in word.split(","):
         bearing, colon, angle = pair.partition(":")
         if not colon:
-            raise ValueError("among the slopes by bearing is '%s', and has to be BEARING:SLOPE, as 180:38" % pair)
-        pairs.append((number(bearing, "a bearing", "180"), number(angle, "the slope at bearing %s" % bearing, "38")))
+            raise ValueError(
+                "among the slopes by bearing is '%s', and has to be BEARING:SLOPE, as 180:38" % pair
+            )
+        pairs.append(
+            (
+                number(bearing, "a bearing", "180"),
+                number(angle, "the slope at bearing %s" % bearing, "38"),
+            )
+        )
     return pairs
 
 
 def words():
-    parser = argparse.ArgumentParser(description=__doc__.split("\n\n")[0], epilog="\n\n".join(__doc__.split("\n\n")[2:]),
-                                     usage="offsets.py XSIZE YSIZE ZSIZE SLOPE [OPTIONS]", formatter_class=argparse.RawDescriptionHelpFormatter)
+    parser = argparse.ArgumentParser(
+        description=__doc__.split("\n\n")[0],
+        epilog="\n\n".join(__doc__.split("\n\n")[2:]),
+        usage="offsets.py XSIZE YSIZE ZSIZE SLOPE [OPTIONS]",
+        formatter_class=argparse.RawDescriptionHelpFormatter,
+    )
     for axis, way in ("XSIZE", "x"), ("YSIZE", "y"), ("ZSIZE", "z, upward"):
         parser.add_argument(axis, help="metres of a block along " + way)
     parser.add_argument("SLOPE", help="degrees, or BEARING:SLOPE,BEARING:SLOPE,..")
-    parser.add_argument("--rotation", metavar="DEGREES", default="0", help="bearing of the model's y axis, where the model is turned")
-    parser.add_argument("--safe", action="store_true", help="deep walls nowhere steeper than asked, and so flatter on average")
-    parser.add_argument("--levels", metavar="N", type=int, help="look at most so many levels up, from 1 to 200")
-    parser.add_argument("--blocks", metavar="N", type=int, default=0, help="how many blocks the model has: pit takes 134,217,728 pairs at most")
+    parser.add_argument(
+        "--rotation",
+        metavar="DEGREES",
+        default="0",
+        help="bearing of the model's y axis, where the model is turned",
+    )
+    parser.add_argument(
+        "--safe",
+        action="store_true",
+        help="deep walls nowhere steeper than asked, and so flatter on average",
+    )
+    parser.add_argument(
+        "--levels", metavar="N", type=int, help="look at most so many levels up, from 1 to 200"
+    )
+    parser.add_argument(
+        "--blocks",
+        metavar="N",
+        type=int,
+        default=0,
+        help="how many blocks the model has: pit takes 134,217,728 pairs at most",
+    )
     return parser
 
 
@@ -87,21 +123,35 @@ def said(offsets, pattern, given):
     """What standard error is told."""
     if pattern.is_held:
         return str(pattern)
-    why = "" if offsets.within(given.blocks)([(0, 0, 1)] * (len(pattern.offsets) + 1)) or not given.blocks else (
-        " with the %d offsets that %s blocks leave room for" % (offsets.PAIRS // given.blocks, f"{given.blocks:,}"))
-    return "warning: %g degrees on average and %g at the worst bearing can't be held%s. These err least:\n%s" % (
-        offsets.MEAN, offsets.WORST, why, pattern)
+    why = (
+        ""
+        if offsets.within(given.blocks)([(0, 0, 1)] * (len(pattern.offsets) + 1))
+        or not given.blocks
+        else (
+            " with the %d offsets that %s blocks leave room for"
+            % (offsets.PAIRS // given.blocks, f"{given.blocks:,}")
+        )
+    )
+    return (
+        "warning: %g degrees on average and %g at the worst bearing can't be held%s. These err least:\n%s"
+        % (offsets.MEAN, offsets.WORST, why, pattern)
+    )
 
 
 def main():
     offsets, parser = search_module(), words()
     given = parser.parse_args()
     try:
-        size = [number(word, "the size of a block along %s" % axis, "12.5") for word, axis in zip((given.XSIZE, given.YSIZE, given.ZSIZE), "xyz")]
+        size = [
+            number(word, "the size of a block along %s" % axis, "12.5")
+            for word, axis in zip((given.XSIZE, given.YSIZE, given.ZSIZE), "xyz")
+        ]
         wall = offsets.wall(size, slopes(given.SLOPE), number(given.rotation, "the rotation", "30"))
         if given.blocks < 0:
             raise ValueError("the model has %d blocks?" % given.blocks)
-        pattern = offsets.search(wall, safe=given.safe, levels=given.levels, fits=offsets.within(given.blocks))
+        pattern = offsets.search(
+            wall, safe=given.safe, levels=given.levels, fits=offsets.within(given.blocks)
+        )
     except ValueError as error:
         parser.error(str(error))
     print("# %s degrees in blocks of %g x %g x %g metres" % (given.SLOPE, *size))

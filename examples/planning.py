@@ -18,15 +18,31 @@ model = pp.read_table(HERE / "hill.csv", size=(20, 20, 10), rotation=30, absent=
 print(f"{len(model):,} blocks, {model.blocks.tonnes.sum() / 1e6:.1f} Mt")
 
 # %% What blocks bring and cost. Formulas may use the table's columns.
-copper = pp.Metal("copper", "CU", price=8500, recovery={"OXI": 0.80, "SUL": 0.88, "other": 0.0}, payable=0.965, selling=300)
+copper = pp.Metal(
+    "copper",
+    "CU",
+    price=8500,
+    recovery={"OXI": 0.80, "SUL": 0.88, "other": 0.0},
+    payable=0.965,
+    selling=300,
+)
 gold = pp.Metal("gold", "AU", grade_unit="g/t", price=1900, price_unit="oz", recovery=0.6)
-economics = pp.Economics([copper, gold], mining="2.0 + 0.02 * max(0, 1100 - ZC) / 10", processing=9.0, mill=["OXI", "SUL"])
+economics = pp.Economics(
+    [copper, gold],
+    mining="2.0 + 0.02 * max(0, 1100 - ZC) / 10",
+    processing=9.0,
+    mill=["OXI", "SUL"],
+)
 
 # %% The pits: each is found, proved, checked, and added up again from the table.
 study = pp.Study.create(folder, model, economics, pp.Slopes(44))
 shells = study.shells(pp.factors(0.4, 1.2, 0.2))
 table = shells.table(mining_rate=4e6, mill_rate=2e6, discount=0.08)
-print(table[["factor", "blocks", "ore_t", "strip", "worth_at_base", "npv_best", "npv_worst"]].round(2).to_string(index=False))
+print(
+    table[["factor", "blocks", "ore_t", "strip", "worth_at_base", "npv_best", "npv_worst"]]
+    .round(2)
+    .to_string(index=False)
+)
 
 # %% The pit at the full price, and how far its worth falls at the pit of 0.8.
 best = study.pit(1.0)

@@ -27,11 +27,14 @@ def until(is_so, seconds=20):
 
 def proved(tree=None, tree_log=None):
     """The crates that the stand-in proved."""
-    return sorted(line[0] for line in tree_log or tree.log() if line[0] != "ci" and line[1] != "kept")
+    return sorted(
+        line[0] for line in tree_log or tree.log() if line[0] != "ci" and line[1] != "kept"
+    )
 
 
 def is_left_alone(tree):
     """Whether no room is left, and no process works in the tree."""
+
     def working():
         links = []
         for entry in Path("/proc").glob("[0-9]*/cwd"):
@@ -40,6 +43,7 @@ def is_left_alone(tree):
             except OSError:
                 pass
         return [it for it in links if it.startswith(str(tree.top))]
+
     return until(lambda: not working(), 5) and not tree.has("out/room")
 
 
@@ -50,8 +54,18 @@ def the_program_stays_where_the_gate_leaves_it(tree):
         shutil.rmtree(crate / "out")
     again, nothing = tree.ran("build")
     answer = tree.ran("run-example")
-    well = status == 0 and first == ["beside", "high", "low", "pit"] and tree.has("out/pit") and "[ 4/4] pit" in said
-    return well and (again, nothing, tree.log()) == (0, "", []) and answer == (0, "ACCEPTED 90 71040\n"), said + nothing + answer[1]
+    well = (
+        status == 0
+        and first == ["beside", "high", "low", "pit"]
+        and tree.has("out/pit")
+        and "[ 4/4] pit" in said
+    )
+    return (
+        well
+        and (again, nothing, tree.log()) == (0, "", [])
+        and answer == (0, "ACCEPTED 90 71040\n"),
+        said + nothing + answer[1],
+    )
 
 
 def a_change_is_proved(tree):
@@ -68,14 +82,26 @@ def a_change_is_proved(tree):
     (tree.top / "out/built-from").unlink()
     tree.ran("build")
     lost = proved(tree)
-    well = (is_built, status, changed) == (1, 0, ["high", "pit"]) and below == ["high", "low", "pit"] and lost == ["low", "pit"]
-    return well and tree.ran("build", "--is-built")[0] == 0 and "beside              as it was proved         0 s" in said, said
+    well = (
+        (is_built, status, changed) == (1, 0, ["high", "pit"])
+        and below == ["high", "low", "pit"]
+        and lost == ["low", "pit"]
+    )
+    return (
+        well
+        and tree.ran("build", "--is-built")[0] == 0
+        and "beside              as it was proved         0 s" in said,
+        said,
+    )
 
 
 def the_room_is_in_the_tree(tree):
     status, said = tree.ran("build", "--work")
     folders = [line[2] for line in tree.log()]
-    well = all(folder.startswith(str(tree.top / "out" / "room")) for folder in folders) and len(folders) == 4
+    well = (
+        all(folder.startswith(str(tree.top / "out" / "room")) for folder in folders)
+        and len(folders) == 4
+    )
     return status == 0 and well and is_left_alone(tree), "%s%r" % (said, folders)
 
 
@@ -86,7 +112,11 @@ def stopped_by(tree, number, whole_group=False):
     until(lambda: tree.has("out/room/high/crates/high/out/incremental/half"))
     (os.killpg if whole_group else os.kill)(build.pid, number)
     said, _ = build.communicate(timeout=30)
-    well = build.returncode == 128 + number and "Traceback" not in said and said.splitlines()[-1].startswith("stopped;")
+    well = (
+        build.returncode == 128 + number
+        and "Traceback" not in said
+        and said.splitlines()[-1].startswith("stopped;")
+    )
     kept = tree.has("crates/low/out/rlib/stamp") and tree.has("crates/high/out/incremental/half")
     tree.log()
     tree.crate("high", "fn one() {}\n")
@@ -127,9 +157,23 @@ def what_a_build_proved_the_gate_keeps(tree):
     first = [line[:2] for line in tree.log()]
     gate = asked(tree, "gate()")
     then = [line[1] for line in tree.log() if line[0] != "ci"]
-    in_order = [name for name in re.findall(r"^\[ \d/4\] (\w+) +1 functions proved after     0 s$", said, re.M)]
-    well = status == 0 and first == [["ci"], ["low", "gate"], ["high", "gate"], ["beside", "gate"], ["pit", "gate"]] and is_left_alone(tree)
-    return well and in_order == ["low", "high", "beside", "pit"] and then == ["kept"] * 4 and gate.endswith("(1, 0)\n"), said + gate
+    in_order = [
+        name
+        for name in re.findall(r"^\[ \d/4\] (\w+) +1 functions proved after     0 s$", said, re.M)
+    ]
+    well = (
+        status == 0
+        and first
+        == [["ci"], ["low", "gate"], ["high", "gate"], ["beside", "gate"], ["pit", "gate"]]
+        and is_left_alone(tree)
+    )
+    return (
+        well
+        and in_order == ["low", "high", "beside", "pit"]
+        and then == ["kept"] * 4
+        and gate.endswith("(1, 0)\n"),
+        said + gate,
+    )
 
 
 def only_what_changed_is_proved_again(tree):
@@ -144,8 +188,15 @@ def only_what_changed_is_proved_again(tree):
     tree.crate("beside", "fn two() {}\n")
     tree.ran("build")
     by_work = [line[0] for line in tree.log()]
-    well = status == 0 and changed == ["high", "pit"] and re.search(r"low +as it was proved +after", said)
-    return well and built == (0, ["beside", "high", "low", "pit"]) and by_work == ["beside", "pit"], said
+    well = (
+        status == 0
+        and changed == ["high", "pit"]
+        and re.search(r"low +as it was proved +after", said)
+    )
+    return (
+        well and built == (0, ["beside", "high", "low", "pit"]) and by_work == ["beside", "pit"],
+        said,
+    )
 
 
 def each_library_has_a_run_of_its_own(tree):
@@ -158,8 +209,17 @@ def each_library_has_a_run_of_its_own(tree):
     jobs = {line[0]: line[3] for line in log if line[0] != "ci" and line[1] == "gate"}
     of_chain = "any" if len(os.sched_getaffinity(0)) >= 4 else "1"
     in_order = re.findall(r"^\[ \d/4\] (\w+) +1 functions proved after", said, re.M)
-    well = status == 0 and sorted(runs[:2]) == [["beside"], ["low"]] and runs[2:] == [["high"], []] and proved(tree_log=log) == ["beside", "high", "low", "pit"] and is_left_alone(tree)
-    return well and sorted(in_order[:2]) == ["beside", "low"] and in_order[2:] == ["high", "pit"] and jobs == {"low": of_chain, "beside": "1", "high": of_chain, "pit": "any"}, said + repr(log)
+    well = (
+        status == 0
+        and sorted(runs[:2]) == [["beside"], ["low"]]
+        and runs[2:] == [["high"], []]
+        and proved(tree_log=log) == ["beside", "high", "low", "pit"]
+        and is_left_alone(tree)
+    )
+    return well and sorted(in_order[:2]) == ["beside", "low"] and in_order[2:] == [
+        "high",
+        "pit",
+    ] and jobs == {"low": of_chain, "beside": "1", "high": of_chain, "pit": "any"}, said + repr(log)
 
 
 def what_is_kept_is_taken_by_one_run(tree):
@@ -172,9 +232,23 @@ def what_is_kept_is_taken_by_one_run(tree):
     tree.crate("low", "fn one() {}\n// SLEEP 4\n")
     changed, more = tree.ran("build")
     runs = [line[1:] for line in tree.log() if line[0] == "ci"]
-    well = status == 0 and [line[:2] for line in log] == [["ci"], ["low", "kept"], ["high", "kept"], ["beside", "kept"], ["pit", "kept"]]
-    well = well and changed == 0 and runs[0] == runs[-1] == [] and sorted(runs[1:-1]) == [["beside"], ["high"], ["low"]] and is_left_alone(tree)
-    return well and said.count("as it was proved") == 4 and more.count("[") == 4 and "beside              as it was proved" in more, said + more + repr(runs)
+    well = status == 0 and [line[:2] for line in log] == [
+        ["ci"],
+        ["low", "kept"],
+        ["high", "kept"],
+        ["beside", "kept"],
+        ["pit", "kept"],
+    ]
+    well = (
+        well
+        and changed == 0
+        and runs[0] == runs[-1] == []
+        and sorted(runs[1:-1]) == [["beside"], ["high"], ["low"]]
+        and is_left_alone(tree)
+    )
+    return well and said.count("as it was proved") == 4 and more.count(
+        "["
+    ) == 4 and "beside              as it was proved" in more, said + more + repr(runs)
 
 
 def one_run_proves_all_where_several_cannot(tree):
@@ -184,7 +258,9 @@ def one_run_proves_all_where_several_cannot(tree):
         tree.has_processors(bool(words or more))
         tree.crate("low", "fn one() {}\n// %d\n" % len(runs))
         tree.around = dict(around, **more)
-        runs.append((tree.ran("build", *words)[0], [line[1:] for line in tree.log() if line[0] == "ci"]))
+        runs.append(
+            (tree.ran("build", *words)[0], [line[1:] for line in tree.log() if line[0] == "ci"])
+        )
     return runs == [(0, [["--anew"]]), (0, [[]]), (0, [[]]), (0, [[]])], repr(runs)
 
 
@@ -192,7 +268,9 @@ def a_kit_that_keeps_nothing_proves_all_in_one_run(tree):
     tree.write("../kit/KEEPS-NOTHING", "")
     status, said = tree.ran("build")
     runs = [line[1:] for line in tree.log() if line[0] == "ci"]
-    return status == 0 and runs[-1] == [] and ["high"] not in runs and tree.has("out/pit") and is_left_alone(tree) and said.count("functions proved") == 4, said + repr(runs)
+    return status == 0 and runs[-1] == [] and ["high"] not in runs and tree.has(
+        "out/pit"
+    ) and is_left_alone(tree) and said.count("functions proved") == 4, said + repr(runs)
 
 
 def a_library_that_fails_ends_the_others(tree):
@@ -205,9 +283,17 @@ def a_library_that_fails_ends_the_others(tree):
     for name in ("high", "beside"):
         tree.crate(name, "fn one() {}\n")
     again, more = tree.ran("build")
-    well = status == 1 and "high NOT PROVED; the end of" in said and "a goal is open" in said and "stopped" not in said and is_free
+    well = (
+        status == 1
+        and "high NOT PROVED; the end of" in said
+        and "a goal is open" in said
+        and "stopped" not in said
+        and is_free
+    )
     well = well and sorted(first) == [["beside", "gate"], ["high", "gate"], ["low", "gate"]]
-    return well and again == 0 and proved(tree) == ["beside", "high", "pit"] and re.search(r"low +as it was proved", more), said + more + repr(first)
+    return well and again == 0 and proved(tree) == ["beside", "high", "pit"] and re.search(
+        r"low +as it was proved", more
+    ), said + more + repr(first)
 
 
 def the_gate_of_a_build_ends_with_it(tree, number, at_work, whole_group=False):
@@ -215,10 +301,18 @@ def the_gate_of_a_build_ends_with_it(tree, number, at_work, whole_group=False):
     for name in ("high", "beside"):
         tree.crate(name, SLOW)
     build = tree.starts("build")
-    until(lambda: (tree.kit / "LOG").exists() and all(name + " gate" in (tree.kit / "LOG").read_text() for name in at_work))
+    until(
+        lambda: (tree.kit / "LOG").exists()
+        and all(name + " gate" in (tree.kit / "LOG").read_text() for name in at_work)
+    )
     (os.killpg if whole_group else os.kill)(build.pid, number)
     said, _ = build.communicate(timeout=30)
-    well = build.returncode == 128 + number and "Traceback" not in said and said.splitlines()[-1].startswith("stopped;") and is_left_alone(tree)
+    well = (
+        build.returncode == 128 + number
+        and "Traceback" not in said
+        and said.splitlines()[-1].startswith("stopped;")
+        and is_left_alone(tree)
+    )
     tree.log()
     for name in ("high", "beside"):
         tree.crate(name, "fn one() {}\n")
@@ -227,7 +321,9 @@ def the_gate_of_a_build_ends_with_it(tree, number, at_work, whole_group=False):
 
 
 def ctrl_c_ends_the_runs_of_a_build(tree):
-    return the_gate_of_a_build_ends_with_it(tree, signal.SIGINT, ("high", "beside"), whole_group=True)
+    return the_gate_of_a_build_ends_with_it(
+        tree, signal.SIGINT, ("high", "beside"), whole_group=True
+    )
 
 
 def sigterm_ends_the_runs_of_a_build(tree):
@@ -266,7 +362,13 @@ def a_crate_that_the_gate_refuses_is_told(tree):
     status, said = tree.ran("build")
     tree.log()
     tree.crate("high", "fn one() {}\n")
-    well = status == 1 and "high NOT PROVED; the end of" in said and "a goal is open" in said and not tree.has("out/pit") and is_left_alone(tree)
+    well = (
+        status == 1
+        and "high NOT PROVED; the end of" in said
+        and "a goal is open" in said
+        and not tree.has("out/pit")
+        and is_left_alone(tree)
+    )
     return well and tree.ran("build")[0] == 0 and proved(tree) == ["beside", "high", "pit"], said
 
 
@@ -277,7 +379,9 @@ def a_second_build_waits_and_says_so(tree):
     status, said = tree.ran("build", "--work")
     first.communicate(timeout=30)
     once = proved(tree) == ["beside", "high", "low", "pit"]
-    return (status, first.returncode) == (0, 0) and once and said.startswith("another build, or the gate, is at work in this tree"), said
+    return (status, first.returncode) == (0, 0) and once and said.startswith(
+        "another build, or the gate, is at work in this tree"
+    ), said
 
 
 ASKED = "import importlib.machinery as m, sys; sys.path.insert(0, 'tests'); run = m.SourceFileLoader('run', 'tests/run').load_module(); print(run.%s)"
@@ -285,8 +389,14 @@ ASKED = "import importlib.machinery as m, sys; sys.path.insert(0, 'tests'); run 
 
 def asked(tree, call):
     """What a call of a function of tests/run prints, and then its answer."""
-    return subprocess.run([sys.executable, "-B", "-W", "ignore", "-c", ASKED % call], cwd=tree.top, env=tree.around, stdout=subprocess.PIPE,
-                          stderr=subprocess.STDOUT, text=True).stdout
+    return subprocess.run(
+        [sys.executable, "-B", "-W", "ignore", "-c", ASKED % call],
+        cwd=tree.top,
+        env=tree.around,
+        stdout=subprocess.PIPE,
+        stderr=subprocess.STDOUT,
+        text=True,
+    ).stdout
 
 
 def the_gate_waits_for_a_build(tree):
@@ -298,7 +408,12 @@ def the_gate_waits_for_a_build(tree):
     gate = asked(tree, "gate()")
     build.communicate(timeout=30)
     order = [line[0] for line in tree.log()]
-    well = gate.startswith("another build") and gate.endswith("(1, 0)\n") and order == ["ci", "low", "high", "beside", "pit"] * 2 and not tree.has("out/again")
+    well = (
+        gate.startswith("another build")
+        and gate.endswith("(1, 0)\n")
+        and order == ["ci", "low", "high", "beside", "pit"] * 2
+        and not tree.has("out/again")
+    )
     return well and build.returncode == 0, gate
 
 
@@ -310,7 +425,9 @@ def the_gate_gives_a_crate_one_process(tree):
     tree.around["RT_JOBS"] = "7"
     second = asked(tree, "gate()")
     given = [line[-1] for line in tree.log() if line[0] != "ci"]
-    well = len(own) == 4 and all(it.isdigit() and 1 <= int(it) <= len(os.sched_getaffinity(0)) for it in own)
+    well = len(own) == 4 and all(
+        it.isdigit() and 1 <= int(it) <= len(os.sched_getaffinity(0)) for it in own
+    )
     return well and given == ["7"] * 4, first + second
 
 
@@ -327,9 +444,21 @@ def the_gate_tries_edits_over_its_own_libraries(tree):
     tree.write("crates/high/edits/accepted.edit", EDIT % "nothing")
     tree.write("crates/high/edits/elsewhere.edit", EDIT % "OTHER")
     second = asked(tree, "gate()")
-    told = "high/accepted: ACCEPTED" in second and "high/elsewhere: refused by the whole crate, and not by one" in second
-    well = first.endswith("(2, 0)\n") and lines[-1] == ["try", "one", "['by-the-gate']"] and second.endswith("(3, 1)\n") and told
-    is_back = tree.has("crates/high/out/rlib/stamp") and not tree.has(".git/pit-libraries") and tree.ran("build", "--is-built")[0] == 0
+    told = (
+        "high/accepted: ACCEPTED" in second
+        and "high/elsewhere: refused by the whole crate, and not by one" in second
+    )
+    well = (
+        first.endswith("(2, 0)\n")
+        and lines[-1] == ["try", "one", "['by-the-gate']"]
+        and second.endswith("(3, 1)\n")
+        and told
+    )
+    is_back = (
+        tree.has("crates/high/out/rlib/stamp")
+        and not tree.has(".git/pit-libraries")
+        and tree.ran("build", "--is-built")[0] == 0
+    )
     return well and is_back, first + second
 
 
@@ -338,13 +467,22 @@ def each_edit_that_shows_nothing_fails_the_gate(tree):
     tree.commit()
     tree.write("crates/low/edits/wrong.edit", EDIT % "REFUSED")
     said = []
-    for name, text, wanted in (("accepted", EDIT % "nothing", "ACCEPTED: the crate is still proved with this mistake"),
-                               ("named", EDIT % "NAMED", "cannot be tried: it is refused for a name alone"),
-                               ("nowhere", (EDIT % "REFUSED").replace("function: one", "function: other"), "cannot be tried: its check ended with the status")):
+    for name, text, wanted in (
+        ("accepted", EDIT % "nothing", "ACCEPTED: the crate is still proved with this mistake"),
+        ("named", EDIT % "NAMED", "cannot be tried: it is refused for a name alone"),
+        (
+            "nowhere",
+            (EDIT % "REFUSED").replace("function: one", "function: other"),
+            "cannot be tried: its check ended with the status",
+        ),
+    ):
         tree.write("crates/high/edits/%s.edit" % name, text)
         told, (status, again) = asked(tree, "gate()"), tree.ran("tests/run", "--edits")
         (tree.top / "crates/high/edits" / (name + ".edit")).unlink()
-        well = told.endswith("(2, 1)\n") and all("low/wrong: refused: " in it and "high/%s: %s" % (name, wanted) in it for it in (told, again))
+        well = told.endswith("(2, 1)\n") and all(
+            "low/wrong: refused: " in it and "high/%s: %s" % (name, wanted) in it
+            for it in (told, again)
+        )
         said.append(well and status == 1 and again.endswith("1 passed, 1 failed\n") or told + again)
     return said == [True] * 3 and asked(tree, "gate()").endswith("(2, 0)\n"), repr(said)
 
@@ -356,36 +494,66 @@ def what_is_proved_is_kept_where_one_fails(tree):
     status, said = tree.ran("build", "--work")
     kept = tree.has("crates/low/out/rlib/stamp") and tree.has("crates/beside/out/incremental/half")
     kept = kept and tree.has("crates/high/out/incremental/half") and not tree.has("out/pit")
-    return status == 1 and "high NOT PROVED" in said and "a goal is open" in said and kept and is_left_alone(tree), said
+    return (
+        status == 1
+        and "high NOT PROVED" in said
+        and "a goal is open" in said
+        and kept
+        and is_left_alone(tree),
+        said,
+    )
 
 
 def a_crate_of_few_functions_gets_one_process(tree):
     tree.crate("high", "fn one() {}\n" * 60)
     tree.ran("build", "--work")
     jobs = {line[0]: int(line[1]) for line in tree.log()}
-    return (jobs["low"], jobs["high"], jobs["pit"]) == (1, min(4, len(os.sched_getaffinity(0))), 1), repr(jobs)
+    return (jobs["low"], jobs["high"], jobs["pit"]) == (
+        1,
+        min(4, len(os.sched_getaffinity(0))),
+        1,
+    ), repr(jobs)
 
 
 def limits_of_a_container_count(tree):
     groups = tree.room / "groups"
-    for name, text in {"cpu.max": "max 100000", "box/cpu.max": "200000 100000", "box/in/cpu.max": "max 100000",
-                       "box/memory.max": "8000000000", "box/memory.stat": "anon 1000000000\nshmem 500000000\nfile 9"}.items():
+    for name, text in {
+        "cpu.max": "max 100000",
+        "box/cpu.max": "200000 100000",
+        "box/in/cpu.max": "max 100000",
+        "box/memory.max": "8000000000",
+        "box/memory.stat": "anon 1000000000\nshmem 500000000\nfile 9",
+    }.items():
         (groups / name).parent.mkdir(parents=True, exist_ok=True)
         (groups / name).write_text(text + "\n")
     (tree.room / "own").write_text("0::/box/in\n")
     (tree.room / "meminfo").write_text("MemTotal: 99 kB\nMemAvailable:   20000000 kB\n")
     (tree.room / "one").mkdir()
-    for name, text in {"cpu/cpu.cfs_quota_us": "150000", "cpu/cpu.cfs_period_us": "100000", "memory/memory.limit_in_bytes": "4000000000",
-                       "memory/memory.stat": "cache 7\ntotal_rss 1000000000"}.items():
+    for name, text in {
+        "cpu/cpu.cfs_quota_us": "150000",
+        "cpu/cpu.cfs_period_us": "100000",
+        "memory/memory.limit_in_bytes": "4000000000",
+        "memory/memory.stat": "cache 7\ntotal_rss 1000000000",
+    }.items():
         (tree.room / "one" / name).parent.mkdir(parents=True, exist_ok=True)
         (tree.room / "one" / name).write_text(text + "\n")
-    asked = ("import machine, sys; from pathlib import Path; r = Path(sys.argv[1]);"
-             "print(machine.processors(r / 'groups', r / 'own'), machine.free_memory(r / 'groups', r / 'own', r / 'meminfo'),"
-             " machine.processors(r / 'one', r / 'own'), machine.free_memory(r / 'one', r / 'own', r / 'meminfo'),"
-             " machine.free_memory(r / 'none', r / 'own', r / 'meminfo'))")
-    said = subprocess.run([sys.executable, "-c", asked, str(tree.room)], cwd=tree.top / "tools", stdout=subprocess.PIPE,
-                          stderr=subprocess.STDOUT, text=True).stdout
-    return said == "%d 6500000000 1 3000000000 20480000000\n" % min(2, len(os.sched_getaffinity(0))), said
+    asked = (
+        "import machine, sys; from pathlib import Path; r = Path(sys.argv[1]);"
+        "print(machine.processors(r / 'groups', r / 'own'), machine.free_memory(r / 'groups', r / 'own', r / 'meminfo'),"
+        " machine.processors(r / 'one', r / 'own'), machine.free_memory(r / 'one', r / 'own', r / 'meminfo'),"
+        " machine.free_memory(r / 'none', r / 'own', r / 'meminfo'))"
+    )
+    said = subprocess.run(
+        [sys.executable, "-c", asked, str(tree.room)],
+        cwd=tree.top / "tools",
+        stdout=subprocess.PIPE,
+        stderr=subprocess.STDOUT,
+        text=True,
+    ).stdout
+    return (
+        said == "%d 6500000000 1 3000000000 20480000000\n" % min(2, len(os.sched_getaffinity(0))),
+        said,
+    )
 
 
 def answered_first(tree, processors, said_between):
@@ -394,17 +562,39 @@ def answered_first(tree, processors, said_between):
     tree.crate("low", "fn one() {}\n// SLEEP 2\n")
     status, said = tree.ran("run-example")
     log = [line[0] for line in tree.log()]
-    parts = ["before anything is proved", *said_between, "low ", "[ 4/4] pit", "The same check by the proved program", "ACCEPTED 90 71040"]
+    parts = [
+        "before anything is proved",
+        *said_between,
+        "low ",
+        "[ 4/4] pit",
+        "The same check by the proved program",
+        "ACCEPTED 90 71040",
+    ]
     found = [it[0] for it in re.finditer("|".join(map(re.escape, parts)), said)]
-    return status == 0 and found == parts and set(log[:2]) == {"try", "ci"} and log[-1] == "pit", said
+    return (
+        status == 0 and found == parts and set(log[:2]) == {"try", "ci"} and log[-1] == "pit",
+        said,
+    )
 
 
 def an_answer_comes_before_any_proof(tree):
-    return answered_first(tree, 2, ["ACCEPTED 90 71040", "run-time checks, and not proved", "Now every function is proved"])
+    return answered_first(
+        tree,
+        2,
+        ["ACCEPTED 90 71040", "run-time checks, and not proved", "Now every function is proved"],
+    )
 
 
 def an_answer_comes_while_crates_are_proved(tree):
-    return answered_first(tree, 4, ["Meanwhile every function is proved", "ACCEPTED 90 71040", "run-time checks, and not proved"])
+    return answered_first(
+        tree,
+        4,
+        [
+            "Meanwhile every function is proved",
+            "ACCEPTED 90 71040",
+            "run-time checks, and not proved",
+        ],
+    )
 
 
 def an_answer_that_comes_late_is_left_off(tree):
@@ -413,16 +603,28 @@ def an_answer_that_comes_late_is_left_off(tree):
     tree.crate("pit", MAIN + "// TRIED 60\n")
     began = time.monotonic()
     status, said = tree.ran("run-example")
-    well = status == 0 and said.splitlines()[-2:] == ["The same check by the proved program:", "ACCEPTED 90 71040"] and said.count("ACCEPTED") == 1
+    well = (
+        status == 0
+        and said.splitlines()[-2:] == ["The same check by the proved program:", "ACCEPTED 90 71040"]
+        and said.count("ACCEPTED") == 1
+    )
     tree.crate("high", "fn one() {}\n// FAIL\n")
     failed, told = tree.ran("run-example")
     tree.crate("high", "fn one() {}\n// SLEEP 60\n")
     tree.log()
     process = tree.starts("run-example")
-    is_begun = until(lambda: (tree.kit / "LOG").exists() and "high gate" in (tree.kit / "LOG").read_text())
+    is_begun = until(
+        lambda: (tree.kit / "LOG").exists() and "high gate" in (tree.kit / "LOG").read_text()
+    )
     os.killpg(process.pid, signal.SIGINT)
     ended, _ = process.communicate(timeout=30)
-    well = well and failed == 1 and "high NOT PROVED" in told and is_begun and "stopped; what is proved so far is kept" in ended
+    well = (
+        well
+        and failed == 1
+        and "high NOT PROVED" in told
+        and is_begun
+        and "stopped; what is proved so far is kept" in ended
+    )
     return well and time.monotonic() - began < 50 and is_left_alone(tree), said + told + ended
 
 
@@ -430,10 +632,21 @@ def quick_stops_after_the_first_answer(tree):
     status, said = tree.ran("run-example", "--quick")
     log = tree.log()
     given = "--data copper.prec=../../examples/copper/copper.prec" in " ".join(log[0])
-    well = status == 0 and given and len(log) == 1 and said.splitlines()[1] == "ACCEPTED 90 71040" and not tree.has("out/pit")
+    well = (
+        status == 0
+        and given
+        and len(log) == 1
+        and said.splitlines()[1] == "ACCEPTED 90 71040"
+        and not tree.has("out/pit")
+    )
     tree.ran("build")
     tree.log()
-    return well and tree.ran("run-example", "--quick") == (0, "ACCEPTED 90 71040\n") and not tree.log(), said
+    return (
+        well
+        and tree.ran("run-example", "--quick") == (0, "ACCEPTED 90 71040\n")
+        and not tree.log(),
+        said,
+    )
 
 
 def no_answer_without_proof_is_told(tree):
@@ -441,7 +654,14 @@ def no_answer_without_proof_is_told(tree):
     quick, said = tree.ran("run-example", "--quick")
     status, more = tree.ran("run-example")
     told = "The kit gave no answer without a proof; what it said is in out/try.log"
-    return quick == 1 and told in said and "ACCEPTED" not in said + more and status == 1 and "pit NOT PROVED" in more, said + more
+    return (
+        quick == 1
+        and told in said
+        and "ACCEPTED" not in said + more
+        and status == 1
+        and "pit NOT PROVED" in more,
+        said + more,
+    )
 
 
 ANSWER = "ACCEPTED 90 71040\n"
@@ -454,10 +674,16 @@ def planned(tree, packages, user=0, fails=False):
     log.write_text("")
     tree.write("examples/hill/study.toml", "")
     tree.write("python/packages", "# needed\n%s\n# its tests\npython3-more\n" % "\n".join(packages))
-    tree.write("bin/pitplan", "#!/bin/sh\necho \"$* $PIT\" >> %s\n" % log, 0o755)
+    tree.write("bin/pitplan", '#!/bin/sh\necho "$* $PIT" >> %s\n' % log, 0o755)
     tree.write("../kit/bin/id", "#!/bin/sh\necho %d\n" % user, 0o755)
-    tree.write("../kit/bin/apt-get", "#!/bin/sh\necho \"apt-get $*\" >> %s\nexit %d\n" % (log, fails), 0o755)
-    tree.write("../kit/bin/sudo", "#!/bin/sh\n[ $1 = -n ] && [ %d = 1000 ] || exit 1\nshift\nexec \"$@\"\n" % user, 0o755)
+    tree.write(
+        "../kit/bin/apt-get", '#!/bin/sh\necho "apt-get $*" >> %s\nexit %d\n' % (log, fails), 0o755
+    )
+    tree.write(
+        "../kit/bin/sudo",
+        '#!/bin/sh\n[ $1 = -n ] && [ %d = 1000 ] || exit 1\nshift\nexec "$@"\n' % user,
+        0o755,
+    )
     return log
 
 
@@ -469,21 +695,45 @@ def the_page_of_the_example_is_made(tree):
     quick = tree.ran("run-example", "--quick")
     tree.write("bin/pitplan", "#!/bin/sh\nexit 3\n", 0o755)
     failed = tree.ran("run-example")
-    well = steps == ["%s examples/hill %s/out/pit" % (step, tree.top) for step in ("build", "shells", "page")] and quick == (0, ANSWER)
+    well = steps == [
+        "%s examples/hill %s/out/pit" % (step, tree.top) for step in ("build", "shells", "page")
+    ] and quick == (0, ANSWER)
     well = well and made == (0, ANSWER + PAGE)
-    return well and failed == (1, ANSWER + "No page of the example; what pitplan said is in out/pitplan.log\n"), repr([made, failed])
+    return well and failed == (
+        1,
+        ANSWER + "No page of the example; what pitplan said is in out/pitplan.log\n",
+    ), repr([made, failed])
 
 
 def packages_are_installed_beside_the_proof(tree):
     """By root, and by sudo where it asks for no password; they are those that pitplan needs and its tests don't."""
-    lines = ["apt-get update -q", "apt-get install -y -q -o DPkg::Lock::Timeout=600 --no-install-recommends python3 python3-nowhere libjs-nothing"]
+    lines = [
+        "apt-get update -q",
+        "apt-get install -y -q -o DPkg::Lock::Timeout=600 --no-install-recommends python3 python3-nowhere libjs-nothing",
+    ]
     told = []
-    for user in (0, 1000):                   # the second time everything is built already
+    for user in (0, 1000):  # the second time everything is built already
         log = planned(tree, ["python3", "python3-nowhere", "libjs-nothing"], user)
         status, said = tree.ran("run-example")
-        where = [said.find(it) for it in ("are being installed; what apt-get says is in out/packages.log", ANSWER, PAGE)]
+        where = [
+            said.find(it)
+            for it in (
+                "are being installed; what apt-get says is in out/packages.log",
+                ANSWER,
+                PAGE,
+            )
+        ]
         steps = log.read_text().splitlines()
-        told.append((status, steps[:2] == lines, [line.split()[0] for line in steps[2:]] == ["build", "shells", "page"], -1 not in where, user or where[0] < said.find("function is proved"), said))
+        told.append(
+            (
+                status,
+                steps[:2] == lines,
+                [line.split()[0] for line in steps[2:]] == ["build", "shells", "page"],
+                -1 not in where,
+                user or where[0] < said.find("function is proved"),
+                said,
+            )
+        )
     return all(all(it[1:5]) and it[0] == 0 for it in told), repr(told)
 
 
@@ -491,17 +741,29 @@ def packages_that_cannot_be_installed_are_told_by_one_command(tree):
     tree.ran("build")
     command = "    sudo sh -c 'apt-get update && apt-get install -y --no-install-recommends python3-nowhere'\n"
     told = []
-    for user, fails, why in ((1001, False, ""), (0, True, "; what apt-get said is in out/packages.log")):
+    for user, fails, why in (
+        (1001, False, ""),
+        (0, True, "; what apt-get said is in out/packages.log"),
+    ):
         log = planned(tree, ["python3-nowhere"], user, fails)
         status, said = tree.ran("run-example")
-        well = said.endswith("No page of the example, since Debian's packages for it lack%s. This installs them; then ./run-example again:\n%s" % (why, command))
+        well = said.endswith(
+            "No page of the example, since Debian's packages for it lack%s. This installs them; then ./run-example again:\n%s"
+            % (why, command)
+        )
         told.append((status == 0 and well and "out/pit" not in log.read_text(), said))
     return all(well for well, _ in told), repr(told)
 
 
 def an_unknown_word_is_refused(tree):
-    answers = [tree.ran("run-example", "--fast"), tree.ran("build", "--all"), tree.ran("release", "--all")]
-    return all(status and "./" in said for status, said in answers) and not tree.log(), repr(answers)
+    answers = [
+        tree.ran("run-example", "--fast"),
+        tree.ran("build", "--all"),
+        tree.ran("release", "--all"),
+    ]
+    return all(status and "./" in said for status, said in answers) and not tree.log(), repr(
+        answers
+    )
 
 
 def install_copies_the_program(tree):
@@ -509,25 +771,62 @@ def install_copies_the_program(tree):
     other, more = tree.ran("install", str(tree.room / "elsewhere"))
     programs = [tree.room / at for at in ("lib/pontihaw/pit", "elsewhere/lib/pontihaw/pit")]
     (tree.room / "linked").symlink_to("bin/pit")
-    answers = [subprocess.run(words, cwd=tree.room / "bin", env=dict(os.environ, PATH="%s:%s" % (tree.room / "elsewhere", os.environ["PATH"])),
-                              stdout=subprocess.PIPE, text=True).stdout
-               for words in ([tree.room / "bin" / "pit"], ["./pit"], ["sh", "pit"], [tree.room / "linked"], ["pit"])]
-    well = (status, other) == (0, 0) and all(map(os.path.exists, programs)) and answers == ["ACCEPTED 90 71040\n"] * 5
+    answers = [
+        subprocess.run(
+            words,
+            cwd=tree.room / "bin",
+            env=dict(os.environ, PATH="%s:%s" % (tree.room / "elsewhere", os.environ["PATH"])),
+            stdout=subprocess.PIPE,
+            text=True,
+        ).stdout
+        for words in (
+            [tree.room / "bin" / "pit"],
+            ["./pit"],
+            ["sh", "pit"],
+            [tree.room / "linked"],
+            ["pit"],
+        )
+    ]
+    well = (
+        (status, other) == (0, 0)
+        and all(map(os.path.exists, programs))
+        and answers == ["ACCEPTED 90 71040\n"] * 5
+    )
     programs[0].unlink()
-    lost = subprocess.run([tree.room / "bin" / "pit"], stdout=subprocess.PIPE, stderr=subprocess.STDOUT, text=True)
-    return well and lost.returncode == 4 and "lib/pontihaw/pit is neither beside" in lost.stdout, said + more + repr(answers) + lost.stdout
+    lost = subprocess.run(
+        [tree.room / "bin" / "pit"], stdout=subprocess.PIPE, stderr=subprocess.STDOUT, text=True
+    )
+    return (
+        well and lost.returncode == 4 and "lib/pontihaw/pit is neither beside" in lost.stdout,
+        said + more + repr(answers) + lost.stdout,
+    )
 
 
 def the_launcher_changes_nothing_else(tree):
     """The words, the exit status, a signal that ends the program, and whether it ignores signals: XFSZ and no other."""
-    tree.crate("pit", MAIN.replace("//sh esac", "//sh esac\n//sh [ $# -gt 1 ] || exit 0\n//sh printf '<%s>' \"$@\"; grep SigIgn /proc/self/status; kill -$2 $$"))
+    tree.crate(
+        "pit",
+        MAIN.replace(
+            "//sh esac",
+            "//sh esac\n//sh [ $# -gt 1 ] || exit 0\n//sh printf '<%s>' \"$@\"; grep SigIgn /proc/self/status; kill -$2 $$",
+        ),
+    )
     status, said = tree.ran("install", str(tree.room / "bin"))
     words = ["a b", "TERM", "", "*", "\u00e9", "$0"]
-    ran = [subprocess.run([str(tree.room / at), *words], stdout=subprocess.PIPE, text=True) for at in ("bin/pit", "lib/pontihaw/pit")]
+    ran = [
+        subprocess.run([str(tree.room / at), *words], stdout=subprocess.PIPE, text=True)
+        for at in ("bin/pit", "lib/pontihaw/pit")
+    ]
     ignored = [int(re.search(r"SigIgn:\s*(\w+)", it.stdout)[1], 16) for it in ran]
     texts = [it.stdout.partition("SigIgn")[0] for it in ran]
-    well = texts[0] == texts[1] and "<a b><TERM><><*><\u00e9><$0>" in texts[0] and [it.returncode for it in ran] == [-signal.SIGTERM] * 2
-    return status == 0 and well and ignored[0] == ignored[1] | 1 << (signal.SIGXFSZ - 1), said + repr(ran)
+    well = (
+        texts[0] == texts[1]
+        and "<a b><TERM><><*><\u00e9><$0>" in texts[0]
+        and [it.returncode for it in ran] == [-signal.SIGTERM] * 2
+    )
+    return status == 0 and well and ignored[0] == ignored[1] | 1 << (
+        signal.SIGXFSZ - 1
+    ), said + repr(ran)
 
 
 def install_brings_pitplan_where_its_packages_are(tree):
@@ -537,23 +836,71 @@ def install_brings_pitplan_where_its_packages_are(tree):
     tree.write("python/pitplan/left.html", "")
     first = tree.ran("install", str(tree.room / "bin"))
     (tree.top / "python/pitplan/left.html").unlink()
-    statuses = [first[0], tree.ran("install", str(tree.room / "bin"))[0], tree.ran("install", str(tree.room / "elsewhere"))[0]]
-    answers = [subprocess.run([str(tree.room / at / "pitplan")], cwd="/", stdout=subprocess.PIPE, text=True).stdout for at in ("bin", "elsewhere")]
-    wanted = ["planned by %s/pontihaw/pitplan/cli/main.py\n" % (tree.room.resolve() / at) for at in ("lib", "elsewhere/lib")]
-    share = ["share/man/man1/pit.1", "share/man/man1/pitplan.1", "share/bash-completion/completions/pit", "share/zsh/site-functions/_pitplan", "share/fish/vendor_completions.d/pit.fish"]
-    well = statuses == [0] * 3 and answers == wanted and all((tree.room / it).exists() for it in share) and not (tree.room / "lib/pontihaw/pitplan/left.html").exists()
-    tree.write("python/packages", "# the package itself\npython3\npython3-nowhere\nlibjs-three\n# its tests\npython3-more\n")
+    statuses = [
+        first[0],
+        tree.ran("install", str(tree.room / "bin"))[0],
+        tree.ran("install", str(tree.room / "elsewhere"))[0],
+    ]
+    answers = [
+        subprocess.run(
+            [str(tree.room / at / "pitplan")], cwd="/", stdout=subprocess.PIPE, text=True
+        ).stdout
+        for at in ("bin", "elsewhere")
+    ]
+    wanted = [
+        "planned by %s/pontihaw/pitplan/cli/main.py\n" % (tree.room.resolve() / at)
+        for at in ("lib", "elsewhere/lib")
+    ]
+    share = [
+        "share/man/man1/pit.1",
+        "share/man/man1/pitplan.1",
+        "share/bash-completion/completions/pit",
+        "share/zsh/site-functions/_pitplan",
+        "share/fish/vendor_completions.d/pit.fish",
+    ]
+    well = (
+        statuses == [0] * 3
+        and answers == wanted
+        and all((tree.room / it).exists() for it in share)
+        and not (tree.room / "lib/pontihaw/pitplan/left.html").exists()
+    )
+    tree.write(
+        "python/packages",
+        "# the package itself\npython3\npython3-nowhere\nlibjs-three\n# its tests\npython3-more\n",
+    )
     status, said = tree.ran("install", str(tree.room / "third"))
-    told = "sudo apt-get install --no-install-recommends python3 python3-nowhere libjs-three, and" in said
-    return well and status == 0 and told and (tree.room / "third/pit").exists() and not (tree.room / "third/pitplan").exists(), first[1] + repr(answers) + said
+    told = (
+        "sudo apt-get install --no-install-recommends python3 python3-nowhere libjs-three, and"
+        in said
+    )
+    return (
+        well
+        and status == 0
+        and told
+        and (tree.room / "third/pit").exists()
+        and not (tree.room / "third/pitplan").exists(),
+        first[1] + repr(answers) + said,
+    )
 
 
 def pitplan_names_the_packages_that_it_lacks(tree):
     shutil.copy(Path(__file__).resolve().parent.parent / "bin/pitplan", tree.top / "bin/pitplan")
     tree.write("python/pitplan/cli/main.py", "import nowhere\n")
-    ran = subprocess.run([str(tree.top / "bin/pitplan")], stdout=subprocess.PIPE, stderr=subprocess.STDOUT, text=True)
-    needed = [it for it in (tree.top / "python/packages").read_text().partition("# its tests")[0].splitlines() if it and it[0] != "#"]
-    wanted = "pitplan needs the Python package nowhere: sudo apt-get install --no-install-recommends %s\n" % " ".join(needed)
+    ran = subprocess.run(
+        [str(tree.top / "bin/pitplan")], stdout=subprocess.PIPE, stderr=subprocess.STDOUT, text=True
+    )
+    needed = [
+        it
+        for it in (tree.top / "python/packages")
+        .read_text()
+        .partition("# its tests")[0]
+        .splitlines()
+        if it and it[0] != "#"
+    ]
+    wanted = (
+        "pitplan needs the Python package nowhere: sudo apt-get install --no-install-recommends %s\n"
+        % " ".join(needed)
+    )
     return ran.returncode == 1 and ran.stdout == wanted, ran.stdout
 
 
@@ -571,10 +918,26 @@ def two_folders_make_the_same_release(tree):
         other.commit()
         os.utime(other.top / "README.md", (1, 1))
         (other.top / "LICENSE").chmod(0o600)
-        second = other.ran("release"), {file.name: file.read_bytes() for file in (other.top / "dist").glob("*")}
-    names = ["BUILT.txt", "SHA256SUMS", "pit-0.1.0-x86_64-linux.tar.gz", "pit_0.1.0_amd64.deb", "pitplan-0.1.0-py3-none-any.whl", "pitplan_0.1.0_amd64.deb"]
-    sums = subprocess.run(["sha256sum", "-c", "SHA256SUMS"], cwd=tree.top / "dist", stdout=subprocess.PIPE, text=True)
-    well = first[0] == 0 and sorted(first[2]) == names and first[2] == second[1] and sums.returncode == 0
+        second = other.ran("release"), {
+            file.name: file.read_bytes() for file in (other.top / "dist").glob("*")
+        }
+    names = [
+        "BUILT.txt",
+        "SHA256SUMS",
+        "pit-0.1.0-x86_64-linux.tar.gz",
+        "pit_0.1.0_amd64.deb",
+        "pitplan-0.1.0-py3-none-any.whl",
+        "pitplan_0.1.0_amd64.deb",
+    ]
+    sums = subprocess.run(
+        ["sha256sum", "-c", "SHA256SUMS"], cwd=tree.top / "dist", stdout=subprocess.PIPE, text=True
+    )
+    well = (
+        first[0] == 0
+        and sorted(first[2]) == names
+        and first[2] == second[1]
+        and sums.returncode == 0
+    )
     return well, first[1] + second[0][1] + sums.stdout
 
 
@@ -582,19 +945,45 @@ def a_release_holds_what_it_should(tree):
     _, said, files = released(tree)
     (tree.room / "a.tar.gz").write_bytes(files["pit-0.1.0-x86_64-linux.tar.gz"])
     (tree.room / "a.deb").write_bytes(files["pit_0.1.0_amd64.deb"])
-    for words in (["tar", "-xzf", "a.tar.gz"], ["dpkg-deb", "-x", "a.deb", "installed"], ["dpkg-deb", "-e", "a.deb", "control"]):
+    for words in (
+        ["tar", "-xzf", "a.tar.gz"],
+        ["dpkg-deb", "-x", "a.deb", "installed"],
+        ["dpkg-deb", "-e", "a.deb", "control"],
+    ):
         subprocess.run(words, cwd=tree.room, check=True)
-    listed = subprocess.run(["tar", "-tvzf", "a.tar.gz"], cwd=tree.room, stdout=subprocess.PIPE, text=True, check=True).stdout
-    answers = [subprocess.run([str(tree.room / at)], stdout=subprocess.PIPE, text=True).stdout
-               for at in ("pit-0.1.0-x86_64-linux/pit", "installed/usr/bin/pit")]
+    listed = subprocess.run(
+        ["tar", "-tvzf", "a.tar.gz"], cwd=tree.room, stdout=subprocess.PIPE, text=True, check=True
+    ).stdout
+    answers = [
+        subprocess.run([str(tree.room / at)], stdout=subprocess.PIPE, text=True).stdout
+        for at in ("pit-0.1.0-x86_64-linux/pit", "installed/usr/bin/pit")
+    ]
     needs = re.search(r"^Depends: (.*)$", (tree.room / "control/control").read_text(), re.M)[1]
     wanted = ["pit-0.1.0-x86_64-linux/lib/pontihaw/pit", "installed/usr/lib/pontihaw/pit"]
-    wanted += ["pit-0.1.0-x86_64-linux/" + it for it in ("LICENSE", "README.md", "pit.1", "examples/copper/copper.prec", "python/pitplan/slopes/offsets.py")]
-    wanted += ["installed/usr/share/man/man1/pit.1.gz", "installed/usr/share/doc/pit/examples/copper/copper.cert"]
-    commit = subprocess.run(["git", "rev-parse", "HEAD"], cwd=tree.top, stdout=subprocess.PIPE, text=True).stdout.strip()
+    wanted += [
+        "pit-0.1.0-x86_64-linux/" + it
+        for it in (
+            "LICENSE",
+            "README.md",
+            "pit.1",
+            "examples/copper/copper.prec",
+            "python/pitplan/slopes/offsets.py",
+        )
+    ]
+    wanted += [
+        "installed/usr/share/man/man1/pit.1.gz",
+        "installed/usr/share/doc/pit/examples/copper/copper.cert",
+    ]
+    commit = subprocess.run(
+        ["git", "rev-parse", "HEAD"], cwd=tree.top, stdout=subprocess.PIPE, text=True
+    ).stdout.strip()
     about = files["BUILT.txt"].decode()
     told = all(it in about for it in (commit, "stand-in", "0123456789abcdef", "C library 2.34"))
-    well = answers == ["ACCEPTED 90 71040\n"] * 2 and needs == "libc6 (>= 2.34)" and all((tree.room / it).exists() for it in wanted)
+    well = (
+        answers == ["ACCEPTED 90 71040\n"] * 2
+        and needs == "libc6 (>= 2.34)"
+        and all((tree.room / it).exists() for it in wanted)
+    )
     return well and told and "root/root" in listed, said + listed + about
 
 
@@ -603,20 +992,61 @@ def a_release_holds_pitplan(tree):
     (tree.room / "a.deb").write_bytes(files["pitplan_0.1.0_amd64.deb"])
     for words in (["dpkg-deb", "-x", "a.deb", "installed"], ["dpkg-deb", "-e", "a.deb", "control"]):
         subprocess.run(words, cwd=tree.room, check=True)
-    control = dict(line.split(": ", 1) for line in (tree.room / "control/control").read_text().splitlines() if re.match(r"\w+: ", line))
-    own = [line for line in (tree.top / "python/packages").read_text().partition("# its tests")[0].splitlines() if line and line[0] != "#"]
+    control = dict(
+        line.split(": ", 1)
+        for line in (tree.room / "control/control").read_text().splitlines()
+        if re.match(r"\w+: ", line)
+    )
+    own = [
+        line
+        for line in (tree.top / "python/packages")
+        .read_text()
+        .partition("# its tests")[0]
+        .splitlines()
+        if line and line[0] != "#"
+    ]
     needs = control["Depends"].split(", ")
     share = "installed/usr/share/"
-    wanted = ["installed/usr/bin/pit", "installed/usr/bin/pitplan", "installed/usr/lib/python3/dist-packages/pitplan/slopes/offsets.py", share + "man/man1/pit.1.gz", share + "man/man1/pitplan.1.gz",
-              share + "doc/pitplan/examples/copper/copper.cert", share + "doc/pitplan/copyright"]
-    wanted += [share + path % name for name in ("pit", "pitplan") for path in ("bash-completion/completions/%s", "zsh/vendor-completions/_%s", "fish/vendor_completions.d/%s.fish")]
+    wanted = [
+        "installed/usr/bin/pit",
+        "installed/usr/bin/pitplan",
+        "installed/usr/lib/python3/dist-packages/pitplan/slopes/offsets.py",
+        share + "man/man1/pit.1.gz",
+        share + "man/man1/pitplan.1.gz",
+        share + "doc/pitplan/examples/copper/copper.cert",
+        share + "doc/pitplan/copyright",
+    ]
+    wanted += [
+        share + path % name
+        for name in ("pit", "pitplan")
+        for path in (
+            "bash-completion/completions/%s",
+            "zsh/vendor-completions/_%s",
+            "fish/vendor_completions.d/%s.fish",
+        )
+    ]
     missing = [it for it in wanted if not (tree.room / it).exists()]
     with zipfile.ZipFile(io.BytesIO(files["pitplan-0.1.0-py3-none-any.whl"])) as wheel:
         held = {name: wheel.read(name).decode() for name in wheel.namelist()}
     metadata = next(text for name, text in held.items() if name.endswith("METADATA"))
-    well = [it.partition(" ")[0] for it in needs] == ["libc6", *own] and len(own) > 10 and "python3 (>= 3.11)" in needs
-    well = well and (control["Package"], control["Provides"], control["Conflicts"], control["Replaces"]) == ("pitplan", "pit (= 0.1.0)", "pit", "pit")
-    well = well and not missing and "pitplan/slopes/offsets.py" in held and "\nVersion: 0.1.0\n" in metadata and "pitplan = pitplan.cli.main:main" in "".join(held.values())
+    well = (
+        [it.partition(" ")[0] for it in needs] == ["libc6", *own]
+        and len(own) > 10
+        and "python3 (>= 3.11)" in needs
+    )
+    well = well and (
+        control["Package"],
+        control["Provides"],
+        control["Conflicts"],
+        control["Replaces"],
+    ) == ("pitplan", "pit (= 0.1.0)", "pit", "pit")
+    well = (
+        well
+        and not missing
+        and "pitplan/slopes/offsets.py" in held
+        and "\nVersion: 0.1.0\n" in metadata
+        and "pitplan = pitplan.cli.main:main" in "".join(held.values())
+    )
     return well, said + repr([missing, control, metadata])
 
 
@@ -625,20 +1055,41 @@ def a_release_is_compared_with_another_build(tree):
     tree.log()
     all_anew = "proved anew: low, high, beside, pit; 0 libraries taken"
     status, said = tree.ran("release", "--check")
-    well = status == 0 and said.count("same   ") == 6 and all_anew in said and not tree.has("out/again")
+    well = (
+        status == 0
+        and said.count("same   ") == 6
+        and all_anew in said
+        and not tree.has("out/again")
+    )
     tree.ran("build", "--work")
     taken, more = tree.ran("release", "--check")
     anew, most = tree.ran("release", "--check", "--anew")
-    return well and taken == anew == 0 and "proved anew: pit; 3 libraries taken" in more and all_anew in most, said + more + most
+    return (
+        well
+        and taken == anew == 0
+        and "proved anew: pit; 3 libraries taken" in more
+        and all_anew in most,
+        said + more + most,
+    )
 
 
 def another_program_fails_the_comparison(tree):
     released(tree)
     archive = next((tree.top / "dist").glob("*.tar.gz"))
-    subprocess.run("mkdir x && tar -xzf %s -C x && (echo '# more' | tee -a x/*/pit >/dev/null) && tar -czf %s -C x ." % (archive, archive),
-                   shell=True, cwd=tree.room, check=True)
+    subprocess.run(
+        "mkdir x && tar -xzf %s -C x && (echo '# more' | tee -a x/*/pit >/dev/null) && tar -czf %s -C x ."
+        % (archive, archive),
+        shell=True,
+        cwd=tree.room,
+        check=True,
+    )
     status, said = tree.ran("release", "--check")
-    return status == 1 and "DIFFERS  pit-0.1.0-x86_64-linux.tar.gz" in said and "same     SHA256SUMS" in said, said
+    return (
+        status == 1
+        and "DIFFERS  pit-0.1.0-x86_64-linux.tar.gz" in said
+        and "same     SHA256SUMS" in said,
+        said,
+    )
 
 
 def what_is_not_committed_is_not_released(tree):
@@ -649,42 +1100,96 @@ def what_is_not_committed_is_not_released(tree):
 
 
 def the_manual_page_follows_the_help_texts(tree):
-    help_text = ("Digs.\\n\\nUsage: pit <COMMAND>\\n\\nCommands:\\n  dig   Digs\\n  help  Print\\n\\nOptions:\\n  -h, --help  Print help\\n\\n"
-                 "Exit status:\\n  0  done\\n")
+    help_text = (
+        "Digs.\\n\\nUsage: pit <COMMAND>\\n\\nCommands:\\n  dig   Digs\\n  help  Print\\n\\nOptions:\\n  -h, --help  Print help\\n\\n"
+        "Exit status:\\n  0  done\\n"
+    )
     of_dig = "Digs a .pit\\n\\nUsage: pit dig [OPTIONS]\\n\\nOptions:\\n      --deep <N>\\n          How deep: 3 by default\\n\\n            far  to the end\\n"
     program = "#!/bin/sh\ncase \"$*\" in\n--version) echo pit 7.8.9;;\n--help) printf '%s';;\n'dig --help') printf '%s';;\nesac\n"
     tree.write("out/pit", program % (help_text, of_dig), 0o755)
     status, said = tree.ran("tools/man_page.py")
     page = (tree.top / "docs/pit.1").read_text()
-    parts = ['.TH PIT 1 "" "pit 7.8.9"', ".SH NAME\npit \\- digs.", ".B pit dig [OPTIONS]", ".SS pit dig\nDigs a .pit\n",
-             ".TP\n.B \\-\\-deep <N>\nHow deep: 3 by default\n.br\nfar: to the end\n", ".SH EXIT STATUS\n.TP\n.B 0\ndone\n"]
+    parts = [
+        '.TH PIT 1 "" "pit 7.8.9"',
+        ".SH NAME\npit \\- digs.",
+        ".B pit dig [OPTIONS]",
+        ".SS pit dig\nDigs a .pit\n",
+        ".TP\n.B \\-\\-deep <N>\nHow deep: 3 by default\n.br\nfar: to the end\n",
+        ".SH EXIT STATUS\n.TP\n.B 0\ndone\n",
+    ]
     compared = [asked(tree, "manual(run.tree.PROGRAM)")]
     tree.write("out/pit", program % (help_text, of_dig.replace("3 by", "4 by")), 0o755)
     compared.append(asked(tree, "manual(run.tree.PROGRAM)"))
     fish = (tree.top / "completions/pit.fish").read_text()
     (tree.top / "completions/pit.bash").write_text("older\n")
     compared.append(asked(tree, "manual(run.tree.PROGRAM)"))
-    told = "docs/pit.1 isn't what the help texts of pit say" in compared[1] and "tools/man_page.py writes it anew" in compared[1] and "completions/pit.bash isn't" in compared[2]
-    told = told and "from dig' -l deep -x -d 'How deep'" in fish and "completions" not in compared[1]
-    well = status == 0 and all(part in page for part in parts) and compared[0] == "(1, 0)\n" and compared[1].endswith("(0, 1)\n") and told
+    told = (
+        "docs/pit.1 isn't what the help texts of pit say" in compared[1]
+        and "tools/man_page.py writes it anew" in compared[1]
+        and "completions/pit.bash isn't" in compared[2]
+    )
+    told = (
+        told and "from dig' -l deep -x -d 'How deep'" in fish and "completions" not in compared[1]
+    )
+    well = (
+        status == 0
+        and all(part in page for part in parts)
+        and compared[0] == "(1, 0)\n"
+        and compared[1].endswith("(0, 1)\n")
+        and told
+    )
     return well, said + page + repr(compared)
 
 
 CASES = [
-    the_program_stays_where_the_gate_leaves_it, a_change_is_proved, the_room_is_in_the_tree, ctrl_c_ends_with_one_line,
-    sigterm_leaves_nothing_behind, a_closed_terminal_leaves_nothing_behind, a_killed_build_is_cleared_away_by_the_next,
-    what_a_build_proved_the_gate_keeps, only_what_changed_is_proved_again, each_library_has_a_run_of_its_own, what_is_kept_is_taken_by_one_run,
-    one_run_proves_all_where_several_cannot, a_kit_that_keeps_nothing_proves_all_in_one_run, a_library_that_fails_ends_the_others, ctrl_c_ends_the_runs_of_a_build, sigterm_ends_the_runs_of_a_build,
-    a_closed_terminal_ends_the_runs_of_a_build, a_killed_build_takes_its_runs_along, ctrl_c_ends_the_one_run_of_a_build,
-    sigterm_ends_the_one_run_of_a_build, a_crate_that_the_gate_refuses_is_told, a_second_build_waits_and_says_so, the_gate_waits_for_a_build, the_gate_gives_a_crate_one_process,
-    the_gate_tries_edits_over_its_own_libraries, each_edit_that_shows_nothing_fails_the_gate, what_is_proved_is_kept_where_one_fails, a_crate_of_few_functions_gets_one_process,
-    limits_of_a_container_count, an_answer_comes_before_any_proof, an_answer_comes_while_crates_are_proved, an_answer_that_comes_late_is_left_off, quick_stops_after_the_first_answer, no_answer_without_proof_is_told,
+    the_program_stays_where_the_gate_leaves_it,
+    a_change_is_proved,
+    the_room_is_in_the_tree,
+    ctrl_c_ends_with_one_line,
+    sigterm_leaves_nothing_behind,
+    a_closed_terminal_leaves_nothing_behind,
+    a_killed_build_is_cleared_away_by_the_next,
+    what_a_build_proved_the_gate_keeps,
+    only_what_changed_is_proved_again,
+    each_library_has_a_run_of_its_own,
+    what_is_kept_is_taken_by_one_run,
+    one_run_proves_all_where_several_cannot,
+    a_kit_that_keeps_nothing_proves_all_in_one_run,
+    a_library_that_fails_ends_the_others,
+    ctrl_c_ends_the_runs_of_a_build,
+    sigterm_ends_the_runs_of_a_build,
+    a_closed_terminal_ends_the_runs_of_a_build,
+    a_killed_build_takes_its_runs_along,
+    ctrl_c_ends_the_one_run_of_a_build,
+    sigterm_ends_the_one_run_of_a_build,
+    a_crate_that_the_gate_refuses_is_told,
+    a_second_build_waits_and_says_so,
+    the_gate_waits_for_a_build,
+    the_gate_gives_a_crate_one_process,
+    the_gate_tries_edits_over_its_own_libraries,
+    each_edit_that_shows_nothing_fails_the_gate,
+    what_is_proved_is_kept_where_one_fails,
+    a_crate_of_few_functions_gets_one_process,
+    limits_of_a_container_count,
+    an_answer_comes_before_any_proof,
+    an_answer_comes_while_crates_are_proved,
+    an_answer_that_comes_late_is_left_off,
+    quick_stops_after_the_first_answer,
+    no_answer_without_proof_is_told,
     the_page_of_the_example_is_made,
     packages_are_installed_beside_the_proof,
     packages_that_cannot_be_installed_are_told_by_one_command,
-    an_unknown_word_is_refused, install_copies_the_program, the_launcher_changes_nothing_else, install_brings_pitplan_where_its_packages_are, pitplan_names_the_packages_that_it_lacks,
-    two_folders_make_the_same_release, a_release_holds_what_it_should, a_release_holds_pitplan,
-    a_release_is_compared_with_another_build, another_program_fails_the_comparison, what_is_not_committed_is_not_released,
+    an_unknown_word_is_refused,
+    install_copies_the_program,
+    the_launcher_changes_nothing_else,
+    install_brings_pitplan_where_its_packages_are,
+    pitplan_names_the_packages_that_it_lacks,
+    two_folders_make_the_same_release,
+    a_release_holds_what_it_should,
+    a_release_holds_pitplan,
+    a_release_is_compared_with_another_build,
+    another_program_fails_the_comparison,
+    what_is_not_committed_is_not_released,
     the_manual_page_follows_the_help_texts,
 ]
 
@@ -697,7 +1202,9 @@ def test(top):
         with tempfile.TemporaryDirectory(prefix="pit-scripts-", ignore_cleanup_errors=True) as room:
             try:
                 well, said = case(Tree(top, room))
-            except Exception:  # a case that can't be played to its end has failed, and the others are still played
+            except (
+                Exception
+            ):  # a case that can't be played to its end has failed, and the others are still played
                 well, said = False, traceback.format_exc()
         if not well:
             print("%s: failed:\n%s" % (case.__name__, said))

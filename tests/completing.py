@@ -16,24 +16,53 @@ from pathlib import Path
 
 TOP = Path(__file__).resolve().parent.parent
 SHELLS = ("bash", "zsh", "fish")
-INSTALLED = {"bash": "/usr/share/bash-completion/completions/%s", "zsh": "/usr/share/zsh/vendor-completions/_%s", "fish": "/usr/share/fish/vendor_completions.d/%s.fish"}
+INSTALLED = {
+    "bash": "/usr/share/bash-completion/completions/%s",
+    "zsh": "/usr/share/zsh/vendor-completions/_%s",
+    "fish": "/usr/share/fish/vendor_completions.d/%s.fish",
+}
 # A line that is begun, and the word that its last one becomes. Only one fits, or nothing where it is None.
-LINES = (("pit sol", "solve"), ("pit check --up", "--upit"), ("pit solve --method pse", "pseudoflow"), ("pit slopes --pattern ni", "nine"),
-         ("pit solve --group sca", "scaled"), ("pit check --prec a-f", "a-file"), ("pit check a-f", "a-file"), ("pit solve --steps a-f", None),
-         ("pitplan she", "shells"), ("pitplan plot --be", "--bench"), ("pitplan submit --engine sl", "slurm"), ("pitplan build a-f", "a-file"),
-         ("pitplan compare --surface a-f", "a-file"), ("pitplan init --column dens", "density"), ("pitplan doctor --ru", None), ("pitplan --ver", "--version"))
+LINES = (
+    ("pit sol", "solve"),
+    ("pit check --up", "--upit"),
+    ("pit solve --method pse", "pseudoflow"),
+    ("pit slopes --pattern ni", "nine"),
+    ("pit solve --group sca", "scaled"),
+    ("pit check --prec a-f", "a-file"),
+    ("pit check a-f", "a-file"),
+    ("pit solve --steps a-f", None),
+    ("pitplan she", "shells"),
+    ("pitplan plot --be", "--bench"),
+    ("pitplan submit --engine sl", "slurm"),
+    ("pitplan build a-f", "a-file"),
+    ("pitplan compare --surface a-f", "a-file"),
+    ("pitplan init --column dens", "density"),
+    ("pitplan doctor --ru", None),
+    ("pitplan --ver", "--version"),
+)
 BASH = 'source "$0"; COMP_WORDS=("$@"); COMP_CWORD=$(($# - 1)); _"$1"; printf "%s\\n" "${COMPREPLY[@]}"'
 
 
 def in_bash(script, line, folder):
     """The words that bash offers, one in a line."""
-    return subprocess.run(["bash", "--norc", "-c", BASH, str(script), *line.split(" ")], cwd=folder, stdout=subprocess.PIPE, text=True).stdout
+    return subprocess.run(
+        ["bash", "--norc", "-c", BASH, str(script), *line.split(" ")],
+        cwd=folder,
+        stdout=subprocess.PIPE,
+        text=True,
+    ).stdout
 
 
 def in_fish(script, line, folder):
     """The words that fish offers, one in a line, each with what is said of it."""
-    return subprocess.run(["fish", "-N", "-c", "source $argv[1]; complete -C $argv[2]", str(script), line], cwd=folder, stdin=subprocess.DEVNULL,
-                          env={**os.environ, "HOME": str(folder)}, stdout=subprocess.PIPE, text=True).stdout
+    return subprocess.run(
+        ["fish", "-N", "-c", "source $argv[1]; complete -C $argv[2]", str(script), line],
+        cwd=folder,
+        stdin=subprocess.DEVNULL,
+        env={**os.environ, "HOME": str(folder)},
+        stdout=subprocess.PIPE,
+        text=True,
+    ).stdout
 
 
 def told(terminal, text, until, seconds=10):
@@ -53,12 +82,24 @@ def in_zsh(script, line, folder):
     child, terminal = pty.fork()
     if not child:
         os.chdir(folder)
-        os.execvpe("zsh", ["zsh", "-f", "-i"], {**os.environ, "TERM": "dumb", "HOME": str(folder), "PS1": ""})
+        os.execvpe(
+            "zsh",
+            ["zsh", "-f", "-i"],
+            {**os.environ, "TERM": "dumb", "HOME": str(folder), "PS1": ""},
+        )
     try:
-        told(terminal, "fpath=($PWD/functions $fpath); autoload -Uz compinit; compinit -u -d $PWD/dump; unsetopt zle_bracketed_paste; print rea''dy\n", "ready")
+        told(
+            terminal,
+            "fpath=($PWD/functions $fpath); autoload -Uz compinit; compinit -u -d $PWD/dump; unsetopt zle_bracketed_paste; print rea''dy\n",
+            "ready",
+        )
         told(terminal, line + "\t", "\0", 1.0)
         # what stands on the line now is printed, a word in a line
-        said = told(terminal, "\x01print -rl -- \x05 en''d\n", "\r\nend", 5.0).replace("\r", "").rpartition("\nend")[0]
+        said = (
+            told(terminal, "\x01print -rl -- \x05 en''d\n", "\r\nend", 5.0)
+            .replace("\r", "")
+            .rpartition("\nend")[0]
+        )
         word = said.rpartition("\n")[2]
         return "" if word == line.split(" ")[-1] else word
     finally:
@@ -74,16 +115,25 @@ def wrong_in(shell, script_of):
         with tempfile.TemporaryDirectory() as room:
             folder = Path(room)
             (folder / "a-file").write_text("")
-            offered = {"bash": in_bash, "zsh": in_zsh, "fish": in_fish}[shell](script_of(line.split(" ")[0]), line, folder)
+            offered = {"bash": in_bash, "zsh": in_zsh, "fish": in_fish}[shell](
+                script_of(line.split(" ")[0]), line, folder
+            )
         words = {row.split("\t")[0].strip() for row in offered.splitlines()} - {""}
         if words != ({wanted} if wanted else set()):
-            wrong.append("%s completes %r to %s, and not to %s" % (shell, line, sorted(words)[:9], wanted))
+            wrong.append(
+                "%s completes %r to %s, and not to %s" % (shell, line, sorted(words)[:9], wanted)
+            )
     return wrong
 
 
 def wrong_scripts(script_of):
     """What is wrong in those of the shells that are here. `script_of` gives the script by shell and command."""
-    return [it for shell in SHELLS if shutil.which(shell) for it in wrong_in(shell, lambda name, shell=shell: script_of(shell, name))]
+    return [
+        it
+        for shell in SHELLS
+        if shutil.which(shell)
+        for it in wrong_in(shell, lambda name, shell=shell: script_of(shell, name))
+    ]
 
 
 def of_repository(shell, name, top=TOP):

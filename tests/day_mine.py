@@ -8,13 +8,15 @@ import random
 from collections import namedtuple
 from decimal import Decimal
 
-WIDE, LONG, HIGH = 50, 50, 20                # blocks along x, y and z
-XSIZE, YSIZE, ZSIZE = 20, 20, 10             # metres of a block
-LOWEST = 7_010, 3_010, 805                   # the centre of the lowest block, in metres
-CONE = 4, 1, 2                               # 45 degrees for these blocks: two benches for one block out
+WIDE, LONG, HIGH = 50, 50, 20  # blocks along x, y and z
+XSIZE, YSIZE, ZSIZE = 20, 20, 10  # metres of a block
+LOWEST = 7_010, 3_010, 805  # the centre of the lowest block, in metres
+CONE = 4, 1, 2  # 45 degrees for these blocks: two benches for one block out
 FACTORS = 300, 400, 500, 600, 700, 800, 900, 1000, 1100, 1200
 
-Block = namedtuple("Block", "place tonnes grade revenue cost")   # the grade in hundredths of a percent, money in cents
+Block = namedtuple(
+    "Block", "place tonnes grade revenue cost"
+)  # the grade in hundredths of a percent, money in cents
 
 
 def grade_at(i, j, k, chance):
@@ -31,9 +33,21 @@ def blocks():
             for i in range(WIDE):
                 grade = grade_at(i, j, k, chance)
                 tonnes = XSIZE * YSIZE * ZSIZE * (22 if k > 16 else 26) // 10
-                metal = tonnes * grade * 88 // 1_000_000                 # tonnes of copper, of which 88 % is recovered
-                is_ore = metal * 650_000 > tonnes * 950                  # 6,500 dollars a tonne, 9.50 for processing
-                found.append(Block((i, j, k), tonnes, grade, metal * 650_000 if is_ore else 0, tonnes * (210 + 950 * is_ore)))
+                metal = (
+                    tonnes * grade * 88 // 1_000_000
+                )  # tonnes of copper, of which 88 % is recovered
+                is_ore = (
+                    metal * 650_000 > tonnes * 950
+                )  # 6,500 dollars a tonne, 9.50 for processing
+                found.append(
+                    Block(
+                        (i, j, k),
+                        tonnes,
+                        grade,
+                        metal * 650_000 if is_ore else 0,
+                        tonnes * (210 + 950 * is_ore),
+                    )
+                )
     return found
 
 
@@ -46,35 +60,63 @@ def write_table(mine, file):
     rows = csv.writer(file)
     rows.writerow(["id", "x", "y", "z", "tonnes", "grade", "value", "revenue", "cost"])
     for number, block in enumerate(mine):
-        centre = [low + size * at for low, size, at in zip(LOWEST, (XSIZE, YSIZE, ZSIZE), block.place)]
-        rows.writerow(["C%05d" % (number + 1), *centre, block.tonnes, "%d.%02d" % divmod(block.grade, 100),
-                       money(block.revenue - block.cost), money(block.revenue), money(block.cost)])
+        centre = [
+            low + size * at for low, size, at in zip(LOWEST, (XSIZE, YSIZE, ZSIZE), block.place)
+        ]
+        rows.writerow(
+            [
+                "C%05d" % (number + 1),
+                *centre,
+                block.tonnes,
+                "%d.%02d" % divmod(block.grade, 100),
+                money(block.revenue - block.cost),
+                money(block.revenue),
+                money(block.cost),
+            ]
+        )
 
 
 def blocks_text(mine):
-    return "".join("%d %d %d %d %s %s %d\n" % (b, *block.place, money(block.revenue), money(block.cost), block.tonnes) for b, block in enumerate(mine))
+    return "".join(
+        "%d %d %d %d %s %s %d\n"
+        % (b, *block.place, money(block.revenue), money(block.cost), block.tonnes)
+        for b, block in enumerate(mine)
+    )
 
 
 def upit_text(name, mine):
     head = "NAME: %s\nTYPE: UPIT\nNBLOCKS: %d\nOBJECTIVE_FUNCTION:\n" % (name, len(mine))
-    return head + "".join("%d %s\n" % (b, money(block.revenue - block.cost)) for b, block in enumerate(mine))
+    return head + "".join(
+        "%d %s\n" % (b, money(block.revenue - block.cost)) for b, block in enumerate(mine)
+    )
 
 
 def cone(levels, run, rise):
     """The offsets of a cone."""
     reach = range(-levels * run, levels * run + 1)
-    return [(dx, dy, k) for k in range(1, levels + 1) for dx in reach for dy in reach if rise**2 * (dx * dx + dy * dy) <= k * k * run * run]
+    return [
+        (dx, dy, k)
+        for k in range(1, levels + 1)
+        for dx in reach
+        for dy in reach
+        if rise**2 * (dx * dx + dy * dy) <= k * k * run * run
+    ]
 
 
 def rests_of(mine, offsets):
     """The predecessors of each block, ascending."""
     at = {block.place: b for b, block in enumerate(mine)}
     places = [(x, y, z) for x, y, z in (block.place for block in mine)]
-    return [sorted(at[p] for p in ((x + dx, y + dy, z + dz) for dx, dy, dz in offsets) if p in at) for x, y, z in places]
+    return [
+        sorted(at[p] for p in ((x + dx, y + dy, z + dz) for dx, dy, dz in offsets) if p in at)
+        for x, y, z in places
+    ]
 
 
 def prec_text(rests):
-    return "".join(" ".join(map(str, [b, len(above), *above])) + "\n" for b, above in enumerate(rests))
+    return "".join(
+        " ".join(map(str, [b, len(above), *above])) + "\n" for b, above in enumerate(rests)
+    )
 
 
 def worths(mine, factor=1000):
@@ -100,7 +142,10 @@ def bench_rows(mine, pits, factor):
         row[0] += 1
         row[1] += mine[b].tonnes
         row[2] += worth[b]
-    return [(z, shell, count, tonnes, decimal(sum_of)) for (z, shell), (count, tonnes, sum_of) in sorted(rows.items())]
+    return [
+        (z, shell, count, tonnes, decimal(sum_of))
+        for (z, shell), (count, tonnes, sum_of) in sorted(rows.items())
+    ]
 
 
 def pivot(rows, column):

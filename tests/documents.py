@@ -23,24 +23,60 @@ import page_facts
 
 PAGES = "README.md", "docs/GUIDE.md", "docs/SOLVERS.md"
 COMMANDS = "slopes", "solve", "check", "shells", "report", "replay", "value"
-STATUSES = (("REFUSED", 1), ("UNSETTLED", 1), ("HISTORYFULL", 1), ("OPEN ", 1), ("error:", 2), ("fault: device", 4), ("fault: memory", 4), ("fault:", 3))
+STATUSES = (
+    ("REFUSED", 1),
+    ("UNSETTLED", 1),
+    ("HISTORYFULL", 1),
+    ("OPEN ", 1),
+    ("error:", 2),
+    ("fault: device", 4),
+    ("fault: memory", 4),
+    ("fault:", 3),
+)
 LOOKS_TYPED = re.compile(r"(pit|python3|pitplan|\./\S+|cd|grep|sed|cut|cat) ")
-UNTYPED = {"README.md": ("./run-example", "./install", "python3 tests/run"),
-           "docs/GUIDE.md": ("python3 examples/csv_to_minelib.py mine.csv 20 20 10 mine revenue cost tonnes", "pit slopes --blocks mine.blocks",
-                             "pit shells --prec mine.prec", "pit report --prec mine.prec")}    # the mine of tests/day, which types them
+UNTYPED = {
+    "README.md": ("./run-example", "./install", "python3 tests/run"),
+    "docs/GUIDE.md": (
+        "python3 examples/csv_to_minelib.py mine.csv 20 20 10 mine revenue cost tonnes",
+        "pit slopes --blocks mine.blocks",
+        "pit shells --prec mine.prec",
+        "pit report --prec mine.prec",
+    ),
+}  # the mine of tests/day, which types them
 NUMBER = re.compile(r"(?<![\w.,-])\d[\d,]*(?:\.\d+)?")
 OTHERS = {
-    1965: "Lerchs and Grossmann's paper", 1976: "Picard's", 2008: "Hochbaum's and Hong's", 2026: "the year of RESULTS",
-    27: "2^27", 32: "2^32", 40: "2^40", 12: "10^12, and seconds", 64: "bits of a word", 128: "bits of an amount",
-    1001: "one more than 1,000", 10_000: "blocks, in DECISIONS", 2_000: "blocks of dense slopes, tried",
-    1_060: "blocks of newman, in bench/README", 3_865: "its pairs", 9_400: "blocks of zuck", 130_697: "its pairs",
-    50_000: "blocks of a chain, in RESULTS", 75: "turns, in RESULTS", 10**10: "steps, in RESULTS", 10**11: "steps, an example",
-    500: "steps, an example", 1250.75: "an example of a decimal", 65: "per cent", 80: "per cent", 100: "per cent",
-    67: "minutes of a first build on two cores, timed"}
+    1965: "Lerchs and Grossmann's paper",
+    1976: "Picard's",
+    2008: "Hochbaum's and Hong's",
+    2026: "the year of RESULTS",
+    27: "2^27",
+    32: "2^32",
+    40: "2^40",
+    12: "10^12, and seconds",
+    64: "bits of a word",
+    128: "bits of an amount",
+    1001: "one more than 1,000",
+    10_000: "blocks, in DECISIONS",
+    2_000: "blocks of dense slopes, tried",
+    1_060: "blocks of newman, in bench/README",
+    3_865: "its pairs",
+    9_400: "blocks of zuck",
+    130_697: "its pairs",
+    50_000: "blocks of a chain, in RESULTS",
+    75: "turns, in RESULTS",
+    10**10: "steps, in RESULTS",
+    10**11: "steps, an example",
+    500: "steps, an example",
+    1250.75: "an example of a decimal",
+    65: "per cent",
+    80: "per cent",
+    100: "per cent",
+    67: "minutes of a first build on two cores, timed",
+}
 
 NAMED = re.compile(r".*`([\w-]+\.\w+)`:$")
 Session = namedtuple("Session", "line command shown")
-Typed = namedtuple("Typed", "line text above")       # the last line of text above it
+Typed = namedtuple("Typed", "line text above")  # the last line of text above it
 
 
 def code_lines(text):
@@ -67,11 +103,15 @@ def sessions(text):
     for number, line, above in code_lines(text):
         if line.lstrip().startswith("$ "):
             margin = len(line) - len(line.lstrip())
-            found.append(Session(number, line[margin + 2:], []))
+            found.append(Session(number, line[margin + 2 :], []))
         elif not line:
             margin = None
         elif margin is None and NAMED.match(above):
-            found.append(Session(number, "echo %s >> %s" % (shlex.quote(line[4:]), NAMED.match(above)[1]), []))
+            found.append(
+                Session(
+                    number, "echo %s >> %s" % (shlex.quote(line[4:]), NAMED.match(above)[1]), []
+                )
+            )
         elif margin is not None and not found[-1].shown and found[-1].command.count("'") % 2:
             found[-1] = found[-1]._replace(command=found[-1].command + "\n" + line[margin:])
         elif margin is not None:
@@ -83,7 +123,10 @@ def sessions(text):
 
 def pattern_of(shown):
     """What the lines of an answer stand for, as a regular expression."""
-    return "".join(r"(?:.*\n)*" if line == ".." else re.escape(line).replace(r"\ \.\.\ ", " .* ") + r"\n" for line in shown)
+    return "".join(
+        r"(?:.*\n)*" if line == ".." else re.escape(line).replace(r"\ \.\.\ ", " .* ") + r"\n"
+        for line in shown
+    )
 
 
 def status_of(shown):
@@ -115,8 +158,16 @@ class Reader:
             self.place = (self.place / session.command[3:]).resolve()
             self.day.same(where, self.place.is_dir(), True)
             return
-        done = subprocess.run(["sh", "-c", session.command], cwd=self.place, env=self.day.around, stdin=subprocess.DEVNULL,
-                              stdout=subprocess.PIPE, stderr=subprocess.PIPE, text=True, errors="replace")
+        done = subprocess.run(
+            ["sh", "-c", session.command],
+            cwd=self.place,
+            env=self.day.around,
+            stdin=subprocess.DEVNULL,
+            stdout=subprocess.PIPE,
+            stderr=subprocess.PIPE,
+            text=True,
+            errors="replace",
+        )
         self.seen += session.command + "\n" + done.stdout + done.stderr
         printed = [done.stderr + done.stdout] + [done.stdout] * (done.returncode == 0)
         printed = [re.sub(r" +\n", "\n", text) for text in printed]
@@ -127,8 +178,15 @@ class Reader:
 
     def asks(self, command):
         """What a command prints that no page shows."""
-        return subprocess.run(["sh", "-c", command], cwd=self.place, env=self.day.around, stdin=subprocess.DEVNULL,
-                              stdout=subprocess.PIPE, stderr=subprocess.DEVNULL, text=True).stdout
+        return subprocess.run(
+            ["sh", "-c", command],
+            cwd=self.place,
+            env=self.day.around,
+            stdin=subprocess.DEVNULL,
+            stdout=subprocess.PIPE,
+            stderr=subprocess.DEVNULL,
+            text=True,
+        ).stdout
 
     def plays(self):
         """Types every command of the page."""
@@ -136,7 +194,11 @@ class Reader:
         for session in found:
             self.types(session)
         allowed = UNTYPED.get(self.page, ())
-        self.day.same("%s: commands that nobody types" % self.page, [line for line in untyped if not line.startswith(allowed)], [])
+        self.day.same(
+            "%s: commands that nobody types" % self.page,
+            [line for line in untyped if not line.startswith(allowed)],
+            [],
+        )
 
     def has(self, *facts):
         """Compares facts with the page, and takes them out of it."""
@@ -150,7 +212,12 @@ class Reader:
         code = {line.line for line in code_lines(self.text) if line.text}
         lines = [line for number, line in enumerate(self.text.split("\n"), 1) if number not in code]
         prose = [re.sub(r"\]\([^)]*\)", "]", line) for line in lines]
-        left = [(number, line[:60]) for line in prose for number in numbers_of(line) if number >= 10 and number not in known]
+        left = [
+            (number, line[:60])
+            for line in prose
+            for number in numbers_of(line)
+            if number >= 10 and number not in known
+        ]
         self.day.same("%s: numbers from nowhere" % self.page, left, [])
 
 
@@ -163,8 +230,16 @@ def play(day, top):
     readme, guide, engines = (readers[page] for page in PAGES)
     readme_sizes, guide_sizes = page_facts.size_rows((top / "bench" / "RESULTS.md").read_text())
     readme.has(*readme_sizes, *page_facts.of_readme(readme))
-    guide.has(*guide_sizes, *page_facts.of_table(guide), *page_facts.of_copper(guide), *page_facts.of_patterns(guide), *page_facts.of_stretched_cones(guide),
-              *page_facts.of_regions(guide), *page_facts.of_shells(guide), *page_facts.of_benches(guide))
+    guide.has(
+        *guide_sizes,
+        *page_facts.of_table(guide),
+        *page_facts.of_copper(guide),
+        *page_facts.of_patterns(guide),
+        *page_facts.of_stretched_cones(guide),
+        *page_facts.of_regions(guide),
+        *page_facts.of_shells(guide),
+        *page_facts.of_benches(guide),
+    )
     engines.has(*page_facts.of_trace(engines))
     helps = "".join(readme.asks("pit %s --help" % command) for command in COMMANDS)
     for reader in readers.values():

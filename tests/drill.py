@@ -22,8 +22,15 @@ PRICES = ["--prec", "p", "--blocks", "b", "--settings", "s"]
 def answer(program, words, folder, kilobytes=None):
     """Status, standard output and standard error; kilobytes bound the addresses that the program may use."""
     bound = kilobytes and (lambda: resource.setrlimit(resource.RLIMIT_AS, (kilobytes * 1024,) * 2))
-    done = subprocess.run([str(program), *words], cwd=folder, stdin=subprocess.DEVNULL, stdout=subprocess.PIPE,
-                          stderr=subprocess.PIPE, timeout=600, preexec_fn=bound)
+    done = subprocess.run(
+        [str(program), *words],
+        cwd=folder,
+        stdin=subprocess.DEVNULL,
+        stdout=subprocess.PIPE,
+        stderr=subprocess.PIPE,
+        timeout=600,
+        preexec_fn=bound,
+    )
     return done.returncode, done.stdout, done.stderr
 
 
@@ -41,40 +48,59 @@ def by_64_workers(program, _):
         (Path(room) / "c").write_bytes(certificate)
         said = answer(program, ["check", *VALUES, "c"], room)
     is_right = (status, errors) == (0, b"") and said == (0, b"ACCEPTED 3 1\n", b"")
-    return None if is_right else "64 workers: status %d, %r, %r, %r" % (status, certificate, errors, said)
+    return (
+        None
+        if is_right
+        else "64 workers: status %d, %r, %r, %r" % (status, certificate, errors, said)
+    )
 
 
 def a_model_without_values(program):
     """The greatest number of blocks, none of which is worth anything: the pit is empty, and so is its flow."""
     head = "PITCERT 1\nBLOCKS %d\nPRICE OBJECTIVE\nGROUP PAIR\n" % MOST_BLOCKS
-    cases = [(MOST_BLOCKS, "solve", (0, (head + "END\n").encode(), b"")),
-             (MOST_BLOCKS, "check", (0, b"ACCEPTED 0 0\n", b"")),
-             (MOST_BLOCKS + 1, "solve", (3, b"", b"fault: upit WrongBlocks(1)\n"))]
+    cases = [
+        (MOST_BLOCKS, "solve", (0, (head + "END\n").encode(), b"")),
+        (MOST_BLOCKS, "check", (0, b"ACCEPTED 0 0\n", b"")),
+        (MOST_BLOCKS + 1, "solve", (3, b"", b"fault: upit WrongBlocks(1)\n")),
+    ]
     for blocks, command, wanted in cases:
-        with room_with({"p": "", "u": "NBLOCKS: %d\nOBJECTIVE_FUNCTION:\n" % blocks, "c": head + "END\n"}) as room:
+        with room_with(
+            {"p": "", "u": "NBLOCKS: %d\nOBJECTIVE_FUNCTION:\n" % blocks, "c": head + "END\n"}
+        ) as room:
             said = answer(program, [command, *VALUES] + ["c"] * (command == "check"), room)
         yield None if said == wanted else "%s of %d blocks: %r" % (command, blocks, said)
 
 
 def long_inputs(program):
     """A file of 2^32 bytes that are one line, and of one byte more."""
-    cases = [("prec", "p", ["solve", *VALUES]), ("upit", "u", ["solve", *VALUES]), ("certificate", "c", ["check", *VALUES, "c"]),
-             ("trace", "c", ["replay", *VALUES, "c"]), ("blocks", "b", ["solve", *PRICES, "--factor", "1000"]),
-             ("settings", "s", ["solve", *PRICES, "--factor", "1000"])]
+    cases = [
+        ("prec", "p", ["solve", *VALUES]),
+        ("upit", "u", ["solve", *VALUES]),
+        ("certificate", "c", ["check", *VALUES, "c"]),
+        ("trace", "c", ["replay", *VALUES, "c"]),
+        ("blocks", "b", ["solve", *PRICES, "--factor", "1000"]),
+        ("settings", "s", ["solve", *PRICES, "--factor", "1000"]),
+    ]
     for kind, name, words in cases:
         line = b"fault: %s Text(1)\n" % kind.encode() if kind != "settings" else None
         over, short = (3, b"fault: %s InputTooLong\n" % kind.encode()), (4, b"fault: memory\n")
         if kind == "certificate":
             # it is read line by line, so its long line is told before the rest is read, and takes little memory
             over = short = 3, line
-        for length, kilobytes, (status, wanted) in ((MOST_BYTES, None, (3, line)), (MOST_BYTES + 1, None, over), (MOST_BYTES, 1_000_000, short)):
+        for length, kilobytes, (status, wanted) in (
+            (MOST_BYTES, None, (3, line)),
+            (MOST_BYTES + 1, None, over),
+            (MOST_BYTES, 1_000_000, short),
+        ):
             # which fault of a TOML document comes first is the library's word, so only that there is one is compared
             files = dict(SHARED_WASTE, **PRICED) if "--upit" in words else dict(PRICED, p="")
             with room_with(files) as room:
                 with open(Path(room) / name, "wb") as hole:
                     hole.truncate(length)
                 said = answer(program, words, room, kilobytes)
-            is_right = said[:2] == (status, b"") and (said[2] == wanted or (wanted is None and said[2].startswith(b"fault: settings ")))
+            is_right = said[:2] == (status, b"") and (
+                said[2] == wanted or (wanted is None and said[2].startswith(b"fault: settings "))
+            )
             yield None if is_right else "%s of %d bytes: %r" % (kind, length, said)
 
 
@@ -89,20 +115,33 @@ def one_record_too_many(program):
     lines, rest = divmod(most_pairs, a_line)
     upit = "NBLOCKS: %d\nOBJECTIVE_FUNCTION:\n" % (lines + 1)
     with room_with({"u": upit}) as room:
-        for more, wanted in ((0, (0, "PITCERT 1\nBLOCKS %d\nPRICE OBJECTIVE\nGROUP PAIR\nEND\n" % (lines + 1), "")),
-                             (1, (3, "", "fault: prec TooMany(%d)\n" % (lines + 1)))):
+        for more, wanted in (
+            (0, (0, "PITCERT 1\nBLOCKS %d\nPRICE OBJECTIVE\nGROUP PAIR\nEND\n" % (lines + 1), "")),
+            (1, (3, "", "fault: prec TooMany(%d)\n" % (lines + 1))),
+        ):
             with open(Path(room) / "p", "w") as prec:
                 for b in range(lines):
                     prec.write(is_line_of(a_line, b))
                 prec.write(is_line_of(rest + more, lines))
             status, output, errors = answer(program, ["solve", *VALUES], room)
-            yield None if (status, output.decode(), errors.decode()) == wanted else "%d predecessors: %r" % (most_pairs + more, (status, output[:99], errors))
+            yield None if (
+                status,
+                output.decode(),
+                errors.decode(),
+            ) == wanted else "%d predecessors: %r" % (
+                most_pairs + more,
+                (status, output[:99], errors),
+            )
         with open(Path(room) / "b", "w") as blocks:
             for _ in range(MOST_BLOCKS // 4096):
                 blocks.write("0 0 0 0\n" * 4096)
             blocks.write("0 0 0 0\n")
         said = answer(program, ["slopes", "--blocks", "b", "--pattern", "five"], room)
-        yield None if said == (3, b"", b"fault: blocks TooMany(%d)\n" % (MOST_BLOCKS + 1)) else "%d blocks: %r" % (MOST_BLOCKS + 1, said)
+        yield None if said == (
+            3,
+            b"",
+            b"fault: blocks TooMany(%d)\n" % (MOST_BLOCKS + 1),
+        ) else "%d blocks: %r" % (MOST_BLOCKS + 1, said)
         (Path(room) / "p").write_text("")
         with open(Path(room) / "t", "w") as trace:
             trace.write("PITTRACE 1\n")
@@ -110,7 +149,10 @@ def one_record_too_many(program):
                 trace.write("RE 0\n" * 4096)
             trace.write("RE 0\nEND\n")
         said = answer(program, ["replay", *VALUES, "t"], room)
-        yield None if said == (3, b"", b"fault: trace TooMany\n") else "a trace of %d steps: %r" % (MOST_BLOCKS + 1, said)
+        yield None if said == (3, b"", b"fault: trace TooMany\n") else "a trace of %d steps: %r" % (
+            MOST_BLOCKS + 1,
+            said,
+        )
     yield from too_many_by_slopes(program, most_pairs)
 
 
@@ -120,11 +162,35 @@ def too_many_by_slopes(program, most_pairs):
     for wide in (192, 256):
         pairs = sum(min(x + 31, wide - 1) - max(x - 32, 0) + 1 for x in range(wide)) ** 2
         places = [(x, y, z) for z in range(2) for y in range(wide) for x in range(wide)]
-        with room_with({"b": "".join("%d %d %d %d\n" % (b, *place) for b, place in enumerate(places)), "s": "offsets = %s\n" % offsets}) as room:
-            words = [str(program), "slopes", "--blocks", "b", "--pattern", "settings", "--settings", "s"]
-            done = subprocess.run(words, cwd=room, stdin=subprocess.DEVNULL, stdout=subprocess.DEVNULL, stderr=subprocess.PIPE, timeout=600)
+        with room_with(
+            {
+                "b": "".join("%d %d %d %d\n" % (b, *place) for b, place in enumerate(places)),
+                "s": "offsets = %s\n" % offsets,
+            }
+        ) as room:
+            words = [
+                str(program),
+                "slopes",
+                "--blocks",
+                "b",
+                "--pattern",
+                "settings",
+                "--settings",
+                "s",
+            ]
+            done = subprocess.run(
+                words,
+                cwd=room,
+                stdin=subprocess.DEVNULL,
+                stdout=subprocess.DEVNULL,
+                stderr=subprocess.PIPE,
+                timeout=600,
+            )
         wanted = (0, b"") if pairs <= most_pairs else (3, b"fault: slope TooMany\n")
-        yield None if (done.returncode, done.stderr) == wanted else "%d pairs by slopes: %r" % (pairs, (done.returncode, done.stderr))
+        yield None if (done.returncode, done.stderr) == wanted else "%d pairs by slopes: %r" % (
+            pairs,
+            (done.returncode, done.stderr),
+        )
 
 
 def try_all(program):

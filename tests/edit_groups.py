@@ -13,7 +13,9 @@ import functions
 MOST = 8
 PLACE = re.compile(r"note: (?:\./)?(src/\S+?):(\d+):")
 # an answer of a function's own proof that its goal doesn't fit any more
-ANSWER = re.compile(r"(?:\./)?proofs/(\S+)/Answers\.antt:\d+:\d+: error: (?!\d+ declarations? that depends?\b)")
+ANSWER = re.compile(
+    r"(?:\./)?proofs/(\S+)/Answers\.antt:\d+:\d+: error: (?!\d+ declarations? that depends?\b)"
+)
 # what an edit has that may change more than a body
 BEYOND = re.compile(r"\b(fn|requires|ensures|struct|enum|impl|use|const|mod)\b")
 
@@ -30,7 +32,12 @@ def body_of(edit):
     changes = edit.changes()
     path, old, new = changes[0]
     found = edit.function_changed(path, old)
-    if len(changes) > 1 or not path.startswith("src/") or not found or BEYOND.search(old + " " + new):
+    if (
+        len(changes) > 1
+        or not path.startswith("src/")
+        or not found
+        or BEYOND.search(old + " " + new)
+    ):
         return None
     begins = (edit.crate.folder / path).read_text(encoding="utf-8").find(old)
     named = [name.rpartition("::")[2] for name in edit.functions()]
@@ -48,8 +55,13 @@ def groups_of(edits):
         if body is None:
             alone.append([edit])
             continue
-        takes = (group for crate, group in groups if crate == edit.crate.name and len(group) < MOST
-                 and all(body != other for other, _ in group))
+        takes = (
+            group
+            for crate, group in groups
+            if crate == edit.crate.name
+            and len(group) < MOST
+            and all(body != other for other, _ in group)
+        )
         group = next(takes, None)
         if group is None:
             groups.append((edit.crate.name, [(body, edit)]))

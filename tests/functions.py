@@ -4,7 +4,9 @@ from typing import NamedTuple
 
 HEAD = re.compile(r"^( *)(?:pub(?:\([^)]*\))? )?(?:ghost )?(?:const )?fn (\w+)", re.M)
 # the trait of an `impl`, if it is for one, and the type: a check names its functions by both, as `KindDisplay::fmt`
-IMPL = re.compile(r"^impl\b(?:<[^{]*?>)? *(?:(?:\w+::)*(\w+)(?:<[^{]*?>)? for )?&?(?:\w+::)*(\w+)", re.M)
+IMPL = re.compile(
+    r"^impl\b(?:<[^{]*?>)? *(?:(?:\w+::)*(\w+)(?:<[^{]*?>)? for )?&?(?:\w+::)*(\w+)", re.M
+)
 
 
 class Function(NamedTuple):
@@ -24,12 +26,20 @@ def function_at(text, at, module):
         return None
     head = heads[-1]
     close = re.compile(r"^%s\{?\}\n" % head[1], re.M).search(text, head.end())
-    opened = re.compile(r"^%s\{\}?$|^(?! *(?:requires|ensures)).* \{$" % head[1], re.M).search(text, head.start())
+    opened = re.compile(r"^%s\{\}?$|^(?! *(?:requires|ensures)).* \{$" % head[1], re.M).search(
+        text, head.start()
+    )
     if not close or close.end() <= at or not opened or opened.start() > close.start():
         return None
     of = list(IMPL.finditer(text, 0, head.start())) if head[1] else []
     around = of[-1][2] + (of[-1][1] or "") if of else None
-    return Function(head[2], "::".join(filter(None, (around or module, head[2]))), head.start(), opened.end(), close.end())
+    return Function(
+        head[2],
+        "::".join(filter(None, (around or module, head[2]))),
+        head.start(),
+        opened.end(),
+        close.end(),
+    )
 
 
 def module_of(file):

@@ -19,12 +19,44 @@ from refused_calls import lay_out
 
 HERE = Path(__file__).resolve().parent
 FOUND = HERE.parent / "out" / "fuzz"
-KINDS = ("check", "solve", "slopes", "shells", "report", "replay", "value", "certificate", "settings", "hostile", "prec", "upit")
+KINDS = (
+    "check",
+    "solve",
+    "slopes",
+    "shells",
+    "report",
+    "replay",
+    "value",
+    "certificate",
+    "settings",
+    "hostile",
+    "prec",
+    "upit",
+)
 OWN = {"words", "status", "stdout", "stderr", "stderr-any", "same-as"}
 LARGEST = 20_000
 SECONDS = 30
-WORDS = [b"0", b"1", b"-1", b"4294967296", b"18446744073709551616", b"-0", b"1e40", b"1e-40", b"0.0000005", b"%", b"EOF", b"END",
-         b"170141183460469231731687303715884105727", b"-170141183460469231731687303715884105728", b"nan", b"", b"\xff", b"\r", b"\0"]
+WORDS = [
+    b"0",
+    b"1",
+    b"-1",
+    b"4294967296",
+    b"18446744073709551616",
+    b"-0",
+    b"1e40",
+    b"1e-40",
+    b"0.0000005",
+    b"%",
+    b"EOF",
+    b"END",
+    b"170141183460469231731687303715884105727",
+    b"-170141183460469231731687303715884105728",
+    b"nan",
+    b"",
+    b"\xff",
+    b"\r",
+    b"\0",
+]
 
 
 def seeds():
@@ -46,10 +78,10 @@ def mutated(chance, text, other):
         match chance.randrange(10):
             case 0:
                 at = chance.randrange(len(text) + 1)
-                text = text[:at] + bytes([chance.randrange(256)]) + text[at + chance.randrange(2):]
+                text = text[:at] + bytes([chance.randrange(256)]) + text[at + chance.randrange(2) :]
                 continue
             case 1:
-                text = text[:chance.randrange(len(text) + 1)]
+                text = text[: chance.randrange(len(text) + 1)]
                 continue
             case 2:
                 lines.insert(chance.randrange(len(lines) + 1), lines[line])
@@ -68,7 +100,7 @@ def mutated(chance, text, other):
                 to = chance.randrange(len(lines))
                 lines[line], lines[to] = lines[to], lines[line]
             case 8:
-                lines[line:line] = other.split(b"\n")[:chance.randrange(8)]
+                lines[line:line] = other.split(b"\n")[: chance.randrange(8)]
             case 9:
                 fields[field] = str(chance.randrange(-3, 12)).encode()
                 lines[line] = b" ".join(fields)
@@ -77,8 +109,14 @@ def mutated(chance, text, other):
 
 
 def answer_of(program, words, folder):
-    done = subprocess.run([str(program), *words], cwd=folder, stdin=subprocess.DEVNULL, stdout=subprocess.PIPE,
-                          stderr=subprocess.PIPE, timeout=SECONDS)
+    done = subprocess.run(
+        [str(program), *words],
+        cwd=folder,
+        stdin=subprocess.DEVNULL,
+        stdout=subprocess.PIPE,
+        stderr=subprocess.PIPE,
+        timeout=SECONDS,
+    )
     return done.returncode, done.stdout, done.stderr
 
 
@@ -88,7 +126,11 @@ def named(words, option):
 
 def plainly(words, folder, certificate):
     """What the plain reader says of a certificate for the files that the words name, or None where it can't read them."""
-    files = {option: (folder / named(words, option)).read_bytes() for option in ("prec", "upit", "settings", "blocks") if named(words, option)}
+    files = {
+        option: (folder / named(words, option)).read_bytes()
+        for option in ("prec", "upit", "settings", "blocks")
+        if named(words, option)
+    }
     try:
         return plain_check.verdict(files, certificate)
     except plain_check.Unread:
@@ -99,7 +141,12 @@ def wrong_pit(program, words, folder, output):
     """What is wrong with a certificate that was accepted or written, or None."""
     if words[0] == "solve":
         (folder / "written.cert").write_bytes(output)
-        model = [word for option in ("prec", "upit", "settings", "blocks") if named(words, option) for word in ("--" + option, named(words, option))]
+        model = [
+            word
+            for option in ("prec", "upit", "settings", "blocks")
+            if named(words, option)
+            for word in ("--" + option, named(words, option))
+        ]
         status, output, _ = answer_of(program, ["check", *model, "written.cert"], folder)
         if status != 0:
             return "its certificate is answered with %r" % output
@@ -123,7 +170,9 @@ def wrong(program, words, folder):
         return "status %d" % status
     if status >= 2 and output:
         return "standard output %r at status %d" % (output[:80], status)
-    if status in (3, 4) and not (errors.startswith(b"fault: ") and errors.count(b"\n") == 1 and errors.endswith(b"\n")):
+    if status in (3, 4) and not (
+        errors.startswith(b"fault: ") and errors.count(b"\n") == 1 and errors.endswith(b"\n")
+    ):
         return "standard error %r at status %d" % (errors[:200], status)
     if status < 2 and errors:
         return "standard error %r at status %d" % (errors[:200], status)
@@ -138,7 +187,11 @@ def one_run(program, case, others, seed):
     with tempfile.TemporaryDirectory() as room:
         folder = Path(room)
         words = lay_out(case, folder)
-        files = [file for file in folder.iterdir() if file.name not in OWN and file.stat().st_size <= LARGEST]
+        files = [
+            file
+            for file in folder.iterdir()
+            if file.name not in OWN and file.stat().st_size <= LARGEST
+        ]
         if not files or any(file.stat().st_size > LARGEST for file in folder.iterdir()):
             return None
         file = chance.choice(sorted(files))
@@ -150,7 +203,11 @@ def one_run(program, case, others, seed):
             kept = FOUND / str(seed)
             shutil.copytree(folder, kept, dirs_exist_ok=True)
             (kept / "words").write_text("\n".join(words) + "\n")
-            print("%s, seed %d: %s; kept in %s" % (case.relative_to(HERE / "cases"), seed, what, kept), flush=True)
+            print(
+                "%s, seed %d: %s; kept in %s"
+                % (case.relative_to(HERE / "cases"), seed, what, kept),
+                flush=True,
+            )
         return what
 
 
@@ -167,11 +224,24 @@ def runs_until(program, cases, others, end, first, step):
 def fuzz(program, minutes, first):
     """Runs mutations for so many minutes, from a seed on, and gives how many were right and how many wrong."""
     cases = list(seeds())
-    others = [file.read_bytes() for case in cases for file in case.iterdir() if file.name not in OWN and file.stat().st_size <= LARGEST]
+    others = [
+        file.read_bytes()
+        for case in cases
+        for file in case.iterdir()
+        if file.name not in OWN and file.stat().st_size <= LARGEST
+    ]
     workers = len(os.sched_getaffinity(0))
     end = time.time() + 60 * minutes
     with ThreadPoolExecutor(workers) as pool:
-        counts = list(pool.map(lambda k: runs_until(program, cases, others, end, first + k, workers), range(workers)))
+        counts = list(
+            pool.map(
+                lambda k: runs_until(program, cases, others, end, first + k, workers),
+                range(workers),
+            )
+        )
     ran, failed = (sum(count[i] for count in counts) for i in (0, 1))
-    print("%d mutations of %d cases in %g minutes from seed %d, %d wrong" % (ran, len(cases), minutes, first, failed))
+    print(
+        "%d mutations of %d cases in %g minutes from seed %d, %d wrong"
+        % (ran, len(cases), minutes, first, failed)
+    )
     return ran - failed, failed

@@ -21,21 +21,29 @@ from surroundings import chain
 
 # Millions of instructions of each run, written down on 2026-11-26 with the kit's logic dac8208d650f15bf.
 MILLIONS = {"slopes": 179.6, "solve": 93.1, "check": 51.7, "shells": 177.1, "replay": 91.6}
-BLOCKS = 20_000                 # the upper eight benches of the mine of tests/day
-PAGE = 8192                     # the bytes that are sent at once, at least
+BLOCKS = 20_000  # the upper eight benches of the mine of tests/day
+PAGE = 8192  # the bytes that are sent at once, at least
 SETTINGS = "revenue = 0\ncost = 1\ntonnes = 2\nfactors = [600, 800, 1000, 1200]\n"
 PRICES = ["--prec", "p", "--blocks", "b", "--settings", "s"]
-RUNS = {"slopes": ["slopes", "--blocks", "b", "--pattern", "cone:4:1:2"],
-        "solve": ["solve", "--prec", "p", "--upit", "u", "--method", "pseudoflow"],
-        "check": ["check", "--prec", "p", "--upit", "u", "c"],
-        "shells": ["shells", *PRICES, "--method", "pseudoflow"],
-        "replay": ["replay", "--prec", "cp", "--upit", "cu", "t"]}
+RUNS = {
+    "slopes": ["slopes", "--blocks", "b", "--pattern", "cone:4:1:2"],
+    "solve": ["solve", "--prec", "p", "--upit", "u", "--method", "pseudoflow"],
+    "check": ["check", "--prec", "p", "--upit", "u", "c"],
+    "shells": ["shells", *PRICES, "--method", "pseudoflow"],
+    "replay": ["replay", "--prec", "cp", "--upit", "cu", "t"],
+}
 
 
 def lay_out(program, folder):
     """The mine, its slopes and its certificate, and a trace of a chain."""
     mine, small = day_mine.blocks()[:BLOCKS], chain(60, 60)
-    texts = {"b": day_mine.blocks_text(mine), "u": day_mine.upit_text("day", mine), "s": SETTINGS, "cp": small["p"], "cu": small["u"]}
+    texts = {
+        "b": day_mine.blocks_text(mine),
+        "u": day_mine.upit_text("day", mine),
+        "s": SETTINGS,
+        "cp": small["p"],
+        "cu": small["u"],
+    }
     for name, text in texts.items():
         (folder / name).write_text(text)
     for name, words in (("p", RUNS["slopes"]), ("c", RUNS["solve"])):
@@ -48,8 +56,14 @@ def lay_out(program, folder):
 
 def millions_of(program, words, folder):
     """The instructions of a run, in millions."""
-    done = subprocess.run(["valgrind", "--tool=callgrind", "--callgrind-out-file=/dev/null", str(program), *words], cwd=folder,
-                          stdin=subprocess.DEVNULL, stdout=subprocess.DEVNULL, stderr=subprocess.PIPE, text=True)
+    done = subprocess.run(
+        ["valgrind", "--tool=callgrind", "--callgrind-out-file=/dev/null", str(program), *words],
+        cwd=folder,
+        stdin=subprocess.DEVNULL,
+        stdout=subprocess.DEVNULL,
+        stderr=subprocess.PIPE,
+        text=True,
+    )
     return int(re.search(r"Collected : (\d+)", done.stderr)[1]) / 10**6
 
 
@@ -59,8 +73,18 @@ def sends_large_pieces(program, folder):
     if library is None:
         return None
     most, mark = (folder / "p").stat().st_size // PAGE + 2, folder / "mark"
-    refused_calls.run(program, RUNS["slopes"], folder, {"LD_PRELOAD": str(library), "FAIL_KIND": "write", "FAIL_HOW": "error",
-                                                      "FAIL_AT": str(most + 1), "FAIL_MARK": str(mark)})
+    refused_calls.run(
+        program,
+        RUNS["slopes"],
+        folder,
+        {
+            "LD_PRELOAD": str(library),
+            "FAIL_KIND": "write",
+            "FAIL_HOW": "error",
+            "FAIL_AT": str(most + 1),
+            "FAIL_MARK": str(mark),
+        },
+    )
     return "slopes: more than %d writes" % most if mark.exists() else None
 
 
@@ -75,7 +99,11 @@ def try_all(program):
         wrong = [sends_large_pieces(program, folder)]
         for name, words in RUNS.items():
             count, wanted = millions_of(program, words, folder), MILLIONS[name]
-            wrong.append(None if abs(count - wanted) <= wanted / 10 else "%s: %.1f million instructions in place of %.1f" % (name, count, wanted))
+            wrong.append(
+                None
+                if abs(count - wanted) <= wanted / 10
+                else "%s: %.1f million instructions in place of %.1f" % (name, count, wanted)
+            )
     for line in filter(None, wrong):
         print("instructions: %s" % line)
     failed = sum(map(bool, wrong))
@@ -86,4 +114,6 @@ if __name__ == "__main__":
     with tempfile.TemporaryDirectory() as made:
         lay_out(os.path.abspath(sys.argv[1]), Path(made))
         for run_name, run_words in RUNS.items():
-            print("%-8s %.1f" % (run_name, millions_of(os.path.abspath(sys.argv[1]), run_words, made)))
+            print(
+                "%-8s %.1f" % (run_name, millions_of(os.path.abspath(sys.argv[1]), run_words, made))
+            )

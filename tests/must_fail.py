@@ -32,9 +32,13 @@ TOLD = re.compile(r"(note: )?\S+:\d+:\d+: ")
 # A goal that is left without a proof.
 OPEN = re.compile(r"note: (\./)?src/\S+: it is not proved that ")
 # What the prover says where a proof file names what the edit took away: that shows nothing of a contract.
-OF_NAMES = re.compile(r"(note: )?(\./)?proofs/.*(has no field|is not in scope|has no `|was not admitted|is already a name|can be named from here)")
+OF_NAMES = re.compile(
+    r"(note: )?(\./)?proofs/.*(has no field|is not in scope|has no `|was not admitted|is already a name|can be named from here)"
+)
 OF_TEXT = re.compile(r"(?:\./)?(\S+?):\d+:\d+: error: (?:(`[^`]*`): )?(.*)")
-UNREADABLE = re.compile(r"is not in scope|has no field|is no name|operand is missing|expected the end|cannot continue")
+UNREADABLE = re.compile(
+    r"is not in scope|has no field|is no name|operand is missing|expected the end|cannot continue"
+)
 
 
 class BadEdit(ValueError):
@@ -63,7 +67,9 @@ class Edit:
             elif word == "old":
                 old = said
             elif not path or not old or path.split("/")[0] not in PARTS:
-                raise BadEdit("a `new:` line stands before a `file:` line of src, specs or proofs, or before its `old:` line")
+                raise BadEdit(
+                    "a `new:` line stands before a `file:` line of src, specs or proofs, or before its `old:` line"
+                )
             else:
                 found.append((path, old, said))
                 old = None
@@ -75,7 +81,11 @@ class Edit:
         """The function of that file in which this text of it stands, or None."""
         file = self.crate.folder / path
         text = file.read_text(encoding="utf-8") if file.is_file() else ""
-        return functions.function_at(text, text.find(old) + len(old), functions.module_of(file)) if old in text else None
+        return (
+            functions.function_at(text, text.find(old) + len(old), functions.module_of(file))
+            if old in text
+            else None
+        )
 
     def texts(self, before=()):
         """The texts of files as it leaves them, over those that edits before it left."""
@@ -96,13 +106,22 @@ def replaced(text, file, old, new):
 
 
 def edits_in(crate):
-    return [Edit(crate, file.stem, file.read_text(encoding="utf-8")) for file in sorted((crate.folder / "edits").glob("*.edit"))]
+    return [
+        Edit(crate, file.stem, file.read_text(encoding="utf-8"))
+        for file in sorted((crate.folder / "edits").glob("*.edit"))
+    ]
 
 
 def words_for(crate):
     """The kit's words for a check of a crate over the libraries that were built."""
     kit = tree.kit_folder()
-    words = [str(kit / "bin" / "rattle"), "check", "--crate-name", crate.name, "src/main.rt" if crate.is_program else "src/lib.rt"]
+    words = [
+        str(kit / "bin" / "rattle"),
+        "check",
+        "--crate-name",
+        crate.name,
+        "src/main.rt" if crate.is_program else "src/lib.rt",
+    ]
     for name in ["std", *crate.of_kit]:
         words += ["--extern", "%s=%s" % (name, kit / "rlibs" / (name + ".rlib"))]
     words += ["-L", "dependency=%s" % (kit / "rlibs")]
@@ -110,8 +129,16 @@ def words_for(crate):
         words += ["--extern", "%s=%s" % (other.name, library(other))]
     for other in crate.below.values():
         words += ["-L", "dependency=%s" % library(other).parent]
-    return words + ["--antt-project", str(kit / "rattle" / "logic" / "antt-project.json"), "--logic-built", str(kit / "logic_built"),
-                    "--links", crate.name + "=", "--jobs", "1"]
+    return words + [
+        "--antt-project",
+        str(kit / "rattle" / "logic" / "antt-project.json"),
+        "--logic-built",
+        str(kit / "logic_built"),
+        "--links",
+        crate.name + "=",
+        "--jobs",
+        "1",
+    ]
 
 
 def library(crate):
@@ -127,8 +154,15 @@ def checked(edit, texts, named):
         for path, text in texts.items():
             (Path(room) / path).write_text(text, encoding="utf-8")
         only = [word for name in named for word in ("--only", name)]
-        ran = subprocess.run([*words_for(edit.crate), *only], cwd=room, stdin=subprocess.DEVNULL, stdout=subprocess.PIPE,
-                             stderr=subprocess.STDOUT, text=True, errors="replace")
+        ran = subprocess.run(
+            [*words_for(edit.crate), *only],
+            cwd=room,
+            stdin=subprocess.DEVNULL,
+            stdout=subprocess.PIPE,
+            stderr=subprocess.STDOUT,
+            text=True,
+            errors="replace",
+        )
     return ran.returncode, ran.stdout.rstrip("\n").split("\n")
 
 
@@ -153,13 +187,20 @@ def messages(lines):
 
 def goal_refused(texts, lines):
     """The message with which the prover refuses a goal, one that it left open before an answer that doesn't fit; BadEdit where it refuses the edit's text, or a name alone."""
-    told = [line for line in messages(lines) if TOLD.match(line) and (": error" in line or line.startswith("note: "))]
+    told = [
+        line
+        for line in messages(lines)
+        if TOLD.match(line) and (": error" in line or line.startswith("note: "))
+    ]
     for line in told:
         if is_unread(line, texts):
             raise BadEdit("the prover can't read the edited text: %s" % line[:200])
     goals = [line for line in told if not OF_NAMES.match(line)]
     if not goals:
-        raise BadEdit("it is refused for a name alone, which says nothing of a contract: %s" % (told or lines)[0][:200])
+        raise BadEdit(
+            "it is refused for a name alone, which says nothing of a contract: %s"
+            % (told or lines)[0][:200]
+        )
     return next(filter(OPEN.match, goals), goals[0])
 
 
@@ -170,7 +211,11 @@ def tried(edit):
     status, lines = checked(edit, texts, named)
     if not named or status != 0:
         return texts, status, lines, ""
-    return texts, *checked(edit, texts, []), " by the whole crate, and not by %s: name another function" % ", ".join(named)
+    return (
+        texts,
+        *checked(edit, texts, []),
+        " by the whole crate, and not by %s: name another function" % ", ".join(named),
+    )
 
 
 def ask_for_libraries(crate):
@@ -190,7 +235,11 @@ def told_by_one_check(group):
         return texts, []
     status, lines = checked(group[0], texts, [name for edit in group for name in edit.functions()])
     told = messages(lines)
-    if status != 1 or not lines[-1].startswith("only=") or any(is_unread(line, texts) for line in told):
+    if (
+        status != 1
+        or not lines[-1].startswith("only=")
+        or any(is_unread(line, texts) for line in told)
+    ):
         return texts, []
     return texts, told
 
@@ -198,7 +247,10 @@ def told_by_one_check(group):
 def verdicts(group, verdict_of):
     """Whether each edit of a group is refused, and what to say of it: by one check of all, and by its own where that leaves no goal of it open."""
     texts, told = told_by_one_check(group) if len(group) > 1 else ({}, [])
-    goals = [*filter(OPEN.match, told), *(line for line in told if ": error: " in line and not OF_NAMES.match(line))]
+    goals = [
+        *filter(OPEN.match, told),
+        *(line for line in told if ": error: " in line and not OF_NAMES.match(line)),
+    ]
     for edit in group:
         goal = edit_groups.goal_of(edit, texts, goals) if goals else None
         yield (True, "%s: refused: %s" % (edit.label, goal[:160])) if goal else verdict_of(edit)
@@ -211,7 +263,9 @@ def verdict(edit):
         if status == 0:
             return False, "%s: ACCEPTED: the crate is still proved with this mistake" % edit.label
         if status != 1 or not lines[-1].startswith(("only=", "logic=not-proved")):
-            raise BadEdit("its check ended with the status %d: %s" % (status, " / ".join(lines[-3:])[:300]))
+            raise BadEdit(
+                "its check ended with the status %d: %s" % (status, " / ".join(lines[-3:])[:300])
+            )
         return True, "%s: refused%s: %s" % (edit.label, by, goal_refused(texts, lines)[:160])
     except BadEdit as bad:
         return False, "%s: cannot be tried: %s" % (edit.label, bad)
@@ -226,9 +280,18 @@ def try_each(edits, verdict_of=verdict):
     """Tries these edits over the libraries that were built, and gives how many were refused and how many not."""
     refused = 0
     groups = edit_groups.groups_of(sorted(edits, key=lambda it: -it.crate.lines()))
-    print("%d edits, by %d check%s, and by one of its own where that shows nothing" % (len(edits), len(groups), "s" if len(groups) != 1 else ""), flush=True)
+    print(
+        "%d edits, by %d check%s, and by one of its own where that shows nothing"
+        % (len(edits), len(groups), "s" if len(groups) != 1 else ""),
+        flush=True,
+    )
     with ThreadPoolExecutor(processes()) as pool:
-        for done in as_completed([pool.submit(lambda group: list(verdicts(group, verdict_of)), group) for group in groups]):
+        for done in as_completed(
+            [
+                pool.submit(lambda group: list(verdicts(group, verdict_of)), group)
+                for group in groups
+            ]
+        ):
             for is_refused, said in done.result():
                 print(said, flush=True)
                 refused += is_refused
@@ -241,7 +304,14 @@ def try_all(names=()):
     unknown = sorted(set(names) - set(crates))
     if unknown:
         sys.exit("no such crate: %s" % " ".join(unknown))
-    return try_each([edit for crate in crates.values() if not names or crate.name in names for edit in edits_in(crate)])
+    return try_each(
+        [
+            edit
+            for crate in crates.values()
+            if not names or crate.name in names
+            for edit in edits_in(crate)
+        ]
+    )
 
 
 @contextmanager
@@ -252,7 +322,13 @@ def own_libraries_aside():
     beside git's own files meanwhile, since the kit refuses sources anywhere else. Without edits, or without git, all stays.
     """
     crates = tree.read_crates().values()
-    git = subprocess.run(["git", "rev-parse", "--absolute-git-dir"], cwd=tree.TOP, stdout=subprocess.PIPE, stderr=subprocess.DEVNULL, text=True)
+    git = subprocess.run(
+        ["git", "rev-parse", "--absolute-git-dir"],
+        cwd=tree.TOP,
+        stdout=subprocess.PIPE,
+        stderr=subprocess.DEVNULL,
+        text=True,
+    )
     if git.returncode or not any(map(edits_in, crates)):
         yield
         return

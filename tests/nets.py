@@ -18,7 +18,13 @@ from pathlib import Path
 import plain_check
 from refused_calls import run
 
-SOLVERS = (("pseudoflow", 1), ("push-relabel", 1), ("push-relabel", 2), ("lock-free", 1), ("lock-free", 2))
+SOLVERS = (
+    ("pseudoflow", 1),
+    ("push-relabel", 1),
+    ("push-relabel", 2),
+    ("lock-free", 1),
+    ("lock-free", 2),
+)
 USUAL = ((None, None), (None, 2))  # without --method, and without --workers
 SHAPES = ("chain", "star", "cycle", "scattered")
 
@@ -34,7 +40,9 @@ def pairs_of(chance, shape, blocks):
         return [(b, 0) for b in range(1, blocks)]
     if shape == "cycle":
         return [(b, (b + 1) % blocks) for b in range(blocks)]
-    return [(b, chance.randrange(blocks)) for b in range(blocks) for _ in range(chance.randrange(5))]
+    return [
+        (b, chance.randrange(blocks)) for b in range(blocks) for _ in range(chance.randrange(5))
+    ]
 
 
 def worths_of(chance, blocks):
@@ -47,7 +55,11 @@ def best_of_all(worths, pairs):
     """The worth and the number of blocks of the best closed set: no other is worth more, and none as good has fewer blocks."""
     blocks = len(worths)
     sets = ({b for b in range(blocks) if chosen >> b & 1} for chosen in range(1 << blocks))
-    return max((sum(worths[b] for b in one), -len(one)) for one in sets if all(p in one for b, p in pairs if b in one))
+    return max(
+        (sum(worths[b] for b in one), -len(one))
+        for one in sets
+        if all(p in one for b, p in pairs if b in one)
+    )
 
 
 def small_mine(seed):
@@ -83,7 +95,9 @@ def ore_bodies(blocks, side, radius):
     centers = chance.sample(places, 3)
     worths = [-chance.randrange(1, 4) for _ in places]
     for b, place in enumerate(places):
-        if any(sum((u - v) ** 2 for u, v in zip(place, center)) <= radius**2 for center in centers):
+        if any(
+            sum((u - v) ** 2 for u, v in zip(place, center)) <= radius**2 for center in centers
+        ):
             worths[b] += chance.randrange(1, 31)
     pairs = []
     for b, (z, y, x) in enumerate(places):
@@ -106,7 +120,15 @@ def longer_chain(ore, from_below):
 
 def usual_mines():
     """The mines of 1,001 to 20,000 blocks."""
-    mines = [ore_bodies(blocks, side, radius) for blocks, side, radius in ((1_001, 12, 3), (5_000, 20, 4), (10_000, 25, 5), (20_000, 32, 6))]
+    mines = [
+        ore_bodies(blocks, side, radius)
+        for blocks, side, radius in (
+            (1_001, 12, 3),
+            (5_000, 20, 4),
+            (10_000, 25, 5),
+            (20_000, 32, 6),
+        )
+    ]
     mines += [large_scattered_mine(blocks) for blocks in (1_001, 3_000, 10_001)]
     return mines + [longer_chain(ore, from_below) for ore in (1, 2) for from_below in (True, False)]
 
@@ -117,8 +139,13 @@ def texts_of(worths, pairs):
     for b, p in pairs:
         if p != b:
             rests[b].add(p)
-    upit = "NBLOCKS: %d\nOBJECTIVE_FUNCTION:\n" % len(worths) + "".join("%d %d\n" % row for row in enumerate(worths))
-    prec = "".join("%d %d%s\n" % (b, len(rests[b]), "".join(" %d" % p for p in sorted(rests[b]))) for b in sorted(rests))
+    upit = "NBLOCKS: %d\nOBJECTIVE_FUNCTION:\n" % len(worths) + "".join(
+        "%d %d\n" % row for row in enumerate(worths)
+    )
+    prec = "".join(
+        "%d %d%s\n" % (b, len(rests[b]), "".join(" %d" % p for p in sorted(rests[b])))
+        for b in sorted(rests)
+    )
     return upit, prec, rests
 
 
@@ -126,7 +153,9 @@ def pit_by(program, folder, solver, rests, worths):
     """The pit that a solver finds, or what is wrong with its answer, as text."""
     method, workers = solver
     words = ["solve", "--prec", "p", "--upit", "u"]
-    words += (["--method", method] if method else []) + (["--workers", str(workers)] if workers else [])
+    words += (["--method", method] if method else []) + (
+        ["--workers", str(workers)] if workers else []
+    )
     status, certificate, errors = run(program, words, folder)
     if (status, errors) != (0, b""):
         return "status %s, %r, %r" % (status, certificate, errors)
@@ -153,8 +182,12 @@ def wrong(program, mine):
 
 def try_all(program):
     """Tries every mine, and gives how many were solved as they must be and how many not."""
-    mines = [small_mine(seed) for seed in range(200)] + [scattered_mine(seed) for seed in range(100)]
-    mines += [long_chain(ore, from_below) for ore in (1, 2) for from_below in (True, False)] + usual_mines()
+    mines = [small_mine(seed) for seed in range(200)] + [
+        scattered_mine(seed) for seed in range(100)
+    ]
+    mines += [
+        long_chain(ore, from_below) for ore in (1, 2) for from_below in (True, False)
+    ] + usual_mines()
     with ThreadPoolExecutor(len(os.sched_getaffinity(0))) as pool:
         results = list(pool.map(lambda mine: wrong(program, mine), mines))
     for number, line in enumerate(results):

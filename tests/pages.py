@@ -3,12 +3,28 @@ of the crates has each crate, on a floor that is no lower than those of the crat
 than 40 words, no more words than it may have, and no path of a machine."""
 import re
 
-PAGES = ("*.md", "docs/*.md", "crates/*.md", "bench/**/*.md", "examples/**/*.md", "python/*.md", "python/*/*.md", "tests/cases/*.md")
-CITING = ("docs/PROOFS.md", "docs/CALLS.md", "docs/DEFINITIONS.md", "docs/PROOF_GUIDE.md", "docs/ARCHITECTURE.md", "docs/ASSURANCE.md",
-          "crates/README.md")
+PAGES = (
+    "*.md",
+    "docs/*.md",
+    "crates/*.md",
+    "bench/**/*.md",
+    "examples/**/*.md",
+    "python/*.md",
+    "python/*/*.md",
+    "tests/cases/*.md",
+)
+CITING = (
+    "docs/PROOFS.md",
+    "docs/CALLS.md",
+    "docs/DEFINITIONS.md",
+    "docs/PROOF_GUIDE.md",
+    "docs/ARCHITECTURE.md",
+    "docs/ASSURANCE.md",
+    "crates/README.md",
+)
 LONGEST_SENTENCE = 40
 MOST_WORDS = {"docs/DECISIONS.md": 4_500, "docs/ASSURANCE.md": 2_200, "bench/RESULTS.md": 2_800}
-UNREAD = ("bench/LAST_RUN.md", "docs/STATEMENT.md")     # whose sentences may be longer
+UNREAD = ("bench/LAST_RUN.md", "docs/STATEMENT.md")  # whose sentences may be longer
 SENTENCE = re.compile(r"(?<=[.!?:])\s+")
 LINK = re.compile(r"\]\(([^()\s]+)\)")
 QUOTED = re.compile(r"`([^`\n]+)`")
@@ -42,7 +58,9 @@ def broken_links(top):
             if not target.exists():
                 wrong.append("%s: no file %s" % (page.relative_to(top), path))
             elif anchor and anchor not in anchors(target.read_text()):
-                wrong.append("%s: %s has no heading #%s" % (page.relative_to(top), target.name, anchor))
+                wrong.append(
+                    "%s: %s has no heading #%s" % (page.relative_to(top), target.name, anchor)
+                )
     return wrong
 
 
@@ -68,14 +86,27 @@ def unknown_names(top):
     """What the citing pages name and the code hasn't, and what isn't defined in the file that they name for it."""
     texts, wrong = sources(top), []
     others = [top / "crates.txt", *top.glob("python/**/*.py")]
-    words = set(re.findall(r"[\w-]+", "\n".join([*texts.values(), *(file.read_text() for file in others)])))
+    words = set(
+        re.findall(r"[\w-]+", "\n".join([*texts.values(), *(file.read_text() for file in others)]))
+    )
     for page in (top / name for name in CITING if (top / name).exists()):
         text = without_code(page.read_text())
-        wrong += ["%s: there is no %s" % (page.name, quoted) for quoted in QUOTED.findall(text) if not is_known(top, quoted, texts, words)]
+        wrong += [
+            "%s: there is no %s" % (page.name, quoted)
+            for quoted in QUOTED.findall(text)
+            if not is_known(top, quoted, texts, words)
+        ]
         for names, file in IN_FILE.findall(text):
-            found = [texts[one] for one in texts if (one == top / file if "/" in file else one.name == file)]
-            wrong += ["%s: %s isn't defined in %s" % (page.name, name, file) for name in QUOTED.findall(names)
-                      if not any(re.search(DEFINES % re.escape(name), one, re.M) for one in found)]
+            found = [
+                texts[one]
+                for one in texts
+                if (one == top / file if "/" in file else one.name == file)
+            ]
+            wrong += [
+                "%s: %s isn't defined in %s" % (page.name, name, file)
+                for name in QUOTED.findall(names)
+                if not any(re.search(DEFINES % re.escape(name), one, re.M) for one in found)
+            ]
     return wrong
 
 
@@ -89,8 +120,12 @@ def misplaced_crates(top):
     for line in (top / "crates.txt").read_text().splitlines():
         name, _, below = line.partition(":")
         if line and not line.startswith("#"):
-            if name not in floors or any(floors.get(one, 0) > floors[name] for one in below.split()):
-                wrong.append("crates/README.md: %s isn't there, or below a crate that it depends on" % name)
+            if name not in floors or any(
+                floors.get(one, 0) > floors[name] for one in below.split()
+            ):
+                wrong.append(
+                    "crates/README.md: %s isn't there, or below a crate that it depends on" % name
+                )
     return wrong
 
 
@@ -109,18 +144,36 @@ def long_sentences(top):
     for page in sorted({page for pattern in PAGES for page in top.glob(pattern)}):
         name = str(page.relative_to(top))
         if name not in UNREAD:
-            said = (sentence for paragraph in paragraphs(page.read_text()) for sentence in SENTENCE.split(paragraph))
-            wrong += ["%s: a sentence of %d words: %s .." % (name, len(one.split()), one[:60]) for one in said if len(one.split()) > LONGEST_SENTENCE]
+            said = (
+                sentence
+                for paragraph in paragraphs(page.read_text())
+                for sentence in SENTENCE.split(paragraph)
+            )
+            wrong += [
+                "%s: a sentence of %d words: %s .." % (name, len(one.split()), one[:60])
+                for one in said
+                if len(one.split()) > LONGEST_SENTENCE
+            ]
     return wrong
 
 
 def machine_paths(top):
     """The pages that name a place on the machine of who wrote them."""
     pages = sorted({page for pattern in PAGES for page in top.glob(pattern)})
-    return ["%s names %s" % (page.relative_to(top), found[0]) for page in pages for found in MACHINE_PATH.finditer(page.read_text())]
+    return [
+        "%s names %s" % (page.relative_to(top), found[0])
+        for page in pages
+        for found in MACHINE_PATH.finditer(page.read_text())
+    ]
 
 
 def long_pages(top):
     """The pages that have more words than they may have."""
-    counts = {name: len((top / name).read_text().split()) for name in MOST_WORDS if (top / name).exists()}
-    return ["%s: %d words, at most %d" % (name, counts[name], MOST_WORDS[name]) for name in counts if counts[name] > MOST_WORDS[name]]
+    counts = {
+        name: len((top / name).read_text().split()) for name in MOST_WORDS if (top / name).exists()
+    }
+    return [
+        "%s: %d words, at most %d" % (name, counts[name], MOST_WORDS[name])
+        for name in counts
+        if counts[name] > MOST_WORDS[name]
+    ]

@@ -64,7 +64,10 @@ def worths_of_prices(settings, text, factor, is_mill):
         return millionths(columns[b][said[key]])
 
     if is_mill:
-        return [max(factor * of(b, "revenue") - 1000 * of(b, "processing"), 0) - 1000 * of(b, "mining") for b in range(len(columns))]
+        return [
+            max(factor * of(b, "revenue") - 1000 * of(b, "processing"), 0) - 1000 * of(b, "mining")
+            for b in range(len(columns))
+        ]
     return [factor * of(b, "revenue") - 1000 * of(b, "cost") for b in range(len(columns))]
 
 
@@ -81,7 +84,9 @@ def verdict(files, certificate):
     if price == ["OBJECTIVE"]:
         worths = worths_of_values(files["upit"])
     else:
-        worths = worths_of_prices(files["settings"], files["blocks"], int(price[-1]), price[0] == "MILL")
+        worths = worths_of_prices(
+            files["settings"], files["blocks"], int(price[-1]), price[0] == "MILL"
+        )
     is_closed = all(predecessors(files["prec"]).get(b, set()) <= pit for b in pit)
     return is_closed, len(pit), Fraction(sum(worths[b] for b in pit), 10**9)
 
@@ -126,8 +131,11 @@ def more_than_fits(said, worths):
 def unbalanced(said, blocks):
     """The first block out of which not the same flows as into it."""
     more = [[0, 0] for _ in range(blocks)]
-    for into, out_of, (w, c) in ([(b, None, amount) for b, amount in said.source.items()] + [(None, b, amount) for b, amount in said.sink.items()]
-                                 + [(p, b, amount) for (b, p), amount in said.rest.items()]):
+    for into, out_of, (w, c) in (
+        [(b, None, amount) for b, amount in said.source.items()]
+        + [(None, b, amount) for b, amount in said.sink.items()]
+        + [(p, b, amount) for (b, p), amount in said.rest.items()]
+    ):
         for b, sign in ((into, 1), (out_of, -1)):
             if b is not None:
                 more[b][0] += sign * w

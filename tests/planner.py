@@ -22,7 +22,12 @@ def packages(top):
 
 def missing(names):
     """Those of the packages that aren't installed."""
-    said = subprocess.run(["dpkg-query", "-W", "-f", "${Package} ${db:Status-Status}\n", *names], stdout=subprocess.PIPE, stderr=subprocess.DEVNULL, text=True).stdout
+    said = subprocess.run(
+        ["dpkg-query", "-W", "-f", "${Package} ${db:Status-Status}\n", *names],
+        stdout=subprocess.PIPE,
+        stderr=subprocess.DEVNULL,
+        text=True,
+    ).stdout
     there = {line.split()[0] for line in said.splitlines() if line.endswith(" installed")}
     return [name for name in names if name not in there]
 
@@ -36,7 +41,10 @@ def installed(top):
     if os.geteuid() != 0:
         print("the tests of pitplan need Debian's packages: sudo " + " ".join(command))
         return False
-    quiet = {"stdout": subprocess.DEVNULL, "env": {**os.environ, "DEBIAN_FRONTEND": "noninteractive"}}
+    quiet = {
+        "stdout": subprocess.DEVNULL,
+        "env": {**os.environ, "DEBIAN_FRONTEND": "noninteractive"},
+    }
     if subprocess.run(command, **quiet).returncode:
         subprocess.run(["apt-get", "update"], **quiet)
         subprocess.run(command, **quiet)
@@ -58,10 +66,35 @@ def try_all(top, pit):
         return 0, 1
     with tempfile.TemporaryDirectory(prefix="pitplan-tests.", ignore_cleanup_errors=True) as room:
         side_by_side = ["-n", str(min(AT_ONCE, machine.processors())), "--dist", "loadfile"]
-        words = [PYTHON, "-m", "pytest", "-q", *side_by_side, "-p", "no:cacheprovider", "--basetemp=" + os.path.join(room, "t"), "tests"]
-        ran = subprocess.run(words, cwd=top / "python", env={**os.environ, "PIT": str(pit), "TMPDIR": room}, stdin=subprocess.DEVNULL, stdout=subprocess.PIPE, stderr=subprocess.STDOUT, text=True)
-    counts = {word: int(number) for number, word in re.findall(r"(\d+) (passed|failed|error|errors)\b", ran.stdout.strip().rsplit("\n", 1)[-1])}
-    passed, failed = counts.get("passed", 0), counts.get("failed", 0) + counts.get("error", 0) + counts.get("errors", 0)
+        words = [
+            PYTHON,
+            "-m",
+            "pytest",
+            "-q",
+            *side_by_side,
+            "-p",
+            "no:cacheprovider",
+            "--basetemp=" + os.path.join(room, "t"),
+            "tests",
+        ]
+        ran = subprocess.run(
+            words,
+            cwd=top / "python",
+            env={**os.environ, "PIT": str(pit), "TMPDIR": room},
+            stdin=subprocess.DEVNULL,
+            stdout=subprocess.PIPE,
+            stderr=subprocess.STDOUT,
+            text=True,
+        )
+    counts = {
+        word: int(number)
+        for number, word in re.findall(
+            r"(\d+) (passed|failed|error|errors)\b", ran.stdout.strip().rsplit("\n", 1)[-1]
+        )
+    }
+    passed, failed = counts.get("passed", 0), counts.get("failed", 0) + counts.get(
+        "error", 0
+    ) + counts.get("errors", 0)
     if ran.returncode:
         print(ran.stdout)
     return passed, max(failed, int(ran.returncode != 0))
@@ -69,7 +102,7 @@ def try_all(top, pit):
 
 def try_packaged(top, pit):
     """The same tests, and beside them, since it waits for downloads and disks, the Debian package in a fresh Debian."""
-    if not installed(top):                    # mmdebstrap is one of them
+    if not installed(top):  # mmdebstrap is one of them
         return 0, 1
     with ThreadPoolExecutor(1) as beside:
         packaged = beside.submit(debian.try_all, pit)

@@ -39,7 +39,9 @@ def wanted_edits(names):
         crate, _, edit = name.partition("/")
         if crate not in found or edit and edit not in found[crate]:
             sys.exit("no such %s: %s" % ("edit" if edit else "crate", name))
-        wanted.update({it.label: it for it in ([found[crate][edit]] if edit else found[crate].values())})
+        wanted.update(
+            {it.label: it for it in ([found[crate][edit]] if edit else found[crate].values())}
+        )
     return list(wanted.values())
 
 
@@ -54,7 +56,9 @@ def verdict(edit):
     """Whether the edit is refused, and what to say of it. Refused for a name alone counts, and is told."""
     is_refused, said = must_fail.verdict(edit)
     if not is_refused and NOBODY in said and "# function: " not in edit.text:
-        is_refused, said = must_fail.verdict(Whole(edit.crate, edit.label.partition("/")[2], edit.text))
+        is_refused, said = must_fail.verdict(
+            Whole(edit.crate, edit.label.partition("/")[2], edit.text)
+        )
     for_name = "cannot be tried: it is refused for a name alone"
     if not is_refused and for_name in said:
         return True, "%s: refused for a name alone, which says little" % edit.label

@@ -46,8 +46,14 @@ KINDS = (
 # highest one is looked for first, then the middle one, then two at a time, and then four: each time as many threads start as
 # there are workers and parts, less one.
 EIGHT = "factors = [300, 400, 500, 600, 700, 800, 900, 1000]"
-STARTS = tuple(("shells/the_copper_mine_with_a_mill", ["--method", "pseudoflow", "--workers", str(workers)], sum(min(workers, parts) - 1 for parts in (1, 1, 2, 4)))
-               for workers in (1, 2, 3, 4, 5))
+STARTS = tuple(
+    (
+        "shells/the_copper_mine_with_a_mill",
+        ["--method", "pseudoflow", "--workers", str(workers)],
+        sum(min(workers, parts) - 1 for parts in (1, 1, 2, 4)),
+    )
+    for workers in (1, 2, 3, 4, 5)
+)
 # How long a run may take, and what stands for the status of one that takes longer.
 SECONDS = 120
 NO_ANSWER = "no answer"
@@ -59,7 +65,19 @@ def shim(room):
     if compiler is None:
         return None
     made = Path(room) / "failing_calls.so"
-    subprocess.run([compiler, "-O1", "-shared", "-fPIC", "-o", str(made), str(HERE / "failing_calls.c"), "-ldl"], check=True)
+    subprocess.run(
+        [
+            compiler,
+            "-O1",
+            "-shared",
+            "-fPIC",
+            "-o",
+            str(made),
+            str(HERE / "failing_calls.c"),
+            "-ldl",
+        ],
+        check=True,
+    )
     return made
 
 
@@ -77,8 +95,15 @@ def lay_out(case, folder):
 def run(program, words, folder, settings=None):
     """The status, the output and the errors; the status NO_ANSWER where none came in time."""
     try:
-        done = subprocess.run([str(program), *words], cwd=folder, stdin=subprocess.DEVNULL, stdout=subprocess.PIPE,
-                              stderr=subprocess.PIPE, timeout=SECONDS, env={**os.environ, **(settings or {})})
+        done = subprocess.run(
+            [str(program), *words],
+            cwd=folder,
+            stdin=subprocess.DEVNULL,
+            stdout=subprocess.PIPE,
+            stderr=subprocess.PIPE,
+            timeout=SECONDS,
+            env={**os.environ, **(settings or {})},
+        )
     except subprocess.TimeoutExpired:
         return NO_ANSWER, b"", b"no answer in %d seconds" % SECONDS
     return done.returncode, done.stdout, done.stderr
@@ -107,13 +132,26 @@ def tried(program, library, row, kind, how, lines):
             return 1, ["no call fails: %s" % ample[2].decode()]
         mark = Path(room) / "mark"
         for number in count(1):
-            answer = run(program, words, folder, {"LD_PRELOAD": str(library), "FAIL_KIND": kind, "FAIL_HOW": how,
-                                                  "FAIL_AT": str(number), "FAIL_MARK": str(mark)})
+            answer = run(
+                program,
+                words,
+                folder,
+                {
+                    "LD_PRELOAD": str(library),
+                    "FAIL_KIND": kind,
+                    "FAIL_HOW": how,
+                    "FAIL_AT": str(number),
+                    "FAIL_MARK": str(mark),
+                },
+            )
             if not mark.exists():
                 return number - 1, wrong
             mark.unlink()
             if not is_allowed(answer, ample, kind, lines):
-                wrong.append("call %d: status %s, output %r, errors %r" % (number, answer[0], answer[1][:80], answer[2][:200]))
+                wrong.append(
+                    "call %d: status %s, output %r, errors %r"
+                    % (number, answer[0], answer[1][:80], answer[2][:200])
+                )
 
 
 def starts(program, library, row, words, wanted):
@@ -125,9 +163,24 @@ def starts(program, library, row, words, wanted):
         settings = folder / "s"
         settings.write_text(re.sub(r"^factors = .*$", EIGHT, settings.read_text(), flags=re.M))
         for number in count(1):
-            run(program, words, folder, {"LD_PRELOAD": str(library), "FAIL_KIND": "thread", "FAIL_HOW": "error", "FAIL_AT": str(number), "FAIL_MARK": str(mark)})
+            run(
+                program,
+                words,
+                folder,
+                {
+                    "LD_PRELOAD": str(library),
+                    "FAIL_KIND": "thread",
+                    "FAIL_HOW": "error",
+                    "FAIL_AT": str(number),
+                    "FAIL_MARK": str(mark),
+                },
+            )
             if not mark.exists():
-                return None if number - 1 == wanted else "%s starts %d threads, and not %d" % (" ".join(words), number - 1, wanted)
+                return (
+                    None
+                    if number - 1 == wanted
+                    else "%s starts %d threads, and not %d" % (" ".join(words), number - 1, wanted)
+                )
             mark.unlink()
 
 
@@ -141,7 +194,9 @@ def try_all(program, is_told=False):
         tasks = [(row, *kind) for row in ROWS for kind in KINDS]
         with ThreadPoolExecutor(len(os.sched_getaffinity(0))) as pool:
             results = list(pool.map(lambda task: tried(program, library, *task), tasks))
-            strange = list(filter(None, pool.map(lambda task: starts(program, library, *task), STARTS)))
+            strange = list(
+                filter(None, pool.map(lambda task: starts(program, library, *task), STARTS))
+            )
     for line in strange:
         print(line)
     passed, failed = len(STARTS) - len(strange), len(strange)

@@ -12,7 +12,7 @@ import signal
 import subprocess
 from pathlib import Path
 
-RT = r'''#!/usr/bin/env python3
+RT = r"""#!/usr/bin/env python3
 import hashlib, os, re, shutil, sys, tempfile, time
 from pathlib import Path
 
@@ -118,10 +118,10 @@ elif words[0] == "ci":
     print("1 passed, 0 failed")
 else:
     sys.exit("the stand-in has no rt " + words[0])
-'''
+"""
 # The prover of the kit: `REFUSED` in a crate's sources is refused where the function one is checked, `OTHER` where all is, `NAMED`
 # for a name alone, which the real one tells over three lines. There is no other function.
-RATTLE = r'''#!/usr/bin/env python3
+RATTLE = r"""#!/usr/bin/env python3
 import sys
 from pathlib import Path
 
@@ -139,15 +139,15 @@ elif is_refused:
     print("src/lib.rt:1:1: error: `one`: a goal is open")
 print("only=1 proved=%d" % (not is_refused) if named else "logic=not-proved" if is_refused else "logic=proved")
 sys.exit(int(is_refused))
-'''
+"""
 # the kit's LLVM: as llvm-strip it copies, as llvm-nm it names a call
-LLVM = r'''#!/bin/sh
+LLVM = r"""#!/bin/sh
 while [ $# -gt 0 ]; do
     case "$1" in -o) to=$2; shift ;; esac
     from=$1; shift
 done
 if [ -n "$to" ]; then cat "$from" > "$to"; else echo "write@GLIBC_2.34"; fi
-'''
+"""
 MAIN = """//! The program.
 //sh case "$1" in
 //sh --version) printf 'pit 0.1.0\\nlogic 0123456789abcdef\\n' ;;
@@ -155,7 +155,19 @@ MAIN = """//! The program.
 //sh esac
 fn main() {}
 """
-FILES = ("build", "run-example", "install", "release", "tools/*.py", "python/pitplan/**/machine.py", "tools/launcher", "tests/run", "tests/*.py", "python/packages", "python/pyproject.toml")
+FILES = (
+    "build",
+    "run-example",
+    "install",
+    "release",
+    "tools/*.py",
+    "python/pitplan/**/machine.py",
+    "tools/launcher",
+    "tests/run",
+    "tests/*.py",
+    "python/packages",
+    "python/pyproject.toml",
+)
 
 
 class Tree:
@@ -169,7 +181,9 @@ class Tree:
                 self.write(file.relative_to(top), file.read_bytes(), file.stat().st_mode & 0o777)
         # as much memory as any number of processes needs
         proving = (self.top / "tools" / "proving.py").read_text()
-        self.write("tools/proving.py", proving.replace("JOB_MEMORY = 1_500_000_000", "JOB_MEMORY = 1"))
+        self.write(
+            "tools/proving.py", proving.replace("JOB_MEMORY = 1_500_000_000", "JOB_MEMORY = 1")
+        )
         self.has_processors(True)
         self.write("crates.txt", "low:\nhigh: low\nbeside:\npit: high low beside\n")
         for name in ("low", "high", "beside"):
@@ -180,14 +194,31 @@ class Tree:
         self.write("../kit/toolchain/bin/clang", LLVM, 0o755)
         for name in ("copper.prec", "copper.upit", "copper.cert"):
             self.write("examples/copper/" + name, name)
-        of_shells = ["completions/%s.%s" % (name, shell) for name in ("pit", "pitplan") for shell in ("bash", "zsh", "fish")]
-        for name in ("README.md", "CHANGELOG.md", "LICENSE", "docs/pit.1", "docs/pitplan.1", "docs/GUIDE.md", "python/pitplan/slopes/offsets.py", *of_shells):
+        of_shells = [
+            "completions/%s.%s" % (name, shell)
+            for name in ("pit", "pitplan")
+            for shell in ("bash", "zsh", "fish")
+        ]
+        for name in (
+            "README.md",
+            "CHANGELOG.md",
+            "LICENSE",
+            "docs/pit.1",
+            "docs/pitplan.1",
+            "docs/GUIDE.md",
+            "python/pitplan/slopes/offsets.py",
+            *of_shells,
+        ):
             self.write(name, "# a text\n")
         self.write("python/pitplan/__init__.py", "__version__ = '0.1.0'\n")
         self.write("bin/pitplan", "#!/bin/sh\n", 0o755)
         self.write(".gitignore", "out/\ndist/\n")
         around = {name: text for name, text in os.environ.items() if name not in ("CI", "RT_JOBS")}
-        self.around = dict(around, PATH="%s:%s" % (self.kit / "bin", os.environ["PATH"]), GIT_CONFIG_GLOBAL=os.devnull)
+        self.around = dict(
+            around,
+            PATH="%s:%s" % (self.kit / "bin", os.environ["PATH"]),
+            GIT_CONFIG_GLOBAL=os.devnull,
+        )
 
     def write(self, name, text, mode=0o644):
         file = self.top / name
@@ -207,9 +238,19 @@ class Tree:
     def starts(self, *words):
         """Starts a script of the tree in a group of processes of its own, which hears ctrl-C and a hangup: in the background of a
         script, or under nohup, it would not."""
-        return subprocess.Popen([str(self.top / words[0]), *words[1:]], cwd=self.top, env=self.around, stdin=subprocess.DEVNULL,
-                                stdout=subprocess.PIPE, stderr=subprocess.STDOUT, text=True, start_new_session=True,
-                                preexec_fn=lambda: [signal.signal(it, signal.SIG_DFL) for it in (signal.SIGINT, signal.SIGHUP)])
+        return subprocess.Popen(
+            [str(self.top / words[0]), *words[1:]],
+            cwd=self.top,
+            env=self.around,
+            stdin=subprocess.DEVNULL,
+            stdout=subprocess.PIPE,
+            stderr=subprocess.STDOUT,
+            text=True,
+            start_new_session=True,
+            preexec_fn=lambda: [
+                signal.signal(it, signal.SIG_DFL) for it in (signal.SIGINT, signal.SIGHUP)
+            ],
+        )
 
     def ran(self, *words):
         """Runs a script of the tree, and gives its exit status and what it printed."""
@@ -230,5 +271,14 @@ class Tree:
     def commit(self):
         git = ["git", "-c", "user.name=a", "-c", "user.email=a@b.c"]
         for words in (["init", "-q"], ["add", "-A"], [*git[1:], "commit", "-q", "-m", "all"]):
-            subprocess.run(["git", *words], cwd=self.top, check=True, stdout=subprocess.DEVNULL,
-                           env=dict(self.around, GIT_COMMITTER_DATE="2026-01-02T03:04:05Z", GIT_AUTHOR_DATE="2026-01-02T03:04:05Z"))
+            subprocess.run(
+                ["git", *words],
+                cwd=self.top,
+                check=True,
+                stdout=subprocess.DEVNULL,
+                env=dict(
+                    self.around,
+                    GIT_COMMITTER_DATE="2026-01-02T03:04:05Z",
+                    GIT_AUTHOR_DATE="2026-01-02T03:04:05Z",
+                ),
+            )

@@ -41,16 +41,30 @@ def under_an_inputs_name(program):
                 continue
             with room_with(FILES) as room:
                 status, certificate, errors = run(program, ["solve", *model, "--trace", name], room)
-                said = b"error: invalid value '%s' for '--trace <FILE>': a file that isn't an input" % name.encode()
-                is_right = (status, certificate, left(room)) == (2, b"", FILES) and errors.startswith(said)
-            yield None if is_right else "--trace %s of %s: %r" % (name, model, (status, certificate, errors))
+                said = (
+                    b"error: invalid value '%s' for '--trace <FILE>': a file that isn't an input"
+                    % name.encode()
+                )
+                is_right = (status, certificate, left(room)) == (
+                    2,
+                    b"",
+                    FILES,
+                ) and errors.startswith(said)
+            yield None if is_right else "--trace %s of %s: %r" % (
+                name,
+                model,
+                (status, certificate, errors),
+            )
 
 
 def by_another_name(program):
     """Another way to the same file: the certificate is that of the inputs as they were, and then the trace stands in the file."""
-    ways = {"another word": lambda folder, name: "./" + name,
-            "a symbolic link": lambda folder, name: os.symlink(name, Path(folder) / "link") or "link",
-            "a hard link": lambda folder, name: os.link(Path(folder) / name, Path(folder) / "link") or "link"}
+    ways = {
+        "another word": lambda folder, name: "./" + name,
+        "a symbolic link": lambda folder, name: os.symlink(name, Path(folder) / "link") or "link",
+        "a hard link": lambda folder, name: os.link(Path(folder) / name, Path(folder) / "link")
+        or "link",
+    }
     for model in (VALUES, PRICES):
         for name in model[1::2]:
             if name not in FILES:
@@ -66,9 +80,20 @@ def by_another_name(program):
                         (Path(room) / key).write_text(text)
                     (Path(room) / "t").write_bytes(trace)
                     again = run(program, ["replay", *model, "t"], room)
-                is_right = said == ample and ample[0] == 0 and trace.startswith(HEAD) and again[:1] == (0,)
-                is_right = is_right and others == {key: text for key, text in FILES.items() if key != name}
-                yield None if is_right else "%s to %s of %s: %r, %r, %r" % (way, name, model, said, trace[:40], again)
+                is_right = (
+                    said == ample and ample[0] == 0 and trace.startswith(HEAD) and again[:1] == (0,)
+                )
+                is_right = is_right and others == {
+                    key: text for key, text in FILES.items() if key != name
+                }
+                yield None if is_right else "%s to %s of %s: %r, %r, %r" % (
+                    way,
+                    name,
+                    model,
+                    said,
+                    trace[:40],
+                    again,
+                )
 
 
 def over_an_older_trace(program):
@@ -77,13 +102,27 @@ def over_an_older_trace(program):
     with room_with(FILES) as room:
         (Path(room) / "t").write_bytes(older)
         (Path(room) / "bad").write_text("0 one 2\n")
-        missing = run(program, ["solve", "--prec", "none", "--upit", "u", "--trace", "t"], room), (Path(room) / "t").read_bytes()
-        yield None if missing == ((4, b"", b"fault: device\n"), older) else "a missing input: %r" % (missing,)
-        faulty = run(program, ["solve", "--prec", "bad", "--upit", "u", "--trace", "t"], room), (Path(room) / "t").read_bytes()
-        yield None if faulty == ((3, b"", b"fault: prec Number(1)\n"), older) else "a faulty input: %r" % (faulty,)
+        missing = (
+            run(program, ["solve", "--prec", "none", "--upit", "u", "--trace", "t"], room),
+            (Path(room) / "t").read_bytes(),
+        )
+        yield None if missing == (
+            (4, b"", b"fault: device\n"),
+            older,
+        ) else "a missing input: %r" % (missing,)
+        faulty = (
+            run(program, ["solve", "--prec", "bad", "--upit", "u", "--trace", "t"], room),
+            (Path(room) / "t").read_bytes(),
+        )
+        yield None if faulty == (
+            (3, b"", b"fault: prec Number(1)\n"),
+            older,
+        ) else "a faulty input: %r" % (faulty,)
         run(program, ["solve", *VALUES, "--trace", "fresh"], room)
         said = run(program, ["solve", *VALUES, "--trace", "t"], room)
-        is_right = said[0] == 0 and (Path(room) / "t").read_bytes() == (Path(room) / "fresh").read_bytes()
+        is_right = (
+            said[0] == 0 and (Path(room) / "t").read_bytes() == (Path(room) / "fresh").read_bytes()
+        )
         yield None if is_right else "an older trace: %r" % (said,)
 
 
@@ -94,7 +133,9 @@ def to_what_is_no_file(program):
         said = run(program, ["solve", *VALUES, "--trace", "/dev/null"], room)
         yield None if said == ample else "to /dev/null: %r" % (said,)
         said = run(program, ["solve", *VALUES, "--trace", "/dev/stderr"], room)
-        yield None if said[:2] == ample[:2] and said[2].startswith(HEAD) and said[2].endswith(b"END\n") else "to a pipe: %r" % (said,)
+        yield None if said[:2] == ample[:2] and said[2].startswith(HEAD) and said[2].endswith(
+            b"END\n"
+        ) else "to a pipe: %r" % (said,)
 
 
 def by_default(program):
@@ -106,13 +147,26 @@ def by_default(program):
     with room_with({"p": prec, "u": upit}) as room:
         said = run(program, ["solve", *VALUES, "--trace", "t"], room)
         lines = (Path(room) / "t").read_bytes().count(b"\n")
-    yield None if said == (1, b"HISTORYFULL\n", b"") and lines == 1_048_576 + 2 else "the room of a trace: %r, %d lines" % (said, lines)
+    yield None if said == (
+        1,
+        b"HISTORYFULL\n",
+        b"",
+    ) and lines == 1_048_576 + 2 else "the room of a trace: %r, %d lines" % (said, lines)
 
 
 def try_all(program):
     """Tries all of it, and gives how many answers were as they must be and how many not."""
-    results = [line for tried in (under_an_inputs_name, by_another_name, over_an_older_trace, to_what_is_no_file, by_default)
-               for line in tried(program)]
+    results = [
+        line
+        for tried in (
+            under_an_inputs_name,
+            by_another_name,
+            over_an_older_trace,
+            to_what_is_no_file,
+            by_default,
+        )
+        for line in tried(program)
+    ]
     wrong = [line for line in results if line]
     for line in wrong:
         print("traces: %s" % line[:500])

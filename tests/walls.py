@@ -8,7 +8,7 @@ outline, level by level.
 import math
 import re
 
-HIGH = 1.5      # a wall may come out flatter than asked by so many degrees before the model is too narrow for it
+HIGH = 1.5  # a wall may come out flatter than asked by so many degrees before the model is too narrow for it
 
 
 class Deep:
@@ -33,8 +33,12 @@ class Deep:
     def write(self, folder, name):
         rows = ("%d %d %d %d\n" % (b, *self.place(b)) for b in range(len(self)))
         (folder / (name + ".blocks")).write_text("".join(rows))
-        values = "".join("%d %d\n" % (b, len(self) if b == self.rich else -1) for b in range(len(self)))
-        (folder / (name + ".upit")).write_text("NBLOCKS: %d\nOBJECTIVE_FUNCTION:\n%s" % (len(self), values))
+        values = "".join(
+            "%d %d\n" % (b, len(self) if b == self.rich else -1) for b in range(len(self))
+        )
+        (folder / (name + ".upit")).write_text(
+            "NBLOCKS: %d\nOBJECTIVE_FUNCTION:\n%s" % (len(self), values)
+        )
 
     def walls(self, pit, bearings):
         """Degrees of the walls of a pit at bearings clockwise from y."""
@@ -43,15 +47,22 @@ class Deep:
             x, y, level = self.place(block)
             dug[level].add((x, y))
         levels = range(self.high // 3, self.high)
-        outlines = {level: hull([(x * self.size[0], y * self.size[1]) for x, y in dug[level]]) for level in levels}
+        outlines = {
+            level: hull([(x * self.size[0], y * self.size[1]) for x, y in dug[level]])
+            for level in levels
+        }
         found = []
         for bearing in bearings:
-            out = rise([(level * self.size[2], distance(outlines[level], bearing)) for level in levels])
+            out = rise(
+                [(level * self.size[2], distance(outlines[level], bearing)) for level in levels]
+            )
             found.append(math.degrees(math.atan2(1, out)))
         return found
 
     def touches_the_edge(self, pit):
-        return any(abs(x) == self.half[0] or abs(y) == self.half[1] for x, y, _ in map(self.place, pit))
+        return any(
+            abs(x) == self.half[0] or abs(y) == self.half[1] for x, y, _ in map(self.place, pit)
+        )
 
 
 def asked(slope, bearing):
@@ -60,12 +71,16 @@ def asked(slope, bearing):
         return float(slope)
     pairs = sorted(tuple(map(float, pair.split(":"))) for pair in slope.split(","))
     turns = [(b + turn, a) for turn in (-360, 0, 360) for b, a in pairs]
-    (low, first), (high, last) = max(p for p in turns if p[0] <= bearing), min(p for p in turns if p[0] > bearing)
+    (low, first), (high, last) = max(p for p in turns if p[0] <= bearing), min(
+        p for p in turns if p[0] > bearing
+    )
     return first + (last - first) * (bearing - low) / (high - low)
 
 
 def offsets_in(settings):
-    return [tuple(map(int, offset)) for offset in re.findall(r"\[(-?\d+), (-?\d+), (\d+)\]", settings)]
+    return [
+        tuple(map(int, offset)) for offset in re.findall(r"\[(-?\d+), (-?\d+), (\d+)\]", settings)
+    ]
 
 
 def named(pattern):
@@ -74,7 +89,13 @@ def named(pattern):
         return [(x, y, 1) for x in (-1, 0, 1) for y in (-1, 0, 1)]
     levels, run, rise = map(int, pattern.split(":")[1:]) if pattern != "five" else (1, 1, 1)
     wide = range(-levels * run // rise - 1, levels * run // rise + 2)
-    return [(x, y, k) for k in range(1, levels + 1) for x in wide for y in wide if rise * rise * (x * x + y * y) <= k * k * run * run]
+    return [
+        (x, y, k)
+        for k in range(1, levels + 1)
+        for x in wide
+        for y in wide
+        if rise * rise * (x * x + y * y) <= k * k * run * run
+    ]
 
 
 def needed(offsets):
@@ -112,7 +133,7 @@ def distance(corners, bearing):
     found = []
     for p, q in zip(corners, corners[1:] + corners[:1]):
         turn = to[0] * (q[1] - p[1]) - to[1] * (q[0] - p[0])
-        if turn > 1e-12:                                      # the edge faces this way: its line is at most so far out
+        if turn > 1e-12:  # the edge faces this way: its line is at most so far out
             found.append((p[0] * q[1] - p[1] * q[0]) / turn)
     return min(found, default=0.0)
 
@@ -120,4 +141,6 @@ def distance(corners, bearing):
 def rise(points):
     """The slope of the line through points (height, distance), by least squares."""
     middle = [sum(axis) / len(points) for axis in zip(*points)]
-    return sum((x - middle[0]) * (y - middle[1]) for x, y in points) / sum((x - middle[0]) ** 2 for x, _ in points)
+    return sum((x - middle[0]) * (y - middle[1]) for x, y in points) / sum(
+        (x - middle[0]) ** 2 for x, _ in points
+    )

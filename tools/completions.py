@@ -8,7 +8,12 @@ SHELLS = ("bash", "zsh", "fish")
 # A value of one of these names is no file; a value of any other name is one.
 NO_FILE = re.compile(r"(INTEGER|FLOAT|TEXT|FACTORS?|STEPS|ROOM|WORKERS|N|KEY=NAME|CHANGES|WORDS)\b")
 # What an option may have, where that isn't a block of the help text, as "Patterns" is of <PATTERN>. tests/scripts.py asks that the text has each.
-VALUES = {("pit", "--group"): "pair scaled worth", ("pit", "--up"): "plus minus", ("pit", "--method"): "auto pseudoflow push-relabel", ("pitplan", "--engine"): "local slurm snakemake"}
+VALUES = {
+    ("pit", "--group"): "pair scaled worth",
+    ("pit", "--up"): "plus minus",
+    ("pit", "--method"): "auto pseudoflow push-relabel",
+    ("pitplan", "--engine"): "local slurm snakemake",
+}
 
 
 class Option:
@@ -32,9 +37,17 @@ class Option:
         listed = re.fullmatch(r"\[([\w|]+)\]", self.value)
         block = self.value.capitalize() + "s"
         told = VALUES.get((texts.name, self.names[-1]), "").split()
-        named = [re.sub(r"[A-Z].*", "", name) for name, _ in text.rows(block)]  # cone: of cone:LEVELS:RUN:RISE
+        named = [
+            re.sub(r"[A-Z].*", "", name) for name, _ in text.rows(block)
+        ]  # cone: of cone:LEVELS:RUN:RISE
         among = re.search(r"\bKEY is one of ([\w, ]+)\.", said)
-        self.words = listed[1].split("|") if listed else named or told or (among[1].split(", ") if among else []) if self.value else []
+        self.words = (
+            listed[1].split("|")
+            if listed
+            else named or told or (among[1].split(", ") if among else [])
+            if self.value
+            else []
+        )
 
     @property
     def is_file(self):
@@ -91,9 +104,26 @@ def bash(texts):
         for it in found:
             if it.value:
                 pattern = "|".join('"%s %s"' % (name, one) for one in it.names)
-                values += "        %s) %s ;;\n" % (pattern, "words=\"%s\"" % " ".join(it.words) if it.words else "files=1" if it.is_file else ":")
-        cases += "            %s) words=\"%s\"%s ;;\n" % (name, words_of(found), " files=1" if takes_files(text) else "")
-    return BASH % {"name": texts.name, "commands": " ".join(texts.commands), "options": words_of(options(texts, texts.main)), "values": values, "cases": cases}
+                values += "        %s) %s ;;\n" % (
+                    pattern,
+                    'words="%s"' % " ".join(it.words)
+                    if it.words
+                    else "files=1"
+                    if it.is_file
+                    else ":",
+                )
+        cases += '            %s) words="%s"%s ;;\n' % (
+            name,
+            words_of(found),
+            " files=1" if takes_files(text) else "",
+        )
+    return BASH % {
+        "name": texts.name,
+        "commands": " ".join(texts.commands),
+        "options": words_of(options(texts, texts.main)),
+        "values": values,
+        "cases": cases,
+    }
 
 
 ZSH = """#compdef %(name)s
@@ -125,17 +155,35 @@ def zsh_option(it):
     """The words of _arguments for an option; a name that comes after another is one word for both."""
     action = ""
     if it.value:
-        action = ":%s:%s" % (it.names[-1].lstrip("-"), "(%s)" % " ".join(re.sub(r"([:\\])", r"\\\1", word) for word in it.words) if it.words else "_files" if it.is_file else " ")
+        action = ":%s:%s" % (
+            it.names[-1].lstrip("-"),
+            "(%s)" % " ".join(re.sub(r"([:\\])", r"\\\1", word) for word in it.words)
+            if it.words
+            else "_files"
+            if it.is_file
+            else " ",
+        )
     return " ".join("'%s[%s]%s'" % (name, in_zsh(it.said), action) for name in it.names)
 
 
 def zsh(texts):
-    commands = "".join("        '%s:%s'\n" % (name, in_zsh(about(text))) for name, text in texts.commands.items())
+    commands = "".join(
+        "        '%s:%s'\n" % (name, in_zsh(about(text))) for name, text in texts.commands.items()
+    )
     cases = ""
     for name, text in texts.commands.items():
         rest = " '*:file:_files'" if takes_files(text) else ""
-        cases += "        %s) _arguments %s%s ;;\n" % (name, " \\\n            ".join(map(zsh_option, options(texts, text))), rest)
-    return ZSH % {"name": texts.name, "commands": commands, "options": " ".join(map(zsh_option, options(texts, texts.main))), "cases": cases}
+        cases += "        %s) _arguments %s%s ;;\n" % (
+            name,
+            " \\\n            ".join(map(zsh_option, options(texts, text))),
+            rest,
+        )
+    return ZSH % {
+        "name": texts.name,
+        "commands": commands,
+        "options": " ".join(map(zsh_option, options(texts, texts.main))),
+        "cases": cases,
+    }
 
 
 def in_fish(text):
@@ -143,17 +191,38 @@ def in_fish(text):
 
 
 def fish_option(name, condition, it):
-    names = " ".join("-l %s" % one[2:] if one.startswith("--") else "-s %s" % one[1:] for one in it.names)
-    value = (" -x -a %s" % in_fish(" ".join(it.words)) if it.words else " -r -F" if it.is_file else " -x") if it.value else ""
+    names = " ".join(
+        "-l %s" % one[2:] if one.startswith("--") else "-s %s" % one[1:] for one in it.names
+    )
+    value = (
+        (
+            " -x -a %s" % in_fish(" ".join(it.words))
+            if it.words
+            else " -r -F"
+            if it.is_file
+            else " -x"
+        )
+        if it.value
+        else ""
+    )
     return "complete -c %s -n %s %s%s -d %s\n" % (name, condition, names, value, in_fish(it.said))
 
 
 def fish(texts):
-    told = "# Completion of %s for fish. Written by tools/man_page.py from the help texts: change those, not this file.\n" % texts.name
+    told = (
+        "# Completion of %s for fish. Written by tools/man_page.py from the help texts: change those, not this file.\n"
+        % texts.name
+    )
     told += "complete -c %s -f\n" % texts.name
-    told += "".join(fish_option(texts.name, "__fish_use_subcommand", it) for it in options(texts, texts.main))
+    told += "".join(
+        fish_option(texts.name, "__fish_use_subcommand", it) for it in options(texts, texts.main)
+    )
     for command, text in texts.commands.items():
-        told += "complete -c %s -n __fish_use_subcommand -a %s -d %s\n" % (texts.name, command, in_fish(about(text)))
+        told += "complete -c %s -n __fish_use_subcommand -a %s -d %s\n" % (
+            texts.name,
+            command,
+            in_fish(about(text)),
+        )
         condition = "'__fish_seen_subcommand_from %s'" % command
         told += "complete -c %s -n %s -F\n" % (texts.name, condition) if takes_files(text) else ""
         told += "".join(fish_option(texts.name, condition, it) for it in options(texts, text))

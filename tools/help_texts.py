@@ -47,7 +47,9 @@ class Help:
                 self.usage.append(usage[1])
                 into = self.usage
             elif status:  # pitplan has them in one line
-                self.blocks["Exit status"] = ["  " + it.strip(" .").replace(" ", "  ", 1) for it in status[1].split(";")]
+                self.blocks["Exit status"] = [
+                    "  " + it.strip(" .").replace(" ", "  ", 1) for it in status[1].split(";")
+                ]
             elif title:
                 into = self.blocks.setdefault(title[1], [])
             elif line and not line.startswith(" ") and into is not self.before:
@@ -59,7 +61,8 @@ class Help:
 
     def rows(self, title):
         """The rows of a block, none where there is no such: (term, what is said of it). A term that is alone on its line has its
-        text on the lines below. A row within such a text, and what comes after an empty line, begins a line of its own."""
+        text on the lines below. A row within such a text, and what comes after an empty line, begins a line of its own.
+        """
         found, before = [], " "
         for line in self.blocks.get(title, []):
             if not line.strip():
@@ -71,7 +74,11 @@ class Help:
                 found.append([term, said.strip()])
             elif found:
                 is_row = re.match(r"\S+ {2,}", line.strip())
-                found[-1][1] = (found[-1][1] + ("\n" if is_row else before) + re.sub(r"^(\S+) {2,}", r"\1: ", line.strip())).strip()
+                found[-1][1] = (
+                    found[-1][1]
+                    + ("\n" if is_row else before)
+                    + re.sub(r"^(\S+) {2,}", r"\1: ", line.strip())
+                ).strip()
             before = " "
         return found
 
@@ -80,23 +87,46 @@ class Texts:
     """The help texts of a command: its name, its version, its own text, and that of each of its commands by name."""
 
     def __init__(self, name, version, main, commands):
-        self.name, self.version, self.main, self.commands = name, version, Help(main), {it: Help(text) for it, text in commands.items()}
+        self.name, self.version, self.main, self.commands = (
+            name,
+            version,
+            Help(main),
+            {it: Help(text) for it, text in commands.items()},
+        )
 
 
 def of_pit(program):
     """Those of this program."""
+
     def said(*words):
-        return subprocess.run(["pit", *words], executable=program, stdin=subprocess.DEVNULL, stdout=subprocess.PIPE, check=True, text=True).stdout
+        return subprocess.run(
+            ["pit", *words],
+            executable=program,
+            stdin=subprocess.DEVNULL,
+            stdout=subprocess.PIPE,
+            check=True,
+            text=True,
+        ).stdout
 
     main = said("--help")
     names = [name for name, _ in Help(main).rows("Commands") if name != "help"]
-    return Texts("pit", re.match(r"pit (\S+)", said("--version"))[1], main, {name: said(name, "--help") for name in names})
+    return Texts(
+        "pit",
+        re.match(r"pit (\S+)", said("--version"))[1],
+        main,
+        {name: said(name, "--help") for name in names},
+    )
 
 
 def of_pitplan(top=tree.TOP):
     """Those of this repository's pitplan, or None where Debian's Python hasn't the packages that it needs."""
-    asked = subprocess.run([PYTHON, "-I", "-B", "-c", ASKED, str(top / "python")], stdin=subprocess.DEVNULL, stdout=subprocess.PIPE,
-                           stderr=subprocess.PIPE, text=True)
+    asked = subprocess.run(
+        [PYTHON, "-I", "-B", "-c", ASKED, str(top / "python")],
+        stdin=subprocess.DEVNULL,
+        stdout=subprocess.PIPE,
+        stderr=subprocess.PIPE,
+        text=True,
+    )
     if asked.returncode and "ModuleNotFoundError" in asked.stderr:
         return None
     if asked.returncode:

@@ -22,14 +22,18 @@ import proving
 import tree
 
 COPY = tree.ROOM / "tree"
-RUNS = tree.ROOM / "runs"  # a folder for each run of one library, for its temporary files: `/tmp` may be memory
+RUNS = (
+    tree.ROOM / "runs"
+)  # a folder for each run of one library, for its temporary files: `/tmp` may be memory
 LEFT_OUT = shutil.ignore_patterns("out", "must-fail", "edits", "planted.edits")
 ENDED = re.compile(r"rt: (\w+) (proved|NOT PROVED|is kept)\b")
 KEPT = "and the crates below passed, and that is kept"
 KEPT_ENTRY = re.compile(r"proof-(\w+)-")
 PATIENCE = 10  # the seconds in which processes that are told to end do so
 SILENT = 20  # a run that has said nothing for so many seconds is proving, and no longer taking what is kept
-PROCESSORS = 4  # on fewer one run keeps them as busy, by a simulation, and reads what is kept but once
+PROCESSORS = (
+    4  # on fewer one run keeps them as busy, by a simulation, and reads what is kept but once
+)
 MOST_JOBS = 4  # the kit's own limit; a run of one crate gives its proof half of the processors, since its (empty) tests wait too
 NEAR = 0.9  # a chain of crates that is so much of the longest goes first too
 
@@ -101,8 +105,15 @@ class Gate:
     def __init__(self, told, words):
         self.told = told
         # in a group of its own, so that all its processes are ended together
-        self.process = subprocess.Popen(["rt", "ci", *words], cwd=COPY, stdin=subprocess.DEVNULL, stdout=subprocess.PIPE, stderr=subprocess.STDOUT,
-                                        start_new_session=True, preexec_fn=proving.as_a_child)
+        self.process = subprocess.Popen(
+            ["rt", "ci", *words],
+            cwd=COPY,
+            stdin=subprocess.DEVNULL,
+            stdout=subprocess.PIPE,
+            stderr=subprocess.STDOUT,
+            start_new_session=True,
+            preexec_fn=proving.as_a_child,
+        )
 
     def lines(self):
         """The lines that the kit prints, and None for each second in which it prints none."""
@@ -125,7 +136,10 @@ class Gate:
                 silent += 1
                 if is_first and silent >= SILENT and len(told.left()) > 1:
                     return None
-                told.screen.live("proving: %d of %d crates have ended, %d s" % (told.screen.ended, told.screen.count, told.seconds()))
+                told.screen.live(
+                    "proving: %d of %d crates have ended, %d s"
+                    % (told.screen.ended, told.screen.count, told.seconds())
+                )
                 continue
             told.log.write(line)
             told.log.flush()
@@ -137,7 +151,9 @@ class Gate:
             if ended:
                 told.crate(ended[1], "".join(said))
         if self.process.wait():
-            told.screen.line("the kit's gate failed; the end of %s:\n\n%s" % (told.log.name, "".join(said[-40:])))
+            told.screen.line(
+                "the kit's gate failed; the end of %s:\n\n%s" % (told.log.name, "".join(said[-40:]))
+            )
         return self.process.returncode == 0
 
     def stop(self):
@@ -174,7 +190,9 @@ class LibraryRuns(proving.Run):
 
     def __init__(self, told):
         left = [told.crates[name] for name in told.left()]
-        super().__init__({crate.name: crate for crate in left if not crate.is_program}, told.log, told.screen)
+        super().__init__(
+            {crate.name: crate for crate in left if not crate.is_program}, told.log, told.screen
+        )
         self.told, self.done, self.keeps = told, set(told.names), True
 
     def proof_of(self, crate):
@@ -182,7 +200,9 @@ class LibraryRuns(proving.Run):
         is_urgent = crate.chain >= NEAR * longest
         if not proving.has_place(is_urgent, self.running, self.host, 0):
             return None
-        return LibraryRun(crate, min(MOST_JOBS, self.host.processors // 2) if is_urgent else 1, is_urgent)
+        return LibraryRun(
+            crate, min(MOST_JOBS, self.host.processors // 2) if is_urgent else 1, is_urgent
+        )
 
     def tell(self, run, said):
         self.told.crate(run.crate.name, said)

@@ -19,7 +19,8 @@ import tree  # noqa: E402
 HEAD = r""".\" Written by tools/man_page.py from the help texts: change those, not this page.
 .TH %s 1 "" "%s %s" "User Commands"
 """
-EXAMPLES = {"pit": r"""On the example mine, in examples/copper: write each block's predecessors, find the best pit, and check it.
+EXAMPLES = {
+    "pit": r"""On the example mine, in examples/copper: write each block's predecessors, find the best pit, and check it.
 .PP
 .nf
 .RS
@@ -28,7 +29,8 @@ pit solve \-\-prec slopes.prec \-\-upit copper.upit > best.cert
 pit check \-\-prec slopes.prec \-\-upit copper.upit best.cert
 .RE
 .fi
-""", "pitplan": r"""From a table of blocks to a page with the proved pits; prices, costs and angles are put into mine/study.toml after the first.
+""",
+    "pitplan": r"""From a table of blocks to a page with the proved pits; prices, costs and angles are put into mine/study.toml after the first.
 .PP
 .nf
 .RS
@@ -38,7 +40,8 @@ pitplan shells mine
 pitplan page mine
 .RE
 .fi
-"""}
+""",
+}
 SEE = {"pit": "pitplan(1)", "pitplan": "pit(1)"}
 
 
@@ -56,7 +59,10 @@ def paragraphs(lines):
 
 def table(found):
     """Rows as a list of terms."""
-    return "".join(".TP\n.B %s\n%s\n" % (plain(term), plain(said).replace("\n", "\n.br\n")) for term, said in found)
+    return "".join(
+        ".TP\n.B %s\n%s\n" % (plain(term), plain(said).replace("\n", "\n.br\n"))
+        for term, said in found
+    )
 
 
 def command_section(name, text):
@@ -75,18 +81,39 @@ def page(texts):
     about, _, more = " ".join(" ".join(main.before).split()).partition(". ")
     told = HEAD % (texts.name.upper(), texts.name, texts.version)
     told += ".SH NAME\n%s \\- %s\n" % (texts.name, plain(about[:1].lower() + about[1:]))
-    told += ".SH SYNOPSIS\n" + "\n.br\n".join(".B %s" % plain(line) for text in [main, *texts.commands.values()] for line in text.usage) + "\n"
+    told += (
+        ".SH SYNOPSIS\n"
+        + "\n.br\n".join(
+            ".B %s" % plain(line)
+            for text in [main, *texts.commands.values()]
+            for line in text.usage
+        )
+        + "\n"
+    )
     if more or "" in main.blocks:
         told += ".SH DESCRIPTION\n" + paragraphs([more, "", *main.blocks.get("", [])])
     told += ".SH OPTIONS\n" + table(main.rows("Options"))
-    told += ".SH COMMANDS\n" + "".join(command_section("%s %s" % (texts.name, name), text) for name, text in texts.commands.items())
+    told += ".SH COMMANDS\n" + "".join(
+        command_section("%s %s" % (texts.name, name), text) for name, text in texts.commands.items()
+    )
     told += ".SH EXIT STATUS\n" + table(main.rows("Exit status"))
-    return told + ".SH EXAMPLE\n" + EXAMPLES[texts.name] + ".SH SEE ALSO\n.BR %s\n" % SEE[texts.name].replace("(", " (")
+    return (
+        told
+        + ".SH EXAMPLE\n"
+        + EXAMPLES[texts.name]
+        + ".SH SEE ALSO\n.BR %s\n" % SEE[texts.name].replace("(", " (")
+    )
 
 
 def files(texts):
     """What is written of a command, by its name in the repository."""
-    return {"docs/%s.1" % texts.name: page(texts), **{"completions/%s.%s" % (texts.name, shell): completions.of(texts, shell) for shell in completions.SHELLS}}
+    return {
+        "docs/%s.1" % texts.name: page(texts),
+        **{
+            "completions/%s.%s" % (texts.name, shell): completions.of(texts, shell)
+            for shell in completions.SHELLS
+        },
+    }
 
 
 def is_up_to_date(texts):
@@ -97,9 +124,18 @@ def is_up_to_date(texts):
         has = path.read_text() if path.exists() else ""
         if has != wanted:
             well = False
-            at = next((at for at, (a, b) in enumerate(zip(has.splitlines(), wanted.splitlines()), 1) if a != b), None)
-            print("%s isn't what the help texts of %s say%s; tools/man_page.py writes it anew"
-                  % (name, texts.name, ": the first difference is in line %d" % at if at else ""))
+            at = next(
+                (
+                    at
+                    for at, (a, b) in enumerate(zip(has.splitlines(), wanted.splitlines()), 1)
+                    if a != b
+                ),
+                None,
+            )
+            print(
+                "%s isn't what the help texts of %s say%s; tools/man_page.py writes it anew"
+                % (name, texts.name, ": the first difference is in line %d" % at if at else "")
+            )
     return well
 
 

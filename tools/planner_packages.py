@@ -13,8 +13,10 @@ from packages import File
 
 INTO = "usr/lib/python3/dist-packages/"
 # Debian compiles what Python packages have when they are installed, and takes that away when they are removed.
-SCRIPTS = {"postinst": "#!/bin/sh\nset -e\nif [ \"$1\" = configure ]; then\n    py3compile -p pitplan\nfi\n",
-           "prerm": "#!/bin/sh\nset -e\npy3clean -p pitplan\n"}
+SCRIPTS = {
+    "postinst": '#!/bin/sh\nset -e\nif [ "$1" = configure ]; then\n    py3compile -p pitplan\nfi\n',
+    "prerm": "#!/bin/sh\nset -e\npy3clean -p pitplan\n",
+}
 DESCRIPTION = """from a table of blocks to proved pits, tables, pictures and a page
  pitplan takes a planner's table of blocks, prices, costs and slope angles, and
  gives back shells, pushbacks, CAD files, risk and one HTML page. Each best pit
@@ -32,20 +34,37 @@ def needed():
 def sources():
     """The files of the Python package, by their path below python/."""
     folder = tree.TOP / "python"
-    return sorted(it.relative_to(folder) for it in folder.glob("pitplan/**/*") if it.is_file() and "__pycache__" not in it.parts)
+    return sorted(
+        it.relative_to(folder)
+        for it in folder.glob("pitplan/**/*")
+        if it.is_file() and "__pycache__" not in it.parts
+    )
 
 
 def wheel(time, room):
     """The wheel, by setuptools: its name and its bytes, which hang on the files and the time of the commit."""
     folder = Path(room) / "wheel"
-    for name, source in {**{it: Path("python") / it for it in sources()}, "pyproject.toml": "python/pyproject.toml", "LICENSE": "LICENSE"}.items():
+    for name, source in {
+        **{it: Path("python") / it for it in sources()},
+        "pyproject.toml": "python/pyproject.toml",
+        "LICENSE": "LICENSE",
+    }.items():
         (folder / name).parent.mkdir(parents=True, exist_ok=True)
         shutil.copyfile(tree.TOP / source, folder / name)
         (folder / name).chmod(0o644)
-    made = subprocess.run([PYTHON, "-I", "-c", "from setuptools import build_meta; build_meta.build_wheel('made')"], cwd=folder,
-                          env=dict(os.environ, SOURCE_DATE_EPOCH=str(time), LC_ALL="C"), stdout=subprocess.PIPE, stderr=subprocess.STDOUT, text=True)
+    made = subprocess.run(
+        [PYTHON, "-I", "-c", "from setuptools import build_meta; build_meta.build_wheel('made')"],
+        cwd=folder,
+        env=dict(os.environ, SOURCE_DATE_EPOCH=str(time), LC_ALL="C"),
+        stdout=subprocess.PIPE,
+        stderr=subprocess.STDOUT,
+        text=True,
+    )
     if made.returncode:
-        raise ValueError("the wheel of pitplan wasn't made; it needs Debian's packages python3-setuptools and python3-wheel:\n" + made.stdout[-2000:])
+        raise ValueError(
+            "the wheel of pitplan wasn't made; it needs Debian's packages python3-setuptools and python3-wheel:\n"
+            + made.stdout[-2000:]
+        )
     found = next((folder / "made").glob("*.whl"))
     return found.name, found.read_bytes()
 
@@ -54,9 +73,17 @@ def debian_files(program, about, made_wheel):
     """What the Debian package installs, by its path below /: all that the program's does, and what the wheel holds."""
     files = packages.debian_files(program, about, "pitplan")
     with zipfile.ZipFile(io.BytesIO(made_wheel)) as held:
-        files.update({INTO + name: File(held.read(name), 0o644) for name in held.namelist() if not name.endswith("/RECORD")})
+        files.update(
+            {
+                INTO + name: File(held.read(name), 0o644)
+                for name in held.namelist()
+                if not name.endswith("/RECORD")
+            }
+        )
     files["usr/bin/pitplan"] = packages.file("bin/pitplan")
-    files["usr/share/man/man1/pitplan.1.gz"] = File(packages.zipped(packages.read("docs/pitplan.1")), 0o644)
+    files["usr/share/man/man1/pitplan.1.gz"] = File(
+        packages.zipped(packages.read("docs/pitplan.1")), 0o644
+    )
     files.update(packages.completions("pitplan", packages.SHELLS_PATHS))
     return files
 
@@ -65,6 +92,17 @@ def debian(program, facts, about, made_wheel, time, room):
     """The bytes of the Debian package. `facts` has the version, and the C library that the program needs."""
     files = debian_files(program, about, made_wheel)
     more = "Provides: pit (= %(version)s)\nConflicts: pit\nReplaces: pit\n" % facts
-    depends = ", ".join(["libc6 (>= %s)" % facts["libc"], *("%s (>= 3.11)" % it if it == "python3" else it for it in needed())])
+    depends = ", ".join(
+        [
+            "libc6 (>= %s)" % facts["libc"],
+            *("%s (>= 3.11)" % it if it == "python3" else it for it in needed()),
+        ]
+    )
     control = packages.control("pitplan", facts["version"], depends, files, DESCRIPTION, more)
-    return packages.debian(files, control, time, room, {name: File(text.encode(), 0o755) for name, text in SCRIPTS.items()})
+    return packages.debian(
+        files,
+        control,
+        time,
+        room,
+        {name: File(text.encode(), 0o755) for name, text in SCRIPTS.items()},
+    )

@@ -109,11 +109,16 @@ def has_all_work(crates):
 
 def weigh(crates):
     """Gives each crate `functions`, and `chain`: its lines of code and those of the longest chain of crates that wait for it. A goal that
-    the prover has to find takes it longer than a proof that is written down, so lines of proofs don't count."""
+    the prover has to find takes it longer than a proof that is written down, so lines of proofs don't count.
+    """
     for crate in reversed(list(crates.values())):
         above = [it.chain for it in crates.values() if crate in it.uses]
         crate.chain = crate.lines_of_code() + max(above, default=0)
-        crate.functions = sum(len(FUNCTION.findall(file.read_bytes())) for file in crate.files() if file.suffix == ".rt")
+        crate.functions = sum(
+            len(FUNCTION.findall(file.read_bytes()))
+            for file in crate.files()
+            if file.suffix == ".rt"
+        )
 
 
 class Work:
@@ -126,8 +131,15 @@ class Work:
     def start(self, words, folder, around=None):
         """Starts the kit with these words in this folder, at a lower priority where not all waits for this crate."""
         self.said = open(self.room / "said", "w+b")
-        self.process = subprocess.Popen(([] if self.is_urgent else ["nice", "-n", "10"]) + ["rt", *words], cwd=folder, env=around,
-                                        stdin=subprocess.DEVNULL, stdout=self.said, stderr=subprocess.STDOUT, preexec_fn=as_a_child)
+        self.process = subprocess.Popen(
+            ([] if self.is_urgent else ["nice", "-n", "10"]) + ["rt", *words],
+            cwd=folder,
+            env=around,
+            stdin=subprocess.DEVNULL,
+            stdout=self.said,
+            stderr=subprocess.STDOUT,
+            preexec_fn=as_a_child,
+        )
 
     def seconds(self):
         return round(time.monotonic() - self.began)
@@ -173,7 +185,9 @@ class Proof(Work):
 
     def begin(self):
         jobs = ["--jobs", str(self.jobs)]
-        self.start(["run", *jobs, "--", "--help"] if self.crate.is_program else ["lib", *jobs], self.folder)
+        self.start(
+            ["run", *jobs, "--", "--help"] if self.crate.is_program else ["lib", *jobs], self.folder
+        )
 
     def end(self):
         """Moves what was made back, and gives the text that the kit printed and whether all is proved."""
@@ -250,7 +264,11 @@ class Host:
 def has_place(is_urgent, running, host, more):
     """Whether one more crate may begin: where there is memory, and, unless all waits for it, fewer than so many more processes than processors."""
     has_memory = host.jobs_of_memory(running) >= 2
-    return not running or has_memory and (is_urgent or sum(proof.jobs for proof in running) < host.processors + more)
+    return (
+        not running
+        or has_memory
+        and (is_urgent or sum(proof.jobs for proof in running) < host.processors + more)
+    )
 
 
 def jobs_for(crate, waiting, running, host):
@@ -264,8 +282,19 @@ def jobs_for(crate, waiting, running, host):
     if not has_place(is_urgent, running, host, 2):
         return 0, False
     room = host.jobs_of_memory(running)
-    jobs = 1 if crate.functions < FEW_FUNCTIONS else 4 if is_urgent else 2 if 2 * crate.chain > longest else 1
-    return max(1, min(jobs, host.processors if is_urgent else (host.processors + 1) // 2, room)), is_urgent
+    jobs = (
+        1
+        if crate.functions < FEW_FUNCTIONS
+        else 4
+        if is_urgent
+        else 2
+        if 2 * crate.chain > longest
+        else 1
+    )
+    return (
+        max(1, min(jobs, host.processors if is_urgent else (host.processors + 1) // 2, room)),
+        is_urgent,
+    )
 
 
 class Run:
@@ -334,7 +363,10 @@ class Run:
             self.begin_some()
             if not self.take_ended():
                 return False
-            self.screen.live("proving " + ", ".join("%s %d s" % (it.crate.name, it.seconds()) for it in self.running))
+            self.screen.live(
+                "proving "
+                + ", ".join("%s %d s" % (it.crate.name, it.seconds()) for it in self.running)
+            )
             time.sleep(0.2)
         return True
 

@@ -15,10 +15,16 @@ from pathlib import Path
 TOP = Path(__file__).resolve().parent.parent
 PAGE = TOP / "docs" / "STATEMENT.md"
 
-HEAD = re.compile(r"^(?:(?:abbrev|unfoldable) )?(?:pub )?(?:(?:record|data) )?(?P<name>[^\W\d][\w'-]*)(?= [:({]|$)", re.M)
+HEAD = re.compile(
+    r"^(?:(?:abbrev|unfoldable) )?(?:pub )?(?:(?:record|data) )?(?P<name>[^\W\d][\w'-]*)(?= [:({]|$)",
+    re.M,
+)
 OPERATOR = re.compile(r"^infix[lr]? +\d+ +(?P<name>\S+)", re.M)
 DEFINES = re.compile(r"^(?:abbrev|unfoldable|pub|record|data) (?!use |mod )")
-USE = re.compile(r"^(?P<pub>pub )?(?:(?:ghost|unfoldable) )?(?:pub )?use Rattle\.(?P<path>[\w.«»]+?)(?:\.\{(?P<names>[^}]*)\}| as (?P<alias>\w+));?$", re.M)
+USE = re.compile(
+    r"^(?P<pub>pub )?(?:(?:ghost|unfoldable) )?(?:pub )?use Rattle\.(?P<path>[\w.«»]+?)(?:\.\{(?P<names>[^}]*)\}| as (?P<alias>\w+));?$",
+    re.M,
+)
 WORD = re.compile(r"[^\W\d][\w']*(?:\.[^\W\d][\w']*)*")
 FIELD = re.compile(r"^  (?:pub )?(?P<name>[\w']+) :", re.M)
 
@@ -60,7 +66,15 @@ def blocks(text):
     """The definitions of a file: the comment above each, its text, its first line. An equation stands with what it defines."""
     words, held, found, begun = [], [], [], 0
     for number, line in enumerate(text.split("\n") + [""], 1):
-        if held and line and (line[0] in " \t" or not DEFINES.match(line) and not line.startswith(("--", "use ", "pub use ", "infix"))):
+        if (
+            held
+            and line
+            and (
+                line[0] in " \t"
+                or not DEFINES.match(line)
+                and not line.startswith(("--", "use ", "pub use ", "infix"))
+            )
+        ):
             held.append(line)
         elif line.startswith("--"):
             if held:
@@ -90,8 +104,12 @@ def module_of(path, name):
         head = HEAD.match(lines[0])
         if head:
             if " data " in lines[0]:
-                module.constructors.update((name, head["name"]) for name in FIELD.findall("\n".join(lines)))
-            module.definitions[head["name"]] = Definition(name, head["name"], " ".join(words), "\n".join(lines), number)
+                module.constructors.update(
+                    (name, head["name"]) for name in FIELD.findall("\n".join(lines))
+                )
+            module.definitions[head["name"]] = Definition(
+                name, head["name"], " ".join(words), "\n".join(lines), number
+            )
     return module
 
 
@@ -193,7 +211,12 @@ def clause_of(path, function, name):
     text = path.read_text(encoding="utf-8")
     module = Module(path)
     imports(re.sub(r"^ghost use", "use", text, flags=re.M), module)
-    found = re.search(r"fn %s\b.*?ensures %s (\{.*?\})\n    (?:ensures|requires|//|\{)|fn %s\b.*?ensures %s (\{.*?\})\n\{" % (function, name, function, name), text, re.S)
+    found = re.search(
+        r"fn %s\b.*?ensures %s (\{.*?\})\n    (?:ensures|requires|//|\{)|fn %s\b.*?ensures %s (\{.*?\})\n\{"
+        % (function, name, function, name),
+        text,
+        re.S,
+    )
     if not found:
         raise SystemExit("%s has no clause %s of %s" % (path, name, function))
     return found[1] or found[2], module
@@ -215,7 +238,12 @@ def section(sources, name, definitions):
         above = definition.words or above
         if definition.name in definitions:
             words = sentence(definition, above)
-            lines += ([words.rstrip(".") + ":", ""] if words else []) + ["```", definition.text, "```", ""]
+            lines += ([words.rstrip(".") + ":", ""] if words else []) + [
+                "```",
+                definition.text,
+                "```",
+                "",
+            ]
     return lines
 
 
@@ -231,24 +259,56 @@ def part(sources, title, words, definitions):
 
 def leaves(cone):
     """What the definitions take from elsewhere: types and constants of the code, and words of the library."""
-    lines = ["# Taken from elsewhere", "", "Types and constants of the code, each with its file:", ""]
+    lines = [
+        "# Taken from elsewhere",
+        "",
+        "Types and constants of the code, each with its file:",
+        "",
+    ]
     lines += ["- `%s` in [`%s`](../%s)" % (name, path, path) for name, path in sorted(cone.types)]
-    return lines + ["", "Words of the language's library: " + ", ".join("`%s`" % name for name in sorted(cone.library)) + ".", ""]
+    return lines + [
+        "",
+        "Words of the language's library: "
+        + ", ".join("`%s`" % name for name in sorted(cone.library))
+        + ".",
+        "",
+    ]
 
 
 def page(sources):
     """The text of the page."""
     clause, module = clause_of(sources.top / ENGINE, "check_engine", "answer")
     every = cone_of(sources, clause, module)
-    accepted = cone_of(sources, "WritesAccepted", sources.modules["engines.specs.Checking"]).definitions
+    accepted = cone_of(
+        sources, "WritesAccepted", sources.modules["engines.specs.Checking"]
+    ).definitions
     rest = {key: every.definitions[key] for key in every.definitions if key not in accepted}
     files = {name for name, _ in accepted}
-    lines = ["# What you have to believe, in %d definitions" % len(every.definitions), "", HEAD_WORDS, "",
-             "The clause `answer` of `check_engine` in [`%s`](../%s):" % (ENGINE, ENGINE), "",
-             "```", re.sub(r"\n {4,}", "\n    ", clause), "```", ""]
-    lines += part(sources, "An `ACCEPTED`: %d definitions" % len(accepted),
-                  "They stand in %d files of %d crates. The last of them is `WritesAccepted`." % (len(files), len({name.split(".")[0] for name in files})), accepted)
-    lines += part(sources, "A `REFUSED` and a fault: %d more" % len(rest), "Whoever asks why a certificate was refused reads these too.", rest)
+    lines = [
+        "# What you have to believe, in %d definitions" % len(every.definitions),
+        "",
+        HEAD_WORDS,
+        "",
+        "The clause `answer` of `check_engine` in [`%s`](../%s):" % (ENGINE, ENGINE),
+        "",
+        "```",
+        re.sub(r"\n {4,}", "\n    ", clause),
+        "```",
+        "",
+    ]
+    lines += part(
+        sources,
+        "An `ACCEPTED`: %d definitions" % len(accepted),
+        "They stand in %d files of %d crates. The last of them is `WritesAccepted`."
+        % (len(files), len({name.split(".")[0] for name in files})),
+        accepted,
+    )
+    lines += part(
+        sources,
+        "A `REFUSED` and a fault: %d more" % len(rest),
+        "Whoever asks why a certificate was refused reads these too.",
+        rest,
+    )
     return "\n".join(lines + leaves(every))
 
 

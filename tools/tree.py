@@ -38,7 +38,9 @@ class Crate:
 
     def files(self, top=TOP):
         folder = top / "crates" / self.name
-        return sorted(file for part in PARTS for file in (folder / part).rglob("*") if file.is_file())
+        return sorted(
+            file for part in PARTS for file in (folder / part).rglob("*") if file.is_file()
+        )
 
     def lines(self):
         return sum(file.read_bytes().count(b"\n") for file in self.files())
@@ -62,7 +64,9 @@ def read_crates():
             crate.uses = [found[name] for name in crate.uses if name in found]
             for other in crate.uses:
                 place(other)
-            crate.below = {it.name: it for other in crate.uses for it in [*other.below.values(), other]}
+            crate.below = {
+                it.name: it for other in crate.uses for it in [*other.below.values(), other]
+            }
             placed[crate.name] = crate
 
     for crate in found.values():
@@ -73,7 +77,9 @@ def read_crates():
 def crates_of_program():
     """The crates that the program is made from, by name: those of `read_crates` without the crates of tests, on which nothing stands."""
     crates = read_crates()
-    made_from = {name for crate in crates.values() if crate.is_program for name in [*crate.below, crate.name]}
+    made_from = {
+        name for crate in crates.values() if crate.is_program for name in [*crate.below, crate.name]
+    }
     return {name: crate for name, crate in crates.items() if name in made_from}
 
 
@@ -81,15 +87,22 @@ def crates_of_program():
 def kit():
     """The kit's own line, as `rattle-kit-13f logic dac8208d650f15bf`."""
     try:
-        return subprocess.run(["rt", "version"], stdout=subprocess.PIPE, check=True, text=True).stdout.strip()
+        return subprocess.run(
+            ["rt", "version"], stdout=subprocess.PIPE, check=True, text=True
+        ).stdout.strip()
     except (OSError, subprocess.CalledProcessError) as error:
-        print("the Rattle kit is missing: `rt version` failed (%s); README's Install says where it comes from" % error)
+        print(
+            "the Rattle kit is missing: `rt version` failed (%s); README's Install says where it comes from"
+            % error
+        )
         sys.exit(2)
 
 
 def kit_folder():
     """The folder in which the kit lies."""
-    return Path(subprocess.run(["rt", "doc"], stdout=subprocess.PIPE, check=True, text=True).stdout.strip()).parent
+    return Path(
+        subprocess.run(["rt", "doc"], stdout=subprocess.PIPE, check=True, text=True).stdout.strip()
+    ).parent
 
 
 def digest(crates, top=TOP):
@@ -120,7 +133,11 @@ def land(program, now):
 
 def newest_program():
     """The program that was built last, by `./build` or by the kit alone (`rt ci`, `rt run`)."""
-    return max((file for file in (PROGRAM, BY_KIT) if file.exists()), key=lambda it: it.stat().st_mtime, default=PROGRAM)
+    return max(
+        (file for file in (PROGRAM, BY_KIT) if file.exists()),
+        key=lambda it: it.stat().st_mtime,
+        default=PROGRAM,
+    )
 
 
 def clear_rooms():
@@ -137,6 +154,9 @@ def alone():
         try:
             fcntl.flock(lock, fcntl.LOCK_EX | fcntl.LOCK_NB)
         except BlockingIOError:
-            print("another build, or the gate, is at work in this tree: waiting until it ends", flush=True)
+            print(
+                "another build, or the gate, is at work in this tree: waiting until it ends",
+                flush=True,
+            )
             fcntl.flock(lock, fcntl.LOCK_EX)
         yield

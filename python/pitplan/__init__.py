@@ -17,10 +17,32 @@ from typing import Any
 
 __version__ = "0.1.0"
 # Where each name is: they are imported when they are asked for, so that `pitplan --help` needs no pandas.
-WHERE = {"Economics": "model.economics", "Metal": "model.economics", "PlanError": "base.errors", "NotAccepted": "base.errors", "Disagreement": "base.errors", "MachineError": "base.errors",
-         "Grid": "model.grid", "Model": "model.model", "read_table": "model.model", "Accepted": "pit.program", "Stated": "pit.program", "Pit": "pit.program", "Shells": "study.shells", "factors": "study.shells",
-         "Slopes": "slopes.slopes", "Study": "study.study", "Phases": "plans.phases", "Design": "plans.design", "Comparison": "plans.compare",
-         "Risk": "plans.risk", "Task": "plans.task_line", "Tasks": "tasks.task", "run_dask": "tasks.engines", "run_local": "tasks.local"}
+WHERE = {
+    "Economics": "model.economics",
+    "Metal": "model.economics",
+    "PlanError": "base.errors",
+    "NotAccepted": "base.errors",
+    "Disagreement": "base.errors",
+    "MachineError": "base.errors",
+    "Grid": "model.grid",
+    "Model": "model.model",
+    "read_table": "model.model",
+    "Accepted": "pit.program",
+    "Stated": "pit.program",
+    "Pit": "pit.program",
+    "Shells": "study.shells",
+    "factors": "study.shells",
+    "Slopes": "slopes.slopes",
+    "Study": "study.study",
+    "Phases": "plans.phases",
+    "Design": "plans.design",
+    "Comparison": "plans.compare",
+    "Risk": "plans.risk",
+    "Task": "plans.task_line",
+    "Tasks": "tasks.task",
+    "run_dask": "tasks.engines",
+    "run_local": "tasks.local",
+}
 MODULES = {"plot": "views.pictures"}
 __all__ = [*WHERE, *MODULES, "page"]
 

@@ -10,17 +10,31 @@ from hypothesis import HealthCheck, settings
 HERE = Path(__file__).resolve().parent
 sys.path.insert(0, str(HERE.parent))
 # helpers are in support; some files of tests use what others have
-sys.path[:0] = [str(folder) for folder in (HERE / "support", *sorted(HERE.iterdir())) if folder.is_dir()]
+sys.path[:0] = [
+    str(folder) for folder in (HERE / "support", *sorted(HERE.iterdir())) if folder.is_dir()
+]
 
 # Begun in the background of a script, tests ignore ctrl-C, and so would each process that they start and stop by it.
 signal.signal(signal.SIGINT, signal.default_int_handler)
 
-settings.register_profile("gate", max_examples=int(os.environ.get("EXAMPLES", "12")), deadline=None, derandomize=True,
-                          suppress_health_check=list(HealthCheck))
+settings.register_profile(
+    "gate",
+    max_examples=int(os.environ.get("EXAMPLES", "12")),
+    deadline=None,
+    derandomize=True,
+    suppress_health_check=list(HealthCheck),
+)
 settings.load_profile("gate")
 
 # The files that take longest come first, so that none of them is left to one processor at the end.
-LONGEST = ("test_page.py", "test_help_texts.py", "test_planning_md.py", "test_engines.py", "test_bundle.py", "test_risk.py")
+LONGEST = (
+    "test_page.py",
+    "test_help_texts.py",
+    "test_planning_md.py",
+    "test_engines.py",
+    "test_bundle.py",
+    "test_risk.py",
+)
 
 
 def pytest_collection_modifyitems(items):
@@ -31,6 +45,7 @@ def pytest_collection_modifyitems(items):
 def program():
     """Every test needs `pit`: PIT, or the one on the path, or the repository's own build."""
     from pitplan.pit.program import found_program
+
     os.environ["PIT"] = found_program()
     return os.environ["PIT"]
 
@@ -40,6 +55,7 @@ def no_process_is_left():
     """Ends what a test has started, also where it fails."""
     yield
     from processes import end_started
+
     end_started()
 
 
@@ -47,6 +63,7 @@ def no_process_is_left():
 def small_disks(tmp_path):
     """A keeper whose own processes alone see the small disks that it mounts."""
     from keeper import Keeper
+
     if os.geteuid() != 0:
         pytest.skip("only root mounts a small disk")
     with Keeper(tmp_path / "keeper") as keeper:

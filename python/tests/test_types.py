@@ -32,12 +32,22 @@ def functions():
 def length(node):
     """Lines of a function without its docstring."""
     first = node.body[0]
-    is_told = isinstance(first, ast.Expr) and isinstance(first.value, ast.Constant) and isinstance(first.value.value, str)
-    return node.end_lineno - node.lineno + 1 - (first.end_lineno - first.lineno + 1 if is_told else 0)
+    is_told = (
+        isinstance(first, ast.Expr)
+        and isinstance(first.value, ast.Constant)
+        and isinstance(first.value.value, str)
+    )
+    return (
+        node.end_lineno - node.lineno + 1 - (first.end_lineno - first.lineno + 1 if is_told else 0)
+    )
 
 
 def test_functions_are_short():
-    long = [f"{path.name}: {node.name} has {length(node)} lines" for path, node in functions() if length(node) > LINES]
+    long = [
+        f"{path.name}: {node.name} has {length(node)} lines"
+        for path, node in functions()
+        if length(node) > LINES
+    ]
     assert not long, long
 
 
@@ -45,8 +55,12 @@ def test_functions_take_few_arguments():
     many = []
     for path, node in functions():
         if any(ast.unparse(mark).startswith("app.command") for mark in node.decorator_list):
-            continue                         # a command has an argument for each of its options
-        words = [a.arg for a in (*node.args.posonlyargs, *node.args.args, *node.args.kwonlyargs) if a.arg not in ("self", "cls")]
+            continue  # a command has an argument for each of its options
+        words = [
+            a.arg
+            for a in (*node.args.posonlyargs, *node.args.args, *node.args.kwonlyargs)
+            if a.arg not in ("self", "cls")
+        ]
         if len(words) > ARGUMENTS:
             many.append(f"{path.name}: {node.name} has {len(words)}")
     assert not many, many
@@ -57,9 +71,17 @@ def public():
     for path in sorted((PYTHON / "pitplan").rglob("*.py")):
         tree = ast.parse(path.read_text())
         for owner in (tree, *(node for node in tree.body if isinstance(node, ast.ClassDef))):
-            yield from ((path, node) for node in owner.body if isinstance(node, ast.FunctionDef) and not node.name.startswith("_"))
+            yield from (
+                (path, node)
+                for node in owner.body
+                if isinstance(node, ast.FunctionDef) and not node.name.startswith("_")
+            )
 
 
 def test_public_functions_say_what_they_do():
-    silent = [f"{path.name}: {node.name}" for path, node in public() if not ast.get_docstring(node) and length(node) > 4]
+    silent = [
+        f"{path.name}: {node.name}"
+        for path, node in public()
+        if not ast.get_docstring(node) and length(node) > 4
+    ]
     assert not silent, silent

@@ -57,7 +57,13 @@ docs/AUDIT.md of the repository of pit says what each check shows, line by line.
 """
 
 
-def write(shells: Shells, folder: str | Path, told: Path, dialect: Dialect, rates: dict[str, Any] | None = None) -> str:
+def write(
+    shells: Shells,
+    folder: str | Path,
+    told: Path,
+    dialect: Dialect,
+    rates: dict[str, Any] | None = None,
+) -> str:
     """Writes a bundle, in a folder of its own that is renamed when it is whole.
 
     Parameters
@@ -88,19 +94,29 @@ def write(shells: Shells, folder: str | Path, told: Path, dialect: Dialect, rate
         raise PlanError(f"{folder} is there already", try_this="another name, or take it away")
     table = study.table
     if table is None or not table.is_file() or sha256(table) != study.manifest["source"]["sha256"]:
-        raise PlanError("the table that the study was built from isn't there any more", table=table, try_this=f"{command('build', study.named)} && {command('shells', study.named)}")
+        raise PlanError(
+            "the table that the study was built from isn't there any more",
+            table=table,
+            try_this=f"{command('build', study.named)} && {command('shells', study.named)}",
+        )
     shells = shells.with_certificates()
     sweep(folder.parent, f".{glob.escape(folder.name)}.*")
     with made_whole(folder, is_study=False) as work:
         name = f"table/{plain_name(table.name)}"
         copy_files(study, work, {told: "study.toml", table: name})
-        manifest = study.manifest | {"source": study.manifest["source"] | {"table": name}}      # no path of the planner's machine
+        manifest = study.manifest | {
+            "source": study.manifest["source"] | {"table": name}
+        }  # no path of the planner's machine
         (work / "model" / "manifest.json").write_text(json.dumps(manifest, indent=1))
         write_certificates(shells, work)
         write_tables(shells, work, rates or {})
         (work / "facts.json").write_text(json.dumps(facts_of(study, name, dialect), indent=1))
-        (work / "README.txt").write_text(README % {"version": __version__, "table": Path(name).name})
-        names = sorted(path.relative_to(work).as_posix() for path in work.rglob("*") if path.is_file())
+        (work / "README.txt").write_text(
+            README % {"version": __version__, "table": Path(name).name}
+        )
+        names = sorted(
+            path.relative_to(work).as_posix() for path in work.rglob("*") if path.is_file()
+        )
         (work / SUMS).write_text("".join(f"{sha256(work / it)}  {it}\n" for it in names))
         return sha256(work / SUMS)
 
@@ -118,14 +134,18 @@ def copy_files(study: Study, work: Path, more: dict[Path, str]) -> None:
     """The planner's two files, those of the model that `pit` reads, and the scripts."""
     for part in ("model", "table", "tables", "certificates"):
         (work / part).mkdir()
-    names: list[str] = [name for name in study.manifest["files"] if name in READ or name.endswith(".toml")]
+    names: list[str] = [
+        name for name in study.manifest["files"] if name in READ or name.endswith(".toml")
+    ]
     copies = dict(more)
     for part in names:
         copies[study.where / part] = f"model/{part}"
     for source, name in copies.items():
         shutil.copyfile(source, work / name)
     for name in SCRIPTS:
-        (work / name).write_text(resources.files(__package__).joinpath(name).read_text("utf-8"), "utf-8")
+        (work / name).write_text(
+            resources.files(__package__).joinpath(name).read_text("utf-8"), "utf-8"
+        )
 
 
 def write_certificates(shells: Shells, work: Path) -> None:
@@ -144,13 +164,32 @@ def write_tables(shells: Shells, work: Path, rates: dict[str, Any]) -> None:
     """Numbers alone: no cell of a stranger's table comes into these."""
     write_table(shells.table(**rates), work / "tables" / "pit_by_pit.csv")
     write_table(shells.benches(), work / "tables" / "benches.csv")
-    write_table(shells.of_blocks().drop(columns="id").rename_axis("block").reset_index(), work / "tables" / "blocks.csv")
+    write_table(
+        shells.of_blocks().drop(columns="id").rename_axis("block").reset_index(),
+        work / "tables" / "blocks.csv",
+    )
 
 
 def facts_of(study: Study, name: str, dialect: Dialect) -> dict[str, Any]:
     """How the table was read."""
     model = study.model
-    return {"pitplan": __version__, "pit": study.manifest["pit"], "table": name, "sha256": study.manifest["source"]["sha256"], "dialect": asdict(dialect),
-            "columns": model.columns, "depth": model.depth, "blocks": len(model), "pairs": study.manifest["pairs"], "currency": study.currency,
-            "settings": list(COLUMNS), "has_sub_blocks": model.has_sub_blocks,
-            "grid": {"origin": list(model.grid.origin), "size": list(model.grid.size), "shape": list(model.grid.shape), "rotation": model.grid.rotation}}
+    return {
+        "pitplan": __version__,
+        "pit": study.manifest["pit"],
+        "table": name,
+        "sha256": study.manifest["source"]["sha256"],
+        "dialect": asdict(dialect),
+        "columns": model.columns,
+        "depth": model.depth,
+        "blocks": len(model),
+        "pairs": study.manifest["pairs"],
+        "currency": study.currency,
+        "settings": list(COLUMNS),
+        "has_sub_blocks": model.has_sub_blocks,
+        "grid": {
+            "origin": list(model.grid.origin),
+            "size": list(model.grid.size),
+            "shape": list(model.grid.shape),
+            "rotation": model.grid.rotation,
+        },
+    }

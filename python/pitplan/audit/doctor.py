@@ -20,12 +20,24 @@ from ..base.machine import free_memory, processors
 from ..pit.program import Pit
 
 # What is imported, and Debian's package of it.
-NEEDED = {"numpy": "python3-numpy", "pandas": "python3-pandas", "matplotlib": "python3-matplotlib", "shapely": "python3-shapely",
-          "typer": "python3-typer", "rich": "python3-rich", "tomlkit": "python3-tomlkit"}
-WANTED = {"scipy": "python3-scipy", "ezdxf": "python3-ezdxf", "meshio": "python3-meshio", "geopandas": "python3-geopandas"}
+NEEDED = {
+    "numpy": "python3-numpy",
+    "pandas": "python3-pandas",
+    "matplotlib": "python3-matplotlib",
+    "shapely": "python3-shapely",
+    "typer": "python3-typer",
+    "rich": "python3-rich",
+    "tomlkit": "python3-tomlkit",
+}
+WANTED = {
+    "scipy": "python3-scipy",
+    "ezdxf": "python3-ezdxf",
+    "meshio": "python3-meshio",
+    "geopandas": "python3-geopandas",
+}
 THREE = Path("/usr/share/javascript/three")
 INSTALL = "sudo apt-get install --no-install-recommends"
-SHAPE = (5, 5, 2)                            # of the small mine
+SHAPE = (5, 5, 2)  # of the small mine
 # By hand: at 45 degrees the one block of ore in the middle of the lower bench has five blocks above it. It brings
 # 2500 t * 1.2 % * 0.85 * 8000 = 204,000 at the full price, and costs 25,000 to treat; each of the six costs 6,250 to dig.
 PITS = {500: (6, "39500"), 1000: (6, "141500")}
@@ -67,7 +79,10 @@ def findings() -> Iterator[Finding]:
 
 def program() -> Iterator[Finding]:
     """Which `pit` and which logic, and where."""
-    yield Finding("ok", f"pitplan {__version__} in {Path(__file__).resolve().parents[1]}, Python {platform.python_version()} in {sys.executable}")
+    yield Finding(
+        "ok",
+        f"pitplan {__version__} in {Path(__file__).resolve().parents[1]}, Python {platform.python_version()} in {sys.executable}",
+    )
     try:
         pit = Pit()
         version = pit.version()
@@ -75,7 +90,11 @@ def program() -> Iterator[Finding]:
         yield Finding("MISSING", error.what, error.try_this or "")
         return
     if not version or not version[0].startswith("pit "):
-        yield Finding("WRONG", f"{pit.program} doesn't answer to --version as pit does", "./install in the repository, or PIT=/path/to/pit")
+        yield Finding(
+            "WRONG",
+            f"{pit.program} doesn't answer to --version as pit does",
+            "./install in the repository, or PIT=/path/to/pit",
+        )
         return
     yield Finding("ok", f"{', '.join(version)}: {pit.program}")
     others = [path for path in places("pit") if path != str(Path(pit.program).resolve())]
@@ -86,7 +105,11 @@ def program() -> Iterator[Finding]:
 def places(name: str) -> list[str]:
     """All programs of a name on the path, each once."""
     found = [Path(folder or ".") / name for folder in os.environ.get("PATH", "").split(os.pathsep)]
-    return list(dict.fromkeys(str(path.resolve()) for path in found if os.access(path, os.X_OK) and path.is_file()))
+    return list(
+        dict.fromkeys(
+            str(path.resolve()) for path in found if os.access(path, os.X_OK) and path.is_file()
+        )
+    )
 
 
 def packages() -> Iterator[Finding]:
@@ -95,27 +118,49 @@ def packages() -> Iterator[Finding]:
         there, lacking = [], []
         for name, package in names.items():
             try:
-                there.append(f"{name} {getattr(importlib.import_module(name), '__version__', '')}".strip())
-            except Exception as error:       # a package that is there and broken is as good as none, and its own words help
-                lacking.append((name, package, "" if isinstance(error, ModuleNotFoundError) else f": {error}"))
+                there.append(
+                    f"{name} {getattr(importlib.import_module(name), '__version__', '')}".strip()
+                )
+            except (
+                Exception
+            ) as error:  # a package that is there and broken is as good as none, and its own words help
+                lacking.append(
+                    (name, package, "" if isinstance(error, ModuleNotFoundError) else f": {error}")
+                )
         if there:
             yield Finding("ok", ", ".join(there))
         for name, package, why in lacking:
-            yield Finding(kind, f"the Python package {name} can't be imported{why}" + ("" if kind == "MISSING" else "; some exports need it"), f"{INSTALL} {package}")
-    yield Finding("ok", f"three.js: {THREE}") if (THREE / "three.min.js").exists() else Finding("MISSING", "three.js, which draws the page", f"{INSTALL} libjs-three")
+            yield Finding(
+                kind,
+                f"the Python package {name} can't be imported{why}"
+                + ("" if kind == "MISSING" else "; some exports need it"),
+                f"{INSTALL} {package}",
+            )
+    yield Finding("ok", f"three.js: {THREE}") if (THREE / "three.min.js").exists() else Finding(
+        "MISSING", "three.js, which draws the page", f"{INSTALL} libjs-three"
+    )
 
 
 def machine() -> Iterator[Finding]:
     """Processors and memory, as far as a container lets them be used, and room on the disk."""
     free = shutil.disk_usage(".").free
     memory = free_memory()
-    yield Finding("ok", f"{processors()} processors, {memory / 1e9:.1f} GB of memory free, {free / 1e9:.0f} GB on this disk")
+    yield Finding(
+        "ok",
+        f"{processors()} processors, {memory / 1e9:.1f} GB of memory free, {free / 1e9:.0f} GB on this disk",
+    )
     if memory < 1e9:
-        yield Finding("look", "a mine of 1,000,000 blocks takes about 1 GB for a pit", "fewer --workers")
+        yield Finding(
+            "look", "a mine of 1,000,000 blocks takes about 1 GB for a pit", "fewer --workers"
+        )
     if free < 1e9:
         yield Finding("look", "a study of 1,000,000 blocks with 20 pits takes about 1 GB")
     if not shutil.which("setpriv"):
-        yield Finding("look", "without setpriv a run isn't ended when pitplan is killed", f"{INSTALL} util-linux")
+        yield Finding(
+            "look",
+            "without setpriv a run isn't ended when pitplan is killed",
+            f"{INSTALL} util-linux",
+        )
 
 
 def rows_of_mine() -> str:
@@ -124,7 +169,9 @@ def rows_of_mine() -> str:
     rows = ["ID,X,Y,Z,TONNES,CU,ROCK"]
     for i, j, k in product(range(nx), range(ny), range(nz)):
         is_ore = (i, j, k) == (nx // 2, ny // 2, 0)
-        rows.append(f"b{i}{j}{k},{10 * i},{10 * j},{10 * k},2500,{1.2 if is_ore else 0},{'SUL' if is_ore else 'WASTE'}")
+        rows.append(
+            f"b{i}{j}{k},{10 * i},{10 * j},{10 * k},2500,{1.2 if is_ore else 0},{'SUL' if is_ore else 'WASTE'}"
+        )
     return "\n".join(rows) + "\n"
 
 
@@ -132,13 +179,23 @@ def small_mine() -> Iterator[Finding]:
     """A small mine from its table to pits, tables, a picture, the page and a bundle that is checked again."""
     with tempfile.TemporaryDirectory(prefix="pitplan-doctor-") as room:
         folder = Path(room)
-        for what, step in (("a small mine is read, priced and built", built), ("its pits are found, proved and added up again", shelled),
-                           ("a picture and the page are made", pictured), ("a bundle is made, and recheck.py and plainly.py find that it holds", bundled)):
+        for what, step in (
+            ("a small mine is read, priced and built", built),
+            ("its pits are found, proved and added up again", shelled),
+            ("a picture and the page are made", pictured),
+            ("a bundle is made, and recheck.py and plainly.py find that it holds", bundled),
+        ):
             began = time.time()
             try:
                 step(folder)
-            except Exception as error:       # whatever it is, it is told, and what comes behind it can't be tried
-                yield Finding("WRONG", f"{what}: {type(error).__name__}: {error}", "tell the maintainers, with all lines of pitplan doctor")
+            except (
+                Exception
+            ) as error:  # whatever it is, it is told, and what comes behind it can't be tried
+                yield Finding(
+                    "WRONG",
+                    f"{what}: {type(error).__name__}: {error}",
+                    "tell the maintainers, with all lines of pitplan doctor",
+                )
                 return
             yield Finding("ok", f"{what}: {time.time() - began:.1f} s")
 
@@ -147,10 +204,13 @@ def built(folder: Path) -> None:
     """The files that `pit` reads."""
     from ..study.study import Study
     from ..study.study_file import read_study_file
+
     (folder / "mine.csv").write_text(rows_of_mine())
-    (folder / "study.toml").write_text('[model]\ntable = "mine.csv"\nsize = [10, 10, 10]\n[economics]\nmining = 2.5\nprocessing = 10\n'
-                                       'metals = [ { name = "copper", grade = "CU", price = 8000, recovery = 0.85 } ]\n[slopes]\nangles = 45\n'
-                                       f"[shells]\nfactors = {[factor / 1000 for factor in PITS]}\n")
+    (folder / "study.toml").write_text(
+        '[model]\ntable = "mine.csv"\nsize = [10, 10, 10]\n[economics]\nmining = 2.5\nprocessing = 10\n'
+        'metals = [ { name = "copper", grade = "CU", price = 8000, recovery = 0.85 } ]\n[slopes]\nangles = 45\n'
+        f"[shells]\nfactors = {[factor / 1000 for factor in PITS]}\n"
+    )
     told = read_study_file(folder)
     Study.create(folder, told.read_model(), told.economics, told.slopes, keys=told.digest)
 
@@ -158,15 +218,19 @@ def built(folder: Path) -> None:
 def shelled(folder: Path) -> None:
     """The pits of two factors, which are known by hand."""
     from ..study.study import Study
+
     for verdict in Study(folder).shells(list(PITS), 1).with_certificates(1).verdicts:
         if (verdict["count"], verdict["worth"]) != PITS[verdict["factor"]]:
-            raise PlanError(f"at factor {verdict['factor'] / 1000:g} {verdict['count']} blocks worth {verdict['worth']}, and by hand {PITS[verdict['factor']]}")
+            raise PlanError(
+                f"at factor {verdict['factor'] / 1000:g} {verdict['count']} blocks worth {verdict['worth']}, and by hand {PITS[verdict['factor']]}"
+            )
 
 
 def pictured(folder: Path) -> None:
     """The pit-by-pit picture, and the page."""
     from ..study.study import Study
     from ..views import page, pictures
+
     shells = Study(folder).shells(list(PITS), 1)
     pictures.save(pictures.plan(shells, 0), folder / "plan.png")
     page.write(shells, folder / "page.html")
@@ -177,9 +241,20 @@ def bundled(folder: Path) -> None:
     from ..study.study import Study
     from ..table.csv_text import Dialect
     from .bundle import write
+
     study = Study(folder)
     write(study.shells(list(PITS), 1), folder / "bundle", folder / "study.toml", Dialect())
-    words = [sys.executable, "-I", str(folder / "bundle" / "recheck.py"), "--plainly", study.program.program]
+    words = [
+        sys.executable,
+        "-I",
+        str(folder / "bundle" / "recheck.py"),
+        "--plainly",
+        study.program.program,
+    ]
     ran = subprocess.run(words, stdout=subprocess.PIPE, stderr=subprocess.STDOUT, text=True)
     if ran.returncode:
-        raise PlanError("; ".join(line for line in ran.stdout.splitlines() if not line.startswith(("ok", "look"))))
+        raise PlanError(
+            "; ".join(
+                line for line in ran.stdout.splitlines() if not line.startswith(("ok", "look"))
+            )
+        )

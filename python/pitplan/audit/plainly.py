@@ -27,7 +27,7 @@ from typing import IO, cast
 
 LINE, WHOLE_128 = 65536, 1 << 127
 MOST_BLOCKS, MOST_PAIRS = 1 << 24, 1 << 27
-MICRO, NANO = 10 ** 6, 10 ** 9
+MICRO, NANO = 10**6, 10**9
 SPLIT = re.compile(rb"[ \t:\r]+")
 WHOLE = re.compile(rb"[0-9]{1,39}")
 SIGNED = re.compile(rb"[+-]?[0-9]{1,39}")
@@ -75,7 +75,9 @@ def records(name: str) -> Iterator[tuple[int, list[bytes]]]:
 def whole(field: bytes, below: int, where: str) -> int:
     """A field as a whole number below a bound."""
     if not WHOLE.fullmatch(field) or int(field) >= below:
-        raise Wrong("%s: %r is no whole number below %d" % (where, field.decode(errors="replace"), below))
+        raise Wrong(
+            "%s: %r is no whole number below %d" % (where, field.decode(errors="replace"), below)
+        )
     return int(field)
 
 
@@ -90,7 +92,7 @@ def millionths(field: bytes, where: str) -> int:
         raise Wrong("%s: %r has too many digits" % (where, field.decode()))
     exact = Fraction(int(left + right), 10 ** len(right)) * Fraction(10) ** power * MICRO
     nearest = (2 * exact.numerator + exact.denominator) // (2 * exact.denominator)
-    if nearest > 10 ** 12 * MICRO:
+    if nearest > 10**12 * MICRO:
         raise Wrong("%s: %r is above 10^12" % (where, field.decode()))
     return -nearest if sign == b"-" else nearest
 
@@ -171,7 +173,11 @@ class Predecessors:
     """The predecessors of each block, in one array."""
 
     def __init__(self, name: str, count: int) -> None:
-        self.listed, self.first, self.behind = array("I"), array("Q", bytes(8 * count)), array("Q", bytes(8 * count))
+        self.listed, self.first, self.behind = (
+            array("I"),
+            array("Q", bytes(8 * count)),
+            array("Q", bytes(8 * count)),
+        )
         seen = bytearray(count)
         for number, fields in records(name):
             where = "%s, line %d" % (name, number)
@@ -184,11 +190,13 @@ class Predecessors:
             if len(self.listed) + len(fields) - 2 > MOST_PAIRS:
                 raise Wrong(where + ": too many predecessors")
             self.first[block] = len(self.listed)
-            self.listed.extend(sorted({whole(field, count, where) for field in fields[2:]} - {block}))
+            self.listed.extend(
+                sorted({whole(field, count, where) for field in fields[2:]} - {block})
+            )
             self.behind[block] = len(self.listed)
 
     def of(self, block: int) -> Sequence[int]:
-        return self.listed[self.first[block]:self.behind[block]]
+        return self.listed[self.first[block] : self.behind[block]]
 
 
 def worths_of(price: list[bytes], table: list[list[int]], values: list[int] | None) -> list[int]:
@@ -201,7 +209,10 @@ def worths_of(price: list[bytes], table: list[list[int]], values: list[int] | No
         if len(price) != 2:
             raise Fault("WrongPrice")
         k = int(price[1])
-        return [max(k * revenue - 1000 * treating, 0) - 1000 * digging for revenue, treating, digging in zip(*table)]
+        return [
+            max(k * revenue - 1000 * treating, 0) - 1000 * digging
+            for revenue, treating, digging in zip(*table)
+        ]
     if len(price) != 1 or price == [b"OBJECTIVE"]:
         raise Fault("WrongPrice")
     k = int(price[0])
@@ -233,7 +244,11 @@ class Certificate:
 
     def whole(self, word: bytes, most: int | None = None) -> int:
         """A number as certificates spell it, and of a block that there is one."""
-        if not SPELLED.fullmatch(word) or not fits(int(word)) or (most is not None and not 0 <= int(word) <= most):
+        if (
+            not SPELLED.fullmatch(word)
+            or not fits(int(word))
+            or (most is not None and not 0 <= int(word) <= most)
+        ):
             raise Fault("Number(%d)" % self.number)
         return int(word)
 
@@ -248,12 +263,20 @@ class Certificate:
         count = self.whole(blocks[1])
         price = self.line()
         is_mill = len(price) == 3 and price[1] == b"MILL"
-        if price[0] != b"PRICE" or len(price) != (3 if is_mill else 2) or is_mill != (first[1] == b"2"):
+        if (
+            price[0] != b"PRICE"
+            or len(price) != (3 if is_mill else 2)
+            or is_mill != (first[1] == b"2")
+        ):
             raise self.text()
         if price[1] != b"OBJECTIVE":
             self.whole(price[-1], 10_000)
         group = self.line()
-        if len(group) != 2 or group[0] != b"GROUP" or group[1] not in (b"WORTH", b"PAIR", b"SCALED"):
+        if (
+            len(group) != 2
+            or group[0] != b"GROUP"
+            or group[1] not in (b"WORTH", b"PAIR", b"SCALED")
+        ):
             raise self.text()
         return count, price[1:], group[1].decode()
 
@@ -261,7 +284,9 @@ class Certificate:
 class Check:
     """A check of one certificate over one model."""
 
-    def __init__(self, certificate: Certificate, rests: Predecessors, worths: list[int], group: str) -> None:
+    def __init__(
+        self, certificate: Certificate, rests: Predecessors, worths: list[int], group: str
+    ) -> None:
         self.certificate, self.rests, self.group = certificate, rests, group
         self.worths = worths
         n = len(worths)
@@ -274,7 +299,7 @@ class Check:
         ore = [sum(part) for part in zip(*[a for a in self.amounts if a > (0, 0)])] or [0, 0]
         if not all(fits(*a) for a in self.amounts) or not fits(*ore):
             raise Wrong("the amounts are too large")
-        self.ore = ore                       # what is left of it: less what the source has given so far
+        self.ore = ore  # what is left of it: less what the source has given so far
         self.pit: list[int] = []
         self.is_in, self.dug = bytearray(n), [0, 0]
         self.balance = [[0, 0] for _ in range(n)]
@@ -300,11 +325,15 @@ class Check:
 
     def parsed(self, words: list[bytes]) -> tuple[tuple[int, ...], list[int], tuple[int, ...]]:
         """A line's place in the order, its blocks and its amount."""
-        if words[0] not in KINDS or len(words) != {b"PIT": 2, b"REST": 5, b"END": 1}.get(words[0], 4):
+        if words[0] not in KINDS or len(words) != {b"PIT": 2, b"REST": 5, b"END": 1}.get(
+            words[0], 4
+        ):
             raise self.certificate.text()
         many = {b"PIT": 1, b"REST": 2, b"END": 0}.get(words[0], 1)
-        blocks = [self.certificate.whole(word, len(self.worths) - 1) for word in words[1:1 + many]]
-        amount = tuple(self.certificate.whole(word) for word in words[1 + many:])
+        blocks = [
+            self.certificate.whole(word, len(self.worths) - 1) for word in words[1 : 1 + many]
+        ]
+        amount = tuple(self.certificate.whole(word) for word in words[1 + many :])
         if amount and (amount == (0, 0) or (self.group != "PAIR" and amount[1])):
             raise Fault("Number(%d)" % self.certificate.number)
         return (KINDS.index(words[0]), *blocks), blocks, amount
@@ -388,7 +417,11 @@ def answer(model: Model, name: str) -> tuple[str, int]:
     finally:
         certificate.file.close()
     worth = sum(check.worths[block] for block in check.pit)
-    return "ACCEPTED %d %s%s" % (len(check.pit), spelled(worth), " GROUP WORTH" if group == "WORTH" else ""), 0
+    return (
+        "ACCEPTED %d %s%s"
+        % (len(check.pit), spelled(worth), " GROUP WORTH" if group == "WORTH" else ""),
+        0,
+    )
 
 
 def attempted(model: Model, name: str) -> tuple[str, int]:

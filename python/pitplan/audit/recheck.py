@@ -31,18 +31,45 @@ from pathlib import Path
 from typing import Any, BinaryIO, NamedTuple
 
 HERE = Path(__file__).resolve().parent
-SUMS, PIECE, THOUSAND, MICRO, NANO = "SHA256SUMS", 1 << 20, 1000, 10 ** 6, 10 ** 9
-HELD = 10                                    # bytes of memory that a byte of a table takes, its cells as words
-LINE = 120                                   # bytes that a line of a certificate has at most
+SUMS, PIECE, THOUSAND, MICRO, NANO = "SHA256SUMS", 1 << 20, 1000, 10**6, 10**9
+HELD = 10  # bytes of memory that a byte of a table takes, its cells as words
+LINE = 120  # bytes that a line of a certificate has at most
 NUMBER = re.compile(r"[+-]?(\d+\.?\d*|\.\d+)([eE][+-]?\d+)?")
 COMMA = re.compile(r"([+-]?\d*),(\d+(?:[eE][+-]?\d+)?)")
-SMALL, MOST_TIMES = 1 << 26, 200              # bytes that any table may unpack to, and how many times its size a larger one may
-GRADES = {"%": 10_000.0, "kg/t": 1_000.0, "g/t": 1.0, "ppm": 1.0, "mg/kg": 1.0, "ppb": 0.001}           # grams in a tonne
-SERIES = {"from": 0.30, "to": 1.20, "step": 0.05}                                                       # where study.toml says no factors
-PRICES = {"t": 1e6, "kg": 1e3, "g": 1.0, "lb": 453.59237, "oz": 31.1034768, "dmtu": 10_000.0}          # grams in a unit
-FAR, LONGEST = 1e100, 2000                   # how far from 0 a number of a file may be, and how many letters a formula may have
-MOST = 10 ** 18                              # millionths that `pit` reads for a block
-UNWORKABLE = (ArithmeticError, MemoryError, RecursionError, SyntaxError, TypeError, ValueError)      # what Python raises over a text that is no formula
+SMALL, MOST_TIMES = (
+    1 << 26,
+    200,
+)  # bytes that any table may unpack to, and how many times its size a larger one may
+GRADES = {
+    "%": 10_000.0,
+    "kg/t": 1_000.0,
+    "g/t": 1.0,
+    "ppm": 1.0,
+    "mg/kg": 1.0,
+    "ppb": 0.001,
+}  # grams in a tonne
+SERIES = {"from": 0.30, "to": 1.20, "step": 0.05}  # where study.toml says no factors
+PRICES = {
+    "t": 1e6,
+    "kg": 1e3,
+    "g": 1.0,
+    "lb": 453.59237,
+    "oz": 31.1034768,
+    "dmtu": 10_000.0,
+}  # grams in a unit
+FAR, LONGEST = (
+    1e100,
+    2000,
+)  # how far from 0 a number of a file may be, and how many letters a formula may have
+MOST = 10**18  # millionths that `pit` reads for a block
+UNWORKABLE = (
+    ArithmeticError,
+    MemoryError,
+    RecursionError,
+    SyntaxError,
+    TypeError,
+    ValueError,
+)  # what Python raises over a text that is no formula
 
 
 class Bad(Exception):
@@ -78,9 +105,15 @@ def is_table(value: Any, holds: Callable[[Any], bool]) -> bool:
 
 def is_angles(value: Any) -> bool:
     """Whether this is an angle, or a list of bearings with an angle for each."""
+
     def is_angle(angle: Any) -> bool:
         return is_number(angle, 5, 89)
-    return is_angle(value) or is_list(value, lambda pair: is_list(pair, is_number, 2, 2) and 0 <= pair[0] <= 360 and is_angle(pair[1]), 1)
+
+    return is_angle(value) or is_list(
+        value,
+        lambda pair: is_list(pair, is_number, 2, 2) and 0 <= pair[0] <= 360 and is_angle(pair[1]),
+        1,
+    )
 
 
 def is_rounding(value: Any) -> bool:
@@ -89,40 +122,159 @@ def is_rounding(value: Any) -> bool:
 
 
 def one_of(*words: str) -> Kind:
-    return Kind(f"one of {', '.join(words)}", lambda value: value in words if isinstance(value, str) else False)
+    return Kind(
+        f"one of {', '.join(words)}",
+        lambda value: value in words if isinstance(value, str) else False,
+    )
 
 
-WORD, WORDS = Kind("words in quotes", is_word), Kind("a list of words in quotes", lambda value: is_list(value, is_word))
-NUMERIC, WHOLE, IS_SO = Kind("a number", is_number), Kind("a whole number of at least 0", is_whole), Kind("true or false", lambda value: isinstance(value, bool))
-SHARE, COST = Kind("a number from 0 to 1", lambda value: is_number(value, 0, 1)), Kind("a number of at least 0", lambda value: is_number(value, 0))
-SIZES = Kind("three numbers above 0", lambda value: is_list(value, lambda size: is_number(size, 1e-9), 3, 3))
-DIGEST = Kind("the 64 digits of a sha256", lambda value: isinstance(value, str) and re.fullmatch("[0-9a-f]{64}", value) is not None)
+WORD, WORDS = Kind("words in quotes", is_word), Kind(
+    "a list of words in quotes", lambda value: is_list(value, is_word)
+)
+NUMERIC, WHOLE, IS_SO = (
+    Kind("a number", is_number),
+    Kind("a whole number of at least 0", is_whole),
+    Kind("true or false", lambda value: isinstance(value, bool)),
+)
+SHARE, COST = Kind("a number from 0 to 1", lambda value: is_number(value, 0, 1)), Kind(
+    "a number of at least 0", lambda value: is_number(value, 0)
+)
+SIZES = Kind(
+    "three numbers above 0", lambda value: is_list(value, lambda size: is_number(size, 1e-9), 3, 3)
+)
+DIGEST = Kind(
+    "the 64 digits of a sha256",
+    lambda value: isinstance(value, str) and re.fullmatch("[0-9a-f]{64}", value) is not None,
+)
 NAMES = Kind("a table of words in quotes", lambda value: is_table(value, is_word))
-AMOUNT = Kind(f"a number, a column, a formula of at most {LONGEST:,} letters, or a table of numbers by rock", lambda value: is_number(value) or is_word(value) or is_table(value, is_number))
-ANGLES = Kind("degrees from 5 to 89, or a list of bearings and degrees as [[0, 38], [90, 45]]", is_angles)
-OFFSETS = Kind("a list of offsets as [[0, 0, 1]], each at least one level up", lambda value: is_list(value, lambda offset: is_list(offset, lambda step: is_whole(step, -2 ** 31, 2 ** 31), 3, 3) and offset[2] > 0))
+AMOUNT = Kind(
+    f"a number, a column, a formula of at most {LONGEST:,} letters, or a table of numbers by rock",
+    lambda value: is_number(value) or is_word(value) or is_table(value, is_number),
+)
+ANGLES = Kind(
+    "degrees from 5 to 89, or a list of bearings and degrees as [[0, 38], [90, 45]]", is_angles
+)
+OFFSETS = Kind(
+    "a list of offsets as [[0, 0, 1]], each at least one level up",
+    lambda value: is_list(
+        value,
+        lambda offset: is_list(offset, lambda step: is_whole(step, -(2**31), 2**31), 3, 3)
+        and offset[2] > 0,
+    ),
+)
 
 # The keys of each section of study.toml that are looked at, and what each may be; likewise of the other files.
 STUDY: dict[str, dict[str, Kind]] = {
-    "model": {"size": SIZES, "rotation": NUMERIC, "columns": NAMES, "z": one_of("elevation", "depth"), "absent": WORDS, "missing": one_of("refuse", "air", "rock"), "widen": WHOLE, "regularise": IS_SO},
-    "economics": {"metals": Kind("a list of metals", lambda value: is_list(value, lambda metal: isinstance(metal, dict), 1)), "mining": AMOUNT, "processing": AMOUNT, "mill": WORDS, "dilution": SHARE,
-                  "mining_recovery": Kind("a number above 0 and at most 1", lambda value: is_number(value, 0, 1) and value > 0),
-                  "rounding": Kind("a number of at least 0.000001, with at most six decimals", is_rounding), "currency": WORD, "forbid": WORDS},
-    "slopes": {"angles": ANGLES, "by": WORD, "regions": Kind("a table of angles, each " + ANGLES.must, lambda value: is_table(value, is_angles)), "safe": IS_SO},
-    "shells": {"factors": Kind("a list of numbers from 0 to 10, or three numbers from, to and step", lambda value: is_list(value, lambda share: is_number(share, 0, 10), 1)
-                               or is_table(value, is_number) and set(value) == set(SERIES))}}
-METAL = {"name": WORD, "grade": WORD, "price": COST, "grade_unit": one_of(*GRADES), "price_unit": one_of(*PRICES), "recovery": AMOUNT, "payable": SHARE, "selling": COST}
+    "model": {
+        "size": SIZES,
+        "rotation": NUMERIC,
+        "columns": NAMES,
+        "z": one_of("elevation", "depth"),
+        "absent": WORDS,
+        "missing": one_of("refuse", "air", "rock"),
+        "widen": WHOLE,
+        "regularise": IS_SO,
+    },
+    "economics": {
+        "metals": Kind(
+            "a list of metals",
+            lambda value: is_list(value, lambda metal: isinstance(metal, dict), 1),
+        ),
+        "mining": AMOUNT,
+        "processing": AMOUNT,
+        "mill": WORDS,
+        "dilution": SHARE,
+        "mining_recovery": Kind(
+            "a number above 0 and at most 1", lambda value: is_number(value, 0, 1) and value > 0
+        ),
+        "rounding": Kind("a number of at least 0.000001, with at most six decimals", is_rounding),
+        "currency": WORD,
+        "forbid": WORDS,
+    },
+    "slopes": {
+        "angles": ANGLES,
+        "by": WORD,
+        "regions": Kind(
+            "a table of angles, each " + ANGLES.must, lambda value: is_table(value, is_angles)
+        ),
+        "safe": IS_SO,
+    },
+    "shells": {
+        "factors": Kind(
+            "a list of numbers from 0 to 10, or three numbers from, to and step",
+            lambda value: is_list(value, lambda share: is_number(share, 0, 10), 1)
+            or is_table(value, is_number)
+            and set(value) == set(SERIES),
+        )
+    },
+}
+METAL = {
+    "name": WORD,
+    "grade": WORD,
+    "price": COST,
+    "grade_unit": one_of(*GRADES),
+    "price_unit": one_of(*PRICES),
+    "recovery": AMOUNT,
+    "payable": SHARE,
+    "selling": COST,
+}
 NEEDED = ("metals", "mining", "processing", "name", "grade", "price")
-GRID = {"origin": Kind("three numbers", lambda value: is_list(value, is_number, 3, 3)), "size": SIZES, "rotation": NUMERIC}
-DIALECT = {"separator": Kind("a comma, a semicolon or a tab", lambda value: value in (",", ";", "\t")), "decimal": Kind("a point or a comma", lambda value: value in (".", ",")),
-           "encoding": Kind("an encoding that Python knows, as utf-8", lambda value: is_word(value) and is_encoding(value)), "skip": WHOLE}
+GRID = {
+    "origin": Kind("three numbers", lambda value: is_list(value, is_number, 3, 3)),
+    "size": SIZES,
+    "rotation": NUMERIC,
+}
+DIALECT = {
+    "separator": Kind("a comma, a semicolon or a tab", lambda value: value in (",", ";", "\t")),
+    "decimal": Kind("a point or a comma", lambda value: value in (".", ",")),
+    "encoding": Kind(
+        "an encoding that Python knows, as utf-8",
+        lambda value: is_word(value) and is_encoding(value),
+    ),
+    "skip": WHOLE,
+}
 TABLE = Kind("a table", lambda value: isinstance(value, dict))
-FACTS = {"pit": WORDS, "table": WORD, "sha256": DIGEST, "dialect": TABLE, "grid": TABLE, "depth": IS_SO, "blocks": WHOLE, "pairs": WHOLE, "currency": WORD, "has_sub_blocks": IS_SO,
-         "columns": Kind("the names of the columns x, y and z, and of tonnes or density", lambda value: is_table(value, is_word) and {"x", "y", "z"} <= set(value) and not {"tonnes", "density"}.isdisjoint(value))}
-MANIFEST = {"source": TABLE, "files": Kind("a table of sha256", lambda value: is_table(value, DIGEST.holds)), "offsets": Kind("a table, of each region " + OFFSETS.must, lambda value: is_table(value, OFFSETS.holds)),
-            "blocks": WHOLE, "pairs": WHOLE, "currency": WORD}
-VERDICT = {"factor": Kind("a whole number from 0 to 10,000", lambda value: is_whole(value, 0, 10 * THOUSAND)), "file": WORD, "count": WHOLE, "certificate": DIGEST,
-           "worth": Kind("a number in quotes", lambda value: is_word(value) and re.fullmatch(r"-?\d{1,100}(\.\d{1,9})?", value) is not None)}
+FACTS = {
+    "pit": WORDS,
+    "table": WORD,
+    "sha256": DIGEST,
+    "dialect": TABLE,
+    "grid": TABLE,
+    "depth": IS_SO,
+    "blocks": WHOLE,
+    "pairs": WHOLE,
+    "currency": WORD,
+    "has_sub_blocks": IS_SO,
+    "columns": Kind(
+        "the names of the columns x, y and z, and of tonnes or density",
+        lambda value: is_table(value, is_word)
+        and {"x", "y", "z"} <= set(value)
+        and not {"tonnes", "density"}.isdisjoint(value),
+    ),
+}
+MANIFEST = {
+    "source": TABLE,
+    "files": Kind("a table of sha256", lambda value: is_table(value, DIGEST.holds)),
+    "offsets": Kind(
+        "a table, of each region " + OFFSETS.must, lambda value: is_table(value, OFFSETS.holds)
+    ),
+    "blocks": WHOLE,
+    "pairs": WHOLE,
+    "currency": WORD,
+}
+VERDICT = {
+    "factor": Kind(
+        "a whole number from 0 to 10,000", lambda value: is_whole(value, 0, 10 * THOUSAND)
+    ),
+    "file": WORD,
+    "count": WHOLE,
+    "certificate": DIGEST,
+    "worth": Kind(
+        "a number in quotes",
+        lambda value: is_word(value)
+        and re.fullmatch(r"-?\d{1,100}(\.\d{1,9})?", value) is not None,
+    ),
+}
 AT = Kind("a whole number from 0 to 65,535", lambda value: is_whole(value, 0, 65_535))
 COLUMNS = {"revenue": AT, "processing": AT, "mining": AT, "tonnes": AT}
 
@@ -145,7 +297,9 @@ def shown(value: Any) -> str:
     return text if len(text) <= 80 else text[:80] + ".."
 
 
-def looked_at(where: str, told: Any, kinds: Mapping[str, Kind], needed: Collection[str]) -> dict[str, Any]:
+def looked_at(
+    where: str, told: Any, kinds: Mapping[str, Kind], needed: Collection[str]
+) -> dict[str, Any]:
     """A table of a file, each of whose values is one that its key may have.
 
     Raises
@@ -199,7 +353,10 @@ def free_memory() -> int:
     """Bytes of memory that are free on this machine; a gigabyte where the system doesn't say."""
     try:
         with open("/proc/meminfo") as file:
-            return next((int(line.split()[1]) * 1024 for line in file if line.startswith("MemAvailable")), 1 << 30)
+            return next(
+                (int(line.split()[1]) * 1024 for line in file if line.startswith("MemAvailable")),
+                1 << 30,
+            )
     except OSError:
         return 1 << 30
 
@@ -216,7 +373,13 @@ def digest_of(path: Path) -> str:
 def within(name: str) -> Path:
     """A file of the bundle by its name; a name that leads out of the bundle is none. Nor is a pipe or a device, which may never end."""
     path = HERE / name
-    if "\0" in name or Path(name).is_absolute() or ".." in Path(name).parts or path.is_symlink() or HERE not in path.resolve().parents:
+    if (
+        "\0" in name
+        or Path(name).is_absolute()
+        or ".." in Path(name).parts
+        or path.is_symlink()
+        or HERE not in path.resolve().parents
+    ):
         raise Bad(f"{name} leads out of the bundle")
     if path.exists() and not path.is_file():
         raise Bad(f"{name} is no regular file")
@@ -226,7 +389,9 @@ def within(name: str) -> Path:
 def check_digests(told: Told) -> None:
     """Each file is listed and is the one that was listed."""
     listed: dict[str, str] = {}
-    *lines, behind = text_of(SUMS, "text").split("\n")     # no other byte ends a line, as for sha256sum
+    *lines, behind = text_of(SUMS, "text").split(
+        "\n"
+    )  # no other byte ends a line, as for sha256sum
     for line in [*lines, behind] if behind else lines:
         found = re.fullmatch(r"([0-9a-f]{64})  ([^\x00-\x1f]+)", line)
         if not found or line is behind:
@@ -235,8 +400,15 @@ def check_digests(told: Told) -> None:
             raise Bad(f"a second line for {found[2]}")
         listed[found[2]] = found[1]
     for name, digest in listed.items():
-        told.attempt(f"sha256 of {name}", lambda: told.check(digest_of(within(name)) == digest, f"sha256 of {name}"))
-    there = {path.relative_to(HERE).as_posix() for path in HERE.rglob("*") if not path.is_dir() or path.is_symlink()}
+        told.attempt(
+            f"sha256 of {name}",
+            lambda: told.check(digest_of(within(name)) == digest, f"sha256 of {name}"),
+        )
+    there = {
+        path.relative_to(HERE).as_posix()
+        for path in HERE.rglob("*")
+        if not path.is_dir() or path.is_symlink()
+    }
     for name in sorted(there - set(listed) - {SUMS}):
         told.check(False, f"{name} isn't listed in {SUMS}")
 
@@ -260,7 +432,9 @@ def load(name: str) -> Any:
 def toml_of(name: str) -> dict[str, Any]:
     """What a TOML file has."""
     try:
-        return tomllib.loads(text_of(name, "TOML").removeprefix("\ufeff").replace("\r\n", "\n").replace("\r", "\n"))
+        return tomllib.loads(
+            text_of(name, "TOML").removeprefix("\ufeff").replace("\r\n", "\n").replace("\r", "\n")
+        )
     except (ValueError, RecursionError) as error:
         raise Bad(f"{name} isn't TOML: {error}") from None
 
@@ -285,12 +459,17 @@ def verdicts_of() -> list[dict[str, Any]]:
     found = load("verdicts.json")
     if not isinstance(found, list):
         raise Bad(f"verdicts.json is {shown(found)}, and has to be a list of pits")
-    return [looked_at(f"verdicts.json: pit {i},", verdict, VERDICT, VERDICT) for i, verdict in enumerate(found, 1)]
+    return [
+        looked_at(f"verdicts.json: pit {i},", verdict, VERDICT, VERDICT)
+        for i, verdict in enumerate(found, 1)
+    ]
 
 
 def offsets_of(name: str) -> list[list[int]]:
     """The offsets that a file of the model lists."""
-    found: list[list[int]] = looked_at(f"model/{name}:", toml_of(f"model/{name}"), {"offsets": OFFSETS}, ["offsets"])["offsets"]
+    found: list[list[int]] = looked_at(
+        f"model/{name}:", toml_of(f"model/{name}"), {"offsets": OFFSETS}, ["offsets"]
+    )["offsets"]
     return found
 
 
@@ -308,7 +487,9 @@ class Blocks:
     """model/mine.blocks: places, and what each block brings and costs."""
 
     def __init__(self) -> None:
-        columns = looked_at("model/settings.toml:", toml_of("model/settings.toml"), COLUMNS, COLUMNS)
+        columns = looked_at(
+            "model/settings.toml:", toml_of("model/settings.toml"), COLUMNS, COLUMNS
+        )
         revenue, processing, mining, tonnes = (3 + columns[name] for name in COLUMNS)
         rows: dict[int, list[str]] = {}
         with open(within("model/mine.blocks"), encoding="ascii", errors="replace") as file:
@@ -319,16 +500,24 @@ class Blocks:
                 rows[int(fields[0])] = fields[1:]
         if sorted(rows) != list(range(len(rows))):
             raise Bad("the blocks aren't numbered from 0 on")
-        self.places, self.amounts, self.tonnes = list[tuple[int, ...]](), list[tuple[int, int, int]](), list[float]()
+        self.places, self.amounts, self.tonnes = (
+            list[tuple[int, ...]](),
+            list[tuple[int, int, int]](),
+            list[float](),
+        )
         for b in range(len(rows)):
             row = rows[b]
             try:
                 x, y, z = map(int, row[:3])
                 self.places.append((x, y, z))
-                self.amounts.append((millionths(row[revenue]), millionths(row[processing]), millionths(row[mining])))
+                self.amounts.append(
+                    (millionths(row[revenue]), millionths(row[processing]), millionths(row[mining]))
+                )
                 self.tonnes.append(float(row[tonnes]))
             except (ArithmeticError, IndexError, ValueError):
-                raise Bad(f"block {b} is {shown(' '.join(row))}, and has to be a place of three whole numbers, and numbers in the columns that model/settings.toml names") from None
+                raise Bad(
+                    f"block {b} is {shown(' '.join(row))}, and has to be a place of three whole numbers, and numbers in the columns that model/settings.toml names"
+                ) from None
             except Bad as error:
                 raise Bad(f"block {b}: {error}") from None
 
@@ -367,9 +556,21 @@ class Judged(NamedTuple):
 
 def judged(pit: str, path: Path, most: int) -> Judged:
     """Gives a certificate to `pit check`."""
-    words = ["--prec", str(within("model/mine.prec")), "--blocks", str(within("model/mine.blocks")), "--settings", str(within("model/settings.toml"))]
+    words = [
+        "--prec",
+        str(within("model/mine.prec")),
+        "--blocks",
+        str(within("model/mine.blocks")),
+        "--settings",
+        str(within("model/settings.toml")),
+    ]
     digest, text = hashlib.sha256(), bytearray()
-    run = subprocess.Popen([pit, "check", *words, "/dev/stdin"], stdin=subprocess.PIPE, stdout=subprocess.PIPE, stderr=subprocess.STDOUT)
+    run = subprocess.Popen(
+        [pit, "check", *words, "/dev/stdin"],
+        stdin=subprocess.PIPE,
+        stdout=subprocess.PIPE,
+        stderr=subprocess.STDOUT,
+    )
     assert run.stdin and run.stdout
     try:
         with open(path, "rb") as file:
@@ -389,11 +590,15 @@ def judged(pit: str, path: Path, most: int) -> Judged:
         run.kill()
         run.wait()
     head = re.match(rb"[^\n]*\nBLOCKS (\d{1,10})\n(?:PRICE MILL (\d{1,5})\n)?", text)
-    of, factor = (int(number) if number else None for number in head.groups()) if head else (None, None)
+    of, factor = (
+        (int(number) if number else None for number in head.groups()) if head else (None, None)
+    )
     held = [line[4:] for line in bytes(text).splitlines() if line.startswith(b"PIT ")]
     strange = next((block for block in held if not block.isdigit() or len(block) > 10), None)
     if strange is not None:
-        raise Bad(f"a PIT line has {shown(strange.decode(errors='replace'))}, and has to have the number of a block")
+        raise Bad(
+            f"a PIT line has {shown(strange.decode(errors='replace'))}, and has to have the number of a block"
+        )
     return Judged(said, digest.hexdigest(), list(map(int, held)), of, factor)
 
 
@@ -414,39 +619,69 @@ def check_pits(told: Told, pit: str, blocks: Blocks, is_plain: bool) -> list[int
             continue
         there = [block for block in found.held if block < len(shell)]
         if len(there) < len(found.held):
-            told.check(False, f"the pit at {at} has {len(found.held) - len(there):,} blocks that the model hasn't")
+            told.check(
+                False,
+                f"the pit at {at} has {len(found.held) - len(there):,} blocks that the model hasn't",
+            )
         check_pit(told, blocks, verdict, found._replace(held=there), line)
         now = set(there)
         if last >= 0:
-            told.check(below <= now, f"the pit at {last / THOUSAND:g} lies within that at {factor / THOUSAND:g}")
+            told.check(
+                below <= now,
+                f"the pit at {last / THOUSAND:g} lies within that at {factor / THOUSAND:g}",
+            )
         for block in now - below:
             shell[block] = shell[block] or factor
         below, last = now, factor
     return shell
 
 
-def check_pit(told: Told, blocks: Blocks, verdict: dict[str, Any], found: Judged, plain: str | None) -> None:
+def check_pit(
+    told: Told, blocks: Blocks, verdict: dict[str, Any], found: Judged, plain: str | None
+) -> None:
     """A certificate: its digest, its factor, `pit check`, what plainly.py says of it if that was asked, and its blocks added up. Without the factor a pit that is worth the
     same at another one, as the pit of no block, could stand for a best pit that it isn't."""
     factor, at = verdict["factor"], f"factor {verdict['factor'] / THOUSAND:g}"
     wanted = f"ACCEPTED {verdict['count']} {verdict['worth']}"
-    told.check(found.digest == verdict["certificate"], f"the certificate at {at} is the one whose pit is shown")
+    told.check(
+        found.digest == verdict["certificate"],
+        f"the certificate at {at} is the one whose pit is shown",
+    )
     its = "no factor" if found.factor is None else f"factor {found.factor / THOUSAND:g}"
     told.check(found.factor == factor, f"the certificate at {at} is of {its}")
-    told.check(found.said == wanted, f"pit check at {at}: {found.said}" + ("" if found.said == wanted else f", and the bundle says {wanted}{other_mine(found.of, len(blocks.places))}"))
+    told.check(
+        found.said == wanted,
+        f"pit check at {at}: {found.said}"
+        + (
+            ""
+            if found.said == wanted
+            else f", and the bundle says {wanted}{other_mine(found.of, len(blocks.places))}"
+        ),
+    )
     if plain is not None:
         told.check(plain == wanted, f"plainly.py at {at}: {plain}")
     worth = spelled(sum(blocks.worth(block, factor) for block in found.held))
-    told.check(worth == verdict["worth"] and len(found.held) == verdict["count"], f"its {len(found.held):,} blocks add up to {worth}")
+    told.check(
+        worth == verdict["worth"] and len(found.held) == verdict["count"],
+        f"its {len(found.held):,} blocks add up to {worth}",
+    )
 
 
 def check_series(told: Told) -> None:
     """There is a pit for each factor of study.toml, and a certificate for each pit, and no more."""
     verdicts, wanted = verdicts_of(), series(study_of("shells", "factors").get("factors", SERIES))
-    ours, theirs = [verdict["factor"] for verdict in verdicts], [f"{factor / THOUSAND:g}" for factor in wanted]
-    told.check(ours == wanted and bool(ours), f"the pits are those at the {len(wanted):,} factors of study.toml: {', '.join(theirs)}")
+    ours, theirs = [verdict["factor"] for verdict in verdicts], [
+        f"{factor / THOUSAND:g}" for factor in wanted
+    ]
+    told.check(
+        ours == wanted and bool(ours),
+        f"the pits are those at the {len(wanted):,} factors of study.toml: {', '.join(theirs)}",
+    )
     there = sorted(path.relative_to(HERE).as_posix() for path in (HERE / "certificates").iterdir())
-    told.check(there == sorted(verdict["file"] for verdict in verdicts), "each certificate is that of one pit")
+    told.check(
+        there == sorted(verdict["file"] for verdict in verdicts),
+        "each certificate is that of one pit",
+    )
 
 
 def series(said: Any) -> list[int]:
@@ -462,7 +697,12 @@ def series(said: Any) -> list[int]:
 
 def study_of(section: str, *keys: str) -> dict[str, Any]:
     """A section of study.toml, in which each of `keys` has a value that it may have."""
-    return looked_at(f"study.toml: [{section}]", toml_of("study.toml").get(section, {}), {key: STUDY[section][key] for key in keys}, NEEDED)
+    return looked_at(
+        f"study.toml: [{section}]",
+        toml_of("study.toml").get(section, {}),
+        {key: STUDY[section][key] for key in keys},
+        NEEDED,
+    )
 
 
 def economics_of() -> dict[str, Any]:
@@ -475,16 +715,36 @@ def economics_of() -> dict[str, Any]:
 
 def other_mine(of: int | None, here: int) -> str:
     """What to add where a certificate's header tells that it is of another mine."""
-    return "" if of is None or of == here else f": the certificate is of another mine, of {of:,} blocks, and the model has {here:,}"
+    return (
+        ""
+        if of is None or of == here
+        else f": the certificate is of another mine, of {of:,} blocks, and the model has {here:,}"
+    )
 
 
 def plainly(paths: list[Path]) -> list[str]:
     """What plainly.py says of these certificates, for each a line."""
-    words = ["--prec", "model/mine.prec", "--blocks", "model/mine.blocks", "--settings", "model/settings.toml"]
-    run = subprocess.run([sys.executable, "-I", str(within("plainly.py")), *words, *map(str, paths)], cwd=HERE, stdout=subprocess.PIPE, text=True)
+    words = [
+        "--prec",
+        "model/mine.prec",
+        "--blocks",
+        "model/mine.blocks",
+        "--settings",
+        "model/settings.toml",
+    ]
+    run = subprocess.run(
+        [sys.executable, "-I", str(within("plainly.py")), *words, *map(str, paths)],
+        cwd=HERE,
+        stdout=subprocess.PIPE,
+        text=True,
+    )
     lines = run.stdout.splitlines()
     # where the model can't be read, that is the one line
-    return (lines + lines[-1:] * (len(paths) - len(lines)))[:len(paths)] if lines else ["no answer"] * len(paths)
+    return (
+        (lines + lines[-1:] * (len(paths) - len(lines)))[: len(paths)]
+        if lines
+        else ["no answer"] * len(paths)
+    )
 
 
 class Table:
@@ -499,11 +759,22 @@ class Table:
     """
 
     def __init__(self, facts: dict[str, Any], absent: list[str]) -> None:
-        self.facts, self.told, self.absent = facts, facts["dialect"], [mark.strip() for mark in absent]
-        self.marks = {float(plain) for mark in self.absent if NUMBER.fullmatch(plain := COMMA.sub(r"\1.\2", mark))}
+        self.facts, self.told, self.absent = (
+            facts,
+            facts["dialect"],
+            [mark.strip() for mark in absent],
+        )
+        self.marks = {
+            float(plain)
+            for mark in self.absent
+            if NUMBER.fullmatch(plain := COMMA.sub(r"\1.\2", mark))
+        }
         self.name: str = facts["table"]
         self.names, filled = self.read()
-        self.rows, self.passed = ({i: row for i, row in filled.items() if (i >= self.told["skip"]) == is_block} for is_block in (True, False))
+        self.rows, self.passed = (
+            {i: row for i, row in filled.items() if (i >= self.told["skip"]) == is_block}
+            for is_block in (True, False)
+        )
         self.at = {name: i for i, name in enumerate(self.names)}
         for key, column in facts["columns"].items():
             self.asked("facts.json: columns,", key, column)
@@ -514,20 +785,32 @@ class Table:
         is_packed = path.suffix.lower() == ".gz"
         if is_packed:
             with open(path, "rb") as packed:
-                for _ in pieces(packed, max(SMALL, min(MOST_TIMES * path.stat().st_size, free_memory() // HELD)), "a table"):
+                for _ in pieces(
+                    packed,
+                    max(SMALL, min(MOST_TIMES * path.stat().st_size, free_memory() // HELD)),
+                    "a table",
+                ):
                     pass
         try:
-            with gzip.open(path, "rt", 9, encoding, newline="") if is_packed else open(path, encoding=encoding, newline="") as file:
+            with gzip.open(path, "rt", 9, encoding, newline="") if is_packed else open(
+                path, encoding=encoding, newline=""
+            ) as file:
                 rows = csv.reader(file, delimiter=self.told["separator"], skipinitialspace=True)
                 names = [name.strip() or f"column {i + 1}" for i, name in enumerate(next(rows, []))]
-                return names, {i: row for i, row in enumerate(rows) if any(cell.strip() for cell in row)}
+                return names, {
+                    i: row for i, row in enumerate(rows) if any(cell.strip() for cell in row)
+                }
         except (csv.Error, UnicodeError) as error:
-            raise Bad(f"{self.name} can't be read as {encoding}, which facts.json says it is: {error}") from None
+            raise Bad(
+                f"{self.name} can't be read as {encoding}, which facts.json says it is: {error}"
+            ) from None
 
     def asked(self, where: str, key: str, column: str) -> None:
         """Raises Bad where a file names a column that the table hasn't."""
         if column not in self.at:
-            raise Bad(f"{where} {key} is {shown(column)}, and has to be a column of {self.name}: {shown(', '.join(self.names))}")
+            raise Bad(
+                f"{where} {key} is {shown(column)}, and has to be a column of {self.name}: {shown(', '.join(self.names))}"
+            )
 
     def word(self, row: int, column: str) -> str:
         """A cell as it stands."""
@@ -545,19 +828,29 @@ class Table:
             return 0.0
         plain = cell.replace(self.told["decimal"], ".")
         if not NUMBER.fullmatch(plain):
-            raise Bad(f"{self.name}, row {row + 2}, column {column}: the cell is {shown(cell)}, and has to be a number")
+            raise Bad(
+                f"{self.name}, row {row + 2}, column {column}: the cell is {shown(cell)}, and has to be a number"
+            )
         return 0.0 if float(plain) in self.marks else float(plain)
 
     @cache
     def is_of_numbers(self, column: str) -> bool:
         """Whether each cell of a column is a number, empty, or stands for "not estimated"."""
         cells = {Table.word(self, row, column).strip() for row in self.rows}
-        return all(not cell or cell in self.absent or NUMBER.fullmatch(cell.replace(self.told["decimal"], ".")) for cell in cells)
+        return all(
+            not cell
+            or cell in self.absent
+            or NUMBER.fullmatch(cell.replace(self.told["decimal"], "."))
+            for cell in cells
+        )
 
     def sizes(self, row: int) -> list[float]:
         """How long a row's block is along the model's axes, by its own columns where there are such."""
         columns, size = self.facts["columns"], self.facts["grid"]["size"]
-        return [Table.number(self, row, columns[key]) if key in columns else float(length) for key, length in zip(("dx", "dy", "dz"), size)]
+        return [
+            Table.number(self, row, columns[key]) if key in columns else float(length)
+            for key, length in zip(("dx", "dy", "dz"), size)
+        ]
 
     def tonnes(self, row: int) -> float:
         """Of a row's block: its tonnes, or its density times its volume."""
@@ -565,7 +858,11 @@ class Table:
             return Table.number(self, row, self.facts["columns"]["tonnes"])
         size, lengths = self.facts["grid"]["size"], self.sizes(row)
         volume: float = size[0] * size[1] * size[2]
-        return Table.number(self, row, self.facts["columns"]["density"]) * (lengths[0] * lengths[1] * lengths[2] / volume) * volume
+        return (
+            Table.number(self, row, self.facts["columns"]["density"])
+            * (lengths[0] * lengths[1] * lengths[2] / volume)
+            * volume
+        )
 
 
 class AddedUp(Table):
@@ -580,12 +877,18 @@ class AddedUp(Table):
 
     def __init__(self, facts: dict[str, Any], absent: list[str], codes: set[str]) -> None:
         self.parts = Table(facts, absent)
-        self.__dict__.update(self.parts.__dict__)            # read once
+        self.__dict__.update(self.parts.__dict__)  # read once
         columns = facts["columns"]
-        self.places, self.lengths = {columns[key]: i for i, key in enumerate("xyz")}, {columns[key]: i for i, key in enumerate(("dx", "dy", "dz")) if key in columns}
+        self.places, self.lengths = {columns[key]: i for i, key in enumerate("xyz")}, {
+            columns[key]: i for i, key in enumerate(("dx", "dy", "dz")) if key in columns
+        }
         self.weighed = columns.get("tonnes", columns.get("density"))
         self.are_words = {columns.get("rock"), columns.get("id")}
-        self.codes = {column for column in self.names if column in codes or unicodedata.normalize("NFKC", column) in codes}
+        self.codes = {
+            column
+            for column in self.names
+            if column in codes or unicodedata.normalize("NFKC", column) in codes
+        }
         at = defaultdict[tuple[int, ...], list[int]](list)
         for row in self.rows:
             at[tuple(round(step) for step in local_steps(self, row, facts))].append(row)
@@ -600,7 +903,10 @@ class AddedUp(Table):
             for row in rows:
                 lengths = self.sizes(row)
                 filled += math.prod(lengths) / math.prod(size)
-                far = [abs(step - round(step)) + length / side / 2 for step, length, side in zip(local_steps(self, row, self.facts), lengths, size)]
+                far = [
+                    abs(step - round(step)) + length / side / 2
+                    for step, length, side in zip(local_steps(self, row, self.facts), lengths, size)
+                ]
                 if max(far) > 0.502:
                     return f"row {row + 2} lies over a side of its block"
             if filled > 1.002:
@@ -612,18 +918,31 @@ class AddedUp(Table):
         tonnes, cell_of = dict[Any, float](), dict[Any, str]()
         for part in self.of[row]:
             cell = Table.word(self, part, column)
-            is_number = column not in self.are_words and self.is_of_numbers(column) and (cell.strip() or "" in self.absent)
+            is_number = (
+                column not in self.are_words
+                and self.is_of_numbers(column)
+                and (cell.strip() or "" in self.absent)
+            )
             value = Table.number(self, part, column) if is_number else cell.strip()
             cell_of.setdefault(value, cell)
             tonnes[value] = tonnes.get(value, 0.0) + self.weight[part]
-        return cell_of[max(tonnes, key=lambda value: tonnes[value])]          # max gives the first of several
+        return cell_of[
+            max(tonnes, key=lambda value: tonnes[value])
+        ]  # max gives the first of several
 
     def word(self, row: int, column: str) -> str:
-        return self.most(row, column) if row in self.of and len(self.of[row]) > 1 else super().word(row, column)
+        return (
+            self.most(row, column)
+            if row in self.of and len(self.of[row]) > 1
+            else super().word(row, column)
+        )
 
     def is_whole(self, row: int) -> bool:
         """Whether a row is a whole block, and no sub-block."""
-        return all(abs(length - side) <= 1e-3 * side for length, side in zip(self.sizes(row), self.facts["grid"]["size"]))
+        return all(
+            abs(length - side) <= 1e-3 * side
+            for length, side in zip(self.sizes(row), self.facts["grid"]["size"])
+        )
 
     def number(self, row: int, column: str) -> float:
         """Of a block: the sum of tonnes, its own place and size, what most of its tonnes have of a column of codes, and else the mean by tonnes."""
@@ -631,17 +950,27 @@ class AddedUp(Table):
         if column in self.lengths:
             return float(self.facts["grid"]["size"][self.lengths[column]])
         if column in self.places and not self.is_whole(row):
-            centre = centre_of(tuple(round(step) for step in local_steps(self, row, self.facts)), self.facts)
+            centre = centre_of(
+                tuple(round(step) for step in local_steps(self, row, self.facts)), self.facts
+            )
             return centre[self.places[column]]
         if column == self.weighed:
-            return self.tonnes(row) / (1.0 if "tonnes" in self.facts["columns"] else float(math.prod(self.facts["grid"]["size"])))
+            return self.tonnes(row) / (
+                1.0
+                if "tonnes" in self.facts["columns"]
+                else float(math.prod(self.facts["grid"]["size"]))
+            )
         found = [Table.number(self, part, column) for part in rows]
         if len(set(found)) == 1:
             return found[0]
         if column in self.codes:
             return self.parts.number_of(self.most(row, column), row, column)
         total = sum(self.weight[part] for part in rows)
-        return sum(self.weight[part] * value for part, value in zip(rows, found)) / total if total > 0 else 0.0
+        return (
+            sum(self.weight[part] * value for part, value in zip(rows, found)) / total
+            if total > 0
+            else 0.0
+        )
 
     def tonnes(self, row: int) -> float:
         return sum(self.weight[part] for part in self.of[row])
@@ -655,13 +984,19 @@ def parsed(text: str) -> ast.expr:
 
 def divided(a: float, b: float) -> float:
     """As numpy divides: by 0 that is no number or infinite, which `where` may pass over."""
-    return a / b if b else math.nan if not a or math.isnan(a) else math.copysign(math.inf, a) * math.copysign(1.0, b)
+    return (
+        a / b
+        if b
+        else math.nan
+        if not a or math.isnan(a)
+        else math.copysign(math.inf, a) * math.copysign(1.0, b)
+    )
 
 
 def raised(a: float, b: float) -> float:
     """A power as numpy has it, likewise."""
     try:
-        found: Any = math.inf if not a and b < 0 else a ** b
+        found: Any = math.inf if not a and b < 0 else a**b
     except OverflowError:
         found = -math.inf if a < 0 and b % 2 == 1 else math.inf
     return math.nan if isinstance(found, complex) else float(found)
@@ -670,12 +1005,33 @@ def raised(a: float, b: float) -> float:
 class Formula:
     """A formula of study.toml, worked out for one row at a time: numbers, words, columns, operators and five functions."""
 
-    BINARY: dict[type, Callable[[Any, Any], Any]] = {ast.Add: lambda a, b: a + b, ast.Sub: lambda a, b: a - b, ast.Mult: lambda a, b: a * b, ast.Div: divided, ast.Pow: raised}
-    ORDER: dict[type, Callable[[Any, Any], Any]] = {ast.Gt: lambda a, b: a > b, ast.GtE: lambda a, b: a >= b, ast.Lt: lambda a, b: a < b, ast.LtE: lambda a, b: a <= b,
-                                                     ast.Eq: lambda a, b: a == b, ast.NotEq: lambda a, b: a != b}
-    CALLS: dict[tuple[str, int], Callable[..., Any]] = {("where", 3): lambda a, b, c: b if a else c, ("min", 2): min, ("max", 2): max, ("abs", 1): abs,
-                                                        ("sqrt", 1): lambda a: math.sqrt(a) if a >= 0 else math.nan}
-    UNARY: dict[type, Callable[[Any], Any]] = {ast.USub: lambda a: -a, ast.UAdd: lambda a: +a, ast.Not: lambda a: not a}
+    BINARY: dict[type, Callable[[Any, Any], Any]] = {
+        ast.Add: lambda a, b: a + b,
+        ast.Sub: lambda a, b: a - b,
+        ast.Mult: lambda a, b: a * b,
+        ast.Div: divided,
+        ast.Pow: raised,
+    }
+    ORDER: dict[type, Callable[[Any, Any], Any]] = {
+        ast.Gt: lambda a, b: a > b,
+        ast.GtE: lambda a, b: a >= b,
+        ast.Lt: lambda a, b: a < b,
+        ast.LtE: lambda a, b: a <= b,
+        ast.Eq: lambda a, b: a == b,
+        ast.NotEq: lambda a, b: a != b,
+    }
+    CALLS: dict[tuple[str, int], Callable[..., Any]] = {
+        ("where", 3): lambda a, b, c: b if a else c,
+        ("min", 2): min,
+        ("max", 2): max,
+        ("abs", 1): abs,
+        ("sqrt", 1): lambda a: math.sqrt(a) if a >= 0 else math.nan,
+    }
+    UNARY: dict[type, Callable[[Any], Any]] = {
+        ast.USub: lambda a: -a,
+        ast.UAdd: lambda a: +a,
+        ast.Not: lambda a: not a,
+    }
 
     def __init__(self, text: str, cell: Callable[[str], Any]) -> None:
         self.tree, self.cell = parsed(text), cell
@@ -692,10 +1048,15 @@ class Formula:
         if isinstance(node, ast.UnaryOp) and type(node.op) in self.UNARY:
             return self.UNARY[type(node.op)](self.value(node.operand))
         if isinstance(node, ast.Compare) and all(type(op) in self.ORDER for op in node.ops):
-            sides = [side.strip() if isinstance(side, str) else side for side in map(self.value, (node.left, *node.comparators))]
+            sides = [
+                side.strip() if isinstance(side, str) else side
+                for side in map(self.value, (node.left, *node.comparators))
+            ]
             return all(self.ORDER[type(op)](a, b) for op, a, b in zip(node.ops, sides, sides[1:]))
         if isinstance(node, ast.BoolOp):
-            return (all if isinstance(node.op, ast.And) else any)([self.value(side) for side in node.values])
+            return (all if isinstance(node.op, ast.And) else any)(
+                [self.value(side) for side in node.values]
+            )
         if isinstance(node, ast.Call) and isinstance(node.func, ast.Name) and not node.keywords:
             words, called = [self.value(word) for word in node.args], (node.func.id, len(node.args))
             if called == ("column", 1) and isinstance(words[0], str):
@@ -752,7 +1113,9 @@ class Economics:
             table.asked(f"study.toml: [economics] metals, number {i},", "grade", metal["grade"])
 
     def rock(self, row: int) -> str:
-        return self.table.word(row, self.columns["rock"]).strip() if "rock" in self.columns else "rock"
+        return (
+            self.table.word(row, self.columns["rock"]).strip() if "rock" in self.columns else "rock"
+        )
 
     def tonnes(self, row: int) -> float:
         """Of a block."""
@@ -762,12 +1125,28 @@ class Economics:
         """What a formula gets for a column. Python reads some letters of a plain word as others that look alike, as the sign of micro as a
         Greek mu."""
         if name not in self.table.at:
-            name = next((column for column in self.table.names if unicodedata.normalize("NFKC", column) == name), name)
+            name = next(
+                (
+                    column
+                    for column in self.table.names
+                    if unicodedata.normalize("NFKC", column) == name
+                ),
+                name,
+            )
         if name in self.table.at:
             word = self.table.word(row, name).strip()
             if name not in self.has_words:
-                self.has_words[name] = name in (self.columns.get("rock"), self.columns.get("id")) or not self.table.is_of_numbers(name)
-            return word if self.has_words[name] else self.table.number(row, name) if word or word in self.table.absent else math.nan
+                self.has_words[name] = name in (
+                    self.columns.get("rock"),
+                    self.columns.get("id"),
+                ) or not self.table.is_of_numbers(name)
+            return (
+                word
+                if self.has_words[name]
+                else self.table.number(row, name)
+                if word or word in self.table.absent
+                else math.nan
+            )
         if name in ("rock", "tonnes"):
             return self.rock(row) if name == "rock" else self.tonnes(row)
         raise Bad(f"it names {shown(name)}, which is no column of {self.table.name}")
@@ -778,21 +1157,29 @@ class Economics:
             return kind(Formula(text, lambda name: self.cell(row, name)).value())
         except (Bad, *UNWORKABLE) as error:
             why = error if isinstance(error, Bad) else "it is no formula, or it counts with words"
-            raise Bad(f"study.toml: [economics] {key} is {shown(text)}, and has to be a formula that can be worked out; for row {row + 2} of {self.table.name} it can't be: {why}") from None
+            raise Bad(
+                f"study.toml: [economics] {key} is {shown(text)}, and has to be a formula that can be worked out; for row {row + 2} of {self.table.name} it can't be: {why}"
+            ) from None
 
     def amount(self, key: str, given: Any, row: int) -> float:
         """A number, a column, a formula, or a number by rock."""
         if isinstance(given, dict):
             return float(given.get(self.rock(row), given.get("other", 0.0)))
         if isinstance(given, str):
-            return self.table.number(row, given) if given in self.table.at else float(self.formula(key, given, row, finite))
+            return (
+                self.table.number(row, given)
+                if given in self.table.at
+                else float(self.formula(key, given, row, finite))
+            )
         return float(given)
 
     def is_fenced(self, row: int) -> bool:
         """Whether a formula of forbid keeps the block of a row, or one of its sub-blocks; it keeps no air, which has no tonnes."""
         if self.of_parts and isinstance(self.table, AddedUp):
             return any(map(self.of_parts.is_fenced, self.table.of[row]))
-        return self.tonnes(row) > 0 and any(self.formula("forbid", text, row, yes_or_no) for text in self.told.get("forbid", ()))
+        return self.tonnes(row) > 0 and any(
+            self.formula("forbid", text, row, yes_or_no) for text in self.told.get("forbid", ())
+        )
 
     def of_row(self, row: int) -> Worked:
         """What the block of a row comes to."""
@@ -804,33 +1191,79 @@ class Economics:
         for metal in told["metals"] if takes else ():
             content = GRADES[metal.get("grade_unit", "%")] / PRICES[metal.get("price_unit", "t")]
             grades[metal["name"]] = grade = self.table.number(row, metal["grade"])
-            metals[metal["name"]] = units = tonnes * kept * grade * content * self.amount("recovery", metal.get("recovery", 1.0), row)
+            metals[metal["name"]] = units = (
+                tonnes
+                * kept
+                * grade
+                * content
+                * self.amount("recovery", metal.get("recovery", 1.0), row)
+            )
             revenue += units * metal["price"] * metal.get("payable", 1.0)
             selling += units * metal.get("selling", 0.0)
-        treating = tonnes * kept * (1 + told.get("dilution", 0.0)) * self.amount("processing", told["processing"], row) + selling if takes else 0.0
-        return Worked(revenue, treating, tonnes * self.amount("mining", told["mining"], row), tonnes, grades, metals)
+        treating = (
+            tonnes
+            * kept
+            * (1 + told.get("dilution", 0.0))
+            * self.amount("processing", told["processing"], row)
+            + selling
+            if takes
+            else 0.0
+        )
+        return Worked(
+            revenue,
+            treating,
+            tonnes * self.amount("mining", told["mining"], row),
+            tonnes,
+            grades,
+            metals,
+        )
 
     def is_near(self, ours: float, theirs: int) -> bool:
         """Whether an amount in millionths is the nearest multiple of `rounding`."""
-        return math.isfinite(ours) and theirs % round(self.rounding * MICRO) == 0 and abs(theirs / MICRO - ours) <= self.rounding * 0.500001 + 1e-9 * abs(ours)
+        return (
+            math.isfinite(ours)
+            and theirs % round(self.rounding * MICRO) == 0
+            and abs(theirs / MICRO - ours) <= self.rounding * 0.500001 + 1e-9 * abs(ours)
+        )
 
 
 def codes_of(economics: dict[str, Any], by: str | None) -> set[str]:
     """The columns that stand for codes: those that `by`, a comparison or `forbid` names, without the grades of metals."""
+
     def names(tree: ast.AST) -> set[str]:
         nodes = list(ast.walk(tree))
         return {node.id for node in nodes if isinstance(node, ast.Name)} | {
-            str(node.args[0].value) for node in nodes if isinstance(node, ast.Call) and ast.unparse(node.func) == "column" and node.args and isinstance(node.args[0], ast.Constant)}
+            str(node.args[0].value)
+            for node in nodes
+            if isinstance(node, ast.Call)
+            and ast.unparse(node.func) == "column"
+            and node.args
+            and isinstance(node.args[0], ast.Constant)
+        }
 
     def tree_of(text: str) -> ast.AST:
         try:
             return parsed(text)
         except UNWORKABLE:
-            return ast.Constant(0)               # a column whose name is no plain word, or no formula, which is told where it is worked out
+            return ast.Constant(
+                0
+            )  # a column whose name is no plain word, or no formula, which is told where it is worked out
 
-    amounts = [economics["mining"], economics["processing"], *(metal.get("recovery") for metal in economics["metals"])]
-    compared = [node for text in amounts if isinstance(text, str) for node in ast.walk(tree_of(text)) if isinstance(node, ast.Compare)]
-    found = set().union(*map(names, compared), *(names(tree_of(text)) for text in economics.get("forbid", ())))
+    amounts = [
+        economics["mining"],
+        economics["processing"],
+        *(metal.get("recovery") for metal in economics["metals"]),
+    ]
+    compared = [
+        node
+        for text in amounts
+        if isinstance(text, str)
+        for node in ast.walk(tree_of(text))
+        if isinstance(node, ast.Compare)
+    ]
+    found = set().union(
+        *map(names, compared), *(names(tree_of(text)) for text in economics.get("forbid", ()))
+    )
     return (found - {metal["grade"] for metal in economics["metals"]}) | ({by} if by else set())
 
 
@@ -846,7 +1279,9 @@ def pairs_listed() -> int:
         for n, line in enumerate(file, 1):
             fields = line.split()
             if len(fields) < 2 or fields[1] != b"%d" % (len(fields) - 2):
-                raise Bad(f"model/mine.prec: line {n} is {shown(line[:80].decode(errors='replace').rstrip())}, and has to be a block, how many predecessors it has, and these")
+                raise Bad(
+                    f"model/mine.prec: line {n} is {shown(line[:80].decode(errors='replace').rstrip())}, and has to be a block, how many predecessors it has, and these"
+                )
             found += len(fields) - 2
     return found
 
@@ -855,19 +1290,39 @@ def check_facts(told: Told, blocks: Blocks, facts: dict[str, Any]) -> None:
     """What facts.json and model/manifest.json say of the other files is so, and is what study.toml asks for."""
     manifest, model = manifest_of(), study_of("model", "size", "rotation", "columns", "z")
     table, grid = digest_of(within(facts["table"])), facts["grid"]
-    told.check(table == facts["sha256"] == manifest["source"]["sha256"], "the table is the one that the model was built from")
-    listed = {name: digest for name, digest in manifest["files"].items() if name != "blocks.npz"}        # pitplan's own, not bundled
+    told.check(
+        table == facts["sha256"] == manifest["source"]["sha256"],
+        "the table is the one that the model was built from",
+    )
+    listed = {
+        name: digest for name, digest in manifest["files"].items() if name != "blocks.npz"
+    }  # pitplan's own, not bundled
     bad = [name for name, digest in listed.items() if digest_of(within(f"model/{name}")) != digest]
-    told.check(not bad and {"mine.blocks", "mine.prec", "settings.toml"} <= set(listed), "the files of model/ are those that were built" + (f": not so for {', '.join(bad)}" if bad else ""))
+    told.check(
+        not bad and {"mine.blocks", "mine.prec", "settings.toml"} <= set(listed),
+        "the files of model/ are those that were built"
+        + (f": not so for {', '.join(bad)}" if bad else ""),
+    )
     offsets = [offsets_of(name) for name in slope_files()]
     regions = ["default", *study_of("slopes", "regions").get("regions", {})]
-    told.check(offsets == list(manifest["offsets"].values()) and list(manifest["offsets"]) == regions, f"the lists of offsets are those of the {len(regions):,} slopes of study.toml")
+    told.check(
+        offsets == list(manifest["offsets"].values()) and list(manifest["offsets"]) == regions,
+        f"the lists of offsets are those of the {len(regions):,} slopes of study.toml",
+    )
     pairs = pairs_listed()
-    told.check(len(blocks.places) == facts["blocks"] == manifest["blocks"] and pairs == facts["pairs"] == manifest["pairs"], f"the model has {len(blocks.places):,} blocks and {pairs:,} pairs")
+    told.check(
+        len(blocks.places) == facts["blocks"] == manifest["blocks"]
+        and pairs == facts["pairs"] == manifest["pairs"],
+        f"the model has {len(blocks.places):,} blocks and {pairs:,} pairs",
+    )
     asked = {"size": model.get("size", grid["size"]), "rotation": model.get("rotation", 0.0)}
     columns = {**facts["columns"], **model.get("columns", {})}
-    told.check(asked == {key: grid[key] for key in asked} and columns == facts["columns"] and facts["depth"] == (model.get("z") == "depth"),
-               "the grid and the columns are those of [model] in study.toml")
+    told.check(
+        asked == {key: grid[key] for key in asked}
+        and columns == facts["columns"]
+        and facts["depth"] == (model.get("z") == "depth"),
+        "the grid and the columns are those of [model] in study.toml",
+    )
     currency = study_of("economics", "currency").get("currency", "$")
     told.check(currency == facts["currency"] == manifest["currency"], f"amounts are in {currency}")
 
@@ -876,29 +1331,50 @@ def check_table(told: Told, blocks: Blocks, facts: dict[str, Any]) -> OfRows | N
     """Each block's place, tonnes and amounts are those of its row of the planner's table, or of its sub-blocks added up again. Gives what
     the rows say, None where they aren't those of the blocks."""
     model = study_of("model", "absent", "missing", "widen", "regularise")
-    told.say("look", "the columns that were taken: " + ", ".join(f"{key} = {name}" for key, name in facts["columns"].items()))
+    told.say(
+        "look",
+        "the columns that were taken: "
+        + ", ".join(f"{key} = {name}" for key, name in facts["columns"].items()),
+    )
     table = table_of(told, facts, model)
     economics = Economics(economics_of(), table, facts)
     check_passed(told, table, facts)
     rows = [line.row - 2 for line in numbering()]
     known = [row for row in rows if row >= 0]
-    wanted, what = list(table.rows), f"each of the {len(table.rows):,} rows of the table is one block"
+    wanted, what = (
+        list(table.rows),
+        f"each of the {len(table.rows):,} rows of the table is one block",
+    )
     if isinstance(table, AddedUp):
-        wanted, what = list(table.of), f"the {len(table.rows):,} rows of the table are {len(table.of):,} blocks, each in its first row"
+        wanted, what = (
+            list(table.of),
+            f"the {len(table.rows):,} rows of the table are {len(table.of):,} blocks, each in its first row",
+        )
     if not told.check(len(rows) == len(blocks.places) and sorted(known) == sorted(wanted), what):
         return None
     steps: dict[str, Callable[[int, int], bool]] = {
         "place": lambda b, row: is_placed(table, row, blocks.places[b], facts),
-        "tonnage": lambda b, row: math.isfinite(blocks.tonnes[b]) and abs(economics.tonnes(row) - blocks.tonnes[b]) <= 6e-4 + 1e-9 * blocks.tonnes[b]}
+        "tonnage": lambda b, row: math.isfinite(blocks.tonnes[b])
+        and abs(economics.tonnes(row) - blocks.tonnes[b]) <= 6e-4 + 1e-9 * blocks.tonnes[b],
+    }
     for what, is_right in steps.items():
         bad = [row for b, row in enumerate(rows) if row >= 0 and not is_right(b, row)]
-        told.check(not bad, f"the {what} of each block is that of its row" + (f": not so for {len(bad):,}, the first is row {bad[0] + 2}" if bad else ""))
+        told.check(
+            not bad,
+            f"the {what} of each block is that of its row"
+            + (f": not so for {len(bad):,}, the first is row {bad[0] + 2}" if bad else ""),
+        )
     fenced = [b for b, row in enumerate(rows) if row >= 0 and economics.is_fenced(row)]
     is_asked = model.get("widen", 0) != 0 or model.get("missing", "refuse") != "refuse"
     strange = [] if is_asked else added_without_need(blocks, rows)
     if strange:
-        told.check(False, f"{len(strange):,} blocks have no row, and study.toml asks for none (widen, missing)")
-    return OfRows(regions_of(table, rows), check_amounts(told, economics, blocks, rows, set(fenced)), fenced)
+        told.check(
+            False,
+            f"{len(strange):,} blocks have no row, and study.toml asks for none (widen, missing)",
+        )
+    return OfRows(
+        regions_of(table, rows), check_amounts(told, economics, blocks, rows, set(fenced)), fenced
+    )
 
 
 def table_of(told: Told, facts: dict[str, Any], model: dict[str, Any]) -> Table:
@@ -910,7 +1386,11 @@ def table_of(told: Told, facts: dict[str, Any], model: dict[str, Any]) -> Table:
     codes = codes_of(economics_of(), study_of("slopes", "by").get("by"))
     table = AddedUp(facts, absent, codes)
     fault = table.fault()
-    told.check(fault is None, "each sub-block lies within its block, and none fill more than that" + (f": {fault}" if fault else ""))
+    told.check(
+        fault is None,
+        "each sub-block lies within its block, and none fill more than that"
+        + (f": {fault}" if fault else ""),
+    )
     return table
 
 
@@ -921,13 +1401,22 @@ def added_without_need(blocks: Blocks, rows: list[int]) -> list[int]:
     for place, row in zip(blocks.places, rows):
         if row >= 0:
             ground[place[:2]] = max(place[2], ground.get(place[:2], -1))
-    return [b for b, (place, row) in enumerate(zip(blocks.places, rows))
-            if row < 0 and (blocks.tonnes[b] or any(blocks.amounts[b]) or place[2] <= ground.get(place[:2], place[2]))]
+    return [
+        b
+        for b, (place, row) in enumerate(zip(blocks.places, rows))
+        if row < 0
+        and (
+            blocks.tonnes[b]
+            or any(blocks.amounts[b])
+            or place[2] <= ground.get(place[:2], place[2])
+        )
+    ]
 
 
 def regions_of(table: Table, rows: list[int]) -> list[int | None]:
     """Which list of offsets each block has: that of the region that its row names, by the order of [slopes] regions; 0, that of
-    `angles`, for all others; None of blocks without a row. In a column of numbers 1 and 1.0 are the same region."""
+    `angles`, for all others; None of blocks without a row. In a column of numbers 1 and 1.0 are the same region.
+    """
     slopes = study_of("slopes", "by", "regions")
     names = list(slopes.get("regions", {}))
     if not names:
@@ -936,10 +1425,19 @@ def regions_of(table: Table, rows: list[int]) -> list[int | None]:
     by = by if by in table.at else table.facts["columns"].get(by, by)
     table.asked("study.toml: [slopes]", "by", by)
     cells = {table.word(row, by).strip() for row in rows if row >= 0}
-    is_numbers = by not in (table.facts["columns"].get("rock"), table.facts["columns"].get("id")) and table.is_of_numbers(by)
+    is_numbers = by not in (
+        table.facts["columns"].get("rock"),
+        table.facts["columns"].get("id"),
+    ) and table.is_of_numbers(by)
     of_cell: dict[str, int] = {}
     for cell in cells:
-        number = 0.0 if cell in table.absent else float(cell.replace(table.told["decimal"], ".")) if is_numbers and cell else math.nan
+        number = (
+            0.0
+            if cell in table.absent
+            else float(cell.replace(table.told["decimal"], "."))
+            if is_numbers and cell
+            else math.nan
+        )
         word = cell if not is_numbers else f"{number:.0f}" if number.is_integer() else str(number)
         of_cell[cell] = 1 + names.index(word) if word in names else 0
     return [of_cell[table.word(row, by).strip()] if row >= 0 else None for row in rows]
@@ -948,9 +1446,22 @@ def regions_of(table: Table, rows: list[int]) -> list[int | None]:
 def check_passed(told: Told, table: Table, facts: dict[str, Any]) -> None:
     """Lines of descriptions between the header and the first block; a line with three coordinates is a block."""
     names = [facts["columns"][key] for key in "xyz"]
-    blocks = [i for i, row in table.passed.items() if all(NUMBER.fullmatch(row[at].strip().replace(table.told["decimal"], ".")) if (at := table.at[name]) < len(row) else False for name in names)]
+    blocks = [
+        i
+        for i, row in table.passed.items()
+        if all(
+            NUMBER.fullmatch(row[at].strip().replace(table.told["decimal"], "."))
+            if (at := table.at[name]) < len(row)
+            else False
+            for name in names
+        )
+    ]
     if table.passed:
-        told.check(not blocks, f"{len(table.passed):,} lines below the header are descriptions and no blocks" + (f": not so in row {blocks[0] + 2}" if blocks else ""))
+        told.check(
+            not blocks,
+            f"{len(table.passed):,} lines below the header are descriptions and no blocks"
+            + (f": not so in row {blocks[0] + 2}" if blocks else ""),
+        )
 
 
 class Numbered(NamedTuple):
@@ -964,10 +1475,19 @@ class Numbered(NamedTuple):
 
 def numbering() -> list[Numbered]:
     """tables/blocks.csv."""
-    return [Numbered(line.word("block"), line.whole("row"), round(line.number("shell") * THOUSAND) if line.word("shell") else 0) for line in read_table("blocks.csv")]
+    return [
+        Numbered(
+            line.word("block"),
+            line.whole("row"),
+            round(line.number("shell") * THOUSAND) if line.word("shell") else 0,
+        )
+        for line in read_table("blocks.csv")
+    ]
 
 
-def check_amounts(told: Told, economics: Economics, blocks: Blocks, rows: list[int], fenced: set[int]) -> list[Worked | None]:
+def check_amounts(
+    told: Told, economics: Economics, blocks: Blocks, rows: list[int], fenced: set[int]
+) -> list[Worked | None]:
     """What each block brings and costs, by the table and [economics]; gives it, None of blocks without a row. Those of `fenced` may not
     be dug, and digging one costs more than the mine brings."""
     bad, most = [], 2 * sum(amounts[0] for amounts in blocks.amounts)
@@ -977,16 +1497,34 @@ def check_amounts(told: Told, economics: Economics, blocks: Blocks, rows: list[i
         if ours is None:
             is_right = revenue == processing == 0 <= mining
         else:
-            is_right = economics.is_near(ours.revenue, revenue) and economics.is_near(ours.processing, processing) and (mining > most if b in fenced else economics.is_near(ours.mining, mining))
+            is_right = (
+                economics.is_near(ours.revenue, revenue)
+                and economics.is_near(ours.processing, processing)
+                and (mining > most if b in fenced else economics.is_near(ours.mining, mining))
+            )
         if not is_right:
             bad.append((b, row))
-    more = f": not so for {len(bad):,} blocks, the first is {bad[0][0]} of row {bad[0][1] + 2}" if bad else ""
-    told.check(not bad, "what each block brings and costs, worked out again from the table and study.toml, is what pit was given" + more)
+    more = (
+        f": not so for {len(bad):,} blocks, the first is {bad[0][0]} of row {bad[0][1] + 2}"
+        if bad
+        else ""
+    )
+    told.check(
+        not bad,
+        "what each block brings and costs, worked out again from the table and study.toml, is what pit was given"
+        + more,
+    )
     if fenced:
-        told.say("ok", f"{len(fenced):,} blocks may not be dug by forbid, and cost more than the whole mine brings")
+        told.say(
+            "ok",
+            f"{len(fenced):,} blocks may not be dug by forbid, and cost more than the whole mine brings",
+        )
     added = sum(row < 0 for row in rows)
     if added:
-        told.say("look", f"{added:,} blocks have no row (widen, missing, air beside steep ground): they bring nothing, and what digging them costs isn't worked out again")
+        told.say(
+            "look",
+            f"{added:,} blocks have no row (widen, missing, air beside steep ground): they bring nothing, and what digging them costs isn't worked out again",
+        )
     return worked
 
 
@@ -994,9 +1532,17 @@ def local_steps(table: Table, row: int, facts: dict[str, Any]) -> list[float]:
     """Where a row's coordinates are on the grid, in blocks from its first along the model's axes."""
     grid, columns = facts["grid"], facts["columns"]
     east, north, up = (Table.number(table, row, columns[key]) for key in "xyz")
-    east, north, up = east - grid["origin"][0], north - grid["origin"][1], (-up if facts["depth"] else up) - grid["origin"][2]
+    east, north, up = (
+        east - grid["origin"][0],
+        north - grid["origin"][1],
+        (-up if facts["depth"] else up) - grid["origin"][2],
+    )
     turn = math.radians(grid["rotation"])
-    local = (east * math.cos(turn) - north * math.sin(turn), east * math.sin(turn) + north * math.cos(turn), up)
+    local = (
+        east * math.cos(turn) - north * math.sin(turn),
+        east * math.sin(turn) + north * math.cos(turn),
+        up,
+    )
     return [value / size for value, size in zip(local, grid["size"])]
 
 
@@ -1013,9 +1559,17 @@ def centre_of(place: tuple[int, ...], facts: dict[str, Any]) -> tuple[float, ...
 def is_placed(table: Table, row: int, place: tuple[int, ...], facts: dict[str, Any]) -> bool:
     """Whether a row's coordinates are those of a place of the grid, to 0.06 of a block; of sub-blocks, whether they lie nearest to it."""
     if isinstance(table, AddedUp):
-        return all(tuple(round(step) for step in local_steps(table, part, facts)) == place for part in table.of[row])
+        return all(
+            tuple(round(step) for step in local_steps(table, part, facts)) == place
+            for part in table.of[row]
+        )
     grid, columns = facts["grid"], facts["columns"]
-    return all(abs(table.number(row, columns[key]) - value) <= 0.06 * size for key, value, size in zip("xyz", centre_of(place, facts), (min(grid["size"][:2]),) * 2 + (grid["size"][2],)))
+    return all(
+        abs(table.number(row, columns[key]) - value) <= 0.06 * size
+        for key, value, size in zip(
+            "xyz", centre_of(place, facts), (min(grid["size"][:2]),) * 2 + (grid["size"][2],)
+        )
+    )
 
 
 class Sum:
@@ -1023,12 +1577,18 @@ class Sum:
 
     def __init__(self) -> None:
         self.blocks, self.worth, self.rock, self.ore = 0, 0, 0.0, 0.0
-        self.graded, self.metal = defaultdict[str, float](float), defaultdict[str, float](float)      # of each metal tonnes of ore times their grade, and what is recovered
+        self.graded, self.metal = defaultdict[str, float](float), defaultdict[str, float](
+            float
+        )  # of each metal tonnes of ore times their grade, and what is recovered
 
     def add(self, blocks: Blocks, b: int, worked: Worked | None) -> None:
         """Counts a block in."""
         revenue, processing, _ = blocks.amounts[b]
-        self.blocks, self.worth, self.rock = self.blocks + 1, self.worth + blocks.worth(b, THOUSAND), self.rock + blocks.tonnes[b]
+        self.blocks, self.worth, self.rock = (
+            self.blocks + 1,
+            self.worth + blocks.worth(b, THOUSAND),
+            self.rock + blocks.tonnes[b],
+        )
         if revenue > processing:
             self.ore += blocks.tonnes[b]
             if worked:
@@ -1038,23 +1598,49 @@ class Sum:
 
     def join(self, other: Sum) -> None:
         """Counts in what others add up to."""
-        self.blocks, self.worth, self.rock, self.ore = self.blocks + other.blocks, self.worth + other.worth, self.rock + other.rock, self.ore + other.ore
+        self.blocks, self.worth, self.rock, self.ore = (
+            self.blocks + other.blocks,
+            self.worth + other.worth,
+            self.rock + other.rock,
+            self.ore + other.ore,
+        )
         for name in other.graded:
             self.graded[name] += other.graded[name]
             self.metal[name] += other.metal[name]
 
     def is_line(self, line: Line, is_pit: bool, feed: float, metals: list[str]) -> bool:
         """Whether a line of a table, of a pit or of a bench, has these blocks, tonnes and worth, of these metals the amounts and the grades,
-        and of a pit the mill's feed and the strip ratio. `mine.blocks` has tonnes to three decimals."""
+        and of a pit the mill's feed and the strip ratio. `mine.blocks` has tonnes to three decimals.
+        """
         off = 6e-4 * self.blocks
-        sums = {"rock_t": (self.rock, off), "ore_t": (self.ore, off), "waste_t": (self.rock - self.ore, 2 * off), **({} if is_pit else {"worth": (self.worth / NANO, 1e-3)}),
-                **{f"metal_{name}": (self.metal[name], 0.0) for name in metals}, **({"feed_t": (self.ore * feed, off * feed)} if is_pit else {})}
-        if not all(is_close(line.number(name), *of) for name, of in sums.items()) or line.whole("blocks") != self.blocks or is_pit and line.number("worth_at_base") != self.worth / NANO:
+        sums = {
+            "rock_t": (self.rock, off),
+            "ore_t": (self.ore, off),
+            "waste_t": (self.rock - self.ore, 2 * off),
+            **({} if is_pit else {"worth": (self.worth / NANO, 1e-3)}),
+            **{f"metal_{name}": (self.metal[name], 0.0) for name in metals},
+            **({"feed_t": (self.ore * feed, off * feed)} if is_pit else {}),
+        }
+        if (
+            not all(is_close(line.number(name), *of) for name, of in sums.items())
+            or line.whole("blocks") != self.blocks
+            or is_pit
+            and line.number("worth_at_base") != self.worth / NANO
+        ):
             return False
-        by_ore = {f"grade_{name}": self.graded[name] for name in metals} | ({"strip": self.rock - self.ore} if is_pit else {})
+        by_ore = {f"grade_{name}": self.graded[name] for name in metals} | (
+            {"strip": self.rock - self.ore} if is_pit else {}
+        )
         if not self.ore:
             return all(line.word(name) == "" for name in by_ore)
-        return all(is_close(line.number(name), value / self.ore, 3 * off * (1 + (self.rock + value) / self.ore) / self.ore) for name, value in by_ore.items())
+        return all(
+            is_close(
+                line.number(name),
+                value / self.ore,
+                3 * off * (1 + (self.rock + value) / self.ore) / self.ore,
+            )
+            for name, value in by_ore.items()
+        )
 
 
 def is_close(found: float, value: float, far: float) -> bool:
@@ -1080,7 +1666,9 @@ class Line(NamedTuple):
         """A cell as a number."""
         cell = self.word(column)
         if not NUMBER.fullmatch(cell) or not math.isfinite(float(cell)):
-            raise Bad(f"{self.file}, line {self.at}, column {column}: the cell is {shown(cell)}, and has to be a number")
+            raise Bad(
+                f"{self.file}, line {self.at}, column {column}: the cell is {shown(cell)}, and has to be a number"
+            )
         return float(cell)
 
     def exact(self, column: str) -> Decimal:
@@ -1092,7 +1680,9 @@ class Line(NamedTuple):
         """A cell as a whole number."""
         cell = self.word(column)
         if not re.fullmatch(r"-?[0-9]{1,18}", cell):
-            raise Bad(f"{self.file}, line {self.at}, column {column}: the cell is {shown(cell)}, and has to be a whole number")
+            raise Bad(
+                f"{self.file}, line {self.at}, column {column}: the cell is {shown(cell)}, and has to be a whole number"
+            )
         return int(cell)
 
 
@@ -1106,17 +1696,32 @@ def read_table(name: str) -> list[Line]:
         raise Bad(f"{path} is no table in UTF-8: {error}") from None
 
 
-def check_tables(told: Told, blocks: Blocks, facts: dict[str, Any], shell: list[int], worked: list[Worked | None] | None) -> None:
+def check_tables(
+    told: Told,
+    blocks: Blocks,
+    facts: dict[str, Any],
+    shell: list[int],
+    worked: list[Worked | None] | None,
+) -> None:
     """The tables say what the certificates do, and of metals what the planner's table does."""
     lines_of = numbering()
     is_counted = [line.block for line in lines_of] == [str(b) for b in range(len(shell))]
     bad = [n for n, (ours, line) in enumerate(zip(shell, lines_of), 2) if ours != line.shell]
-    told.check(is_counted and not bad, "tables/blocks.csv has the number and the shell of each block" + (f": not so in line {bad[0]}" if bad else ""))
+    told.check(
+        is_counted and not bad,
+        "tables/blocks.csv has the number and the shell of each block"
+        + (f": not so in line {bad[0]}" if bad else ""),
+    )
     verdicts, benches = verdicts_of(), dict[tuple[float, int], Sum]()
     pits = {verdict["factor"]: Sum() for verdict in verdicts}
     for b, factor in enumerate(shell):
         if factor:
-            bench = (round(facts["grid"]["origin"][2] + blocks.places[b][2] * facts["grid"]["size"][2], 3), factor)
+            bench = (
+                round(
+                    facts["grid"]["origin"][2] + blocks.places[b][2] * facts["grid"]["size"][2], 3
+                ),
+                factor,
+            )
             benches.setdefault(bench, Sum()).add(blocks, b, worked[b] if worked else None)
     for (_, factor), part in benches.items():
         for larger, found in pits.items():
@@ -1126,38 +1731,87 @@ def check_tables(told: Told, blocks: Blocks, facts: dict[str, Any], shell: list[
     metals = [metal["name"] for metal in economics["metals"]] if worked else []
     feed = economics.get("mining_recovery", 1.0) * (1 + economics.get("dilution", 0.0))
     lines = read_table("pit_by_pit.csv")
-    bad = [n for n, (line, verdict) in enumerate(zip(lines, verdicts), 2) if round(line.number("factor") * THOUSAND) != verdict["factor"]
-           or line.exact("worth_at_factor") != Decimal(verdict["worth"]) or not pits[verdict["factor"]].is_line(line, True, feed, metals)]
+    bad = [
+        n
+        for n, (line, verdict) in enumerate(zip(lines, verdicts), 2)
+        if round(line.number("factor") * THOUSAND) != verdict["factor"]
+        or line.exact("worth_at_factor") != Decimal(verdict["worth"])
+        or not pits[verdict["factor"]].is_line(line, True, feed, metals)
+    ]
     of = ", the grades and the metals" if worked else ""
-    told.check(len(lines) == len(verdicts) and not bad, f"tables/pit_by_pit.csv has the blocks, the tonnes, the worths{of} of each pit" + (f": not so in line {bad[0]}" if bad else ""))
+    told.check(
+        len(lines) == len(verdicts) and not bad,
+        f"tables/pit_by_pit.csv has the blocks, the tonnes, the worths{of} of each pit"
+        + (f": not so in line {bad[0]}" if bad else ""),
+    )
     lines = read_table("benches.csv")
-    keys = [(round(line.number("bench"), 3), round(line.number("shell") * THOUSAND)) for line in lines]
-    bad = [n for n, (key, line) in enumerate(zip(keys, lines), 2) if key not in benches or not benches[key].is_line(line, False, feed, metals)]
-    told.check(sorted(keys) == sorted(benches) and not bad, f"tables/benches.csv has the blocks, the tonnes, the worth{of} of each bench and shell" + (f": not so in line {bad[0]}" if bad else ""))
+    keys = [
+        (round(line.number("bench"), 3), round(line.number("shell") * THOUSAND)) for line in lines
+    ]
+    bad = [
+        n
+        for n, (key, line) in enumerate(zip(keys, lines), 2)
+        if key not in benches or not benches[key].is_line(line, False, feed, metals)
+    ]
+    told.check(
+        sorted(keys) == sorted(benches) and not bad,
+        f"tables/benches.csv has the blocks, the tonnes, the worth{of} of each bench and shell"
+        + (f": not so in line {bad[0]}" if bad else ""),
+    )
 
 
-def of_region(lines: tuple[bytes, ...], regions: list[int | None] | None, block: int) -> tuple[bytes, ...]:
+def of_region(
+    lines: tuple[bytes, ...], regions: list[int | None] | None, block: int
+) -> tuple[bytes, ...]:
     """The lines that `pit slopes` gives a block by the list of its region; by any of the lists where its region isn't known."""
     at = regions[block] if regions is not None else None
-    return lines if at is None else lines[at:at + 1]
+    return lines if at is None else lines[at : at + 1]
 
 
 def check_slopes(told: Told, pit: str, regions: list[int | None] | None) -> None:
     """Each block's predecessors are those that `pit slopes` gives it by the list of offsets of its region; by any of the lists where
     its region isn't known."""
     lists = slope_files()
-    words = [pit, "slopes", "--blocks", str(within("model/mine.blocks")), "--pattern", "settings", "--settings"]
-    runs = [subprocess.Popen([*words, str(within(f"model/{name}"))], stdout=subprocess.PIPE) for name in lists]
+    words = [
+        pit,
+        "slopes",
+        "--blocks",
+        str(within("model/mine.blocks")),
+        "--pattern",
+        "settings",
+        "--settings",
+    ]
+    runs = [
+        subprocess.Popen([*words, str(within(f"model/{name}"))], stdout=subprocess.PIPE)
+        for name in lists
+    ]
     try:
         with open(within("model/mine.prec"), "rb") as file:
             found = enumerate(zip_longest(file, *(run.stdout or () for run in runs)))
-            bad = next((n for n, lines in found if None in lines or lines[0] not in of_region(lines[1:], regions, n)), None)
+            bad = next(
+                (
+                    n
+                    for n, lines in found
+                    if None in lines or lines[0] not in of_region(lines[1:], regions, n)
+                ),
+                None,
+            )
     finally:
         for run in runs:
             run.kill()
             run.wait()
-    of = "" if len(lists) == 1 else ", whichever of these" if regions is None else ", for its region that of these"
-    told.check(bad is None, f"each block's predecessors are those that pit slopes gives it by model/{', '.join(lists)}{of}" + (f": not so in line {bad + 1}" if bad is not None else ""))
+    of = (
+        ""
+        if len(lists) == 1
+        else ", whichever of these"
+        if regions is None
+        else ", for its region that of these"
+    )
+    told.check(
+        bad is None,
+        f"each block's predecessors are those that pit slopes gives it by model/{', '.join(lists)}{of}"
+        + (f": not so in line {bad + 1}" if bad is not None else ""),
+    )
     if len(lists) > 1 and not regions:
         told.say("look", "whether each block is in the region that it should be in")
     tell_walls(told, lists)
@@ -1169,7 +1823,10 @@ def tell_walls(told: Told, lists: list[str]) -> None:
     grid, slopes = facts_of()["grid"], study_of("slopes", "angles", "regions", "safe")
     asked = {"default": slopes.get("angles", 45.0), **slopes.get("regions", {})}
     for name, (region, angles) in zip(lists, asked.items()):
-        errors = [built - wanted for built, wanted in zip(built_angles(offsets_of(name), grid), asked_angles(angles))]
+        errors = [
+            built - wanted
+            for built, wanted in zip(built_angles(offsets_of(name), grid), asked_angles(angles))
+        ]
         steeper, flatter = max(0.0, *errors), max(0.0, *(-error for error in errors))
         what = f"the slopes of {region}: a deep wall of model/{name} is at most {steeper:.2f} degrees steeper and {flatter:.2f} flatter than study.toml asks"
         if slopes.get("safe") and steeper > 0.005:
@@ -1182,14 +1839,21 @@ def built_angles(offsets: list[list[int]], grid: dict[str, Any]) -> list[float]:
     """Degrees of a deep wall at each whole bearing: over many levels a pit opens to the hull of its offsets, each divided by its level."""
     (x, y, z), turn = grid["size"], math.radians(grid["rotation"])
     flat = [(i * x / (k * z), j * y / (k * z)) for i, j, k in offsets]
-    points = sorted({(u * math.cos(turn) + v * math.sin(turn), v * math.cos(turn) - u * math.sin(turn)) for u, v in flat})
+    points = sorted(
+        {
+            (u * math.cos(turn) + v * math.sin(turn), v * math.cos(turn) - u * math.sin(turn))
+            for u, v in flat
+        }
+    )
     corners = [*half_hull(points), *half_hull(points[::-1])]
     found = []
     for bearing in range(360):
         east, north, out = math.sin(math.radians(bearing)), math.cos(math.radians(bearing)), 0.0
         for (a, b), (c, d) in zip(corners, corners[1:] + corners[:1]):
             left, right = a * north - b * east, c * north - d * east
-            if left * right <= 0 and left != right:              # the edge crosses the bearing: so far out for a metre of height
+            if (
+                left * right <= 0 and left != right
+            ):  # the edge crosses the bearing: so far out for a metre of height
                 share = left / (left - right)
                 out = max(out, (a + (c - a) * share) * east + (b + (d - b) * share) * north)
         found.append(math.degrees(math.atan2(1.0, out)))
@@ -1200,7 +1864,9 @@ def half_hull(points: list[tuple[float, float]]) -> list[tuple[float, float]]:
     """The corners on one side of the hull of sorted points, without the last."""
     found: list[tuple[float, float]] = []
     for e, n in points:
-        while len(found) > 1 and (found[-1][0] - found[-2][0]) * (n - found[-2][1]) <= (found[-1][1] - found[-2][1]) * (e - found[-2][0]):
+        while len(found) > 1 and (found[-1][0] - found[-2][0]) * (n - found[-2][1]) <= (
+            found[-1][1] - found[-2][1]
+        ) * (e - found[-2][0]):
             found.pop()
         found.append((e, n))
     return found[:-1]
@@ -1208,13 +1874,19 @@ def half_hull(points: list[tuple[float, float]]) -> list[tuple[float, float]]:
 
 def asked_angles(told: Any) -> list[float]:
     """Degrees that study.toml asks for at each whole bearing; between two bearings the angle changes evenly."""
-    pairs = sorted((float(bearing) % 360, float(angle)) for bearing, angle in told) if isinstance(told, list) else [(0.0, float(told))]
+    pairs = (
+        sorted((float(bearing) % 360, float(angle)) for bearing, angle in told)
+        if isinstance(told, list)
+        else [(0.0, float(told))]
+    )
     found = []
     for bearing in range(360):
         low = max((pair for pair in pairs if pair[0] <= bearing), default=pairs[-1])
         high = min((pair for pair in pairs if pair[0] > bearing), default=pairs[0])
         gap = (high[0] - low[0]) % 360
-        found.append(low[1] + (high[1] - low[1]) * ((bearing - low[0]) % 360) / gap if gap else low[1])
+        found.append(
+            low[1] + (high[1] - low[1]) * ((bearing - low[0]) % 360) / gap if gap else low[1]
+        )
     return found
 
 
@@ -1222,11 +1894,19 @@ def check_all(told: Told, pit: str, is_plain: bool) -> None:
     """All steps, in the order of what rests on what."""
     told.attempt(SUMS, check_digests, told)
     facts, blocks = told.attempt("facts.json", facts_of), told.attempt("model/mine.blocks", Blocks)
-    said = told.attempt(f"{pit} --version", lambda: subprocess.run([pit, "--version"], stdout=subprocess.PIPE, text=True).stdout.split("\n"))
+    said = told.attempt(
+        f"{pit} --version",
+        lambda: subprocess.run([pit, "--version"], stdout=subprocess.PIPE, text=True).stdout.split(
+            "\n"
+        ),
+    )
     if facts is None or blocks is None or said is None:
         return
     here = [line for line in said if line]
-    told.say("ok" if here == facts["pit"] else "look", f"the program here is {', '.join(here)}; the bundle was made by {', '.join(facts['pit'])}")
+    told.say(
+        "ok" if here == facts["pit"] else "look",
+        f"the program here is {', '.join(here)}; the bundle was made by {', '.join(facts['pit'])}",
+    )
     told.attempt("facts.json, model/manifest.json", check_facts, told, blocks, facts)
     found = told.attempt("the table", check_table, told, blocks, facts)
     told.attempt("the slopes", check_slopes, told, pit, found.regions if found else None)
@@ -1234,9 +1914,15 @@ def check_all(told: Told, pit: str, is_plain: bool) -> None:
     shell = told.attempt("verdicts.json", check_pits, told, pit, blocks, is_plain)
     if shell is not None and found and found.fenced:
         dug = [b for b in found.fenced if shell[b]]
-        told.check(not dug, "no pit has a block that forbid keeps" + (f": not so for {len(dug):,}, the first is block {dug[0]}" if dug else ""))
+        told.check(
+            not dug,
+            "no pit has a block that forbid keeps"
+            + (f": not so for {len(dug):,}, the first is block {dug[0]}" if dug else ""),
+        )
     if shell is not None:
-        told.attempt("the tables", check_tables, told, blocks, facts, shell, found.worked if found else None)
+        told.attempt(
+            "the tables", check_tables, told, blocks, facts, shell, found.worked if found else None
+        )
 
 
 def main() -> int:
@@ -1250,12 +1936,18 @@ def main() -> int:
     told = Told()
     check_all(told, words[0] if words else "pit", "--plainly" in sys.argv)
     try:
-        print(f"sha256 of {SUMS}: {digest_of(within(SUMS))} (compare it with the one that you were told)")
+        print(
+            f"sha256 of {SUMS}: {digest_of(within(SUMS))} (compare it with the one that you were told)"
+        )
     except (Bad, OSError):
         pass
     bad, looks = told.count["WRONG"], told.count["look"]
-    print(f"{bad} of {told.count.total()} things are WRONG" if bad else f"everything that was looked at holds: {told.count['ok']} things"
-          + (f"; {looks} lines begin with look, and are yours to judge" if looks else ""))
+    print(
+        f"{bad} of {told.count.total()} things are WRONG"
+        if bad
+        else f"everything that was looked at holds: {told.count['ok']} things"
+        + (f"; {looks} lines begin with look, and are yours to judge" if looks else "")
+    )
     return 1 if bad else 0
 
 

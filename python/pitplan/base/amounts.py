@@ -13,11 +13,13 @@ Whole = npt.NDArray[np.int64]
 Floats = npt.NDArray[np.float64]
 Bools = npt.NDArray[np.bool_]
 
-THOUSAND = 1000                              # a factor is in thousandths
-MOST = Decimal(10) ** 12                     # the most that `pit` reads for a block
-LARGEST_FACTOR = 10_000                      # that `pit` takes, in thousandths
-PIECE = 1 << 15                              # blocks whose worths are added up at a time: what stays near the processor takes a third of the time
-HALF = 31                                    # bits of a number that are added up apart from those above them
+THOUSAND = 1000  # a factor is in thousandths
+MOST = Decimal(10) ** 12  # the most that `pit` reads for a block
+LARGEST_FACTOR = 10_000  # that `pit` takes, in thousandths
+PIECE = (
+    1 << 15
+)  # blocks whose worths are added up at a time: what stays near the processor takes a third of the time
+HALF = 31  # bits of a number that are added up apart from those above them
 
 
 def rounding_of(rounding: float | str | Decimal) -> Decimal:
@@ -33,7 +35,10 @@ def rounding_of(rounding: float | str | Decimal) -> Decimal:
     except ArithmeticError:
         raise PlanError(f"rounding = {rounding!r} is no number") from None
     if not found.is_finite() or not 0 < found <= MOST or found != round(found, 6):
-        raise PlanError(f"rounding = {rounding} has to be above 0 and at most {MOST:,}, with at most six decimals", try_this="rounding = 1")
+        raise PlanError(
+            f"rounding = {rounding} has to be above 0 and at most {MOST:,}, with at most six decimals",
+            try_this="rounding = 1",
+        )
     return found
 
 
@@ -90,12 +95,19 @@ class Priced:
 
     def check_room(self, factor: int) -> None:
         """Raises PlanError where a product at a factor doesn't fit 64 bits."""
-        largest = max(furthest(self.revenue) * max(factor, THOUSAND), furthest(self.processing) * THOUSAND, furthest(self.mining) * THOUSAND)
+        largest = max(
+            furthest(self.revenue) * max(factor, THOUSAND),
+            furthest(self.processing) * THOUSAND,
+            furthest(self.mining) * THOUSAND,
+        )
         if largest >= 1 << 61:
             larger = self.rounding
             while largest * float(self.rounding / larger) >= 1 << 61:
                 larger *= 10
-            raise PlanError(f"an amount of {largest / THOUSAND * float(self.rounding):g} for one block is too large to count with in units of {self.rounding:f}", try_this=f"rounding = {larger.normalize():f} in [economics]")
+            raise PlanError(
+                f"an amount of {largest / THOUSAND * float(self.rounding):g} for one block is too large to count with in units of {self.rounding:f}",
+                try_this=f"rounding = {larger.normalize():f} in [economics]",
+            )
 
     def of_part(self, part: slice, factor: int) -> Whole:
         """`thousandths` of some of the blocks, where `check_room` has passed."""
@@ -126,7 +138,9 @@ class Priced:
         """
         self.check_room(factor)
         parts = (slice(at, at + PIECE) for at in range(0, len(self), PIECE))
-        return self.spelled(sum(exact_sum(self.of_part(part, factor) * blocks[part]) for part in parts))
+        return self.spelled(
+            sum(exact_sum(self.of_part(part, factor) * blocks[part]) for part in parts)
+        )
 
     def spelled(self, thousandths: int) -> str:
         """Thousandths of `rounding` as `pit` spells a worth."""
@@ -140,7 +154,9 @@ def furthest(values: Whole) -> int:
 
 def exact_sum(values: Whole) -> int:
     """The sum of whole numbers as Python's whole number: it is never rounded and never overflows, for up to 2^31 of them."""
-    high = int((values >> HALF).sum(dtype=np.int64))       # of a number below 0 too: it is high times 2^31 and low, from 0 on
+    high = int(
+        (values >> HALF).sum(dtype=np.int64)
+    )  # of a number below 0 too: it is high times 2^31 and low, from 0 on
     return (high << HALF) + int((values & (1 << HALF) - 1).sum(dtype=np.int64))
 
 

@@ -17,7 +17,7 @@ from pathlib import Path
 from typing import NamedTuple
 
 PIECE = 1 << 20
-SETTLED = 2_000_000_000                      # nanoseconds: the coarsest grain of a file system that is about (FAT)
+SETTLED = 2_000_000_000  # nanoseconds: the coarsest grain of a file system that is about (FAT)
 
 
 class Stamp(NamedTuple):
@@ -56,6 +56,8 @@ def sha256_unless_known(path: Path) -> str:
     if stamp == known:
         return digest
     digest = sha256(name)
-    if 0 < max(stamp.written, stamp.changed) < now - SETTLED:        # so what changes it from now on, or did meanwhile, gives it another stamp
+    if (
+        0 < max(stamp.written, stamp.changed) < now - SETTLED
+    ):  # so what changes it from now on, or did meanwhile, gives it another stamp
         _known[name] = stamp, digest
     return digest

@@ -5,7 +5,7 @@ from pathlib import Path
 
 from .errors import PlanError, in_a_line
 
-WIDEST = 160                                 # letters of a line of study.toml that are shown
+WIDEST = 160  # letters of a line of study.toml that are shown
 
 
 def lines_of(error: PlanError, study_toml: Path | None = None) -> list[str]:
@@ -17,9 +17,19 @@ def lines_of(error: PlanError, study_toml: Path | None = None) -> list[str]:
         The file that the error's key is of.
     """
     place = place_of(error, study_toml)
-    found = [error.said, *([f"  {study_toml.name}:{place[0]}: {shortened(place[1].strip())}"] if study_toml and place else [])]
+    found = [
+        error.said,
+        *(
+            [f"  {study_toml.name}:{place[0]}: {shortened(place[1].strip())}"]
+            if study_toml and place
+            else []
+        ),
+    ]
     if error.cells:
-        found.append("  also " + ", ".join(f"row {cell.row + 2:,}: {in_a_line(cell.text)!r}" for cell in error.cells))
+        found.append(
+            "  also "
+            + ", ".join(f"row {cell.row + 2:,}: {in_a_line(cell.text)!r}" for cell in error.cells)
+        )
     return found + ([f"  try: {in_a_line(error.try_this)}"] if error.try_this else [])
 
 
@@ -28,6 +38,7 @@ def place_of(error: PlanError, study_toml: Path | None) -> tuple[int, str] | Non
     if not error.key or study_toml is None:
         return None
     from .study_lines import line_of
+
     try:
         return line_of(study_toml.read_text("utf-8-sig"), error.key)
     except (OSError, UnicodeDecodeError, ImportError):
@@ -37,4 +48,4 @@ def place_of(error: PlanError, study_toml: Path | None) -> tuple[int, str] | Non
 def shortened(text: str) -> str:
     """A line without its end where it is long."""
     text = in_a_line(text)
-    return text if len(text) <= WIDEST else text[:WIDEST - 2] + ".."
+    return text if len(text) <= WIDEST else text[: WIDEST - 2] + ".."

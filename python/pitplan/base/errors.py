@@ -9,8 +9,10 @@ from dataclasses import dataclass
 from typing import Any, Union
 
 STOPPED = "stopped; what is done is kept, and the same command goes on from there"
-KeyPath = tuple[Union[str, int], ...]        # of study.toml: ("economics", "metals", "copper", "price"); a metal is named, or numbered where it has no name of its own
-MOST_CELLS = 20                              # wrong cells of a column that are told at a time
+KeyPath = tuple[
+    Union[str, int], ...
+]  # of study.toml: ("economics", "metals", "copper", "price"); a metal is named, or numbered where it has no name of its own
+MOST_CELLS = 20  # wrong cells of a column that are told at a time
 
 
 @dataclass(frozen=True)
@@ -34,7 +36,9 @@ class Remedy:
     adds: bool = False
 
     def __str__(self) -> str:
-        return f"{self.key[-1]} = {spelled(self.value)} in [{self.key[0]}]" + (f", {self.when}" if self.when else "")
+        return f"{self.key[-1]} = {spelled(self.value)} in [{self.key[0]}]" + (
+            f", {self.when}" if self.when else ""
+        )
 
 
 @dataclass(frozen=True)
@@ -70,8 +74,16 @@ class PlanError(Exception):
     remedy : Remedy or None
     """
 
-    def __init__(self, what: str, *, table: object = None, row: int | None = None, column: object = None,
-                 try_this: str | Remedy | None = None, key: KeyPath = ()) -> None:
+    def __init__(
+        self,
+        what: str,
+        *,
+        table: object = None,
+        row: int | None = None,
+        column: object = None,
+        try_this: str | Remedy | None = None,
+        key: KeyPath = (),
+    ) -> None:
         self.what, self.table, self.row, self.column, self.key = what, table, row, column, key
         self.cells: tuple[Cell, ...] = ()
         self.remedy = try_this if isinstance(try_this, Remedy) else None
@@ -80,8 +92,15 @@ class PlanError(Exception):
 
     @property
     def said(self) -> str:
-        place = ", ".join(part for part in (str(self.table) if self.table else "", f"row {self.row + 2}" if self.row is not None else "",
-                                            f"column {self.column}" if self.column else "") if part)
+        place = ", ".join(
+            part
+            for part in (
+                str(self.table) if self.table else "",
+                f"row {self.row + 2}" if self.row is not None else "",
+                f"column {self.column}" if self.column else "",
+            )
+            if part
+        )
         return in_a_line((place + ": " if place else "") + self.what)
 
     def __str__(self) -> str:
@@ -98,10 +117,24 @@ class PlanError(Exception):
 
     def as_data(self) -> dict[str, Any]:
         """All of it as JSON has it. Rows count as a spreadsheet counts them."""
-        return {"said": self.said, "what": self.what, "table": None if self.table is None else str(self.table), "row": None if self.row is None else self.row + 2,
-                "column": None if self.column is None else str(self.column), "key": list(self.key), "try": self.try_this,
-                "remedy": None if self.remedy is None else {"key": list(self.remedy.key), "value": self.remedy.value, "when": self.remedy.when, "adds": self.remedy.adds},
-                "cells": [{"row": cell.row + 2, "text": cell.text} for cell in self.cells]}
+        return {
+            "said": self.said,
+            "what": self.what,
+            "table": None if self.table is None else str(self.table),
+            "row": None if self.row is None else self.row + 2,
+            "column": None if self.column is None else str(self.column),
+            "key": list(self.key),
+            "try": self.try_this,
+            "remedy": None
+            if self.remedy is None
+            else {
+                "key": list(self.remedy.key),
+                "value": self.remedy.value,
+                "when": self.remedy.when,
+                "adds": self.remedy.adds,
+            },
+            "cells": [{"row": cell.row + 2, "text": cell.text} for cell in self.cells],
+        }
 
 
 class NotAccepted(PlanError):
@@ -122,7 +155,14 @@ class Several(PlanError):
     def __init__(self, errors: Sequence[PlanError]) -> None:
         self.errors = list(errors)
         first = self.errors[0]
-        super().__init__(first.what, table=first.table, row=first.row, column=first.column, try_this=first.remedy or first.try_this, key=first.key)
+        super().__init__(
+            first.what,
+            table=first.table,
+            row=first.row,
+            column=first.column,
+            try_this=first.remedy or first.try_this,
+            key=first.key,
+        )
         self.cells = first.cells
 
     def __str__(self) -> str:
@@ -147,7 +187,7 @@ class Gathered:
     """
 
     def __init__(self, table: object = None) -> None:
-        self.table = table                   # of errors that name none
+        self.table = table  # of errors that name none
         self.errors: list[PlanError] = []
 
     def add(self, errors: Iterable[PlanError]) -> None:
@@ -204,10 +244,23 @@ def spelled(value: Any) -> str:
     if isinstance(value, str):
         return json.dumps(value, ensure_ascii=False).replace("\x7f", "\\u007f")
     if isinstance(value, dict):
-        return "{ " + ", ".join(f"{name if name.isidentifier() and name.isascii() else spelled(name)} = {spelled(part)}" for name, part in value.items()) + " }" if value else "{}"
+        return (
+            "{ "
+            + ", ".join(
+                f"{name if name.isidentifier() and name.isascii() else spelled(name)} = {spelled(part)}"
+                for name, part in value.items()
+            )
+            + " }"
+            if value
+            else "{}"
+        )
     if isinstance(value, (list, tuple)):
         return "[" + ", ".join(map(spelled, value)) + "]"
-    return f"{value:g}" if isinstance(value, float) and float(f"{value:g}") == value and "e" not in f"{value:g}" else repr(value)
+    return (
+        f"{value:g}"
+        if isinstance(value, float) and float(f"{value:g}") == value and "e" not in f"{value:g}"
+        else repr(value)
+    )
 
 
 def meant(word: str, known: Iterable[str]) -> str:

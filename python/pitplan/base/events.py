@@ -25,8 +25,8 @@ from typing import IO, Any
 
 from .errors import PlanError
 
-FILE = "PITPLAN_EVENTS"                      # in the environment: the file that gets the lines
-LAST = Path("log", "last.jsonl")             # of a study: the lines of the last command that had it
+FILE = "PITPLAN_EVENTS"  # in the environment: the file that gets the lines
+LAST = Path("log", "last.jsonl")  # of a study: the lines of the last command that had it
 
 
 @dataclass
@@ -47,7 +47,14 @@ def event(kind: str, **data: Any) -> None:
         if os.environ.get(FILE):
             also(Path(os.environ[FILE]), "a")
     if SINKS.opened:
-        line = json.dumps({"time": round(time.time(), 3), "event": kind, **data}, ensure_ascii=False, default=str) + "\n"
+        line = (
+            json.dumps(
+                {"time": round(time.time(), 3), "event": kind, **data},
+                ensure_ascii=False,
+                default=str,
+            )
+            + "\n"
+        )
         for sink in SINKS.opened:
             with suppress(OSError, ValueError):
                 sink.write(line)
@@ -56,7 +63,9 @@ def event(kind: str, **data: Any) -> None:
 def also(path: Path, mode: str = "w") -> None:
     """Writes to a file, too, from now on; each line at once."""
     with suppress(OSError):
-        SINKS.opened.append(open(path, mode, encoding="utf-8", errors="backslashreplace", buffering=1))
+        SINKS.opened.append(
+            open(path, mode, encoding="utf-8", errors="backslashreplace", buffering=1)
+        )
 
 
 def begin(words: list[str]) -> None:

@@ -16,7 +16,7 @@ from .amounts import LARGEST_FACTOR
 from .errors import PlanError
 
 Holds = Callable[[Any], bool]
-MOST = 1 << 53                               # a count that a float holds too
+MOST = 1 << 53  # a count that a float holds too
 
 
 class Damaged(PlanError):
@@ -41,11 +41,13 @@ def read(path: Path, kinds: Mapping[str, Holds], try_this: str) -> dict[str, Any
     Damaged
         Where it is no JSON, or a value isn't one that its key may have.
     """
+
     def refused(what: str) -> Damaged:
         return Damaged(f"{path} is damaged{what}", try_this=try_this)
+
     try:
         found = json.loads(path.read_text("utf-8"), parse_constant=no_constant)
-    except (ValueError, RecursionError):     # no JSON, or no text
+    except (ValueError, RecursionError):  # no JSON, or no text
         raise refused("") from None
     if not isinstance(found, dict):
         raise refused("")
@@ -66,7 +68,7 @@ def shown(value: Any) -> str:
     """A value as JSON has it, cut off where it is long."""
     try:
         text = json.dumps(value)
-    except (ValueError, RecursionError):     # a number of very many digits
+    except (ValueError, RecursionError):  # a number of very many digits
         return "another thing"
     return text if len(text) <= 80 else text[:80] + ".."
 
@@ -85,7 +87,12 @@ def is_count(value: Any) -> bool:
 
 
 def is_number(value: Any) -> bool:
-    return isinstance(value, (int, float)) and not isinstance(value, bool) and abs(value) <= MOST and math.isfinite(value)
+    return (
+        isinstance(value, (int, float))
+        and not isinstance(value, bool)
+        and abs(value) <= MOST
+        and math.isfinite(value)
+    )
 
 
 def is_factor(value: Any) -> bool:
@@ -95,7 +102,10 @@ def is_factor(value: Any) -> bool:
 
 def is_amount(value: Any) -> bool:
     """Whether this is a worth as `pit` prints it."""
-    return isinstance(value, str) and re.fullmatch(r"-?\d{1,100}(\.\d{1,9})?", value, re.ASCII) is not None
+    return (
+        isinstance(value, str)
+        and re.fullmatch(r"-?\d{1,100}(\.\d{1,9})?", value, re.ASCII) is not None
+    )
 
 
 def is_list(holds: Holds) -> Holds:
@@ -103,12 +113,18 @@ def is_list(holds: Holds) -> Holds:
 
 
 def is_table(holds: Holds, names: Holds = is_word) -> Holds:
-    return lambda value: isinstance(value, dict) and all(map(names, value)) and all(map(holds, value.values()))
+    return (
+        lambda value: isinstance(value, dict)
+        and all(map(names, value))
+        and all(map(holds, value.values()))
+    )
 
 
 def is_one(kinds: Mapping[str, Holds]) -> Holds:
     """Whether this is a table that has each of these keys, with such a value."""
-    return lambda value: isinstance(value, dict) and all(key in value and holds(value[key]) for key, holds in kinds.items())
+    return lambda value: isinstance(value, dict) and all(
+        key in value and holds(value[key]) for key, holds in kinds.items()
+    )
 
 
 def is_none_or(holds: Holds) -> Holds:
@@ -123,11 +139,24 @@ def is_file_name(value: Any) -> bool:
 def is_path(value: Any) -> bool:
     """Whether a file may be called so: a part of it has at most 255 bytes."""
     try:
-        return isinstance(value, str) and "\0" not in value and len(value) < 4096 and all(len(part.encode()) <= 255 for part in value.split("/"))
+        return (
+            isinstance(value, str)
+            and "\0" not in value
+            and len(value) < 4096
+            and all(len(part.encode()) <= 255 for part in value.split("/"))
+        )
     except UnicodeEncodeError:
         return False
 
 
 def is_offset(value: Any) -> bool:
     """Whether this is an offset, at least one level up."""
-    return isinstance(value, list) and len(value) == 3 and all(isinstance(step, int) and not isinstance(step, bool) and abs(step) < 1 << 31 for step in value) and value[2] > 0
+    return (
+        isinstance(value, list)
+        and len(value) == 3
+        and all(
+            isinstance(step, int) and not isinstance(step, bool) and abs(step) < 1 << 31
+            for step in value
+        )
+        and value[2] > 0
+    )

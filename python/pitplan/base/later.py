@@ -10,7 +10,7 @@ from types import ModuleType
 from typing import Any
 
 LOADING = threading.RLock()
-STOPPED = "stopped by"                       # no name that code asks for
+STOPPED = "stopped by"  # no name that code asks for
 
 
 class Later(ModuleType):

@@ -15,8 +15,8 @@ from pathlib import Path
 GROUPS = Path("/sys/fs/cgroup")
 OWN = Path("/proc/self/cgroup")
 MEMORY = Path("/proc/meminfo")
-UNKNOWN = 6_000_000_000                      # bytes, where neither the system nor a group says anything
-TWO = ""                                     # where version 2 stands beside the controllers of version 1
+UNKNOWN = 6_000_000_000  # bytes, where neither the system nor a group says anything
+TWO = ""  # where version 2 stands beside the controllers of version 1
 
 
 def text_of(file: Path) -> str:
@@ -42,7 +42,14 @@ def folders(controller: str, groups: Path = GROUPS, own: Path = OWN) -> list[Pat
         Of version 1, as "memory"; `TWO` for version 2.
     """
     lines = [line.split(":", 2) for line in text_of(own).splitlines() if line.count(":") >= 2]
-    path = next((path for number, names, path in lines if (controller in names.split(",") if controller else number == "0" and not names)), "")
+    path = next(
+        (
+            path
+            for number, names, path in lines
+            if (controller in names.split(",") if controller else number == "0" and not names)
+        ),
+        "",
+    )
     parts = [part for part in path.split("/") if part and part != ".."]
     tops = [groups / controller] if controller else [groups, groups / "unified"]
     return [top.joinpath(*parts[:count]) for top in tops for count in range(len(parts) + 1)]
@@ -55,7 +62,10 @@ def processors(groups: Path = GROUPS, own: Path = OWN) -> int:
         quota = re.match(r"(\d+) (\d+)", text_of(folder / "cpu.max"))
         found += [int(quota[1]) // int(quota[2])] if quota and int(quota[2]) else []
     for folder in folders("cpu", groups, own):
-        share, period = (number_in(text_of(folder / name), r"^(\d+)") for name in ("cpu.cfs_quota_us", "cpu.cfs_period_us"))
+        share, period = (
+            number_in(text_of(folder / name), r"^(\d+)")
+            for name in ("cpu.cfs_quota_us", "cpu.cfs_period_us")
+        )
         found += [share // period] if share and period else []
     return max(1, min(found))
 
@@ -68,11 +78,17 @@ def free_memory(groups: Path = GROUPS, own: Path = OWN, memory: Path = MEMORY) -
         for name in ("memory.max", "memory.high"):
             found += left_of(folder / name, folder / "memory.stat", ("anon", "shmem"))
     for folder in folders("memory", groups, own):
-        found += left_of(folder / "memory.limit_in_bytes", folder / "memory.stat", ("total_rss", "total_shmem"))
+        found += left_of(
+            folder / "memory.limit_in_bytes", folder / "memory.stat", ("total_rss", "total_shmem")
+        )
     return max(0, min(found, default=UNKNOWN))
 
 
 def left_of(limit: Path, held: Path, taken: tuple[str, ...]) -> list[int]:
     """What a group's limit leaves, by the kinds of memory that count as taken; nothing where there is no limit."""
     most, stat = number_in(text_of(limit), r"^(\d+)"), text_of(held)
-    return [] if most is None else [most - sum(number_in(stat, rf"^{kind} (\d+)") or 0 for kind in taken)]
+    return (
+        []
+        if most is None
+        else [most - sum(number_in(stat, rf"^{kind} (\d+)") or 0 for kind in taken)]
+    )

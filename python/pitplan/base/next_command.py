@@ -6,13 +6,15 @@ import shlex
 import shutil
 from pathlib import Path
 
-TYPED = "PITPLAN_TYPED"                      # in the environment: how this program was called, also for the processes that it starts
+TYPED = "PITPLAN_TYPED"  # in the environment: how this program was called, also for the processes that it starts
 
 
 def remember(called: str) -> None:
     """Keeps how this program was called: by its name where the path leads to it, else by the path that was typed."""
     on_path = shutil.which("pitplan")
-    if Path(called).name == "pitplan" and not (on_path and os.path.exists(called) and os.path.samefile(on_path, called)):
+    if Path(called).name == "pitplan" and not (
+        on_path and os.path.exists(called) and os.path.samefile(on_path, called)
+    ):
         os.environ.setdefault(TYPED, called)
 
 

@@ -7,7 +7,7 @@ from typing import Any
 
 from .errors import KeyPath
 
-MARK = "\u241e"                              # what no study.toml has
+MARK = "\u241e"  # what no study.toml has
 
 
 def line_of(text: str, path: KeyPath) -> tuple[int, str] | None:
@@ -23,11 +23,14 @@ def line_of(text: str, path: KeyPath) -> tuple[int, str] | None:
     """
     import tomlkit
     from tomlkit.exceptions import TOMLKitError
+
     lines = text.splitlines()
     for end in range(len(path), 0, -1):
         try:
             document = tomlkit.parse(text)
-            at = header_line(lines, path[:end], document) or marked_line(lines, path[:end], document)
+            at = header_line(lines, path[:end], document) or marked_line(
+                lines, path[:end], document
+            )
         except (TOMLKitError, LookupError, TypeError, ValueError, AttributeError, StopIteration):
             continue
         if at is not None:
@@ -39,18 +42,36 @@ def header_line(lines: Sequence[str], path: KeyPath, document: Any) -> int | Non
     """The number of the line [name] of a table that has one."""
     names = r"\s*\.\s*".join(rf"[\"']?{re.escape(str(step))}[\"']?" for step in path)
     is_there = isinstance(value_at(document, path), Mapping)
-    return next((i for i, line in enumerate(lines, 1) if re.match(rf"\s*\[\s*{names}\s*\]", line)), None) if is_there else None
+    return (
+        next(
+            (i for i, line in enumerate(lines, 1) if re.match(rf"\s*\[\s*{names}\s*\]", line)), None
+        )
+        if is_there
+        else None
+    )
 
 
 def marked_line(lines: Sequence[str], path: KeyPath, document: Any) -> int | None:
     """The number of the first line that changes where a mark is put in place of the value."""
     from tomlkit import dumps
-    before = dumps(document).splitlines()    # blanks may be others than in the text
+
+    before = dumps(document).splitlines()  # blanks may be others than in the text
     table = value_at(document, path[:-1])
     step = step_of(table, path[-1])
     table[step]
     table[step] = MARK
-    return next((i for i, (was, now) in enumerate(zip(before, dumps(document).splitlines()), 1) if was != now), None) if len(before) == len(lines) else None
+    return (
+        next(
+            (
+                i
+                for i, (was, now) in enumerate(zip(before, dumps(document).splitlines()), 1)
+                if was != now
+            ),
+            None,
+        )
+        if len(before) == len(lines)
+        else None
+    )
 
 
 def value_at(document: Any, path: KeyPath) -> Any:
@@ -64,4 +85,6 @@ def step_of(table: Any, step: str | int) -> str | int:
     """How a table or a list calls a part: of a list of tables by its place, where a name is given."""
     if isinstance(table, Mapping) or isinstance(step, int):
         return step
-    return next(i for i, each in enumerate(table) if isinstance(each, Mapping) and each.get("name") == step)
+    return next(
+        i for i, each in enumerate(table) if isinstance(each, Mapping) and each.get("name") == step
+    )

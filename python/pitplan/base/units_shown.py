@@ -45,7 +45,9 @@ def lengths(values: Iterable[float]) -> list[str]:
     """
     found = [float(value) for value in values]
     there = [value for value in found if math.isfinite(value)]
-    places = next((n for n in (0, 1) if all(abs(value - round(value, n)) < 0.005 for value in there)), 2)
+    places = next(
+        (n for n in (0, 1) if all(abs(value - round(value, n)) < 0.005 for value in there)), 2
+    )
     return [f"{value:,.{places}f}" if math.isfinite(value) else "-" for value in found]
 
 

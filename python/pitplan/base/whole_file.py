@@ -30,5 +30,3 @@ def whole_file(target: str | os.PathLike[str]) -> Iterator[Path]:
     except OSError as error:
         error.filename = error.filename or str(path)
         raise
-
-

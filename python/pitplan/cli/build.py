@@ -25,22 +25,42 @@ if TYPE_CHECKING:
 
 
 @app.command()
-def init(table: Path = typer.Argument(..., help="A table of blocks: CSV or CSV.gz."),
-         folder: Optional[Path] = typer.Option(None, "--study", help="The folder of the new study; the table's name without its ending unless told."),
-         column: list[str] = typer.Option([], "--column", "-c", metavar="KEY=NAME", help=f"What a column is, as x=este, where its name isn't a usual one. May be given several times. KEY is one of {', '.join(keys_of('model')['columns'].choices)}."),
-         encoding: Optional[str] = typer.Option(None, "--encoding", help="Of the table where it isn't UTF-8, as cp1252."),
-         is_forced: bool = typer.Option(False, "--force", help="Write over a study.toml that is there.")) -> None:
+def init(
+    table: Path = typer.Argument(..., help="A table of blocks: CSV or CSV.gz."),
+    folder: Optional[Path] = typer.Option(
+        None,
+        "--study",
+        help="The folder of the new study; the table's name without its ending unless told.",
+    ),
+    column: list[str] = typer.Option(
+        [],
+        "--column",
+        "-c",
+        metavar="KEY=NAME",
+        help=f"What a column is, as x=este, where its name isn't a usual one. May be given several times. KEY is one of {', '.join(keys_of('model')['columns'].choices)}.",
+    ),
+    encoding: Optional[str] = typer.Option(
+        None, "--encoding", help="Of the table where it isn't UTF-8, as cp1252."
+    ),
+    is_forced: bool = typer.Option(False, "--force", help="Write over a study.toml that is there."),
+) -> None:
     """Look at a table of blocks, and write a study.toml for it."""
     from ..base.whole_file import whole_file
     from ..study.first_look import look_at, written
     from ..study.study import near
+
     look = look_at(table, dict(map(named, column)), encoding)
     folder = folder or Path(table.name.removesuffix(".gz").removesuffix(".csv"))
     path = folder / "study.toml"
     if path.exists() and not is_forced:
-        raise PlanError(f"{path} is there already", try_this="--force writes over it, --study names another folder")
+        raise PlanError(
+            f"{path} is there already",
+            try_this="--force writes over it, --study names another folder",
+        )
     if folder.exists() and not folder.is_dir():
-        raise PlanError(f"{folder} is a file, and a study is a folder", try_this="--study names another folder")
+        raise PlanError(
+            f"{folder} is a file, and a study is a folder", try_this="--study names another folder"
+        )
     folder.mkdir(parents=True, exist_ok=True)
     with whole_file(path) as part:
         part.write_text(written(look, near(table, folder)))
@@ -50,11 +70,16 @@ def init(table: Path = typer.Argument(..., help="A table of blocks: CSV or CSV.g
     if look.region:
         say(f"  regions of slopes, if you want them: {look.region} ({', '.join(look.regions)})")
     if look.size:
-        say(f"  blocks of {' x '.join(f'{v:g}' for v in look.size)}" + (f", turned by {look.rotation:g} degrees" if look.rotation else "")
-                  + (", with sub-blocks" if look.has_sub_blocks else ""))
+        say(
+            f"  blocks of {' x '.join(f'{v:g}' for v in look.size)}"
+            + (f", turned by {look.rotation:g} degrees" if look.rotation else "")
+            + (", with sub-blocks" if look.has_sub_blocks else "")
+        )
     for note in look.notes:
         warn(note, "  ")
-    say(f"{path} is written: put your own prices, costs and slopes there, then: {command('build', folder)}")
+    say(
+        f"{path} is written: put your own prices, costs and slopes there, then: {command('build', folder)}"
+    )
 
 
 def named(said: str) -> tuple[str, str]:
@@ -70,10 +95,13 @@ def build(folder: Path = STUDY) -> None:
     """Read the table, work out what each block brings and costs, and make the slopes."""
     from ..study.study import Study
     from .slopes import key_of, print_patterns
+
     told = described(folder)
     with err.status("reading the table"):
         model = told.read_model()
-    say(f"{told.table.name}: {len(model):,} blocks of {' x '.join(f'{v:g}' for v in model.grid.size)} on a grid of {' x '.join(map(str, model.grid.shape))}")
+    say(
+        f"{told.table.name}: {len(model):,} blocks of {' x '.join(f'{v:g}' for v in model.grid.size)} on a grid of {' x '.join(map(str, model.grid.shape))}"
+    )
     for note in model.notes:
         say("  " + note)
     with err.status("prices and slopes") as status:
@@ -81,7 +109,7 @@ def build(folder: Path = STUDY) -> None:
         study = Study.create(told.path.parent, model, told.economics, told.slopes, keys=told.digest)
         study.named = folder
         study.priced.check_room(max(told.factors, default=THOUSAND))
-    for note in study.model.notes[len(model.notes):]:
+    for note in study.model.notes[len(model.notes) :]:
         say("  " + note)
     print_tonnage(study)
     tell_strange(study, told, model)
@@ -92,41 +120,58 @@ def build(folder: Path = STUDY) -> None:
 
 def of_region(status: Status) -> Heard:
     """Says which region's slopes are begun: on a terminal in place of the line before, else a line for each, for logs."""
+
     def heard(name: str, at: int, count: int) -> None:
         said = f"slopes of {name}, {at} of {count}"
         if err.is_terminal:
             status.update(escape(said))
         else:
             print(said, file=sys.stderr, flush=True)
+
     return heard
 
 
 def set_aside(study: Study, walls: str) -> None:
     """Puts the tables and pictures of the model before out of the way of the new one's, and says so."""
     from ..study import older
+
     folder = study.folder / "out"
     moved, changed = older.set_aside(folder, {study.key, walls})
     if moved:
         say(f"{folder / older.OLDER} has what was written of the model before: {', '.join(moved)}")
     for name in changed:
-        warn(f"{folder / name} is of the model before; it was changed since it was written, so it stays there")
+        warn(
+            f"{folder / name} is of the model before; it was changed since it was written, so it stays there"
+        )
 
 
 def print_tonnage(study: Study) -> None:
     """The grade-tonnage line of each rock."""
     from ..model.tonnage import by_rock
+
     lines = by_rock(study.model, study.priced, study.manifest["metals"])
-    columns = [list(map(str, lines[lines.columns[0]])), *(cells_of(lines[name].tolist()) for name in lines.columns[1:])]
-    print_columns("in place, at the full price; metals as recovered", list(map(str, lines.columns)), list(zip(*columns)), words=1)
+    columns = [
+        list(map(str, lines[lines.columns[0]])),
+        *(cells_of(lines[name].tolist()) for name in lines.columns[1:]),
+    ]
+    print_columns(
+        "in place, at the full price; metals as recovered",
+        list(map(str, lines.columns)),
+        list(zip(*columns)),
+        words=1,
+    )
 
 
 def tell_strange(study: Study, told: StudyFile, model: Model) -> None:
     """How many blocks may not be dug, and what looks as if a unit were another one."""
     from ..model.plausible import strange
+
     if told.economics.forbid:
         part = int(told.economics.partly_forbidden(model).sum())
-        say(f"{int(study.priced.forbidden.sum()):,} of {len(model):,} blocks may not be dug, by forbid"
-            + (f"; of {part:,} of them it holds for some sub-blocks alone" if part else ""))
+        say(
+            f"{int(study.priced.forbidden.sum()):,} of {len(model):,} blocks may not be dug, by forbid"
+            + (f"; of {part:,} of them it holds for some sub-blocks alone" if part else "")
+        )
     for what in strange(model, study.priced, told.economics):
         warn(what)
 
@@ -141,18 +186,28 @@ def cells_of(values: Sequence[int | float]) -> list[str]:
     if all(isinstance(value, int) for value in values):
         return [f"{value:,}" for value in values]
     greatest = max((abs(value) for value in values if value == value), default=0.0)
-    places = next((places for places, most in ((3, 100), (2, 1_000), (1, 10_000)) if round(greatest, places) < most), 0)
+    places = next(
+        (
+            places
+            for places, most in ((3, 100), (2, 1_000), (1, 10_000))
+            if round(greatest, places) < most
+        ),
+        0,
+    )
     return ["" if value != value else f"{value:,.{places}f}" for value in values]
 
 
 def print_size(study: Study, told: StudyFile) -> None:
     """The first guess of what a pit will take."""
     from ..study.workers import guess_of, workers_for
+
     guess = guess_of(study)
     count = len(told.factors)
     workers = workers_for(study)
-    say(f"{guess.pairs:,} pairs of a block and a predecessor. A pit will take about {guess.memory / 1e6:,.0f} MB and {duration(guess.seconds)}; "
-              f"all {count}, {workers} at a time, {duration(guess.seconds * count / workers)}")
+    say(
+        f"{guess.pairs:,} pairs of a block and a predecessor. A pit will take about {guess.memory / 1e6:,.0f} MB and {duration(guess.seconds)}; "
+        f"all {count}, {workers} at a time, {duration(guess.seconds * count / workers)}"
+    )
     say(f"built in {study.folder}; then: {command('shells', study.named)}")
 
 

@@ -32,7 +32,10 @@ def shares_of(text: str) -> list[int]:
         try:
             found.append(float(word))
         except ValueError:
-            raise PlanError(f"{word.strip()!r} is no factor", try_this="shares of the price with commas, as 0.5,0.75,1.0") from None
+            raise PlanError(
+                f"{word.strip()!r} is no factor",
+                try_this="shares of the price with commas, as 0.5,0.75,1.0",
+            ) from None
     return series_of(found)
 
 
@@ -60,11 +63,13 @@ def beside(study: Study, design: Design, factor: float) -> Comparison:
         Where that pit hasn't been run.
     """
     from ..plans.compare import compare
+
     wanted = thousandths(factor)
     if not study.verdict(wanted):
         raise not_run(study, wanted)
     if not study.certified(wanted):
         from .shells import with_certificates
+
         with_certificates(Shells(study, [wanted]))
     with err.status("pit value reads the design"):
         return compare(study, design, wanted)
@@ -72,10 +77,20 @@ def beside(study: Study, design: Design, factor: float) -> Comparison:
 
 def not_run(study: Study, factor: int) -> PlanError:
     """The error of a pit that isn't there."""
-    there = [int(path.name[1:]) for path in sorted((study.folder / "runs" / "base").glob("f*")) if path.name[1:].isdigit()]
+    there = [
+        int(path.name[1:])
+        for path in sorted((study.folder / "runs" / "base").glob("f*"))
+        if path.name[1:].isdigit()
+    ]
     there = [found for found in there if study.verdict(found)]
     near = sorted(sorted(there, key=lambda found: abs(found - factor))[:2])
     if not near:
-        return PlanError(f"the pit at factor {factor / THOUSAND:g} hasn't been run", try_this=command("shells", study.named))
-    return PlanError(f"the pit at factor {factor / THOUSAND:g} hasn't been run; the nearest that have are " + ", ".join(f"{found / THOUSAND:g}" for found in near),
-                     try_this=f"one of these; or put it into factors in [shells] of study.toml, then: {command('shells', study.named)}")
+        return PlanError(
+            f"the pit at factor {factor / THOUSAND:g} hasn't been run",
+            try_this=command("shells", study.named),
+        )
+    return PlanError(
+        f"the pit at factor {factor / THOUSAND:g} hasn't been run; the nearest that have are "
+        + ", ".join(f"{found / THOUSAND:g}" for found in near),
+        try_this=f"one of these; or put it into factors in [shells] of study.toml, then: {command('shells', study.named)}",
+    )

@@ -8,7 +8,7 @@ from typing import TYPE_CHECKING, Any
 
 from ..base.later import lazily
 
-lazily("typer.rich_utils")                   # typer loads it with itself, and only help and errors ask for it
+lazily("typer.rich_utils")  # typer loads it with itself, and only help and errors ask for it
 
 import click
 import typer
@@ -26,7 +26,6 @@ if TYPE_CHECKING:
     from ..study.study_file import StudyFile
 
 
-
 class InOrder(TyperGroup):
     """The commands as they were registered, and not by the alphabet."""
 
@@ -34,13 +33,24 @@ class InOrder(TyperGroup):
         return list(self.commands)
 
 
-app = typer.Typer(cls=InOrder, add_completion=True, no_args_is_help=True, pretty_exceptions_enable=False, rich_markup_mode=None, context_settings={"help_option_names": ["-h", "--help"]},
-                  help="From a planner's table of blocks to proved pits, tables and pictures. Every best pit that it shows is proved by `pit`.",
-                  epilog="Exit status: 0 done; 1 no, where pit check refuses or a check of pitplan fails; 2 wrong words; 3 a file is wrong; 4 the machine (memory, disk); 130 stopped.")
-out = Console(width=None if sys.stdout.isatty() else 160, soft_wrap=not sys.stdout.isatty(), highlight=False)
+app = typer.Typer(
+    cls=InOrder,
+    add_completion=True,
+    no_args_is_help=True,
+    pretty_exceptions_enable=False,
+    rich_markup_mode=None,
+    context_settings={"help_option_names": ["-h", "--help"]},
+    help="From a planner's table of blocks to proved pits, tables and pictures. Every best pit that it shows is proved by `pit`.",
+    epilog="Exit status: 0 done; 1 no, where pit check refuses or a check of pitplan fails; 2 wrong words; 3 a file is wrong; 4 the machine (memory, disk); 130 stopped.",
+)
+out = Console(
+    width=None if sys.stdout.isatty() else 160, soft_wrap=not sys.stdout.isatty(), highlight=False
+)
 err = Console(stderr=True, highlight=False)
-study_toml: Path | None = None               # that was read last, whose lines errors show
-STUDY: Any = typer.Argument(Path("."), help="The folder of the study, with its study.toml.", show_default="this folder")
+study_toml: Path | None = None  # that was read last, whose lines errors show
+STUDY: Any = typer.Argument(
+    Path("."), help="The folder of the study, with its study.toml.", show_default="this folder"
+)
 
 
 def tell_version(is_asked: bool) -> None:
@@ -50,7 +60,11 @@ def tell_version(is_asked: bool) -> None:
 
 
 @app.callback()
-def before_any_command(version: bool = typer.Option(False, "--version", help="Print the version.", is_eager=True, callback=tell_version)) -> None:
+def before_any_command(
+    version: bool = typer.Option(
+        False, "--version", help="Print the version.", is_eager=True, callback=tell_version
+    )
+) -> None:
     """Options that need no command."""
 
 
@@ -70,14 +84,27 @@ def warn_of_room(wanted: int | None, count: int) -> None:
         warn(f"{count} of {wanted} workers: free memory has no room for more")
 
 
-def print_columns(title: str, names: Sequence[str], rows: Sequence[Sequence[str]], words: int = 0, has_total: bool = False) -> None:
+def print_columns(
+    title: str,
+    names: Sequence[str],
+    rows: Sequence[Sequence[str]],
+    words: int = 0,
+    has_total: bool = False,
+) -> None:
     """Prints a table of texts; the first `words` columns stand left, and a total below a gap. Where the screen is narrow the headings go over several
     lines and the gaps shrink, and no figure is cut off."""
     from rich.box import SIMPLE_HEAD
     from rich.table import Table
+
     widths = [max((len(row[i]) for row in rows), default=0) for i in range(len(names))]
     is_narrow = sum(max(len(name), width) + 3 for name, width in zip(names, widths)) + 1 > out.width
-    shown = Table(title=escape(title), title_justify="left", box=SIMPLE_HEAD, padding=(0, 0) if is_narrow else (0, 1), show_edge=not is_narrow)
+    shown = Table(
+        title=escape(title),
+        title_justify="left",
+        box=SIMPLE_HEAD,
+        padding=(0, 0) if is_narrow else (0, 1),
+        show_edge=not is_narrow,
+    )
     for i, (name, width) in enumerate(zip(names, widths)):
         shown.add_column(escape(name), justify="left" if i < words else "right", min_width=width)
     for left, row in zip(reversed(range(len(rows))), rows):
@@ -89,6 +116,7 @@ def described(folder: Path) -> StudyFile:
     """What the study's study.toml says."""
     global study_toml
     from ..study.study_file import path_of, read_study_file
+
     study_toml = path_of(folder)
     return read_study_file(folder)
 
@@ -103,13 +131,20 @@ def opened(folder: Path) -> Study:
     """
     from ..base.digests import sha256_unless_known
     from ..study.study import Study
+
     told = described(folder)
     study = Study(told.path.parent, named=folder)
     if study.manifest["keys"] != told.digest:
-        raise PlanError(f"{told.path} has changed since the study was built", try_this=command("build", folder))
+        raise PlanError(
+            f"{told.path} has changed since the study was built", try_this=command("build", folder)
+        )
     source = study.manifest["source"]
     if source and told.table.is_file() and sha256_unless_known(told.table) != source["sha256"]:
-        raise PlanError("the table has changed since the study was built", table=told.table, try_this=command("build", folder))
+        raise PlanError(
+            "the table has changed since the study was built",
+            table=told.table,
+            try_this=command("build", folder),
+        )
     return study
 
 
@@ -122,17 +157,22 @@ def shells_of(folder: Path) -> tuple[Shells, dict[str, float]]:
         Where a pit hasn't been run yet.
     """
     from ..study.shells import Shells
+
     told = described(folder)
     study = opened(folder)
     missing = [factor for factor in told.factors if not study.verdict(factor)]
     if missing:
-        raise PlanError(f"{len(missing)} of {len(told.factors)} pits haven't been run, the first at factor {missing[0] / 1000:g}", try_this=command("shells", folder))
+        raise PlanError(
+            f"{len(missing)} of {len(told.factors)} pits haven't been run, the first at factor {missing[0] / 1000:g}",
+            try_this=command("shells", folder),
+        )
     return Shells(study, told.factors), told.rates
 
 
 def results(study: Study) -> Path:
     """The folder for tables and pictures, made where it isn't there. What is written there from now on is noted as of this model."""
     from ..study import older
+
     folder = study.folder / "out"
     folder.mkdir(exist_ok=True)
     older.watch(folder, study.key)

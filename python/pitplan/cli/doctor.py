@@ -13,6 +13,7 @@ COLOURS = {"ok": "green", "look": "yellow", "MISSING": "red", "WRONG": "red"}
 def doctor() -> None:
     """Look whether all that pitplan needs is here, and take a small mine through it."""
     from ..audit.doctor import findings
+
     bad = 0
     for found in findings():
         out.print(f"[{COLOURS[found.kind]}]{found.kind:8}[/]" + escape(found.what), soft_wrap=True)

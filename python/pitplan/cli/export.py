@@ -15,25 +15,47 @@ KINDS = ("dxf", "vtu", "csv", "gpkg")
 
 
 @app.command()
-def export(folder: Path = STUDY,
-           to: str = typer.Option("dxf,vtu,csv", "--to", help="Any of dxf, vtu, csv, gpkg, with commas."),
-           factors: Optional[str] = typer.Option(None, "--factors", help="The pits to export, as 0.5,0.75,1.0; all of study.toml unless told."),
-           columns: Optional[str] = typer.Option(None, "--columns", help="Columns of the table for vtu and csv, with commas."),
-           is_whole: bool = typer.Option(False, "--whole", help="All blocks of the model in vtu and csv; those of the largest pit alone unless told."),
-           cuts_corners: bool = typer.Option(False, "--cut-corners", help="Draw staircases in dxf as straight lines; areas are then about right only."),
-           crs: Optional[str] = typer.Option(None, "--crs", help="The coordinate system for gpkg, as EPSG:32719.")) -> None:
+def export(
+    folder: Path = STUDY,
+    to: str = typer.Option("dxf,vtu,csv", "--to", help="Any of dxf, vtu, csv, gpkg, with commas."),
+    factors: Optional[str] = typer.Option(
+        None,
+        "--factors",
+        help="The pits to export, as 0.5,0.75,1.0; all of study.toml unless told.",
+    ),
+    columns: Optional[str] = typer.Option(
+        None, "--columns", help="Columns of the table for vtu and csv, with commas."
+    ),
+    is_whole: bool = typer.Option(
+        False,
+        "--whole",
+        help="All blocks of the model in vtu and csv; those of the largest pit alone unless told.",
+    ),
+    cuts_corners: bool = typer.Option(
+        False,
+        "--cut-corners",
+        help="Draw staircases in dxf as straight lines; areas are then about right only.",
+    ),
+    crs: Optional[str] = typer.Option(
+        None, "--crs", help="The coordinate system for gpkg, as EPSG:32719."
+    ),
+) -> None:
     """Write the pits for CAD (dxf), ParaView (vtu), GIS (gpkg) and any other program (csv), in true coordinates."""
     kinds = kinds_of(to)
     if factors:
         from .chosen import pits_at, shares_of
+
         shells = pits_at(folder, shares_of(factors))
     else:
         shells, _ = shells_of(folder)
     names = [name.strip() for name in columns.split(",") if name.strip()] if columns else None
     target = results(shells.study)
     writers: dict[str, Callable[[Path], str]] = {
-        "dxf": lambda path: to_dxf(shells, path, cuts_corners), "vtu": lambda path: to_vtu(shells, path, names, is_whole),
-        "csv": lambda path: to_csv(shells, path, names, is_whole), "gpkg": lambda path: to_gpkg(shells, path, crs)}
+        "dxf": lambda path: to_dxf(shells, path, cuts_corners),
+        "vtu": lambda path: to_vtu(shells, path, names, is_whole),
+        "csv": lambda path: to_csv(shells, path, names, is_whole),
+        "gpkg": lambda path: to_gpkg(shells, path, crs),
+    }
     for kind in kinds:
         path = target / f"shells.{kind}"
         with err.status(f"writing {kind}"):
@@ -56,25 +78,35 @@ def kinds_of(text: str) -> list[str]:
 def to_dxf(shells: Shells, path: Path, cuts_corners: bool) -> str:
     """Writes DXF, and says what it has."""
     from ..views.export import dxf as export_dxf
+
     return f"{export_dxf.write(shells, path, cuts_corners=cuts_corners):,} closed polylines, toe and crest of each bench in layers SHELL_<factor>_TOE and _CREST"
 
 
 def to_vtu(shells: Shells, path: Path, columns: list[str] | None, is_whole: bool) -> str:
     """Writes VTU, and says what it has."""
     from ..views.export import vtu as export_vtu
+
     words = export_vtu.write(shells, path, columns, is_whole)
     what = "blocks of the model" if is_whole else "blocks of the largest pit"
-    return f"the {what} as hexahedra" + (f"; {path.name}.words.csv says what the numbers of {', '.join(words['column'].unique())} stand for" if len(words) else "")
+    return f"the {what} as hexahedra" + (
+        f"; {path.name}.words.csv says what the numbers of {', '.join(words['column'].unique())} stand for"
+        if len(words)
+        else ""
+    )
 
 
 def to_csv(shells: Shells, path: Path, columns: list[str] | None, is_whole: bool) -> str:
     """Writes CSV, and says what it has."""
     from ..views.export import csv as export_csv
+
     return f"{export_csv.write(shells, path, columns, is_whole):,} blocks with place, shell, worth and where they go"
 
 
 def to_gpkg(shells: Shells, path: Path, crs: str | None) -> str:
     """Writes a GeoPackage, and says what it has."""
     from ..views.export import gpkg as export_gpkg
+
     count = export_gpkg.write(shells, path, crs=crs)
-    return f"{count:,} polygons in layers benches and rims" + ("" if crs else ", without a coordinate system (--crs EPSG:..)")
+    return f"{count:,} polygons in layers benches and rims" + (
+        "" if crs else ", without a coordinate system (--crs EPSG:..)"
+    )

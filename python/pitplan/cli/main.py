@@ -11,16 +11,40 @@ from pathlib import Path
 import click
 from rich.markup import escape
 
-from ..base.errors import STOPPED as SAYS_STOPPED, Disagreement, MachineError, NotAccepted, PlanError
+from ..base.errors import (
+    STOPPED as SAYS_STOPPED,
+    Disagreement,
+    MachineError,
+    NotAccepted,
+    PlanError,
+)
 from ..base.later import lazily
 from ..base.next_command import remember
 from ..study import older
 from . import console
 from .console import app, err
 
-ORDER = ("init", "build", "slopes", "shells", "plot", "page", "phases", "export", "compare", "risk", "vary", "submit", "status", "task", "bundle", "schema", "doctor")  # of a working day, for --help
+ORDER = (
+    "init",
+    "build",
+    "slopes",
+    "shells",
+    "plot",
+    "page",
+    "phases",
+    "export",
+    "compare",
+    "risk",
+    "vary",
+    "submit",
+    "status",
+    "task",
+    "bundle",
+    "schema",
+    "doctor",
+)  # of a working day, for --help
 NO, WRONG, MACHINE, STOPPED = 1, 3, 4, 130
-SHARED = ("main", "console", "chosen")           # modules of this package that have no command
+SHARED = ("main", "console", "chosen")  # modules of this package that have no command
 
 
 def load_commands() -> None:
@@ -28,11 +52,15 @@ def load_commands() -> None:
     for module in pkgutil.iter_modules([str(Path(__file__).parent)]):
         if module.name not in SHARED:
             importlib.import_module(f"{__package__}.{module.name}")
-    for it in app.registered_commands:       # typer says "[default: None]" of what has no default
+    for it in app.registered_commands:  # typer says "[default: None]" of what has no default
         for parameter in inspect.signature(it.callback).parameters.values() if it.callback else ():
             if getattr(parameter.default, "default", 0) in (None, ...):
                 parameter.default.show_default = False
-    app.registered_commands.sort(key=lambda c: ORDER.index(c.callback.__name__) if c.callback and c.callback.__name__ in ORDER else len(ORDER))
+    app.registered_commands.sort(
+        key=lambda c: ORDER.index(c.callback.__name__)
+        if c.callback and c.callback.__name__ in ORDER
+        else len(ORDER)
+    )
 
 
 def status_of(error: PlanError) -> int:
@@ -46,21 +74,29 @@ def remedy(error: OSError) -> str:
     """What to try where the system refuses a file."""
     if error.errno in (errno.EACCES, errno.EPERM, errno.EROFS):
         return f"\n  try: a folder that you may write in: {escape(str(Path(error.filename or '.').parent))} is none"
-    return "\n  try: make room on that disk; what is done is kept" if error.errno in (errno.ENOSPC, errno.EDQUOT) else ""
+    return (
+        "\n  try: make room on that disk; what is done is kept"
+        if error.errno in (errno.ENOSPC, errno.EDQUOT)
+        else ""
+    )
 
 
 def tell(error: PlanError) -> None:
     """Prints an error, or each of several."""
     from ..base.error_text import lines_of
+
     for each in error.each():
-        err.print("[red]error:[/red] " + escape("\n".join(lines_of(each, console.study_toml))), soft_wrap=True)
+        err.print(
+            "[red]error:[/red] " + escape("\n".join(lines_of(each, console.study_toml))),
+            soft_wrap=True,
+        )
 
 
 def main() -> None:
     """Runs a command. Exit status: 0 done, 1 no, 2 wrong words, 3 a file is wrong, 4 the machine, 130 stopped."""
     try:
         remember(sys.argv[0])
-        lazily("pandas")                     # the first pits can be looked for while it is loaded
+        lazily("pandas")  # the first pits can be looked for while it is loaded
         load_commands()
         try:
             status = app(prog_name="pitplan", standalone_mode=False)
@@ -77,8 +113,13 @@ def main() -> None:
         err.print(SAYS_STOPPED)
         sys.exit(STOPPED)
     except MemoryError:
-        err.print("[red]error:[/red] memory was refused\n  try: fewer --workers, or a machine with more memory")
+        err.print(
+            "[red]error:[/red] memory was refused\n  try: fewer --workers, or a machine with more memory"
+        )
         sys.exit(MACHINE)
     except OSError as error:
-        err.print(f"[red]error:[/red] {escape(str(error.filename or ''))}: {escape(str(error.strerror))}{remedy(error)}", soft_wrap=True)
+        err.print(
+            f"[red]error:[/red] {escape(str(error.filename or ''))}: {escape(str(error.strerror))}{remedy(error)}",
+            soft_wrap=True,
+        )
         sys.exit(MACHINE)

@@ -17,28 +17,69 @@ if TYPE_CHECKING:
 
 
 @app.command()
-def plot(folder: Path = STUDY,
-         bench: List[float] = typer.Option([], help="Plan of the bench at this elevation: its toe, or anything below its crest."),
-         north: List[float] = typer.Option([], help="Section at this northing, of a model that isn't turned."),
-         east: List[float] = typer.Option([], help="Section at this easting, likewise."),
-         row: List[int] = typer.Option([], help="Section along this row of the model (its x axis), counted from 0."),
-         column: List[int] = typer.Option([], help="Section along this column of the model (its y axis), counted from 0."),
-         colour: str = typer.Option("shell", help="What colours the blocks: shell, value (worth at factor 1), or a column of the table."),
-         pit: Optional[float] = typer.Option(None, show_default=False, help="The factor of the pit that is outlined: 1 unless told, or the largest."),
-         exaggerate: Optional[float] = typer.Option(None, min=0.1, max=20.0, show_default=False, help="Draw heights so many times longer, in sections; 1 unless told, or more in a flat model.")) -> None:
+def plot(
+    folder: Path = STUDY,
+    bench: List[float] = typer.Option(
+        [], help="Plan of the bench at this elevation: its toe, or anything below its crest."
+    ),
+    north: List[float] = typer.Option(
+        [], help="Section at this northing, of a model that isn't turned."
+    ),
+    east: List[float] = typer.Option([], help="Section at this easting, likewise."),
+    row: List[int] = typer.Option(
+        [], help="Section along this row of the model (its x axis), counted from 0."
+    ),
+    column: List[int] = typer.Option(
+        [], help="Section along this column of the model (its y axis), counted from 0."
+    ),
+    colour: str = typer.Option(
+        "shell",
+        help="What colours the blocks: shell, value (worth at factor 1), or a column of the table.",
+    ),
+    pit: Optional[float] = typer.Option(
+        None,
+        show_default=False,
+        help="The factor of the pit that is outlined: 1 unless told, or the largest.",
+    ),
+    exaggerate: Optional[float] = typer.Option(
+        None,
+        min=0.1,
+        max=20.0,
+        show_default=False,
+        help="Draw heights so many times longer, in sections; 1 unless told, or more in a flat model.",
+    ),
+) -> None:
     """Draw the pit-by-pit graph, a plan and a section; or the plans and sections that are asked for: bench, north, east, row and column may be given several times."""
     from ..views import pictures
+
     shells, rates = shells_of(folder)
     style = pictures.Style(colour, pit, exaggerate)
-    asked: list[tuple[str, Figure]] = [(f"plan-{at:.10g}", pictures.plan(shells, at, style)) for at in bench]
-    asked += [(f"section-north-{at:.10g}", pictures.section(shells, north=at, style=style)) for at in north]
-    asked += [(f"section-east-{at:.10g}", pictures.section(shells, east=at, style=style)) for at in east]
+    asked: list[tuple[str, Figure]] = [
+        (f"plan-{at:.10g}", pictures.plan(shells, at, style)) for at in bench
+    ]
+    asked += [
+        (f"section-north-{at:.10g}", pictures.section(shells, north=at, style=style))
+        for at in north
+    ]
+    asked += [
+        (f"section-east-{at:.10g}", pictures.section(shells, east=at, style=style)) for at in east
+    ]
     asked += [(f"section-row-{at}", pictures.section(shells, row=at, style=style)) for at in row]
-    asked += [(f"section-column-{at}", pictures.section(shells, column=at, style=style)) for at in column]
+    asked += [
+        (f"section-column-{at}", pictures.section(shells, column=at, style=style)) for at in column
+    ]
     if not asked:
         level, middle = pictures.middle_of(shells, style)
-        asked = [("pit-by-pit", pictures.pit_by_pit(shells.table(1000, **rates), shells.study.currency, shells.study.model.name)),
-                 (f"plan-{level:.10g}", pictures.plan(shells, level, style)), (f"section-row-{middle}", pictures.section(shells, row=middle, style=style))]
+        asked = [
+            (
+                "pit-by-pit",
+                pictures.pit_by_pit(
+                    shells.table(1000, **rates), shells.study.currency, shells.study.model.name
+                ),
+            ),
+            (f"plan-{level:.10g}", pictures.plan(shells, level, style)),
+            (f"section-row-{middle}", pictures.section(shells, row=middle, style=style)),
+        ]
     ending = "" if colour == "shell" else "-" + re.sub(r"[^\w.-]+", "_", colour)
     for name, figure in asked:
         path = results(shells.study) / (name + (ending if name != "pit-by-pit" else "") + ".png")
@@ -47,28 +88,82 @@ def plot(folder: Path = STUDY,
 
 
 @app.command()
-def page(folder: Path = STUDY,
-         phases: Optional[str] = typer.Option(None, "--phases", show_default=False, help="Show pushbacks too: the factors of the pits that end them, ascending, as 0.5,0.75,1.0."),
-         design: Optional[Path] = typer.Option(None, "--design", show_default=False, help="Show a designed pit beside the best one too: a DXF with faces, a CSV of points x, y, z, or ids in a table or a text."),
-         layer: List[str] = typer.Option([], "--layer", help="With --design: a layer of the DXF; all unless told."),
-         column: Optional[str] = typer.Option(None, "--column", show_default=False, help="In place of --design: the column of the study's table that says which rows the design takes."),
-         value: Optional[str] = typer.Option(None, "--value", show_default=False, help="With --column: the cell of the rows that it takes; any number above 0, or yes, unless told."),
-         factor: float = typer.Option(1.0, "--factor", help="The pit that the design is compared with, by its factor of the price."),
-         title: Optional[str] = typer.Option(None, show_default=False, help="The heading; the table's name unless told.")) -> None:
+def page(
+    folder: Path = STUDY,
+    phases: Optional[str] = typer.Option(
+        None,
+        "--phases",
+        show_default=False,
+        help="Show pushbacks too: the factors of the pits that end them, ascending, as 0.5,0.75,1.0.",
+    ),
+    design: Optional[Path] = typer.Option(
+        None,
+        "--design",
+        show_default=False,
+        help="Show a designed pit beside the best one too: a DXF with faces, a CSV of points x, y, z, or ids in a table or a text.",
+    ),
+    layer: List[str] = typer.Option(
+        [], "--layer", help="With --design: a layer of the DXF; all unless told."
+    ),
+    column: Optional[str] = typer.Option(
+        None,
+        "--column",
+        show_default=False,
+        help="In place of --design: the column of the study's table that says which rows the design takes.",
+    ),
+    value: Optional[str] = typer.Option(
+        None,
+        "--value",
+        show_default=False,
+        help="With --column: the cell of the rows that it takes; any number above 0, or yes, unless told.",
+    ),
+    factor: float = typer.Option(
+        1.0,
+        "--factor",
+        help="The pit that the design is compared with, by its factor of the price.",
+    ),
+    title: Optional[str] = typer.Option(
+        None, show_default=False, help="The heading; the table's name unless told."
+    ),
+) -> None:
     """Write one HTML file with pits in three dimensions, sections, plans and tables: pits by factor, pushbacks, a design beside the best pit. It needs no network."""
     from ..plans.phases import Phases
     from ..views import page as pages
     from .chosen import beside, pits_at, shares_of
+
     shells, rates = shells_of(folder)
     cut = Phases(pits_at(folder, shares_of(phases))) if phases else None
     if design and column:
         raise PlanError("a design is given by one of --design FILE and --column NAME")
-    found = beside(shells.study, design_of(shells.study.model, design, (column, value), layer, described(folder).keys.encoding), factor) if design or column else None
-    path = pages.write(shells, results(shells.study) / "pits.html", shells.table(1000, **rates), title, cut, found)
+    found = (
+        beside(
+            shells.study,
+            design_of(
+                shells.study.model, design, (column, value), layer, described(folder).keys.encoding
+            ),
+            factor,
+        )
+        if design or column
+        else None
+    )
+    path = pages.write(
+        shells, results(shells.study) / "pits.html", shells.table(1000, **rates), title, cut, found
+    )
     say(f"{path}: {path.stat().st_size / 1e6:.1f} MB, opens in any browser")
 
 
-def design_of(model: Model, file: Path | None, column: tuple[str | None, str | None], layers: list[str], encoding: str | None) -> Design:
+def design_of(
+    model: Model,
+    file: Path | None,
+    column: tuple[str | None, str | None],
+    layers: list[str],
+    encoding: str | None,
+) -> Design:
     """The design of a file or of a column. `encoding` is that of the table of blocks."""
     from ..plans.design import by_column, by_file
-    return by_file(model, file, layers, encoding) if file else by_column(model, str(column[0]), column[1])
+
+    return (
+        by_file(model, file, layers, encoding)
+        if file
+        else by_column(model, str(column[0]), column[1])
+    )

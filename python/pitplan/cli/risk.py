@@ -23,19 +23,35 @@ if TYPE_CHECKING:
     from ..study.study import Study
     from ..tasks.local import Heard
 
-ALONE = "1"                                  # the factors where none are said
-NEAR = 0.02                                  # of the table's mean grade: by how much that of realisations may differ untold
+ALONE = "1"  # the factors where none are said
+NEAR = 0.02  # of the table's mean grade: by how much that of realisations may differ untold
 
 
 @app.command()
-def risk(folder: Path = STUDY,
-         realisations: Optional[Path] = typer.Option(None, help="An .npy (realisations x rows of the table), or a CSV with a column for each. Not needed to go on."),
-         factors: str = typer.Option(ALONE, help="Shares of the price, as 0.8,1,1.2."),
-         metal: Optional[str] = typer.Option(None, help="Whose grades these are; the first metal unless told."),
-         later: bool = typer.Option(False, "--later", help="Look through the realisations and find no pit yet: pitplan submit does."),
-         workers: Optional[int] = typer.Option(None, min=1, help="Realisations at a time; as many as processors and free memory allow unless told.")) -> None:
+def risk(
+    folder: Path = STUDY,
+    realisations: Optional[Path] = typer.Option(
+        None,
+        help="An .npy (realisations x rows of the table), or a CSV with a column for each. Not needed to go on.",
+    ),
+    factors: str = typer.Option(ALONE, help="Shares of the price, as 0.8,1,1.2."),
+    metal: Optional[str] = typer.Option(
+        None, help="Whose grades these are; the first metal unless told."
+    ),
+    later: bool = typer.Option(
+        False,
+        "--later",
+        help="Look through the realisations and find no pit yet: pitplan submit does.",
+    ),
+    workers: Optional[int] = typer.Option(
+        None,
+        min=1,
+        help="Realisations at a time; as many as processors and free memory allow unless told.",
+    ),
+) -> None:
     """Find the proved pit of each realisation of the grades, and how likely each block is. Goes on where it was stopped."""
     from ..plans.risk import Risk, prepare, setup_of, tasks
+
     study = opened(folder)
     if realisations is not None:
         series = series_said(factors)
@@ -44,12 +60,17 @@ def risk(folder: Path = STUDY,
             prepare(study, told.economics, realisations, series, metal, told.keys)
     setup = setup_of(study)
     if setup is None:
-        raise PlanError("no realisations were asked for over the model that stands there", try_this=command("risk", folder, "--realisations", "FILE"))
+        raise PlanError(
+            "no realisations were asked for over the model that stands there",
+            try_this=command("risk", folder, "--realisations", "FILE"),
+        )
     if realisations is None:
         refuse_another(setup, factors, metal, folder)
     tell_means(study, setup)
     if later:
-        say(f"{len(setup.digests)} realisations at {len(setup.factors)} factor{'s' * (len(setup.factors) > 1)}; then: {command('submit', folder)}, and {command('risk', folder)} for the tables")
+        say(
+            f"{len(setup.digests)} realisations at {len(setup.factors)} factor{'s' * (len(setup.factors) > 1)}; then: {command('submit', folder)}, and {command('risk', folder)} for the tables"
+        )
         return
     tell_slurm(study, tasks(study))
     do_all(study, tasks(study), workers)
@@ -74,26 +95,41 @@ def doing(text: str) -> Iterator[None]:
 def series_said(factors: str) -> list[int]:
     """The factors that --factors says, in thousandths."""
     from ..study.shells import series_of
+
     try:
         return series_of(float(part) for part in factors.split(","))
     except ValueError:
-        raise PlanError(f"--factors {factors}: these are no numbers", try_this="--factors 0.8,1,1.2") from None
+        raise PlanError(
+            f"--factors {factors}: these are no numbers", try_this="--factors 0.8,1,1.2"
+        ) from None
 
 
 def refuse_another(setup: Setup, factors: str, metal: Optional[str], folder: Path) -> None:
     """Refuses factors and a metal that aren't those which the realisations were given with: to go on takes neither."""
     from ..plans.risk import spelled_factor
+
     grades = {str(m["name"]): str(m["grade"]) for m in setup.economics["metals"]}
-    if (factors == ALONE or series_said(factors) == setup.factors) and (metal is None or grades.get(metal) == setup.column):
+    if (factors == ALONE or series_said(factors) == setup.factors) and (
+        metal is None or grades.get(metal) == setup.column
+    ):
         return
-    given, name = ",".join(map(spelled_factor, setup.factors)), next(name for name, grade in grades.items() if grade == setup.column)
-    more = [*(["--factors", factors] if factors != ALONE else []), *(["--metal", metal] if metal is not None else [])]
-    raise PlanError(f"the realisations that stand there were given as grades of {name}, at --factors {given}", try_this=command("risk", folder, "--realisations", "FILE", *more))
+    given, name = ",".join(map(spelled_factor, setup.factors)), next(
+        name for name, grade in grades.items() if grade == setup.column
+    )
+    more = [
+        *(["--factors", factors] if factors != ALONE else []),
+        *(["--metal", metal] if metal is not None else []),
+    ]
+    raise PlanError(
+        f"the realisations that stand there were given as grades of {name}, at --factors {given}",
+        try_this=command("risk", folder, "--realisations", "FILE", *more),
+    )
 
 
 def tell_means(study: Study, setup: Setup) -> None:
     """Says where the realisations aren't true to the table on the mean."""
     from ..plans.risk import means
+
     with err.status("the realisations beside the table"):
         found = means(study, setup)
     if not abs(found.share) > NEAR:
@@ -102,7 +138,8 @@ def tell_means(study: Study, setup: Setup) -> None:
     warn(
         f"the realisations' mean grade of {found.metal} is {found.realisations:.4g} {found.unit}, {by}{'above' if found.share > 0 else 'below'} the table's "
         f"{found.table:.4g} {found.unit}, by tonnes over {found.rows:,} rows: so their worths differ from the plan's, which is neither upside nor risk\n"
-        "  try: realisations whose mean is the table's, or a table whose mean is theirs")
+        "  try: realisations whose mean is the table's, or a table whose mean is theirs"
+    )
 
 
 def tell_slurm(study: Study, tasks: list[Task]) -> None:
@@ -110,20 +147,27 @@ def tell_slurm(study: Study, tasks: list[Task]) -> None:
     from ..base.errors import MachineError
     from ..tasks.engines import in_slurm
     from ..tasks.task import Tasks
+
     try:
         in_hand = in_slurm(study)
-    except MachineError:                     # `status` says so
+    except MachineError:  # `status` says so
         return
-    count = sum(task in in_hand and in_hand[task].state != "" for task in Tasks(study.folder, study.given).left(dict.fromkeys(tasks)))
+    count = sum(
+        task in in_hand and in_hand[task].state != ""
+        for task in Tasks(study.folder, study.given).left(dict.fromkeys(tasks))
+    )
     if count:
-        warn(f"{count:,} of these tasks {'waits or runs' if count == 1 else 'wait or run'} in Slurm, and {'is' if count == 1 else 'are'} done here too\n"
-             f"  try: ctrl-C, and the same command once {command('status', study.named)} says that all is done")
+        warn(
+            f"{count:,} of these tasks {'waits or runs' if count == 1 else 'wait or run'} in Slurm, and {'is' if count == 1 else 'are'} done here too\n"
+            f"  try: ctrl-C, and the same command once {command('status', study.named)} says that all is done"
+        )
 
 
 def do_all(study: Study, tasks: list[Task], workers: Optional[int]) -> None:
     """Does what isn't done yet of some tasks, on this machine, and shows how far that is."""
     from ..tasks.local import processes_for, run_local
     from ..tasks.task import Tasks
+
     left = Tasks(study.folder, study.program).left(tasks)
     if not left:
         return
@@ -132,10 +176,26 @@ def do_all(study: Study, tasks: list[Task], workers: Optional[int]) -> None:
     if not err.is_terminal:
         deaths = run_local(study, left, count, lines())
     else:
-        from rich.progress import BarColumn, MofNCompleteColumn, Progress, TextColumn, TimeRemainingColumn
-        with Progress(TextColumn("{task.description}"), BarColumn(), MofNCompleteColumn(), TimeRemainingColumn(), console=err, transient=True) as bars:
+        from rich.progress import (
+            BarColumn,
+            MofNCompleteColumn,
+            Progress,
+            TextColumn,
+            TimeRemainingColumn,
+        )
+
+        with Progress(
+            TextColumn("{task.description}"),
+            BarColumn(),
+            MofNCompleteColumn(),
+            TimeRemainingColumn(),
+            console=err,
+            transient=True,
+        ) as bars:
             bar = bars.add_task(f"tasks, {count} at a time", total=len(left))
-            deaths = run_local(study, left, count, lambda task, done, of: bars.update(bar, completed=done))
+            deaths = run_local(
+                study, left, count, lambda task, done, of: bars.update(bar, completed=done)
+            )
     if deaths:
         warn(f"a process was ended {deaths} times, and started again: was memory short?")
 
@@ -143,7 +203,11 @@ def do_all(study: Study, tasks: list[Task], workers: Optional[int]) -> None:
 def lines() -> Heard:
     """A line for each task that is done, for logs."""
     began = time.time()
-    return lambda task, done, of: print(f"{task} done: {done} of {of} after {time.time() - began:.0f} s", file=sys.stderr, flush=True)
+    return lambda task, done, of: print(
+        f"{task} done: {done} of {of} after {time.time() - began:.0f} s",
+        file=sys.stderr,
+        flush=True,
+    )
 
 
 def write_risk(found: Risk, factor: int) -> pd.DataFrame:
@@ -152,6 +216,7 @@ def write_risk(found: Risk, factor: int) -> pd.DataFrame:
     from ..views import page
     from ..views.pictures import save
     from ..views.risk_pictures import section
+
     folder = results(found.study)
     write_table(found.runs, folder / "risk_runs.csv")
     write_table(found.table(), folder / "risk.csv")
@@ -167,11 +232,14 @@ def warn_of_edges(found: Risk) -> None:
     """Says of the smallest factor at which realisations' pits touch the model's side or reach its floor, of how many they are."""
     from ..plans.risk import spelled_factor
     from ..study.edges import FLOOR, SIDE
+
     for counts, (what, hint) in ((found.side, SIDE), (found.floor, FLOOR)):
         at = next((i for i in range(len(found.factors)) if counts[i].any()), None)
         if at is not None:
             most = int(counts[at].max())
-            warn(f"at factor {spelled_factor(found.factors[at])} the pit of {int((counts[at] > 0).sum()):,} of {found.count:,} realisations {what.format(f'up to {most:,} blocks there')}\n  try: {hint}")
+            warn(
+                f"at factor {spelled_factor(found.factors[at])} the pit of {int((counts[at] > 0).sum()):,} of {found.count:,} realisations {what.format(f'up to {most:,} blocks there')}\n  try: {hint}"
+            )
 
 
 def print_risk(found: Risk, factor: int, pits: pd.DataFrame) -> None:
@@ -179,16 +247,41 @@ def print_risk(found: Risk, factor: int, pits: pd.DataFrame) -> None:
     from rich.box import SIMPLE_HEAD
     from rich.table import Table
     from ..plans.risk import spelled_factor
+
     currency = found.study.currency
-    shown = Table(title=escape(f"{found.count} realisations, million {currency} and Mt; a tenth of them lies below p10"), title_justify="left", box=SIMPLE_HEAD)
+    shown = Table(
+        title=escape(
+            f"{found.count} realisations, million {currency} and Mt; a tenth of them lies below p10"
+        ),
+        title_justify="left",
+        box=SIMPLE_HEAD,
+    )
     for name in ("factor", "worth p10", "p50", "p90", "mean", "rock p10", "p50", "p90"):
         shown.add_column(name, justify="right")
     for row in found.table().itertuples():
-        shown.add_row(f"{row.factor:.3f}", *(f"{v / 1e6:,.2f}" for v in (row.worth_p10, row.worth_p50, row.worth_p90, row.worth_mean, row.rock_t_p10, row.rock_t_p50, row.rock_t_p90)))
+        shown.add_row(
+            f"{row.factor:.3f}",
+            *(
+                f"{v / 1e6:,.2f}"
+                for v in (
+                    row.worth_p10,
+                    row.worth_p50,
+                    row.worth_p90,
+                    row.worth_mean,
+                    row.rock_t_p10,
+                    row.rock_t_p50,
+                    row.rock_t_p90,
+                )
+            ),
+        )
     out.print(shown)
     if found.factors != [1000]:
         say("each worth is at its factor's own price")
     most = pits.worth_mean.idxmax()
-    say(f"at factor {spelled_factor(factor)}: of the {len(pits)} pits by likelihood that of at least {pits.likelihood[most]:.0%}, {pits.blocks[most]:,} blocks, is worth most on the mean, "
-        f"{pits.worth_mean[most] / 1e6:,.2f} million; each realisation's own best pit, {pits.best_mean[most] / 1e6:,.2f}")
-    say(f"{results(found.study)}: risk.csv, risk_runs.csv, likelihood.csv, likelihood_pits.csv, likelihood.png, likelihood.html")
+    say(
+        f"at factor {spelled_factor(factor)}: of the {len(pits)} pits by likelihood that of at least {pits.likelihood[most]:.0%}, {pits.blocks[most]:,} blocks, is worth most on the mean, "
+        f"{pits.worth_mean[most] / 1e6:,.2f} million; each realisation's own best pit, {pits.best_mean[most] / 1e6:,.2f}"
+    )
+    say(
+        f"{results(found.study)}: risk.csv, risk_runs.csv, likelihood.csv, likelihood_pits.csv, likelihood.png, likelihood.html"
+    )

@@ -11,7 +11,18 @@ from typing import TYPE_CHECKING, Optional
 import typer
 from ..base.errors import PlanError
 from ..base.next_command import command
-from .console import STUDY, app, described, err, opened, print_columns, results, say, warn, warn_of_room
+from .console import (
+    STUDY,
+    app,
+    described,
+    err,
+    opened,
+    print_columns,
+    results,
+    say,
+    warn,
+    warn_of_room,
+)
 
 if TYPE_CHECKING:
     import pandas as pd
@@ -21,10 +32,20 @@ if TYPE_CHECKING:
 
 
 @app.command()
-def shells(folder: Path = STUDY, workers: Optional[int] = typer.Option(None, min=1, help="Pits at a time; as many as processors and free memory allow unless told."),
-           certificates: bool = typer.Option(False, "--certificates", help="Find each pit by itself, with a certificate that pit check accepts: slower. Later ones are added to pits that are there.")) -> None:
+def shells(
+    folder: Path = STUDY,
+    workers: Optional[int] = typer.Option(
+        None, min=1, help="Pits at a time; as many as processors and free memory allow unless told."
+    ),
+    certificates: bool = typer.Option(
+        False,
+        "--certificates",
+        help="Find each pit by itself, with a certificate that pit check accepts: slower. Later ones are added to pits that are there.",
+    ),
+) -> None:
     """Find the proved pit at each factor, and the tables. Goes on where it was stopped."""
     from ..study.workers import workers_for
+
     told, study = described(folder), opened(folder)
     count = workers_for(study, workers)
     warn_of_room(workers, count)
@@ -39,12 +60,16 @@ def shells(folder: Path = STUDY, workers: Optional[int] = typer.Option(None, min
 def with_certificates(found: Shells) -> Shells:
     """The same pits with their certificates; a bar shows how far those are that are made now."""
     from ..study.workers import workers_for
+
     left = [verdict["factor"] for verdict in found.verdicts if not verdict["certificate"]]
     if not left:
         return found
     count = workers_for(found.study)
     with shown(left, count) as listener:
-        return found.with_certificates(count, lambda factor, what, share: listener(factor, what, share) if factor in left else None)
+        return found.with_certificates(
+            count,
+            lambda factor, what, share: listener(factor, what, share) if factor in left else None,
+        )
 
 
 @contextmanager
@@ -55,7 +80,15 @@ def shown(factors: list[int], workers: int) -> Iterator[Told]:
         yield lines(len(factors))
         return
     from rich.progress import BarColumn, Progress, TextColumn, TimeRemainingColumn
-    with Progress(TextColumn("{task.description}"), BarColumn(), TextColumn("{task.fields[told]}"), TimeRemainingColumn(), console=err, transient=True) as bars:
+
+    with Progress(
+        TextColumn("{task.description}"),
+        BarColumn(),
+        TextColumn("{task.fields[told]}"),
+        TimeRemainingColumn(),
+        console=err,
+        transient=True,
+    ) as bars:
         every = bars.add_task(f"pits, {workers} at a time", total=float(len(factors)), told="")
         lanes: dict[int, int] = {}
         shares: dict[int, float] = {}
@@ -63,16 +96,23 @@ def shown(factors: list[int], workers: int) -> Iterator[Told]:
         def listener(factor: int, what: str, share: float) -> None:
             shares[factor] = 1.0 if what == "done" else 0.95 * share
             done = sum(value == 1.0 for value in shares.values())
-            bars.update(every, completed=sum(shares.values()), told=f"{done} of {len(factors)}" if what != "proved" else f"{sum(value > 0 for value in shares.values())} of {len(factors)} proved")
+            bars.update(
+                every,
+                completed=sum(shares.values()),
+                told=f"{done} of {len(factors)}"
+                if what != "proved"
+                else f"{sum(value > 0 for value in shares.values())} of {len(factors)} proved",
+            )
             if what == "proved":
-                return                       # one run for all factors: no line for each
+                return  # one run for all factors: no line for each
             if what in ("done", "killed"):
                 if factor in lanes:
-                    bars.remove_task(lanes.pop(factor))        # type: ignore[arg-type]
+                    bars.remove_task(lanes.pop(factor))  # type: ignore[arg-type]
             elif factor not in lanes:
                 lanes[factor] = bars.add_task(f"  factor {factor / 1000:g}", total=1.0, told=what)
             else:
-                bars.update(lanes[factor], completed=share, told=what if share < 1 else "checking")     # type: ignore[arg-type]
+                bars.update(lanes[factor], completed=share, told=what if share < 1 else "checking")  # type: ignore[arg-type]
+
         yield listener
 
 
@@ -85,7 +125,12 @@ def lines(total: int) -> Told:
         if is_new:
             there.add(factor)
         if is_new or what == "killed":
-            print(f"factor {factor / 1000:g} {what}: {len(there)} of {total} after {time.time() - began:.0f} s", file=sys.stderr, flush=True)
+            print(
+                f"factor {factor / 1000:g} {what}: {len(there)} of {total} after {time.time() - began:.0f} s",
+                file=sys.stderr,
+                flush=True,
+            )
+
     return listener
 
 
@@ -93,13 +138,16 @@ def write_tables(found: Shells, table: pd.DataFrame, decimal: str | None = None)
     """Pit by pit, bench by bench, and the planner's own table with a column more; `decimal` is its mark of a decimal, where study.toml says it."""
     from ..table.spreadsheets import write_table
     from ..views.export import table_back
+
     folder = results(found.study)
     write_table(table, folder / "pit_by_pit.csv")
     write_table(found.benches(), folder / "benches.csv")
     name = found.study.table.name if found.study.table else "blocks.csv"
     try:
         rows = table_back.write(found, folder / name, decimal)
-        say(f"{folder / name}: the table with a column more, pit_shell, that {rows:,} of its rows have")
+        say(
+            f"{folder / name}: the table with a column more, pit_shell, that {rows:,} of its rows have"
+        )
     except PlanError as error:
         write_table(found.of_blocks(), folder / "blocks.csv")
         warn(f"{error}\n{folder / 'blocks.csv'} has the shell of each block by its id instead")
@@ -108,27 +156,64 @@ def write_tables(found: Shells, table: pd.DataFrame, decimal: str | None = None)
 def print_table(found: Shells, table: pd.DataFrame) -> None:
     """The pit-by-pit table on the screen; all of its columns are in the file."""
     currency, metals = found.study.currency, found.study.manifest["metals"]
-    names = ("factor", "blocks", "ore Mt", "waste Mt", "strip", *(f"{name} {unit['grade_unit']}" for name, unit in metals.items()), "worth", "best case", "worst case", "years")
+    names = (
+        "factor",
+        "blocks",
+        "ore Mt",
+        "waste Mt",
+        "strip",
+        *(f"{name} {unit['grade_unit']}" for name, unit in metals.items()),
+        "worth",
+        "best case",
+        "worst case",
+        "years",
+    )
     lines = []
     for row in table.to_dict("records"):
-        grades = ["" if row[f"grade_{name}"] != row[f"grade_{name}"] else f"{row[f'grade_{name}']:.3f}" for name in metals]
+        grades = [
+            "" if row[f"grade_{name}"] != row[f"grade_{name}"] else f"{row[f'grade_{name}']:.3f}"
+            for name in metals
+        ]
         strip = "" if row["strip"] != row["strip"] else f"{row['strip']:.2f}"
-        lines.append((f"{row['factor']:.3f}", f"{row['blocks']:,}", f"{row['ore_t'] / 1e6:,.2f}", f"{row['waste_t'] / 1e6:,.2f}", strip, *grades,
-                      f"{row['worth_at_base'] / 1e6:,.2f}", f"{row['npv_best'] / 1e6:,.2f}", f"{row['npv_worst'] / 1e6:,.2f}", f"{row['years']:.1f}"))
+        lines.append(
+            (
+                f"{row['factor']:.3f}",
+                f"{row['blocks']:,}",
+                f"{row['ore_t'] / 1e6:,.2f}",
+                f"{row['waste_t'] / 1e6:,.2f}",
+                strip,
+                *grades,
+                f"{row['worth_at_base'] / 1e6:,.2f}",
+                f"{row['npv_best'] / 1e6:,.2f}",
+                f"{row['npv_worst'] / 1e6:,.2f}",
+                f"{row['years']:.1f}",
+            )
+        )
     print_columns(f"pit by pit, worths in million {currency} at the full price", names, lines)
-    say(f"{found.study.folder / 'out'}: pit_by_pit.csv, benches.csv. Each pit is proved; the discounted cases are two simple orders, no schedule")
+    say(
+        f"{found.study.folder / 'out'}: pit_by_pit.csv, benches.csv. Each pit is proved; the discounted cases are two simple orders, no schedule"
+    )
     if found.certified == len(found):
         say("each pit has a certificate, which pit check has accepted")
     else:
-        say(f"each pit is as pit shells states it, which is proved to state none but the best; certificates: {command('shells', found.study.named)} --certificates")
+        say(
+            f"each pit is as pit shells states it, which is proved to state none but the best; certificates: {command('shells', found.study.named)} --certificates"
+        )
 
 
 def warn_of_edges(found: Shells) -> None:
     """Says of the smallest pit that touches the model's side, and of the smallest that reaches its floor, where that is."""
     from ..study.edges import FLOOR, SIDE
+
     for count, (what, hint) in ((found.touches_edge, SIDE), (found.reaches_floor, FLOOR)):
-        first = next(((factor, n) for i, factor in enumerate(found.factors) if (n := count(i))), None)
+        first = next(
+            ((factor, n) for i, factor in enumerate(found.factors) if (n := count(i))), None
+        )
         if first:
             last = count(len(found.factors) - 1)
-            blocks = f"{first[1]:,} {'block' if first[1] == 1 else 'blocks'} there" + (f", {last:,} at factor {found.factors[-1] / 1000:g}" if first[0] != found.factors[-1] else "")
+            blocks = f"{first[1]:,} {'block' if first[1] == 1 else 'blocks'} there" + (
+                f", {last:,} at factor {found.factors[-1] / 1000:g}"
+                if first[0] != found.factors[-1]
+                else ""
+            )
             warn(f"from factor {first[0] / 1000:g} on a pit {what.format(blocks)}\n  try: {hint}")

@@ -16,21 +16,35 @@ if TYPE_CHECKING:
     from ..tasks.engines import Handed
 
 ENGINES = ("local", "slurm", "snakemake")
-SHOWN = 5                                    # failures that are told
+SHOWN = 5  # failures that are told
 
 
 @app.command()
-def submit(folder: Path = STUDY,
-           engine: str = typer.Option("local", help="local: processes of this machine; slurm: a job array; snakemake: a Snakefile for other schedulers."),
-           dry: bool = typer.Option(False, "--dry", help="Show what would be handed in, and hand in nothing."),
-           workers: Optional[int] = typer.Option(None, min=1, help="Of engine local: tasks at a time."),
-           minutes: int = typer.Option(240, min=1, help="That a task may take, for the scheduler."),
-           at_once: int = typer.Option(200, min=1, help="Tasks of an array that may run at a time."),
-           again: bool = typer.Option(False, "--again", help="Hand in too what seems to run on other machines, as where one of them died.")) -> None:
+def submit(
+    folder: Path = STUDY,
+    engine: str = typer.Option(
+        "local",
+        help="local: processes of this machine; slurm: a job array; snakemake: a Snakefile for other schedulers.",
+    ),
+    dry: bool = typer.Option(
+        False, "--dry", help="Show what would be handed in, and hand in nothing."
+    ),
+    workers: Optional[int] = typer.Option(None, min=1, help="Of engine local: tasks at a time."),
+    minutes: int = typer.Option(240, min=1, help="That a task may take, for the scheduler."),
+    at_once: int = typer.Option(200, min=1, help="Tasks of an array that may run at a time."),
+    again: bool = typer.Option(
+        False,
+        "--again",
+        help="Hand in too what seems to run on other machines, as where one of them died.",
+    ),
+) -> None:
     """Hand in what isn't done yet of shells, realisations and what-ifs. What failed is handed in again, and nothing else."""
     from ..tasks.engines import Limits
+
     if engine not in ENGINES:
-        raise PlanError(f"--engine {engine}: there is none of that name", try_this=", ".join(ENGINES))
+        raise PlanError(
+            f"--engine {engine}: there is none of that name", try_this=", ".join(ENGINES)
+        )
     study = opened(folder)
     tasks = to_hand_in(study, described(folder).factors, again)
     if not tasks:
@@ -39,13 +53,18 @@ def submit(folder: Path = STUDY,
         show(study, tasks, engine, Limits(minutes, at_once))
     elif engine == "local":
         from .risk import do_all
+
         do_all(study, tasks, workers)
         say(f"{counted(tasks)} done")
     elif engine == "slurm":
         from ..tasks.engines import submit_slurm
-        say(f"{counted(tasks)} handed in as job {', '.join(submit_slurm(study, tasks, Limits(minutes, at_once)))}; then: {command('status', folder)}")
+
+        say(
+            f"{counted(tasks)} handed in as job {', '.join(submit_slurm(study, tasks, Limits(minutes, at_once)))}; then: {command('status', folder)}"
+        )
     else:
         from ..tasks.engines import snakemake_lines, write_snakefile
+
         written = write_snakefile(study, tasks)
         say(f"{counted(tasks)} in {written / 'Snakefile'}; in the folder {study.folder}, on")
         for where, line in snakemake_lines(written).items():
@@ -57,11 +76,24 @@ def to_hand_in(study: Study, factors: list[int], again: bool) -> list[Task]:
     from ..study.study import host
     from ..tasks.status import FAILED, RUNNING, TO_DO, states
     from ..tasks.task import wanted
+
     found = states(study, wanted(study, factors))
-    elsewhere = [state for state in found if state.state == RUNNING and state.words.startswith("on ") and state.words != f"on {host()}"]
+    elsewhere = [
+        state
+        for state in found
+        if state.state == RUNNING
+        and state.words.startswith("on ")
+        and state.words != f"on {host()}"
+    ]
     if elsewhere and not again:
-        warn(f"{counted([state.task for state in elsewhere])} running {', '.join(sorted({state.words for state in elsewhere}))}; if that machine died: --again")
-    return [state.task for state in found if state.state in (FAILED, TO_DO) or (again and state in elsewhere)]
+        warn(
+            f"{counted([state.task for state in elsewhere])} running {', '.join(sorted({state.words for state in elsewhere}))}; if that machine died: --again"
+        )
+    return [
+        state.task
+        for state in found
+        if state.state in (FAILED, TO_DO) or (again and state in elsewhere)
+    ]
 
 
 def counted(tasks: list[Task]) -> str:
@@ -71,6 +103,7 @@ def counted(tasks: list[Task]) -> str:
 def show(study: Study, tasks: list[Task], engine: str, limits: object) -> None:
     """What would be handed in."""
     from ..tasks.engines import Limits, megabytes, slurm_script
+
     say(f"{counted(tasks)} of {megabytes(study):,} MB each would be handed in:")
     for task in tasks:
         say(f"  pitplan task {shlex.quote(str(study.folder))} {task}")
@@ -86,6 +119,7 @@ def status(folder: Path = STUDY) -> None:
     from ..tasks.status import FAILED, RUNNING, STATES, seconds_left, states
     from ..tasks.task import wanted
     from .build import duration
+
     study = opened(folder)
     in_hand: dict[Task, Handed] = {}
     try:
@@ -93,11 +127,20 @@ def status(folder: Path = STUDY) -> None:
     except MachineError as error:
         warn(f"{error.what}: what waits or runs there isn't shown")
     found = states(study, wanted(study, described(folder).factors), in_hand)
-    say(", ".join(f"{count} {name}" for name in STATES if (count := sum(state.state == name for state in found))) + f", of {len(found)} tasks")
+    say(
+        ", ".join(
+            f"{count} {name}"
+            for name in STATES
+            if (count := sum(state.state == name for state in found))
+        )
+        + f", of {len(found)} tasks"
+    )
     there = [factor for factor in described(folder).factors if study.verdict(factor)]
     kept = sum(study.certified(factor) is not None for factor in there)
     if kept < len(there):
-        say(f"certificates: of {kept} of {len(there)} shells; the others are as pit shells states them")
+        say(
+            f"certificates: of {kept} of {len(there)} shells; the others are as pit shells states them"
+        )
     failed = [state for state in found if state.state == FAILED]
     for state in failed[:SHOWN]:
         say(f"  failed: {state.task}: {state.words}")

@@ -12,7 +12,17 @@ from typing import Union
 import numpy as np
 import pandas as pd
 
-from ..base.amounts import LARGEST_FACTOR, MOST, THOUSAND, Bools, Floats, Priced, Whole, exact_sum, rounding_of
+from ..base.amounts import (
+    LARGEST_FACTOR,
+    MOST,
+    THOUSAND,
+    Bools,
+    Floats,
+    Priced,
+    Whole,
+    exact_sum,
+    rounding_of,
+)
 from ..base.errors import MOST_CELLS, Cell, Gathered, KeyPath, PlanError, Remedy, about, meant
 from ..base.units import metal_in_a_tonne
 from ..table.column_names import AIR
@@ -21,7 +31,7 @@ from ..table.study_keys import METALS, refuse_wrong
 from .model import Model
 from .subblocks import coded
 
-BARE = re.compile(r"[A-Za-z0-9_-]+")         # a key of TOML that needs no quotes
+BARE = re.compile(r"[A-Za-z0-9_-]+")  # a key of TOML that needs no quotes
 # A number, a column of the table, a formula over columns, or a number by rock with "other" for the rest.
 Amount = Union[float, str, Mapping[str, float]]
 
@@ -59,7 +69,9 @@ class Metal:
     selling: float = 0.0
 
     def __post_init__(self) -> None:
-        refuse_wrong(METALS, vars(self), f"[economics] metal {self.name}", ("economics", METALS, self.name))
+        refuse_wrong(
+            METALS, vars(self), f"[economics] metal {self.name}", ("economics", METALS, self.name)
+        )
 
     def content(self) -> float:
         """Units of metal, as the price counts them, in a tonne at a grade of 1."""
@@ -116,11 +128,21 @@ class Economics:
 
     def __post_init__(self) -> None:
         if not self.metals:
-            raise PlanError("[economics] has no metals", try_this='metals = [ { name = "copper", grade = "CU", price = 8500 } ]', key=("economics", METALS))
+            raise PlanError(
+                "[economics] has no metals",
+                try_this='metals = [ { name = "copper", grade = "CU", price = 8500 } ]',
+                key=("economics", METALS),
+            )
         names = [metal.name for metal in self.metals]
         if len(set(names)) < len(names):
-            raise PlanError(f"[economics] two metals are called {next(n for n in names if names.count(n) > 1)}", key=("economics", METALS))
-        refuse_wrong("economics", {name: value for name, value in vars(self).items() if name not in (METALS, "rounding")})
+            raise PlanError(
+                f"[economics] two metals are called {next(n for n in names if names.count(n) > 1)}",
+                key=("economics", METALS),
+            )
+        refuse_wrong(
+            "economics",
+            {name: value for name, value in vars(self).items() if name not in (METALS, "rounding")},
+        )
         with about("economics", "rounding"):
             rounding_of(self.rounding)
 
@@ -129,7 +151,9 @@ class Economics:
         """Tonnes that the mill gets for each tonne of ore in place."""
         return self.mining_recovery * (1 + self.dilution)
 
-    @np.errstate(over="ignore", invalid="ignore")        # in_whole refuses what is no number, with its row
+    @np.errstate(
+        over="ignore", invalid="ignore"
+    )  # in_whole refuses what is no number, with its row
     def priced(self, model: Model) -> Priced:
         """Revenue, processing and mining of each block, in whole multiples of `rounding`.
 
@@ -143,15 +167,31 @@ class Economics:
         revenue, selling = np.zeros(len(model)), np.zeros(len(model))
         metal: dict[str, Floats] = {}
         for m in self.metals:
-            units = tonnes * self.mining_recovery * read.grade[m.name] * m.content() * read.recovery[m.name] * read.to_mill
+            units = (
+                tonnes
+                * self.mining_recovery
+                * read.grade[m.name]
+                * m.content()
+                * read.recovery[m.name]
+                * read.to_mill
+            )
             metal[m.name] = units
             revenue += units * m.price * m.payable
             selling += units * m.selling
         processing = tonnes * self.feed * read.processing * read.to_mill + selling
         mining = tonnes * read.mining
         rounding = rounding_of(self.rounding)
-        whole = [in_whole(name, values, rounding, model) for name, values in (("revenue", revenue), ("processing", processing), ("mining", mining))]
-        found = Priced(whole[0], whole[1], whole[2], rounding, metal, read.grade, self.feed, read.forbidden)
+        whole = [
+            in_whole(name, values, rounding, model)
+            for name, values in (
+                ("revenue", revenue),
+                ("processing", processing),
+                ("mining", mining),
+            )
+        ]
+        found = Priced(
+            whole[0], whole[1], whole[2], rounding, metal, read.grade, self.feed, read.forbidden
+        )
         if found.forbidden.any():
             found.mining[found.forbidden] = fence_price(found, rounding)
         return found
@@ -164,7 +204,12 @@ class Economics:
         PlanError
             With each error that hangs on no other one.
         """
-        wrong, grade, recovery, costs = Gathered(), dict[str, Floats](), dict[str, Floats](), dict[str, Floats]()
+        wrong, grade, recovery, costs = (
+            Gathered(),
+            dict[str, Floats](),
+            dict[str, Floats](),
+            dict[str, Floats](),
+        )
         to_mill = forbidden = np.zeros(len(model), bool)
         with wrong.part("economics", "mill"):
             to_mill = self.to_mill(model)
@@ -188,7 +233,14 @@ class Economics:
         wrong = Gathered()
         for name in self.mill or ():
             if name not in kinds:
-                wrong.add([PlanError(f"[economics] mill: no block is of rock {name!r}{meant(name, kinds)}", key=("economics", "mill"))])
+                wrong.add(
+                    [
+                        PlanError(
+                            f"[economics] mill: no block is of rock {name!r}{meant(name, kinds)}",
+                            key=("economics", "mill"),
+                        )
+                    ]
+                )
         wrong.tell()
         takes = rock.isin(list(self.mill)) if self.mill is not None else rock != AIR
         found: Bools = takes.to_numpy() & (model.blocks["row"].to_numpy() >= 0)
@@ -196,10 +248,11 @@ class Economics:
 
     def forbidden(self, model: Model) -> Bools:
         """Which blocks may not be dug: those for which a formula of `forbid` holds, or for a sub-block of which one does. Air is never dug:
-        air above a corridor would else keep the rock beside the corridor, whose slopes lead through that air, from being dug too."""
+        air above a corridor would else keep the rock beside the corridor, whose slopes lead through that air, from being dug too.
+        """
         found: Bools = np.zeros(len(model), bool)
         if model.fenced and list(model.fenced[0]) == list(self.forbid):
-            found[:len(model.fenced[1])] = model.fenced[1]           # blocks after those are air
+            found[: len(model.fenced[1])] = model.fenced[1]  # blocks after those are air
             return found
         for formula in self.forbid:
             found |= holds(str(formula), model)[0]
@@ -211,7 +264,9 @@ class Economics:
         of sub-blocks its mean is what the metal in the block comes to."""
         amounts = [self.mining, self.processing, *(metal.recovery for metal in self.metals)]
         compared = [names_in(text, is_compared=True) for text in amounts if isinstance(text, str)]
-        return set().union(*compared, *(names_in(str(text)) for text in self.forbid)) - {metal.grade for metal in self.metals}
+        return set().union(*compared, *(names_in(str(text)) for text in self.forbid)) - {
+            metal.grade for metal in self.metals
+        }
 
     def partly_forbidden(self, model: Model) -> Bools:
         """Which blocks may not be dug for some of their sub-blocks alone, of shape (len(model),)."""
@@ -220,14 +275,26 @@ class Economics:
             return np.zeros(len(model), bool)
         rows = np.zeros(len(model.parts.frame), bool)
         for formula in self.forbid:
-            rows |= holds(str(formula), model)[1][:len(rows)]
-        free = np.bincount(model.parts.parent, ~rows & (model.parts.frame["tonnes"].to_numpy(float) > 0), len(model)) > 0
+            rows |= holds(str(formula), model)[1][: len(rows)]
+        free = (
+            np.bincount(
+                model.parts.parent,
+                ~rows & (model.parts.frame["tonnes"].to_numpy(float) > 0),
+                len(model),
+            )
+            > 0
+        )
         return found & free
 
 
 def number(what: str, value: object, least: float, most: float = math.inf) -> None:
     """Refuses what is no number from `least` to `most`."""
-    if isinstance(value, bool) or not isinstance(value, (int, float)) or not least <= value <= most or not math.isfinite(value):
+    if (
+        isinstance(value, bool)
+        or not isinstance(value, (int, float))
+        or not least <= value <= most
+        or not math.isfinite(value)
+    ):
         span = f"from {least:g} to {most:g}" if math.isfinite(most) else f"of at least {least:g}"
         raise PlanError(f"{what} is {value!r}, and has to be a number {span}")
 
@@ -236,7 +303,9 @@ def grades_of(metal: Metal, model: Model) -> Floats:
     """The grade of each block, 0 for blocks that were added."""
     found = model.numbers(metal.grade, f"metal {metal.name}")
     found[model.blocks["row"].to_numpy() < 0] = 0.0
-    too_rich = found * metal.content() > metal_in_a_tonne(metal.name, "%", metal.price_unit) * 100 * (1 + 1e-9)
+    too_rich = found * metal.content() > metal_in_a_tonne(
+        metal.name, "%", metal.price_unit
+    ) * 100 * (1 + 1e-9)
     if (found < 0).any():
         raise wrong_grade(metal, model, found, found < 0)
     if too_rich.any():
@@ -252,10 +321,26 @@ def wrong_grade(metal: Metal, model: Model, grades: Floats, wrong: Bools) -> Pla
     key: KeyPath = ("economics", METALS, metal.name, "grade")
     if grades[at] >= 0:
         what, hint = f"in {metal.grade_unit} is more than the whole rock", "another grade_unit"
-        return PlanError(f"{grades[at]:g} {what}{more}", table=model.table, row=int(row[at]), column=metal.grade, try_this=hint, key=(*key[:-1], "grade_unit")).with_cells(cells)
-    mark = Remedy(("model", "absent"), [f"{grades[at]:g}"], 'if that stands for "not estimated"', adds=True)
-    is_mark = len(np.unique(grades[wrong])) == 1          # else it is what kriging leaves
-    return PlanError(f"{grades[at]:g} is below 0{more}", table=model.table, row=int(row[at]), column=metal.grade, try_this=mark if is_mark else "0 in their place, if the estimation left them so", key=key).with_cells(cells)
+        return PlanError(
+            f"{grades[at]:g} {what}{more}",
+            table=model.table,
+            row=int(row[at]),
+            column=metal.grade,
+            try_this=hint,
+            key=(*key[:-1], "grade_unit"),
+        ).with_cells(cells)
+    mark = Remedy(
+        ("model", "absent"), [f"{grades[at]:g}"], 'if that stands for "not estimated"', adds=True
+    )
+    is_mark = len(np.unique(grades[wrong])) == 1  # else it is what kriging leaves
+    return PlanError(
+        f"{grades[at]:g} is below 0{more}",
+        table=model.table,
+        row=int(row[at]),
+        column=metal.grade,
+        try_this=mark if is_mark else "0 in their place, if the estimation left them so",
+        key=key,
+    ).with_cells(cells)
 
 
 def amount(what: str, given: Amount, model: Model) -> Floats:
@@ -268,22 +353,39 @@ def amount(what: str, given: Amount, model: Model) -> Floats:
     """
     b = model.blocks
     if isinstance(given, bool) or not isinstance(given, (int, float, str, Mapping)):
-        raise PlanError(f"{what} is {given!r}", try_this="a number, a column, a formula, or { rock = number, other = number }")
+        raise PlanError(
+            f"{what} is {given!r}",
+            try_this="a number, a column, a formula, or { rock = number, other = number }",
+        )
     if isinstance(given, (int, float)):
         return np.full(len(b), float(given))
     if isinstance(given, str):
-        return model.numbers(given, what) if given in b.columns else of_formula(given, model, what).astype(float)
+        return (
+            model.numbers(given, what)
+            if given in b.columns
+            else of_formula(given, model, what).astype(float)
+        )
     kinds = [str(kind) for kind in b.rock.unique()]
     unsaid = sorted(set(kinds) - set(given) - {AIR})
     if unsaid and "other" not in given:
         strange = next((name for name in given if name not in kinds), None)
-        raise PlanError(f"{what}: nothing is said of rock {', '.join(rock or 'without a name, an empty cell' for rock in unsaid)}{meant(strange, unsaid) if strange else ''}",
-                        table=model.table, row=row_at(model, int(np.argmax(b.rock == unsaid[0]))), try_this=f"{{ {unsaid[0] if BARE.fullmatch(unsaid[0]) else json.dumps(unsaid[0], ensure_ascii=False)} = .. }}, or {{ other = .. }} for the rest")
+        raise PlanError(
+            f"{what}: nothing is said of rock {', '.join(rock or 'without a name, an empty cell' for rock in unsaid)}{meant(strange, unsaid) if strange else ''}",
+            table=model.table,
+            row=row_at(model, int(np.argmax(b.rock == unsaid[0]))),
+            try_this=f"{{ {unsaid[0] if BARE.fullmatch(unsaid[0]) else json.dumps(unsaid[0], ensure_ascii=False)} = .. }}, or {{ other = .. }} for the rest",
+        )
     for rock, value in given.items():
         number(f"{what} of rock {rock}", value, -math.inf)
-        if "other" in given and rock not in (*kinds, "other", AIR):        # else a misspelt rock counts as one of the others
+        if "other" in given and rock not in (
+            *kinds,
+            "other",
+            AIR,
+        ):  # else a misspelt rock counts as one of the others
             raise PlanError(f"{what}: no block is of rock {rock!r}{meant(rock, kinds)}")
-    found: Floats = b.rock.map({kind: float(given.get(kind, given.get("other", 0.0))) for kind in kinds}).to_numpy(float)
+    found: Floats = b.rock.map(
+        {kind: float(given.get(kind, given.get("other", 0.0))) for kind in kinds}
+    ).to_numpy(float)
     return found
 
 
@@ -320,10 +422,15 @@ def holds(formula: str, model: Model) -> tuple[Bools, Bools]:
         table = pd.concat([parts.frame, table[is_added]], ignore_index=True)
         block = np.concatenate([parts.parent, block[is_added]])
     elif model.has_sub_blocks:
-        raise PlanError(f"[economics] forbid = {formula!r}: for which sub-blocks does it hold? A model that was built doesn't have them any more", try_this="read the table again, and build")
+        raise PlanError(
+            f"[economics] forbid = {formula!r}: for which sub-blocks does it hold? A model that was built doesn't have them any more",
+            try_this="read the table again, and build",
+        )
     found = of_rows(formula, table, "[economics] forbid")
     if found.dtype != bool:
-        raise PlanError(f"[economics] forbid = {formula!r} says neither yes nor no", try_this='as "XC > 12000"')
+        raise PlanError(
+            f"[economics] forbid = {formula!r} says neither yes nor no", try_this='as "XC > 12000"'
+        )
     rows = found.astype(bool) & ((table["tonnes"].to_numpy(float) > 0) | (parts is None))
     each: Bools = np.zeros(len(model), bool)
     each[block[rows]] = True
@@ -335,7 +442,11 @@ def share(what: str, values: Floats, model: Model) -> Floats:
     wrong = (values < 0) | (values > 1)
     if wrong.any():
         at = int(np.argmax(wrong))
-        raise PlanError(f"{what} is {values[at]:g}, and a share is from 0 to 1", table=model.table, row=row_at(model, at))
+        raise PlanError(
+            f"{what} is {values[at]:g}, and a share is from 0 to 1",
+            table=model.table,
+            row=row_at(model, at),
+        )
     return values
 
 
@@ -345,8 +456,14 @@ def cost(what: str, given: Amount, model: Model) -> Floats:
     wrong = values < 0
     if wrong.any():
         at = int(np.argmax(wrong))
-        raise PlanError(f"{what} costs {values[at]:g} a tonne here, less than nothing, and so for {int(wrong.sum()):,} blocks", table=model.table,
-                        row=row_at(model, at), try_this=f"max(0, {given}), if the formula runs below 0" if isinstance(given, str) else None)
+        raise PlanError(
+            f"{what} costs {values[at]:g} a tonne here, less than nothing, and so for {int(wrong.sum()):,} blocks",
+            table=model.table,
+            row=row_at(model, at),
+            try_this=f"max(0, {given}), if the formula runs below 0"
+            if isinstance(given, str)
+            else None,
+        )
     return values
 
 
@@ -358,9 +475,13 @@ def row_at(model: Model, block: int) -> int | None:
 def in_whole(name: str, values: Floats, rounding: Decimal, model: Model) -> Whole:
     """Amounts in whole multiples of `rounding`, half to even."""
     most = float(MOST)
-    if not np.abs(values).max(initial=0.0) <= most:            # so also where a product is no number
+    if not np.abs(values).max(initial=0.0) <= most:  # so also where a product is no number
         at = int(np.argmax(np.abs(values)))
-        raise PlanError(f"a {name} of {values[at]:g} for one block: is a unit wrong?", table=model.table, row=row_at(model, at))
+        raise PlanError(
+            f"a {name} of {values[at]:g} for one block: is a unit wrong?",
+            table=model.table,
+            row=row_at(model, at),
+        )
     whole: Whole = np.rint(values / float(rounding)).astype(np.int64)
     return whole
 
@@ -378,5 +499,8 @@ def fence_price(priced: Priced, rounding: Decimal) -> int:
     if price * rounding > MOST:
         price = int(MOST / rounding)
         if price <= 2 * exact_sum(priced.revenue):
-            raise PlanError("[economics] forbid: the mine brings too much for an amount that keeps blocks from being dug", try_this="prices and costs in thousands")
+            raise PlanError(
+                "[economics] forbid: the mine brings too much for an amount that keeps blocks from being dug",
+                try_this="prices and costs in thousands",
+            )
     return price

@@ -17,7 +17,7 @@ if TYPE_CHECKING:
     from .model import Model
 
 Bools = npt.NDArray[np.bool_]
-LARGEST = 1 << 24                            # blocks that pit reads
+LARGEST = 1 << 24  # blocks that pit reads
 
 
 def enclosed(columns: Bools) -> Bools:
@@ -68,16 +68,23 @@ def close(model: Model, missing: str, fill: Mapping[str, Any], table: str) -> No
     shafts(model, enclosed(columns), missing, table)
     low = int((~cube & columns[:, :, None] & (levels < floor[:, :, None])).sum())
     if low:
-        model.notes.append(f"{low:,} places below the lowest block of their column have no row: a pit can't go there, and no wall is held through them")
+        model.notes.append(
+            f"{low:,} places below the lowest block of their column have no row: a pit can't go there, and no wall is held through them"
+        )
     above = int((~cube & columns[:, :, None] & (levels > top[:, :, None])).sum())
     if above:
-        model.notes.append(f"{above:,} places above the highest block of their column have no row: air")
+        model.notes.append(
+            f"{above:,} places above the highest block of their column have no row: air"
+        )
     if not within.any():
         return
     if missing == "refuse":
         i, j, k = (int(v[0]) for v in np.nonzero(within))
-        raise PlanError(f"{place(model, i, j, k)} has no row, with blocks above and below it ({int(within.sum()):,} such); through such a hole no wall is held",
-                        table=table, try_this='missing = "air" in [model] (old workings), or missing = "rock" with fill = { tonnes = 10400, rock = "waste" }')
+        raise PlanError(
+            f"{place(model, i, j, k)} has no row, with blocks above and below it ({int(within.sum()):,} such); through such a hole no wall is held",
+            table=table,
+            try_this='missing = "air" in [model] (old workings), or missing = "rock" with fill = { tonnes = 10400, rock = "waste" }',
+        )
     add_within(model, within, missing, fill)
 
 
@@ -88,8 +95,11 @@ def shafts(model: Model, holes: Bools, missing: str, table: str) -> None:
     if missing != "air":
         i, j = (int(v[0]) for v in np.nonzero(holes))
         east, north, _ = model.grid.world(i, j, 0)
-        raise PlanError(f"the whole column at ({east:.10g}, {north:.10g}) is missing within the model ({int(holes.sum()):,} such); through such a gap no wall is held",
-                        table=table, try_this='export it too, or missing = "air" in [model], if it is a shaft')
+        raise PlanError(
+            f"the whole column at ({east:.10g}, {north:.10g}) is missing within the model ({int(holes.sum()):,} such); through such a gap no wall is held",
+            table=table,
+            try_this='export it too, or missing = "air" in [model], if it is a shaft',
+        )
     model.notes.append(f"{int(holes.sum()):,} whole columns within the model left empty, as air")
 
 
@@ -104,7 +114,10 @@ def add_within(model: Model, within: Bools, missing: str, fill: Mapping[str, Any
     if missing == "air":
         fill = {"tonnes": 0.0, "rock": AIR}
     elif "tonnes" not in fill or "rock" not in fill:
-        raise PlanError("[model] missing = \"rock\": what is a block that has no row?", try_this='fill = { tonnes = 10400, rock = "waste" } in [model]')
+        raise PlanError(
+            '[model] missing = "rock": what is a block that has no row?',
+            try_this='fill = { tonnes = 10400, rock = "waste" } in [model]',
+        )
     i, j, k = np.nonzero(within)
     index = model.index
     above = np.full(len(i), -1)
@@ -120,7 +133,10 @@ def add_within(model: Model, within: Bools, missing: str, fill: Mapping[str, Any
             raise PlanError(f"[model] fill: the table has no column {name!r}")
         new[name] = value
     added(model, new, model.grid)
-    model.notes.append(f"{len(new):,} blocks added where rows are missing: " + ", ".join(f"{name} = {value}" for name, value in fill.items()))
+    model.notes.append(
+        f"{len(new):,} blocks added where rows are missing: "
+        + ", ".join(f"{name} = {value}" for name, value in fill.items())
+    )
 
 
 def widen(model: Model, n: int) -> None:
@@ -128,14 +144,23 @@ def widen(model: Model, n: int) -> None:
     g = model.grid
     nx, ny, nz = g.shape
     if (nx + 2 * n) * (ny + 2 * n) > LARGEST:
-        raise PlanError(f"[model] widen = {n:,} makes more blocks than pit reads", try_this="widen = 10: so many columns on each side")
-    i, j = (v.ravel() for v in np.meshgrid(np.arange(-n, nx + n), np.arange(-n, ny + n), indexing="ij"))
+        raise PlanError(
+            f"[model] widen = {n:,} makes more blocks than pit reads",
+            try_this="widen = 10: so many columns on each side",
+        )
+    i, j = (
+        v.ravel() for v in np.meshgrid(np.arange(-n, nx + n), np.arange(-n, ny + n), indexing="ij")
+    )
     outside = (i < 0) | (i >= nx) | (j < 0) | (j >= ny)
     i, j = i[outside], j[outside]
     source = model.index[np.clip(i, 0, nx - 1), np.clip(j, 0, ny - 1)]
     column, level = np.nonzero(source >= 0)
     new = model.blocks.iloc[source[column, level]].copy()
-    new["ix"], new["iy"], new["iz"] = (i[column] + n).astype(np.int32), (j[column] + n).astype(np.int32), level.astype(np.int32)
+    new["ix"], new["iy"], new["iz"] = (
+        (i[column] + n).astype(np.int32),
+        (j[column] + n).astype(np.int32),
+        level.astype(np.int32),
+    )
     model.blocks["ix"] += np.int32(n)
     model.blocks["iy"] += np.int32(n)
     east, north, low = (float(v) for v in g.world(-n, -n, 0))
@@ -147,7 +172,9 @@ def added(model: Model, new: pd.DataFrame, grid: Grid) -> None:
     """Puts blocks after those of the table; their coordinates are where they are. The labels of `new` are the numbers of the blocks that
     they are copies of."""
     if model.parts:
-        model.parts = replace(model.parts, source=np.concatenate([model.parts.source, model.parts.source[new.index]]))
+        model.parts = replace(
+            model.parts, source=np.concatenate([model.parts.source, model.parts.source[new.index]])
+        )
     new["row"], new["id"] = np.int32(-1), ""
     x, y, z = grid.world(new["ix"], new["iy"], new["iz"])
     for key, values in (("x", x), ("y", y), ("z", -z if model.depth else z)):

@@ -48,9 +48,11 @@ class Grid:
         """
         a = math.radians(self.rotation)
         u, v = np.asarray(ix, float) * self.size[0], np.asarray(iy, float) * self.size[1]
-        return (np.asarray(self.origin[0] + u * math.cos(a) + v * math.sin(a)),
-                np.asarray(self.origin[1] - u * math.sin(a) + v * math.cos(a)),
-                np.asarray(self.origin[2] + np.asarray(iz, float) * self.size[2]))
+        return (
+            np.asarray(self.origin[0] + u * math.cos(a) + v * math.sin(a)),
+            np.asarray(self.origin[1] - u * math.sin(a) + v * math.cos(a)),
+            np.asarray(self.origin[2] + np.asarray(iz, float) * self.size[2]),
+        )
 
     @property
     def volume(self) -> float:

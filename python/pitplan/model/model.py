@@ -12,16 +12,26 @@ import pandas as pd
 
 from ..base.errors import Gathered, PlanError, about, meant
 from ..table.column_names import PLACES, SIZES, which_columns
-from ..table.csv_text import NO_PLACE, NO_WEIGHT, Dialect, dialect_of, head_of, names_of, number_column, numbers_among, read_frame
+from ..table.csv_text import (
+    NO_PLACE,
+    NO_WEIGHT,
+    Dialect,
+    dialect_of,
+    head_of,
+    names_of,
+    number_column,
+    numbers_among,
+    read_frame,
+)
 from ..table.study_keys import refuse_wrong
 from . import gaps, subblocks
 from .grid import Floats, Grid
 
 Ints = npt.NDArray[np.int64]
-OFF = 0.05                                   # of a block: how far a centre may be off the grid
-MOST_STEPS = 10 ** 9                         # blocks along an axis, so that their numbers are whole and fit
-SAMPLE = 50_000                              # centres, by which the grid that most are on is found
-NO_WEIGHT = 'fill it in, or take the row out; absent = [".."] in [model] counts it as 0, and a block of 0 tonnes is air'      # what to try where a weight is no number
+OFF = 0.05  # of a block: how far a centre may be off the grid
+MOST_STEPS = 10**9  # blocks along an axis, so that their numbers are whole and fit
+SAMPLE = 50_000  # centres, by which the grid that most are on is found
+NO_WEIGHT = 'fill it in, or take the row out; absent = [".."] in [model] counts it as 0, and a block of 0 tonnes is air'  # what to try where a weight is no number
 OURS = ("id", "ix", "iy", "iz", "tonnes", "rock", "row")
 
 
@@ -86,7 +96,9 @@ class Model:
     def index(self) -> npt.NDArray[np.int32]:
         """The number of the block at each place of the grid, of its shape; -1 where there is none."""
         cube = np.full(self.grid.shape, -1, dtype=np.int32)
-        cube[self.blocks.ix, self.blocks.iy, self.blocks.iz] = np.arange(len(self.blocks), dtype=np.int32)
+        cube[self.blocks.ix, self.blocks.iy, self.blocks.iz] = np.arange(
+            len(self.blocks), dtype=np.int32
+        )
         return cube
 
     @property
@@ -110,8 +122,14 @@ class Model:
     def numbers(self, column: str, what: str) -> Floats:
         """A column of the table as numbers, of shape (len(self),); `what` says in an error what it was wanted for."""
         if column not in self.blocks.columns:
-            raise PlanError(f"{what}: the table has no column {column!r}{meant(column, map(str, self.blocks.columns))}")
-        return number_column(pd.Series(self.blocks[column].to_numpy(), index=self.blocks["row"], name=column), self.table, self.absent)
+            raise PlanError(
+                f"{what}: the table has no column {column!r}{meant(column, map(str, self.blocks.columns))}"
+            )
+        return number_column(
+            pd.Series(self.blocks[column].to_numpy(), index=self.blocks["row"], name=column),
+            self.table,
+            self.absent,
+        )
 
 
 @dataclass(frozen=True)
@@ -159,7 +177,12 @@ class TableKeys:
 
     def dialect(self, path: Path) -> Dialect:
         found = dialect_of(path, self.encoding or "utf-8-sig")
-        return Dialect(found.separator, self.decimal or found.decimal, found.encoding, found.skip if self.skip is None else self.skip)
+        return Dialect(
+            found.separator,
+            self.decimal or found.decimal,
+            found.encoding,
+            found.skip if self.skip is None else self.skip,
+        )
 
 
 def read_table(path: str | Path, **keys: Any) -> Model:
@@ -205,7 +228,9 @@ def read_with(path: Path, keys: TableKeys) -> Model:
         size = size_of(frame, names, keys, table, notes)
     estimated(frame, names, keys.absent)
     with about("model", "regularise"):
-        whole = subblocks.whole_blocks(frame, names, places, size, subblocks.Wanted(keys.regularise, keys.rotation, table))
+        whole = subblocks.whole_blocks(
+            frame, names, places, size, subblocks.Wanted(keys.regularise, keys.rotation, table)
+        )
     notes += whole.notes
     with about("model", "size"):
         grid, index = on_grid(whole.places, size, keys, names, whole.frame.index, table)
@@ -214,10 +239,24 @@ def read_with(path: Path, keys: TableKeys) -> Model:
     notes += light(blocks)
     row_block = np.full(rows, -1, np.int32)
     row_block[frame.index.to_numpy()] = whole.parent
-    model = Model(blocks, grid, path.name.removesuffix(".gz").removesuffix(".csv"), notes, names, row_block, keys.z == "depth", path, keys.absent)
+    model = Model(
+        blocks,
+        grid,
+        path.name.removesuffix(".gz").removesuffix(".csv"),
+        notes,
+        names,
+        row_block,
+        keys.z == "depth",
+        path,
+        keys.absent,
+    )
     if whole.tonnes is not None:
         i, j, k = (at[whole.parent] for at in index)
-        model.parts = subblocks.Parts(columns_of(frame, names, grid, (i, j, k), table).assign(tonnes=whole.tonnes), whole.parent, np.arange(len(blocks)))
+        model.parts = subblocks.Parts(
+            columns_of(frame, names, grid, (i, j, k), table).assign(tonnes=whole.tonnes),
+            whole.parent,
+            np.arange(len(blocks)),
+        )
     with about("model", "missing"):
         gaps.close(model, keys.missing, keys.fill, table)
     if keys.widen:
@@ -226,7 +265,9 @@ def read_with(path: Path, keys: TableKeys) -> Model:
     return model
 
 
-def places_of(frame: pd.DataFrame, names: Mapping[str, str], keys: TableKeys, table: str) -> subblocks.Places:
+def places_of(
+    frame: pd.DataFrame, names: Mapping[str, str], keys: TableKeys, table: str
+) -> subblocks.Places:
     """The centres. Wrong cells of any of their columns, or of that of tonnes or density, are told together."""
     wrong, found = Gathered(), {}
     for key in PLACES:
@@ -239,17 +280,29 @@ def places_of(frame: pd.DataFrame, names: Mapping[str, str], keys: TableKeys, ta
     return subblocks.Places(*(found[key] for key in PLACES))
 
 
-def size_of(frame: pd.DataFrame, names: Mapping[str, str], keys: TableKeys, table: str, notes: list[str]) -> tuple[float, float, float]:
+def size_of(
+    frame: pd.DataFrame, names: Mapping[str, str], keys: TableKeys, table: str, notes: list[str]
+) -> tuple[float, float, float]:
     """The size of a whole block: as told, or the largest that the table's columns of sizes have."""
     if keys.size is not None:
         x, y, z = map(float, keys.size)
         return x, y, z
     if not all(key in names for key in SIZES):
-        raise PlanError("how large is a block? The table has no columns of sizes", table=table, try_this="size = [20, 20, 10] in [model]")
+        raise PlanError(
+            "how large is a block? The table has no columns of sizes",
+            table=table,
+            try_this="size = [20, 20, 10] in [model]",
+        )
     x, y, z = (float(number_column(frame[names[key]], table).max()) for key in SIZES)
     if min(x, y, z) <= 0:
-        raise PlanError(f"a block of {x:g} x {y:g} x {z:g}?", table=table, try_this="size = [20, 20, 10] in [model]")
-    notes.append(f"size {x:g} x {y:g} x {z:g} from the columns {', '.join(names[key] for key in SIZES)}")
+        raise PlanError(
+            f"a block of {x:g} x {y:g} x {z:g}?",
+            table=table,
+            try_this="size = [20, 20, 10] in [model]",
+        )
+    notes.append(
+        f"size {x:g} x {y:g} x {z:g} from the columns {', '.join(names[key] for key in SIZES)}"
+    )
     return x, y, z
 
 
@@ -272,11 +325,17 @@ def estimated(frame: pd.DataFrame, names: Mapping[str, str], absent: Sequence[st
             number_column(values.iloc[:1000], name, absent)
             frame[name] = number_column(values, name, absent)
         except PlanError:
-            pass                             # a column of words, or one that is told where it is used
+            pass  # a column of words, or one that is told where it is used
 
 
-def on_grid(places: subblocks.Places, size: tuple[float, float, float], keys: TableKeys, names: Mapping[str, str],
-            rows: pd.Index, table: str) -> tuple[Grid, tuple[Ints, Ints, Ints]]:
+def on_grid(
+    places: subblocks.Places,
+    size: tuple[float, float, float],
+    keys: TableKeys,
+    names: Mapping[str, str],
+    rows: pd.Index,
+    table: str,
+) -> tuple[Grid, tuple[Ints, Ints, Ints]]:
     """The grid that the blocks lie on, and their whole indices.
 
     Raises
@@ -287,19 +346,44 @@ def on_grid(places: subblocks.Places, size: tuple[float, float, float], keys: Ta
     turned = Grid((0.0, 0.0, 0.0), size, rotation=float(keys.rotation))
     u, v = turned.local(places.x - places.x[0], places.y - places.y[0])
     up = places.z if keys.z == "elevation" else -places.z
-    told = "rotation = the bearing of the model's y axis in [model], or size as the package has it" if not keys.rotation else "another rotation, or size"
+    told = (
+        "rotation = the bearing of the model's y axis in [model], or size as the package has it"
+        if not keys.rotation
+        else "another rotation, or size"
+    )
     found = []
     for key, values, length in zip(PLACES, (u, v, up), size):
-        found.append(along(values, length, Axis(table, names[key], rows, told if key != "z" else "size as the package has it")))
+        found.append(
+            along(
+                values,
+                length,
+                Axis(table, names[key], rows, told if key != "z" else "size as the package has it"),
+            )
+        )
     (ix, low_u), (iy, low_v), (iz, low_z) = found
-    corner = Grid((float(places.x[0]), float(places.y[0]), low_z), (1.0, 1.0, 1.0), rotation=float(keys.rotation))
+    corner = Grid(
+        (float(places.x[0]), float(places.y[0]), low_z),
+        (1.0, 1.0, 1.0),
+        rotation=float(keys.rotation),
+    )
     east, north, _ = corner.world(low_u, low_v, 0)
     shape = (int(ix.max()) + 1, int(iy.max()) + 1, int(iz.max()) + 1)
-    if shape[0] * shape[1] * shape[2] > max(40 * len(ix), 10 ** 6):
-        far = int(np.argmax(np.abs(u - np.median(u)) / size[0] + np.abs(v - np.median(v)) / size[1] + np.abs(up - np.median(up)) / size[2]))
-        raise PlanError(f"{len(ix):,} blocks are scattered over a grid of {shape[0]:,} x {shape[1]:,} x {shape[2]:,}; this one, at "
-                        f"({places.x[far]:g}, {places.y[far]:g}, {places.z[far]:g}), lies farthest out", table=table, row=int(rows[far]),
-                        column=names["x"], try_this=f"is the size {size[0]:g} x {size[1]:g} x {size[2]:g} right?")
+    if shape[0] * shape[1] * shape[2] > max(40 * len(ix), 10**6):
+        far = int(
+            np.argmax(
+                np.abs(u - np.median(u)) / size[0]
+                + np.abs(v - np.median(v)) / size[1]
+                + np.abs(up - np.median(up)) / size[2]
+            )
+        )
+        raise PlanError(
+            f"{len(ix):,} blocks are scattered over a grid of {shape[0]:,} x {shape[1]:,} x {shape[2]:,}; this one, at "
+            f"({places.x[far]:g}, {places.y[far]:g}, {places.z[far]:g}), lies farthest out",
+            table=table,
+            row=int(rows[far]),
+            column=names["x"],
+            try_this=f"is the size {size[0]:g} x {size[1]:g} x {size[2]:g} right?",
+        )
     twins((ix * shape[1] + iy) * shape[2] + iz, rows, names["x"], table)
     return Grid((float(east), float(north), low_z), size, shape, float(keys.rotation)), (ix, iy, iz)
 
@@ -316,13 +400,18 @@ class Axis:
 
 def along(values: Floats, length: float, axis: Axis) -> tuple[Ints, float]:
     """Whole indices along an axis, and the coordinate of index 0. The grid is where most centres are."""
-    with np.errstate(over="ignore"):         # a length that is next to nothing
+    with np.errstate(over="ignore"):  # a length that is next to nothing
         steps = values / length
     far = int(np.argmax(np.abs(steps)))
     if not abs(steps[far]) < MOST_STEPS:
-        raise PlanError(f"the centre is more than {MOST_STEPS:,} blocks of {length:g} away", table=axis.table, row=int(axis.rows[far]), column=axis.column,
-                        try_this=f"is a block {length:g} long? size in [model]")
-    share = steps[::max(1, len(steps) // SAMPLE)] % 1.0
+        raise PlanError(
+            f"the centre is more than {MOST_STEPS:,} blocks of {length:g} away",
+            table=axis.table,
+            row=int(axis.rows[far]),
+            column=axis.column,
+            try_this=f"is a block {length:g} long? size in [model]",
+        )
+    share = steps[:: max(1, len(steps) // SAMPLE)] % 1.0
     counts = np.bincount(np.minimum((share * 200).astype(np.int64), 199), minlength=200)
     about = int(np.argmax(counts + np.roll(counts, 1))) / 200
     near = (share - about + 0.5) % 1.0 - 0.5
@@ -332,15 +421,25 @@ def along(values: Floats, length: float, axis: Axis) -> tuple[Ints, float]:
     if off.max() > OFF:
         row = int(np.argmax(off > OFF))
         n = int(np.sum(off > OFF))
-        raise PlanError(f"the centre is {off[row]:.2f} of a block of {length:g} off the grid that most blocks are on"
-                        + (f"; {n:,} blocks are off it" if n > 1 else ""), table=axis.table, row=int(axis.rows[row]), column=axis.column, try_this=axis.try_this)
+        raise PlanError(
+            f"the centre is {off[row]:.2f} of a block of {length:g} off the grid that most blocks are on"
+            + (f"; {n:,} blocks are off it" if n > 1 else ""),
+            table=axis.table,
+            row=int(axis.rows[row]),
+            column=axis.column,
+            try_this=axis.try_this,
+        )
     first = int(np.argmin(index))
     low = float(values[first])
     index -= index[first]
     apart = int(np.gcd.reduce(index))
     if apart > 1:
-        raise PlanError(f"no two blocks are neighbours: all are {apart} blocks of {length:g} apart, or a multiple", table=axis.table,
-                        column=axis.column, try_this=f"is a block {apart * length:g} long? size in [model]")
+        raise PlanError(
+            f"no two blocks are neighbours: all are {apart} blocks of {length:g} apart, or a multiple",
+            table=axis.table,
+            column=axis.column,
+            try_this=f"is a block {apart * length:g} long? size in [model]",
+        )
     return index, low
 
 
@@ -350,8 +449,14 @@ def twins(flat: Ints, rows: pd.Index, column: str, table: str) -> None:
     same = np.flatnonzero(np.diff(flat[order]) == 0)
     if len(same):
         first, second = sorted((int(rows[order[same[0]]]), int(rows[order[same[0] + 1]])))
-        raise PlanError(f"is at the place of row {first + 2}: two blocks at one place" + (f" ({len(same):,} such)" if len(same) > 1 else ""),
-                        table=table, row=second, column=column, try_this="take one of the rows out; or regularise = true in [model], with the columns dx, dy and dz, if these are sub-blocks")
+        raise PlanError(
+            f"is at the place of row {first + 2}: two blocks at one place"
+            + (f" ({len(same):,} such)" if len(same) > 1 else ""),
+            table=table,
+            row=second,
+            column=column,
+            try_this="take one of the rows out; or regularise = true in [model], with the columns dx, dy and dz, if these are sub-blocks",
+        )
 
 
 def light(blocks: pd.DataFrame) -> list[str]:
@@ -359,36 +464,69 @@ def light(blocks: pd.DataFrame) -> list[str]:
     rocks = blocks["rock"][blocks["tonnes"] == 0].value_counts()
     if not len(rocks):
         return []
-    named = ", ".join(f"{rock or 'without a rock'} {count:,}" for rock, count in rocks.head(3).items()) + (", .." if len(rocks) > 3 else "")
+    named = ", ".join(
+        f"{rock or 'without a rock'} {count:,}" for rock, count in rocks.head(3).items()
+    ) + (", .." if len(rocks) > 3 else "")
     count = int(rocks.sum())
-    return [f"{count:,} {'rows weigh' if count > 1 else 'row weighs'} nothing, and {'count' if count > 1 else 'counts'} as air: {named}"]
+    return [
+        f"{count:,} {'rows weigh' if count > 1 else 'row weighs'} nothing, and {'count' if count > 1 else 'counts'} as air: {named}"
+    ]
 
 
 def without_blanks(words: pd.Series) -> npt.NDArray[Any]:
     """Words without the blanks around them, which packages fill cells up with."""
     code, kinds = pd.factorize(words)
-    found: npt.NDArray[Any] = np.array([*(str(kind).strip() for kind in kinds), ""], object)[code]       # the last is that of an empty cell, whose code is -1
+    found: npt.NDArray[Any] = np.array([*(str(kind).strip() for kind in kinds), ""], object)[
+        code
+    ]  # the last is that of an empty cell, whose code is -1
     return found
 
 
-def columns_of(frame: pd.DataFrame, names: Mapping[str, str], grid: Grid, index: tuple[Ints, Ints, Ints], table: str) -> pd.DataFrame:
+def columns_of(
+    frame: pd.DataFrame,
+    names: Mapping[str, str],
+    grid: Grid,
+    index: tuple[Ints, Ints, Ints],
+    table: str,
+) -> pd.DataFrame:
     """The table with this package's own columns beside the planner's."""
-    own: dict[str, Any] = {"id": frame[names["id"]].to_numpy() if "id" in names else (frame.index.to_numpy() + 2).astype(str)}
+    own: dict[str, Any] = {
+        "id": frame[names["id"]].to_numpy()
+        if "id" in names
+        else (frame.index.to_numpy() + 2).astype(str)
+    }
     own |= {key: values.astype(np.int32) for key, values in zip(("ix", "iy", "iz"), index)}
     if "tonnes" in names:
-        weighed, tonnes = names["tonnes"], number_column(frame[names["tonnes"]], table, hint=NO_WEIGHT)
+        weighed, tonnes = names["tonnes"], number_column(
+            frame[names["tonnes"]], table, hint=NO_WEIGHT
+        )
     elif "density" in names:
         weighed = names["density"]
         tonnes = number_column(frame[weighed], table, hint=NO_WEIGHT) * grid.volume
     else:
-        raise PlanError("no column is known as tonnes or density", table=table, try_this='columns = { tonnes = "..." } in [model]')
+        raise PlanError(
+            "no column is known as tonnes or density",
+            table=table,
+            try_this='columns = { tonnes = "..." } in [model]',
+        )
     if (tonnes < 0).any():
         row = int(np.argmax(tonnes < 0))
-        cell = number_column(frame[weighed].iloc[row:row + 1], table)[0]
-        raise PlanError(f"{cell:g} is less than nothing", table=table, row=int(frame.index[row]), column=weighed,
-                        try_this=f'absent = ["{cell:g}"] in [model], if that stands for "not estimated"')
+        cell = number_column(frame[weighed].iloc[row : row + 1], table)[0]
+        raise PlanError(
+            f"{cell:g} is less than nothing",
+            table=table,
+            row=int(frame.index[row]),
+            column=weighed,
+            try_this=f'absent = ["{cell:g}"] in [model], if that stands for "not estimated"',
+        )
     own["tonnes"] = tonnes
-    own["rock"] = without_blanks(frame[names["rock"]]) if "rock" in names else np.full(len(frame), "rock", object)
+    own["rock"] = (
+        without_blanks(frame[names["rock"]])
+        if "rock" in names
+        else np.full(len(frame), "rock", object)
+    )
     own["row"] = frame.index.to_numpy().astype(np.int32)
     rest = {str(name): frame[name].to_numpy() for name in frame.columns if name not in OURS}
-    return pd.DataFrame({**own, **rest}, copy=False)        # a copy into common blocks would take as long as all checks
+    return pd.DataFrame(
+        {**own, **rest}, copy=False
+    )  # a copy into common blocks would take as long as all checks

@@ -50,19 +50,34 @@ def outline(plane: Bools) -> MultiPolygon:
     edges = np.diff(np.pad(plane, ((1, 1), (0, 0))).astype(np.int8), axis=0).T
     rows, first = np.nonzero(edges == 1)
     _, last = np.nonzero(edges == -1)
-    joined = unary_union([box(a - 0.5, j - 0.5, z - 0.5, j + 0.5) for j, a, z in zip(rows.tolist(), first.tolist(), last.tolist())])
-    return MultiPolygon([Polygon(turned(corners(p.exterior), True), [turned(corners(hole), False) for hole in p.interiors]) for p in parts(joined)])
+    joined = unary_union(
+        [
+            box(a - 0.5, j - 0.5, z - 0.5, j + 0.5)
+            for j, a, z in zip(rows.tolist(), first.tolist(), last.tolist())
+        ]
+    )
+    return MultiPolygon(
+        [
+            Polygon(
+                turned(corners(p.exterior), True),
+                [turned(corners(hole), False) for hole in p.interiors],
+            )
+            for p in parts(joined)
+        ]
+    )
 
 
 def parts(shape: Any) -> list[Polygon]:
     """The polygons of a shape."""
-    return [p for p in getattr(shape, "geoms", [shape]) if p.geom_type == "Polygon" and not p.is_empty]
+    return [
+        p for p in getattr(shape, "geoms", [shape]) if p.geom_type == "Polygon" and not p.is_empty
+    ]
 
 
 def corners(ring: Any) -> Floats:
     """The points of a closed ring at which it turns, of shape (corners, 2), the first not repeated."""
     points = np.asarray(ring.coords)
-    way = points[1:] - points[:-1]                   # the ring is closed: from each point to the next
+    way = points[1:] - points[:-1]  # the ring is closed: from each point to the next
     last = way[np.arange(-1, len(way) - 1)]
     turns: Floats = points[:-1][last[:, 0] * way[:, 1] != last[:, 1] * way[:, 0]]
     return turns
@@ -81,6 +96,7 @@ def cut(shape: MultiPolygon, reach: float = 0.5) -> MultiPolygon:
     The area is no longer that of the blocks: by an eighth of a block less at each corner that points out, and more at each
     that points in.
     """
+
     def ring(points: Any) -> Floats:
         at = np.asarray(points.coords)[:-1]
         ways = np.stack([np.roll(at, 1, axis=0) - at, np.roll(at, -1, axis=0) - at], axis=1)
@@ -88,16 +104,23 @@ def cut(shape: MultiPolygon, reach: float = 0.5) -> MultiPolygon:
         found = (at[:, None] + reach * ways).reshape(-1, 2)
         once: Floats = found[(found != np.roll(found, 1, axis=0)).any(axis=1)]
         return once
-    return MultiPolygon([Polygon(ring(p.exterior), [ring(hole) for hole in p.interiors]) for p in shape.geoms])
+
+    return MultiPolygon(
+        [Polygon(ring(p.exterior), [ring(hole) for hole in p.interiors]) for p in shape.geoms]
+    )
 
 
 def placed(shape: MultiPolygon, grid: Grid) -> MultiPolygon:
     """A shape in the grid's own units, brought to the planner's coordinates, also of a turned model."""
+
     def ring(points: Any) -> Floats:
         at = np.asarray(points.coords)
         east, north, _ = grid.world(at[:, 0], at[:, 1], 0)
         return np.column_stack([east, north])
-    return MultiPolygon([Polygon(ring(p.exterior), [ring(hole) for hole in p.interiors]) for p in shape.geoms])
+
+    return MultiPolygon(
+        [Polygon(ring(p.exterior), [ring(hole) for hole in p.interiors]) for p in shape.geoms]
+    )
 
 
 def rings(shape: MultiPolygon) -> Iterator[tuple[Floats, bool]]:

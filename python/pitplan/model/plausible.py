@@ -10,9 +10,12 @@ from ..base.amounts import THOUSAND, Priced
 from .economics import Economics, holds
 from .model import Model
 
-LIGHTEST, HEAVIEST = 0.05, 10.0              # tonnes for each cubic unit of the coordinates, be these metres or feet
-RICHEST = 50                                 # how many times its costs ore may bring
-LEAST = 0.002                                # the share that a metal has of what all bring
+LIGHTEST, HEAVIEST = (
+    0.05,
+    10.0,
+)  # tonnes for each cubic unit of the coordinates, be these metres or feet
+RICHEST = 50  # how many times its costs ore may bring
+LEAST = 0.002  # the share that a metal has of what all bring
 
 
 def strange(model: Model, priced: Priced, economics: Economics) -> list[str]:
@@ -25,13 +28,17 @@ def of_tonnes(model: Model) -> list[str]:
     tonnes = model.blocks.tonnes.to_numpy(float)
     tonnes = tonnes[tonnes > 0]
     if not len(tonnes):
-        return ["no block has any tonnes\n  try: another column of tonnes or density in [model] columns"]
+        return [
+            "no block has any tonnes\n  try: another column of tonnes or density in [model] columns"
+        ]
     weight, size = float(tonnes.mean()), " x ".join(f"{side:g}" for side in model.grid.size)
     density = weight / model.grid.volume
     if LIGHTEST <= density <= HEAVIEST:
         return []
-    return [f"a block of {size} weighs {weight:,.4g} tonnes on average, {density:,.3g} for each cubic unit; rock has 1.5 to 5 in a cubic metre\n"
-            "  try: is that the column of tonnes or density, in tonnes, and is the size in the unit of the coordinates?"]
+    return [
+        f"a block of {size} weighs {weight:,.4g} tonnes on average, {density:,.3g} for each cubic unit; rock has 1.5 to 5 in a cubic metre\n"
+        "  try: is that the column of tonnes or density, in tonnes, and is the size in the unit of the coordinates?"
+    ]
 
 
 def of_worths(priced: Priced, economics: Economics) -> list[str]:
@@ -39,16 +46,34 @@ def of_worths(priced: Priced, economics: Economics) -> list[str]:
     units = "price, price_unit, grade_unit and recovery in [economics]"
     ore = priced.milled(THOUSAND)
     if not ore.any():
-        return [f"no block pays for its treatment at the full price, so each pit up to factor 1 is empty\n  try: {units}"]
-    costs = float(priced.processing[ore].sum(dtype=float) + priced.mining[ore & ~priced.forbidden].sum(dtype=float))
+        return [
+            f"no block pays for its treatment at the full price, so each pit up to factor 1 is empty\n  try: {units}"
+        ]
+    costs = float(
+        priced.processing[ore].sum(dtype=float)
+        + priced.mining[ore & ~priced.forbidden].sum(dtype=float)
+    )
     times = float(priced.revenue[ore].sum(dtype=float)) / max(costs, 1.0)
-    found = [f"the ore brings {times:,.0f} times what digging and treating it costs\n  try: {units}"] if times > RICHEST else []
-    brings = {metal.name: float(priced.metal[metal.name].sum()) * metal.price * metal.payable for metal in economics.metals}
-    return found + [f"{metal.name} brings {100 * brings[metal.name] / sum(brings.values()):.2g} % of what all metals bring\n  try: price, price_unit, grade_unit and recovery of {metal.name}"
-                    for metal in economics.metals if metal.price > 0 and brings[metal.name] < LEAST * sum(brings.values())]
+    found = (
+        [f"the ore brings {times:,.0f} times what digging and treating it costs\n  try: {units}"]
+        if times > RICHEST
+        else []
+    )
+    brings = {
+        metal.name: float(priced.metal[metal.name].sum()) * metal.price * metal.payable
+        for metal in economics.metals
+    }
+    return found + [
+        f"{metal.name} brings {100 * brings[metal.name] / sum(brings.values()):.2g} % of what all metals bring\n  try: price, price_unit, grade_unit and recovery of {metal.name}"
+        for metal in economics.metals
+        if metal.price > 0 and brings[metal.name] < LEAST * sum(brings.values())
+    ]
 
 
 def of_forbid(model: Model, economics: Economics) -> list[str]:
     """The formulas of `forbid` that hold for no block."""
-    return [f"[economics] forbid = {formula!r} holds for no block, so it keeps nothing from being dug\n  try: the numbers in it, by the table's own coordinates and units"
-            for formula in economics.forbid if not np.any(holds(str(formula), model)[0])]
+    return [
+        f"[economics] forbid = {formula!r} holds for no block, so it keeps nothing from being dug\n  try: the numbers in it, by the table's own coordinates and units"
+        for formula in economics.forbid
+        if not np.any(holds(str(formula), model)[0])
+    ]

@@ -20,7 +20,7 @@ if TYPE_CHECKING:
     from .model import Model
 
 Ints = npt.NDArray[np.int64]
-OFF = 1e-3                                   # of a block: how far coordinates and sizes, which tables round, may be off
+OFF = 1e-3  # of a block: how far coordinates and sizes, which tables round, may be off
 
 
 @dataclass
@@ -49,7 +49,7 @@ class Whole:
     places: Places
     parent: npt.NDArray[np.int32]
     notes: list[str] = field(default_factory=list)
-    tonnes: Floats | None = None             # of each row, where rows were added up
+    tonnes: Floats | None = None  # of each row, where rows were added up
 
 
 @dataclass(frozen=True)
@@ -74,7 +74,13 @@ class Parts:
     codes: frozenset[str] = frozenset()
 
 
-def whole_blocks(frame: pd.DataFrame, names: Mapping[str, str], places: Places, size: tuple[float, float, float], wanted: Wanted) -> Whole:
+def whole_blocks(
+    frame: pd.DataFrame,
+    names: Mapping[str, str],
+    places: Places,
+    size: tuple[float, float, float],
+    wanted: Wanted,
+) -> Whole:
     """The blocks as they are where all have one size; else the whole blocks that the sub-blocks add up to.
 
     Tonnes are summed, other numbers are means weighted by tonnes, and words are those of the most tonnes; a value that all
@@ -89,24 +95,42 @@ def whole_blocks(frame: pd.DataFrame, names: Mapping[str, str], places: Places, 
     same = Whole(frame, places, np.arange(len(frame), dtype=np.int32))
     if not any(key in names for key in SIZES):
         if wanted.regularise:
-            raise PlanError("regularise needs the size of each sub-block, and no columns are known as dx, dy and dz", table=wanted.table,
-                            try_this='columns = { dx = "XINC", dy = "YINC", dz = "ZINC" } in [model]')
+            raise PlanError(
+                "regularise needs the size of each sub-block, and no columns are known as dx, dy and dz",
+                table=wanted.table,
+                try_this='columns = { dx = "XINC", dy = "YINC", dz = "ZINC" } in [model]',
+            )
         return same
-    lengths = [number_column(frame[names[key]], wanted.table) if key in names else np.full(len(frame), length) for key, length in zip(SIZES, size)]
+    lengths = [
+        number_column(frame[names[key]], wanted.table)
+        if key in names
+        else np.full(len(frame), length)
+        for key, length in zip(SIZES, size)
+    ]
     small = np.zeros(len(frame), bool)
     for key, found, length in zip(SIZES, lengths, size):
         small |= np.abs(found - length) > OFF * length
         wrong = (found > length * (1 + OFF)) | (found <= 0)
         if wrong.any():
             row = int(np.argmax(wrong))
-            raise PlanError(f"a block is {found[row]:g} long, and size says {length:g}", table=wanted.table, row=int(frame.index[row]), column=names[key])
+            raise PlanError(
+                f"a block is {found[row]:g} long, and size says {length:g}",
+                table=wanted.table,
+                row=int(frame.index[row]),
+                column=names[key],
+            )
     if not small.any():
         return same
     if not wanted.regularise:
         row = int(np.argmax(small))
-        raise PlanError(f"is a sub-block of {' x '.join(f'{found[row]:g}' for found in lengths)} in a model of {' x '.join(f'{v:g}' for v in size)}; "
-                        f"{int(small.sum()):,} of {len(frame):,} rows are", table=wanted.table, row=int(frame.index[row]),
-                        column=next(names[key] for key in SIZES if key in names), try_this="regularise = true in [model], or regularise in the package")
+        raise PlanError(
+            f"is a sub-block of {' x '.join(f'{found[row]:g}' for found in lengths)} in a model of {' x '.join(f'{v:g}' for v in size)}; "
+            f"{int(small.sum()):,} of {len(frame):,} rows are",
+            table=wanted.table,
+            row=int(frame.index[row]),
+            column=next(names[key] for key in SIZES if key in names),
+            try_this="regularise = true in [model], or regularise in the package",
+        )
     return added_up(frame, names, Parents.of(frame, names, places, lengths, size, wanted))
 
 
@@ -121,19 +145,33 @@ class Parents:
     table: str
 
     @classmethod
-    def of(cls, frame: pd.DataFrame, names: Mapping[str, str], places: Places, lengths: list[Floats],
-           size: tuple[float, float, float], wanted: Wanted) -> Parents:
+    def of(
+        cls,
+        frame: pd.DataFrame,
+        names: Mapping[str, str],
+        places: Places,
+        lengths: list[Floats],
+        size: tuple[float, float, float],
+        wanted: Wanted,
+    ) -> Parents:
         """Finds the whole block of each sub-block, along the model's own axes; a sub-block over a side is told with its row."""
         turned = Grid((0.0, 0.0, 0.0), (1.0, 1.0, 1.0), rotation=wanted.rotation)
         u, v = turned.local(places.x - places.x[0], places.y - places.y[0])
         indices, centres = [], []
         for key, c, d, s in zip(PLACES, (u, v, places.z), lengths, size):
             corner = corner_of(c, d, s)
-            low, high = np.floor((c - d / 2 - corner) / s + OFF), np.ceil((c + d / 2 - corner) / s - OFF)
+            low, high = np.floor((c - d / 2 - corner) / s + OFF), np.ceil(
+                (c + d / 2 - corner) / s - OFF
+            )
             over = high - low > 1
             if over.any():
-                raise PlanError("the sub-block lies over a side of a whole block", table=wanted.table, row=int(frame.index[int(np.argmax(over))]),
-                                column=names[key], try_this="size in [model]")
+                raise PlanError(
+                    "the sub-block lies over a side of a whole block",
+                    table=wanted.table,
+                    row=int(frame.index[int(np.argmax(over))]),
+                    column=names[key],
+                    try_this="size in [model]",
+                )
             indices.append(low.astype(np.int64))
             centres.append(corner + (low + 0.5) * s)
         span = [int(i.max() - i.min()) + 1 for i in indices]
@@ -142,7 +180,12 @@ class Parents:
         at = pd.Series(np.arange(len(flat))).groupby(number).first().to_numpy()
         whole = np.logical_and.reduce([np.abs(d - s) <= OFF * s for d, s in zip(lengths, size)])[at]
         x, y, _ = turned.world(centres[0][at], centres[1][at], 0)
-        x, y, z = (np.where(whole, told[at], found) for told, found in zip((places.x, places.y, places.z), (x + places.x[0], y + places.y[0], centres[2][at])))
+        x, y, z = (
+            np.where(whole, told[at], found)
+            for told, found in zip(
+                (places.x, places.y, places.z), (x + places.x[0], y + places.y[0], centres[2][at])
+            )
+        )
         share = lengths[0] * lengths[1] * lengths[2] / (size[0] * size[1] * size[2])
         return cls(number.astype(np.int64), Places(x, y, z), share, size, wanted.table)
 
@@ -159,7 +202,11 @@ def corner_of(centres: Floats, lengths: Floats, length: float) -> float:
     near = (lower[whole] / length - values[np.argmax(counts)] * OFF + 0.5) % 1.0 - 0.5
     off = near[np.abs(near) < 2 * OFF]
     one = lower[whole[np.argmax(np.abs(near) < 2 * OFF)]]
-    return float(one - ((one / length - values[np.argmax(counts)] * OFF + 0.5) % 1.0 - 0.5 - np.median(off)) * length)
+    return float(
+        one
+        - ((one / length - values[np.argmax(counts)] * OFF + 0.5) % 1.0 - 0.5 - np.median(off))
+        * length
+    )
 
 
 def added_up(frame: pd.DataFrame, names: Mapping[str, str], parents: Parents) -> Whole:
@@ -168,7 +215,11 @@ def added_up(frame: pd.DataFrame, names: Mapping[str, str], parents: Parents) ->
     over = np.bincount(number, parents.share, m)
     if over.max() > 1 + 1e-3:
         row = int(np.argmax(over[number] > 1 + 1e-3))
-        raise PlanError(f"the sub-blocks of this block fill {over.max():.2f} of it: do some lie over others?", table=parents.table, row=int(frame.index[row]))
+        raise PlanError(
+            f"the sub-blocks of this block fill {over.max():.2f} of it: do some lie over others?",
+            table=parents.table,
+            row=int(frame.index[row]),
+        )
     weighed, weight = weights(frame, names, parents)
     total = np.bincount(number, weight, m)
     first = pd.Series(np.arange(len(number))).groupby(number).first().to_numpy()
@@ -188,10 +239,18 @@ def added_up(frame: pd.DataFrame, names: Mapping[str, str], parents: Parents) ->
             out[names[key]] = length
     note = f"regularised: {len(frame):,} sub-blocks into {m:,} blocks; tonnes summed, other numbers weighted by tonnes, words those of the most tonnes"
     size = parents.size
-    return Whole(out, parents.places, number.astype(np.int32), [note], weight if "tonnes" in names else weight * (size[0] * size[1] * size[2]))
+    return Whole(
+        out,
+        parents.places,
+        number.astype(np.int32),
+        [note],
+        weight if "tonnes" in names else weight * (size[0] * size[1] * size[2]),
+    )
 
 
-def means(values: pd.Series, number: Ints, weight: Floats, first: Ints) -> npt.NDArray[np.float64 | np.int64]:
+def means(
+    values: pd.Series, number: Ints, weight: Floats, first: Ints
+) -> npt.NDArray[np.float64 | np.int64]:
     """The mean of each block, weighted by tonnes, 0 where it has none; where all its sub-blocks have one value, that value, to the last
     digit: a mean in floating point makes 2.9999999999999996 of a code of 3."""
     x = values.to_numpy(float)
@@ -207,7 +266,12 @@ def means(values: pd.Series, number: Ints, weight: Floats, first: Ints) -> npt.N
 def of_most(values: pd.Series, number: Ints, weight: Floats) -> Ints:
     """For each block the first of its rows that has the value of the most tonnes; of values of as many tonnes that which comes first.
     Words are the same whatever blanks are around them."""
-    code = pd.factorize(values.to_numpy() if values.dtype.kind in "iuf" else stripped(values))[0].astype(np.int64) + 1       # an empty cell is a value too
+    code = (
+        pd.factorize(values.to_numpy() if values.dtype.kind in "iuf" else stripped(values))[
+            0
+        ].astype(np.int64)
+        + 1
+    )  # an empty cell is a value too
     kinds = int(code.max()) + 1
     pair, first, at = np.unique(number * kinds + code, return_index=True, return_inverse=True)
     block = pair // kinds
@@ -228,10 +292,32 @@ def coded(model: Model, names: Collection[str]) -> Model:
     parts = model.parts
     if parts is None:
         return model
-    never = {"tonnes", "ix", "iy", "iz", "row", *parts.codes, *(model.columns[key] for key in (*PLACES, *SIZES, "tonnes", "density") if key in model.columns)}
-    found = [str(name) for name in parts.frame.columns if (name in names or unicodedata.normalize("NFKC", str(name)) in names)
-             and name not in never and parts.frame[name].dtype.kind in "iuf"]
-    blocks, notes, number, weight = model.blocks.copy(deep=False), list(model.notes), parts.parent.astype(np.int64), parts.frame["tonnes"].to_numpy(float)
+    never = {
+        "tonnes",
+        "ix",
+        "iy",
+        "iz",
+        "row",
+        *parts.codes,
+        *(
+            model.columns[key]
+            for key in (*PLACES, *SIZES, "tonnes", "density")
+            if key in model.columns
+        ),
+    }
+    found = [
+        str(name)
+        for name in parts.frame.columns
+        if (name in names or unicodedata.normalize("NFKC", str(name)) in names)
+        and name not in never
+        and parts.frame[name].dtype.kind in "iuf"
+    ]
+    blocks, notes, number, weight = (
+        model.blocks.copy(deep=False),
+        list(model.notes),
+        parts.parent.astype(np.int64),
+        parts.frame["tonnes"].to_numpy(float),
+    )
     for name in found:
         cells = parts.frame[name].to_numpy()
         most = cells[of_most(parts.frame[name], number, weight)]
@@ -240,8 +326,12 @@ def coded(model: Model, names: Collection[str]) -> Model:
         is_copy = (now == now[parts.source]) | (np.isnan(now) & np.isnan(now[parts.source]))
         blocks[name] = np.where(is_copy, most[parts.source], now)
         if is_mixed.any():
-            notes.append(f"{name} is taken as a code: of {int(is_mixed.sum()):,} blocks with several values each has that of the most tonnes")
-    return replace(model, blocks=blocks, notes=notes, parts=replace(parts, codes=parts.codes | set(found)))
+            notes.append(
+                f"{name} is taken as a code: of {int(is_mixed.sum()):,} blocks with several values each has that of the most tonnes"
+            )
+    return replace(
+        model, blocks=blocks, notes=notes, parts=replace(parts, codes=parts.codes | set(found))
+    )
 
 
 def weights(frame: pd.DataFrame, names: Mapping[str, str], parents: Parents) -> tuple[str, Floats]:
@@ -249,8 +339,15 @@ def weights(frame: pd.DataFrame, names: Mapping[str, str], parents: Parents) -> 
     if "tonnes" in names:
         return names["tonnes"], number_column(frame[names["tonnes"]], parents.table, hint=NO_WEIGHT)
     if "density" in names:
-        return names["density"], number_column(frame[names["density"]], parents.table, hint=NO_WEIGHT) * parents.share
-    raise PlanError("no column is known as tonnes or density", table=parents.table, try_this='columns = { tonnes = "..." } in [model]')
+        return (
+            names["density"],
+            number_column(frame[names["density"]], parents.table, hint=NO_WEIGHT) * parents.share,
+        )
+    raise PlanError(
+        "no column is known as tonnes or density",
+        table=parents.table,
+        try_this='columns = { tonnes = "..." } in [model]',
+    )
 
 
 def number_column_or_words(values: pd.Series, table: str) -> None:

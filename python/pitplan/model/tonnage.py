@@ -34,12 +34,28 @@ def by_rock(model: Model, priced: Priced, metals: Mapping[str, Mapping[str, str]
     return pd.DataFrame(rows)
 
 
-def row_of(rock: str, here: Any, tonnes: Any, ore: Any, priced: Priced, metals: Mapping[str, Mapping[str, str]]) -> dict[str, Any]:
+def row_of(
+    rock: str,
+    here: Any,
+    tonnes: Any,
+    ore: Any,
+    priced: Priced,
+    metals: Mapping[str, Mapping[str, str]],
+) -> dict[str, Any]:
     """The line of some blocks, which `here` says: their tonnes, and of their ore the grades and the metal."""
     milled = here & ore
     weight = float(tonnes[milled].sum())
-    row: dict[str, Any] = {"rock": rock, "blocks": int(np.count_nonzero(here)), "Mt": float(tonnes[here].sum()) / 1e6, "ore Mt": weight / 1e6}
+    row: dict[str, Any] = {
+        "rock": rock,
+        "blocks": int(np.count_nonzero(here)),
+        "Mt": float(tonnes[here].sum()) / 1e6,
+        "ore Mt": weight / 1e6,
+    }
     for name, units in metals.items():
-        row[f"{name} {units['grade_unit']}"] = float((priced.grade[name][milled] * tonnes[milled]).sum()) / weight if weight else float("nan")
+        row[f"{name} {units['grade_unit']}"] = (
+            float((priced.grade[name][milled] * tonnes[milled]).sum()) / weight
+            if weight
+            else float("nan")
+        )
         row[f"{name} {units['price_unit']}"] = float(priced.metal[name][milled].sum())
     return row

@@ -24,21 +24,28 @@ from ..base.errors import Disagreement, MachineError, NotAccepted, PlanError
 from .valued import Valued
 
 Progress = Callable[[int, int], None]
-Heard = Callable[[str], None]                # a line of `--progress`
+Heard = Callable[[str], None]  # a line of `--progress`
 Word = Union[str, int, Path]
 TOP = Path(__file__).resolve().parents[3]
-BUILT = (TOP / "out" / "pit", TOP / "crates" / "pit" / "out" / "pit")      # where this repository's build puts it
+BUILT = (
+    TOP / "out" / "pit",
+    TOP / "crates" / "pit" / "out" / "pit",
+)  # where this repository's build puts it
 PIECE = 1 << 20
-HEAD = 4                                     # lines before the PIT lines of a certificate
+HEAD = 4  # lines before the PIT lines of a certificate
 BEHIND = (b"SOURCE ", b"REST ", b"SINK ", b"END")
 ROOM = "make room on the disk, and start the same command again: what is done is kept"
-HINTS = {"No space left on device": ROOM, "Disk quota exceeded": ROOM,
-         "UNSETTLED": "the run was cut off before its pit was proved: tell the maintainers of this mine",
-         "TooLarge": "the amounts are too large together: rounding = 1000 in [economics], or prices and costs in thousands",
-         "memory": "memory was refused: fewer --workers", "device": "a file couldn't be read or written: is the disk full?"}
-BEGUN = object()                             # what only Pit.check hands to an Accepted, and Pit.series to a Stated
-MOST_FACTORS = 64                            # of one run of `pit shells`
-ABOVE = 1 << 30                              # of a block that no pit of a series has: above all factors
+HINTS = {
+    "No space left on device": ROOM,
+    "Disk quota exceeded": ROOM,
+    "UNSETTLED": "the run was cut off before its pit was proved: tell the maintainers of this mine",
+    "TooLarge": "the amounts are too large together: rounding = 1000 in [economics], or prices and costs in thousands",
+    "memory": "memory was refused: fewer --workers",
+    "device": "a file couldn't be read or written: is the disk full?",
+}
+BEGUN = object()  # what only Pit.check hands to an Accepted, and Pit.series to a Stated
+MOST_FACTORS = 64  # of one run of `pit shells`
+ABOVE = 1 << 30  # of a block that no pit of a series has: above all factors
 
 
 @dataclass(frozen=True)
@@ -148,9 +155,14 @@ def found_program() -> str:
             raise PlanError(f"PIT in the environment is {named!r}, and there is no such program")
         return str(Path(where).resolve())
     beside = Path(sys.argv[0]).resolve().parent / "pit"
-    where = shutil.which("pit") or next((str(path) for path in (*BUILT, beside) if os.access(path, os.X_OK)), None)
+    where = shutil.which("pit") or next(
+        (str(path) for path in (*BUILT, beside) if os.access(path, os.X_OK)), None
+    )
     if not where:
-        raise PlanError("the program pit isn't there", try_this="./install in the repository, or PIT=/path/to/pit")
+        raise PlanError(
+            "the program pit isn't there",
+            try_this="./install in the repository, or PIT=/path/to/pit",
+        )
     return where
 
 
@@ -178,9 +190,28 @@ class Pit:
 
     def slopes(self, blocks: Path, settings: Path, out: Path) -> None:
         """Writes the predecessors of each block, by the offsets that `settings` lists."""
-        self.run(["slopes", "--blocks", blocks, "--pattern", "settings", "--settings", settings, "--verbose"], out)
+        self.run(
+            [
+                "slopes",
+                "--blocks",
+                blocks,
+                "--pattern",
+                "settings",
+                "--settings",
+                settings,
+                "--verbose",
+            ],
+            out,
+        )
 
-    def best(self, files: Files, factor: int, certificate: Path, progress: Progress | None = None, keeps: bool = True) -> Accepted:
+    def best(
+        self,
+        files: Files,
+        factor: int,
+        certificate: Path,
+        progress: Progress | None = None,
+        keeps: bool = True,
+    ) -> Accepted:
         """The best pit at a factor: its certificate is written, then checked as the file that was written, and kept packed.
 
         Parameters
@@ -200,9 +231,15 @@ class Pit:
             Where there was no certificate, or the check refuses it.
         """
         more: list[Word] = ["--progress"] if progress else []
-        said = self.run(["solve", *files.words(), "--factor", factor, "--verbose", *more], certificate, settled(progress) if progress else None)
+        said = self.run(
+            ["solve", *files.words(), "--factor", factor, "--verbose", *more],
+            certificate,
+            settled(progress) if progress else None,
+        )
         if said:
-            raise NotAccepted(f"pit solve at factor {factor / 1000:g}: {said.strip()}", try_this=hint_of(said))
+            raise NotAccepted(
+                f"pit solve at factor {factor / 1000:g}: {said.strip()}", try_this=hint_of(said)
+            )
         with packed(certificate) if keeps else nullcontext() as kept:
             found = self.check(files, certificate, kept)
         certificate.unlink()
@@ -227,20 +264,27 @@ class Pit:
         lines = PitLines()
 
         def pieces() -> Iterator[bytes]:
-            with gzip.open(certificate, "rb") if certificate.suffix == ".gz" else open(certificate, "rb") as file:
+            with gzip.open(certificate, "rb") if certificate.suffix == ".gz" else open(
+                certificate, "rb"
+            ) as file:
                 while data := file.read(PIECE):
                     lines.take(data)
                     if kept:
                         kept.write(data)
                     yield data
+
         line = self.run(["check", *files.words(), "--verbose", "/dev/stdin"], fed=pieces()).strip()
         found = re.fullmatch(r"ACCEPTED (\d+) (-?[\d.]+)", line)
         if not found:
             raise NotAccepted(f"pit check: {line}", try_this=hint_of(line))
         size, factor, blocks = lines.found()
         if len(blocks) != int(found[1]):
-            raise NotAccepted(f"pit check counts {found[1]} blocks, and the certificate has {len(blocks)} PIT lines")
-        return Accepted(int(found[1]), found[2], blocks, factor, lines.digest.hexdigest(), size, BEGUN)
+            raise NotAccepted(
+                f"pit check counts {found[1]} blocks, and the certificate has {len(blocks)} PIT lines"
+            )
+        return Accepted(
+            int(found[1]), found[2], blocks, factor, lines.digest.hexdigest(), size, BEGUN
+        )
 
     def value(self, files: Files, design: Path, certificate: Path) -> Valued:
         """Lets `pit value` judge a design beside the pit of a certificate, at its factor.
@@ -268,7 +312,14 @@ class Pit:
         except PlanError:
             return False
 
-    def series(self, files: Files, factors: Sequence[int], work: Path, workers: int = 1, proved: Callable[[int], None] | None = None) -> list[Stated]:
+    def series(
+        self,
+        files: Files,
+        factors: Sequence[int],
+        work: Path,
+        workers: int = 1,
+        proved: Callable[[int], None] | None = None,
+    ) -> list[Stated]:
         """The best pits at up to `MOST_FACTORS` factors, from one run of `pit shells --by-block`.
 
         Parameters
@@ -291,17 +342,41 @@ class Pit:
         """
         settings, table = work / "series.toml", work / "by_block.csv"
         settings.write_text(files.settings.read_text() + f"factors = {list(factors)}\n")
-        words: list[Word] = [*Files(files.prec, files.blocks, settings).words(), "--by-block", table, "--workers", workers, "--verbose"]
-        said = self.run(["shells", *words, *(["--progress"] if proved else [])], heard=each_proved(proved) if proved else None)
+        words: list[Word] = [
+            *Files(files.prec, files.blocks, settings).words(),
+            "--by-block",
+            table,
+            "--workers",
+            workers,
+            "--verbose",
+        ]
+        said = self.run(
+            ["shells", *words, *(["--progress"] if proved else [])],
+            heard=each_proved(proved) if proved else None,
+        )
         lines = re.findall(r"^SHELL (\d+) (\d+) (-?[\d.]+)$", said, re.MULTILINE)
         if not lines:
             raise NotAccepted(f"pit shells: {said.strip()}", try_this=hint_of(said))
-        if [int(factor) for factor, _, _ in lines] != list(factors) or len(lines) != said.count("\n"):
-            raise Disagreement(f"pit shells was asked for {len(factors)} factors, and its lines are of others", try_this="tell the maintainers")
+        if [int(factor) for factor, _, _ in lines] != list(factors) or len(lines) != said.count(
+            "\n"
+        ):
+            raise Disagreement(
+                f"pit shells was asked for {len(factors)} factors, and its lines are of others",
+                try_this="tell the maintainers",
+            )
         shell = shell_of_blocks(table, factors)
-        return [Stated(int(count), worth, int(factor), shell <= int(factor), BEGUN) for factor, count, worth in lines]
+        return [
+            Stated(int(count), worth, int(factor), shell <= int(factor), BEGUN)
+            for factor, count, worth in lines
+        ]
 
-    def run(self, words: Sequence[Word], out: Path | None = None, heard: Heard | None = None, fed: Iterable[bytes] | None = None) -> str:
+    def run(
+        self,
+        words: Sequence[Word],
+        out: Path | None = None,
+        heard: Heard | None = None,
+        fed: Iterable[bytes] | None = None,
+    ) -> str:
         """Runs `pit`.
 
         Parameters
@@ -327,7 +402,11 @@ class Pit:
         """
         told: list[str] = []
         with open(out, "wb") if out else open(os.devnull, "wb") as target:
-            run = self.started(words, target.fileno() if out else subprocess.PIPE, subprocess.PIPE if fed is not None else subprocess.DEVNULL)
+            run = self.started(
+                words,
+                target.fileno() if out else subprocess.PIPE,
+                subprocess.PIPE if fed is not None else subprocess.DEVNULL,
+            )
             ear = threading.Thread(target=listen, args=(run, told, heard), daemon=True)
             ear.start()
             try:
@@ -356,8 +435,13 @@ class Pit:
             if self.is_stopped:
                 raise KeyboardInterrupt
             try:
-                run = subprocess.Popen([*before, self.program, *map(str, words)], stdin=given, stdout=output,
-                                       stderr=subprocess.PIPE, process_group=0)      # ctrl-C is for this process, which ends it
+                run = subprocess.Popen(
+                    [*before, self.program, *map(str, words)],
+                    stdin=given,
+                    stdout=output,
+                    stderr=subprocess.PIPE,
+                    process_group=0,
+                )  # ctrl-C is for this process, which ends it
             except OSError as error:
                 raise MachineError(f"{self.program} can't be started: {error.strerror}") from None
             self.running.add(run)
@@ -374,8 +458,16 @@ class Pit:
         """The error of a run that ended with another status than 0 or 1."""
         if self.is_stopped:
             return MachineError("stopped")
-        how = f"was ended by {signal.Signals(-status).name}" if status < 0 else f"ended with status {status}"
-        hint = "fewer --workers: memory was short, or somebody ended it" if status == -signal.SIGKILL else hint_of(fault)
+        how = (
+            f"was ended by {signal.Signals(-status).name}"
+            if status < 0
+            else f"ended with status {status}"
+        )
+        hint = (
+            "fewer --workers: memory was short, or somebody ended it"
+            if status == -signal.SIGKILL
+            else hint_of(fault)
+        )
         kind = MachineError if status < 0 or status == 4 else PlanError
         return kind(f"pit {command} {how}" + (f": {fault}" if fault else ""), try_this=hint)
 
@@ -383,7 +475,9 @@ class Pit:
 @contextmanager
 def packed(certificate: Path) -> Iterator[gzip.GzipFile]:
     """The packed file beside a certificate, for its bytes."""
-    with open(certificate.with_name(certificate.name + ".gz"), "wb") as target, gzip.GzipFile("", "wb", 1, target, mtime=0) as kept:
+    with open(certificate.with_name(certificate.name + ".gz"), "wb") as target, gzip.GzipFile(
+        "", "wb", 1, target, mtime=0
+    ) as kept:
         yield kept
 
 
@@ -410,19 +504,23 @@ def listen(run: subprocess.Popen[bytes], told: list[str], heard: Heard | None) -
 
 def settled(progress: Progress) -> Heard:
     """Tells of how many blocks `pit solve` says that they are settled."""
+
     def heard(line: str) -> None:
         found = re.match(r"progress: (\d+) of (\d+) blocks settled", line)
         if found:
             progress(int(found[1]), int(found[2]))
+
     return heard
 
 
 def each_proved(proved: Callable[[int], None]) -> Heard:
     """Tells each factor of which `pit shells` says that its pit is proved."""
+
     def heard(line: str) -> None:
         found = re.match(r"progress: factor (\d+): the pit is proved", line)
         if found:
             proved(int(found[1]))
+
     return heard
 
 
@@ -435,14 +533,28 @@ def shell_of_blocks(table: Path, factors: Sequence[int]) -> npt.NDArray[np.int64
         Where the table isn't one of all blocks, ascending, with these factors.
     """
     import pandas as pd
+
     try:
-        found = pd.read_csv(table, dtype={"block": np.int64, "shell": np.float64}, keep_default_na=False, na_values=[""], skip_blank_lines=False)
+        found = pd.read_csv(
+            table,
+            dtype={"block": np.int64, "shell": np.float64},
+            keep_default_na=False,
+            na_values=[""],
+            skip_blank_lines=False,
+        )
         block, shell = found["block"].to_numpy(), found["shell"].to_numpy()
-        is_right = list(found.columns) == ["block", "shell"] and (block == np.arange(len(block))).all() and np.isin(shell[~np.isnan(shell)], list(factors)).all()
+        is_right = (
+            list(found.columns) == ["block", "shell"]
+            and (block == np.arange(len(block))).all()
+            and np.isin(shell[~np.isnan(shell)], list(factors)).all()
+        )
     except (ValueError, KeyError, OverflowError):
         is_right = False
     if not is_right:
-        raise Disagreement("the table of blocks that pit shells wrote isn't one of all blocks and these factors", try_this="is the disk full? else tell the maintainers")
+        raise Disagreement(
+            "the table of blocks that pit shells wrote isn't one of all blocks and these factors",
+            try_this="is the disk full? else tell the maintainers",
+        )
     first: npt.NDArray[np.int64] = np.nan_to_num(shell, nan=float(ABOVE)).astype(np.int64)
     return first
 
@@ -491,7 +603,7 @@ class PitLines:
         piece, self.rest = data[:cut], data[cut:]
         ends = [at for at in map(piece.find, BEHIND) if at >= 0]
         if ends:
-            piece, self.is_over = piece[:min(ends)], True
+            piece, self.is_over = piece[: min(ends)], True
         self.blocks.append(numbers_in(piece))
 
     def found(self) -> tuple[int, int, npt.NDArray[np.int64]]:
@@ -502,10 +614,17 @@ class PitLines:
         NotAccepted
             Where its first lines say neither.
         """
-        size, factor = (self.head[i].split()[-1] if len(self.head) == HEAD and self.head[i] else b"" for i in (1, 2))
+        size, factor = (
+            self.head[i].split()[-1] if len(self.head) == HEAD and self.head[i] else b""
+            for i in (1, 2)
+        )
         if not factor.isdigit() or not size.isdigit():
             raise NotAccepted("a certificate without a factor: is it of another kind of model?")
-        return int(size), int(factor), np.concatenate(self.blocks) if self.blocks else np.empty(0, np.int64)
+        return (
+            int(size),
+            int(factor),
+            np.concatenate(self.blocks) if self.blocks else np.empty(0, np.int64),
+        )
 
 
 def numbers_in(lines: bytes) -> npt.NDArray[np.int64]:
@@ -514,7 +633,9 @@ def numbers_in(lines: bytes) -> npt.NDArray[np.int64]:
         raise NotAccepted("a certificate has other lines between its PIT lines")
     if not lines:
         return np.empty(0, np.int64)
-    found: npt.NDArray[np.int64] = np.fromstring(lines.replace(b"PIT ", b"").decode(), dtype=np.int64, sep="\n")
+    found: npt.NDArray[np.int64] = np.fromstring(
+        lines.replace(b"PIT ", b"").decode(), dtype=np.int64, sep="\n"
+    )
     if len(found) != lines.count(b"\n"):
         raise NotAccepted("a certificate has other lines between its PIT lines")
     return found

@@ -7,7 +7,9 @@ from dataclasses import dataclass
 from ..base.errors import NotAccepted
 
 AMOUNT = r"(-?[\d.]+)"
-ANSWER = re.compile(rf"DESIGN (\d+) {AMOUNT}\n(CLOSED|OPEN (\d+))\n((?:NEEDS \d+ \d+\n)*)BEST (\d+) {AMOUNT} GAP {AMOUNT}\n")
+ANSWER = re.compile(
+    rf"DESIGN (\d+) {AMOUNT}\n(CLOSED|OPEN (\d+))\n((?:NEEDS \d+ \d+\n)*)BEST (\d+) {AMOUNT} GAP {AMOUNT}\n"
+)
 
 
 @dataclass(frozen=True)

@@ -121,11 +121,29 @@ def compare(study: Study, design: Design, factor: int = THOUSAND) -> Comparison:
     design = completed(study, resting, design)
     certificate = Certificate(study, factor)
     said, broken = certificate.judge(design.held), resting.broken(design.held)
-    agree(said, design.held, broken, study.priced.worth_of(design.held, factor), study.priced.worth_of(optimum, factor))
+    agree(
+        said,
+        design.held,
+        broken,
+        study.priced.worth_of(design.held, factor),
+        study.priced.worth_of(optimum, factor),
+    )
     repair = None if said.is_closed else repaired(certificate, resting, design.held)
     worth, gap = of_diggable(study, design.held, said, factor)
-    return Comparison(design, factor, said.said, said.is_closed, worth, said.bound, gap if said.is_closed else None, repair, optimum,
-                      pairs_of(study, broken), walls.worst(study.model, resting, design.held, broken), by_bench(study, design.held, optimum, factor))
+    return Comparison(
+        design,
+        factor,
+        said.said,
+        said.is_closed,
+        worth,
+        said.bound,
+        gap if said.is_closed else None,
+        repair,
+        optimum,
+        pairs_of(study, broken),
+        walls.worst(study.model, resting, design.held, broken),
+        by_bench(study, design.held, optimum, factor),
+    )
 
 
 def completed(study: Study, resting: Resting, design: Design) -> Design:
@@ -153,7 +171,7 @@ class Certificate:
         self.study, self.factor = study, factor
         study.verify()
         study.mask(factor)
-        study.run(factor)                    # its certificate, where none is there yet
+        study.run(factor)  # its certificate, where none is there yet
 
     def judge(self, held: Bools) -> Valued:
         """What `pit value` says of a set of blocks.
@@ -171,14 +189,20 @@ class Certificate:
 
     def unpack(self, to: Path) -> None:
         """Writes the certificate as it was accepted."""
-        verdict, kept = self.study.verdict(self.factor), self.study.place(self.factor) / "best.cert.gz"
+        verdict, kept = (
+            self.study.verdict(self.factor),
+            self.study.place(self.factor) / "best.cert.gz",
+        )
         digest = hashlib.sha256()
         with gzip.open(kept, "rb") as old, open(to, "wb") as new:
             while data := old.read(PIECE):
                 digest.update(data)
                 new.write(data)
         if verdict is None or digest.hexdigest() != verdict["certificate"]:
-            raise Disagreement(f"{kept} isn't the certificate that was accepted", try_this=f"take {self.study.place(self.factor)} away, then: {command('shells', self.study.named)}")
+            raise Disagreement(
+                f"{kept} isn't the certificate that was accepted",
+                try_this=f"take {self.study.place(self.factor)} away, then: {command('shells', self.study.named)}",
+            )
 
 
 def agree(said: Valued, held: Bools, broken: tuple[Any, Any, Any], worth: str, bound: str) -> None:
@@ -190,14 +214,26 @@ def agree(said: Valued, held: Bools, broken: tuple[Any, Any, Any], worth: str, b
         Where the two contradict each other, or a closed set is worth more than the bound.
     """
     blocks, predecessors, _ = broken
-    first = tuple(zip(blocks[:len(said.needs)].tolist(), predecessors[:len(said.needs)].tolist()))
+    first = tuple(zip(blocks[: len(said.needs)].tolist(), predecessors[: len(said.needs)].tolist()))
     if said.open != len(blocks) or said.needs != first:
-        raise Disagreement(f"pit value says {said.said} of the design, and by the slopes that were built {len(blocks):,} pairs are broken", try_this="tell the maintainers")
-    if (said.count, said.worth, said.bound) != (int(np.count_nonzero(held)), worth, bound) or Decimal(said.gap) != Decimal(bound) - Decimal(worth):
-        raise Disagreement(f"pit value says {said.count:,} blocks worth {said.worth}, {said.gap} below {said.bound}, and the table adds up to {np.count_nonzero(held):,} worth {worth}, beside {bound}",
-                           try_this="tell the maintainers")
+        raise Disagreement(
+            f"pit value says {said.said} of the design, and by the slopes that were built {len(blocks):,} pairs are broken",
+            try_this="tell the maintainers",
+        )
+    if (said.count, said.worth, said.bound) != (
+        int(np.count_nonzero(held)),
+        worth,
+        bound,
+    ) or Decimal(said.gap) != Decimal(bound) - Decimal(worth):
+        raise Disagreement(
+            f"pit value says {said.count:,} blocks worth {said.worth}, {said.gap} below {said.bound}, and the table adds up to {np.count_nonzero(held):,} worth {worth}, beside {bound}",
+            try_this="tell the maintainers",
+        )
     if said.is_closed and Decimal(said.gap) < 0:
-        raise Disagreement(f"a closed set is worth {worth}, and pit proves that none is worth more than {bound}", try_this="tell the maintainers")
+        raise Disagreement(
+            f"a closed set is worth {worth}, and pit proves that none is worth more than {bound}",
+            try_this="tell the maintainers",
+        )
 
 
 def of_diggable(study: Study, held: Bools, said: Valued, factor: int) -> tuple[str, str]:
@@ -214,11 +250,24 @@ def repaired(certificate: Certificate, resting: Resting, held: Bools) -> Repair:
     study, factor = certificate.study, certificate.factor
     whole = resting.mended(held)
     said = certificate.judge(whole)
-    agree(said, whole, resting.broken(whole), study.priced.worth_of(whole, factor), study.priced.worth_of(study.mask(factor), factor))
+    agree(
+        said,
+        whole,
+        resting.broken(whole),
+        study.priced.worth_of(whole, factor),
+        study.priced.worth_of(study.mask(factor), factor),
+    )
     if not said.is_closed:
-        raise Disagreement("the mended design isn't closed, by pit value", try_this="tell the maintainers")
+        raise Disagreement(
+            "the mended design isn't closed, by pit value", try_this="tell the maintainers"
+        )
     more = whole & ~held
-    return Repair(whole, int(more.sum()), float(study.model.blocks.tonnes.to_numpy(float)[more].sum()), *of_diggable(study, whole, said, factor))
+    return Repair(
+        whole,
+        int(more.sum()),
+        float(study.model.blocks.tonnes.to_numpy(float)[more].sum()),
+        *of_diggable(study, whole, said, factor),
+    )
 
 
 def pairs_of(study: Study, broken: tuple[Any, Any, Any]) -> pd.DataFrame:
@@ -226,8 +275,17 @@ def pairs_of(study: Study, broken: tuple[Any, Any, Any]) -> pd.DataFrame:
     blocks, predecessors, _ = broken
     x, y, z = study.model.xyz()
     ids = study.model.blocks["id"].to_numpy()
-    return pd.DataFrame({"id": ids[blocks], "needs": ids[predecessors], "bench": z[blocks], "needs_bench": z[predecessors], "x": x[blocks], "y": y[blocks],
-                         "tonnes": study.model.blocks.tonnes.to_numpy(float)[predecessors]})
+    return pd.DataFrame(
+        {
+            "id": ids[blocks],
+            "needs": ids[predecessors],
+            "bench": z[blocks],
+            "needs_bench": z[predecessors],
+            "x": x[blocks],
+            "y": y[blocks],
+            "tonnes": study.model.blocks.tonnes.to_numpy(float)[predecessors],
+        }
+    )
 
 
 def by_bench(study: Study, held: Bools, optimum: Bools, factor: int) -> pd.DataFrame:
@@ -242,13 +300,26 @@ def by_bench(study: Study, held: Bools, optimum: Bools, factor: int) -> pd.DataF
     """
     grid, priced = study.model.grid, study.priced
     level, tonnes = study.model.blocks.iz.to_numpy(), study.model.blocks.tonnes.to_numpy(float)
-    ore, worth = tonnes * priced.milled(factor), np.where(priced.forbidden, 0.0, priced.worth(factor))
+    ore, worth = tonnes * priced.milled(factor), np.where(
+        priced.forbidden, 0.0, priced.worth(factor)
+    )
 
     def summed(mask: Bools, values: Any) -> Any:
         return np.bincount(level[mask], values[mask], grid.shape[2])[::-1]
+
     left, over = optimum & ~held, held & ~optimum
-    found = pd.DataFrame({"bench": grid.world(0, 0, np.arange(grid.shape[2]))[2][::-1], "design_t": summed(held, tonnes), "best_t": summed(optimum, tonnes),
-                          "left_t": summed(left, tonnes), "over_t": summed(over, tonnes), "left_ore_t": summed(left, ore), "over_ore_t": summed(over, ore),
-                          "left_worth": summed(left, worth), "over_worth": summed(over, worth)})
+    found = pd.DataFrame(
+        {
+            "bench": grid.world(0, 0, np.arange(grid.shape[2]))[2][::-1],
+            "design_t": summed(held, tonnes),
+            "best_t": summed(optimum, tonnes),
+            "left_t": summed(left, tonnes),
+            "over_t": summed(over, tonnes),
+            "left_ore_t": summed(left, ore),
+            "over_ore_t": summed(over, ore),
+            "left_worth": summed(left, worth),
+            "over_worth": summed(over, worth),
+        }
+    )
     there = np.bincount(level[held | optimum], minlength=grid.shape[2])[::-1] > 0
     return found[there].reset_index(drop=True)

@@ -18,8 +18,44 @@ from ..table.spreadsheets import as_written
 from .surface import Surface, heights, of_dxf, of_points
 
 Bools = npt.NDArray[np.bool_]
-YES = ("1", "yes", "y", "true", "t", "in", "inside", "pit", "sí", "si", "s", "sim", "oui", "dentro", "verdadero", "verdadeiro", "vrai")
-NO = ("", "0", "no", "n", "false", "f", "out", "outside", "none", "-", "não", "nao", "non", "fuera", "fora", "falso", "faux")
+YES = (
+    "1",
+    "yes",
+    "y",
+    "true",
+    "t",
+    "in",
+    "inside",
+    "pit",
+    "sí",
+    "si",
+    "s",
+    "sim",
+    "oui",
+    "dentro",
+    "verdadero",
+    "verdadeiro",
+    "vrai",
+)
+NO = (
+    "",
+    "0",
+    "no",
+    "n",
+    "false",
+    "f",
+    "out",
+    "outside",
+    "none",
+    "-",
+    "não",
+    "nao",
+    "non",
+    "fuera",
+    "fora",
+    "falso",
+    "faux",
+)
 
 
 @dataclass(frozen=True)
@@ -73,16 +109,30 @@ def by_ids(model: Model, ids: Iterable[Any], name: str = "design", table: object
     strange = ~words.isin(known).to_numpy()
     if strange.any():
         at = int(np.argmax(strange))
-        raise PlanError(f"{words.iloc[at]!r} is the id of no block" + (f"; {int(strange.sum()):,} of {len(words):,} are so" if strange.sum() > 1 else ""),
-                        table=table, row=int(wanted.index[at]) if table else None, try_this=f"ids as in column {model.columns['id']} of the table" if "id" in model.columns else
-                        "the table has no column of ids: rows as a spreadsheet counts them, 2 for the first")
+        raise PlanError(
+            f"{words.iloc[at]!r} is the id of no block"
+            + (f"; {int(strange.sum()):,} of {len(words):,} are so" if strange.sum() > 1 else ""),
+            table=table,
+            row=int(wanted.index[at]) if table else None,
+            try_this=f"ids as in column {model.columns['id']} of the table"
+            if "id" in model.columns
+            else "the table has no column of ids: rows as a spreadsheet counts them, 2 for the first",
+        )
     inside = known.isin(pd.Index(words))
     twice = known[inside & known.duplicated(keep=False)]
     if len(twice):
-        raise PlanError(f"{twice[0]!r} is the id of several blocks of the model", table=table, try_this="--column, with a column of the table that says which rows the design takes")
+        raise PlanError(
+            f"{twice[0]!r} is the id of several blocks of the model",
+            table=table,
+            try_this="--column, with a column of the table that says which rows the design takes",
+        )
     held = np.zeros(len(model), bool)
     held[np.flatnonzero(own)[inside]] = True
-    notes = [f"{int(words.duplicated().sum()):,} ids stand there more than once"] if words.duplicated().any() else []
+    notes = (
+        [f"{int(words.duplicated().sum()):,} ids stand there more than once"]
+        if words.duplicated().any()
+        else []
+    )
     return Design(name, held, rowless(model), notes)
 
 
@@ -101,16 +151,24 @@ def by_ids_of(model: Model, path: Path, encoding: str | None = None) -> Design:
     usual = [folded[name] for name in USUAL["id"] if name in folded]
     column = own if own in names else usual[0] if usual else None
     if column is None and len(names) > 1:
-        raise PlanError("which of its columns has the ids? None is known as one", table=path, try_this=f"call it {own or 'id'}")
+        raise PlanError(
+            "which of its columns has the ids? None is known as one",
+            table=path,
+            try_this=f"call it {own or 'id'}",
+        )
     frame = read_frame(path, dialect, names)
     ids = frame[column or names[0]].fillna("").astype(str)
     ids = ids[ids.str.strip() != ""]
     if column is None and as_written(names[0]) in set(model.blocks["id"].astype(str)):
-        ids = pd.concat([pd.Series([names[0]], index=[-1]), ids])          # no header line: the first is an id too
+        ids = pd.concat(
+            [pd.Series([names[0]], index=[-1]), ids]
+        )  # no header line: the first is an id too
     return by_ids(model, ids, path.stem, path.name)
 
 
-def by_file(model: Model, path: Path, layers: Sequence[str] = (), encoding: str | None = None) -> Design:
+def by_file(
+    model: Model, path: Path, layers: Sequence[str] = (), encoding: str | None = None
+) -> Design:
     """The design of a file of any kind: a DXF or a table of points x, y and z as `by_surface`, ids as `by_ids_of`.
 
     Raises
@@ -126,8 +184,11 @@ def by_file(model: Model, path: Path, layers: Sequence[str] = (), encoding: str 
     if model.columns.get("id", "") in names or len(names) == 1 or folded & set(USUAL["id"]):
         return by_ids_of(model, path, encoding)
     if not all(folded & set(USUAL[key]) for key in PLACES):
-        raise PlanError(f"is it ids of blocks or points of a surface? Its columns are {', '.join(names)}", table=path,
-                        try_this=f"call its column of ids {model.columns.get('id', 'id')}, or its columns of coordinates x, y and z")
+        raise PlanError(
+            f"is it ids of blocks or points of a surface? Its columns are {', '.join(names)}",
+            table=path,
+            try_this=f"call its column of ids {model.columns.get('id', 'id')}, or its columns of coordinates x, y and z",
+        )
     return by_surface(model, path, encoding=encoding)
 
 
@@ -147,14 +208,18 @@ def by_column(model: Model, column: str, value: str | None = None) -> Design:
         Where the table has no such column, or a cell says neither.
     """
     if column not in model.blocks.columns:
-        raise PlanError(f"the table has no column {column!r}{meant(column, map(str, model.blocks.columns))}")
+        raise PlanError(
+            f"the table has no column {column!r}{meant(column, map(str, model.blocks.columns))}"
+        )
     cells = model.blocks[column]
     own = ~rowless(model)
     if value is not None:
         held = said(cells, value) & own
         if not held.any():
             there = ", ".join(map(str, cells[own].drop_duplicates().head(10)))
-            raise PlanError(f"no cell is {value!r}; there are {there}", table=model.name, column=column)
+            raise PlanError(
+                f"no cell is {value!r}; there are {there}", table=model.name, column=column
+            )
         return Design(f"{column}-{value}", held, rowless(model))
     if cells.dtype.kind in "iufb":
         numbers = np.nan_to_num(cells.to_numpy(float))
@@ -165,8 +230,13 @@ def by_column(model: Model, column: str, value: str | None = None) -> Design:
         unclear = own & ~held & ~out
     if unclear.any():
         at = int(np.argmax(unclear))
-        raise PlanError(f"{cells.iloc[at]!r} says neither yes nor no", table=model.name, row=int(model.blocks["row"].iloc[at]), column=column,
-                        try_this="--value WORD, the cell of the blocks that the design takes")
+        raise PlanError(
+            f"{cells.iloc[at]!r} says neither yes nor no",
+            table=model.name,
+            row=int(model.blocks["row"].iloc[at]),
+            column=column,
+            try_this="--value WORD, the cell of the blocks that the design takes",
+        )
     return Design(column, held, rowless(model))
 
 
@@ -181,7 +251,9 @@ def said(cells: pd.Series, value: str) -> Bools:
     return found
 
 
-def by_surface(model: Model, path: Path, layers: Sequence[str] = (), encoding: str | None = None) -> Design:
+def by_surface(
+    model: Model, path: Path, layers: Sequence[str] = (), encoding: str | None = None
+) -> Design:
     """The blocks whose centre lies above a surface: triangles of a DXF, or points of a CSV.
 
     Parameters
@@ -205,15 +277,23 @@ def by_surface(model: Model, path: Path, layers: Sequence[str] = (), encoding: s
     if not covered.any():
         (x0, y0, _), (x1, y1, _) = surface.points.min(axis=0), surface.points.max(axis=0)
         x, y, _ = model.xyz()
-        raise PlanError(f"lies beside the model: from ({x0:.10g}, {y0:.10g}) to ({x1:.10g}, {y1:.10g}), and the blocks from ({x.min():.10g}, {y.min():.10g}) to "
-                        f"({x.max():.10g}, {y.max():.10g})", table=path, try_this="is it in the same coordinates, east before north?")
+        raise PlanError(
+            f"lies beside the model: from ({x0:.10g}, {y0:.10g}) to ({x1:.10g}, {y1:.10g}), and the blocks from ({x.min():.10g}, {y.min():.10g}) to "
+            f"({x.max():.10g}, {y.max():.10g})",
+            table=path,
+            try_this="is it in the same coordinates, east before north?",
+        )
     b = model.blocks
     _, _, z = model.xyz()
     height = low[b.ix.to_numpy(), b.iy.to_numpy()]
-    notes = [f"{len(surface.triangles):,} triangles cover {int(covered.sum()):,} of {covered.size:,} columns of the model"]
+    notes = [
+        f"{len(surface.triangles):,} triangles cover {int(covered.sum()):,} of {covered.size:,} columns of the model"
+    ]
     over = int((high[covered] - low[covered] > model.grid.size[2]).sum())
     if over:
-        notes.append(f"the surface lies over itself, by more than a bench, in {over:,} columns: the lowest counts")
+        notes.append(
+            f"the surface lies over itself, by more than a bench, in {over:,} columns: the lowest counts"
+        )
     return Design(path.stem, np.isfinite(height) & (z > height), np.zeros(len(model), bool), notes)
 
 
@@ -230,7 +310,11 @@ def points_of(path: Path, encoding: str | None = None) -> Surface:
     found = [next((folded[name] for name in USUAL[key] if name in folded), None) for key in PLACES]
     if None in found:
         if len(names) != 3:
-            raise PlanError("which of its columns are x, y and z?", table=path, try_this="call them x, y and z")
+            raise PlanError(
+                "which of its columns are x, y and z?", table=path, try_this="call them x, y and z"
+            )
         found = list(names)
     frame = read_frame(path, dialect)
-    return of_points(np.column_stack([number_column(frame[name], path.name) for name in found]), path)
+    return of_points(
+        np.column_stack([number_column(frame[name], path.name) for name in found]), path
+    )

@@ -47,12 +47,21 @@ class Phases:
             raise PlanError(f"the mining width is {mining_width:g}, and has to be above 0")
         self.shells, self.mining_width = shells, mining_width
         count = len(shells.factors)
-        self.pushback: npt.NDArray[np.int16] = np.where(shells.dug < count, shells.dug + 1, 0).astype(np.int16)
+        self.pushback: npt.NDArray[np.int16] = np.where(
+            shells.dug < count, shells.dug + 1, 0
+        ).astype(np.int16)
         there = np.bincount(self.pushback, minlength=count + 1)[1:]
         if (there == 0).any():
             i = int(np.argmin(there))
-            before = f"the pit at {shells.factors[i] / THOUSAND:g} is that at {shells.factors[i - 1] / THOUSAND:g}" if i else f"the pit at {shells.factors[0] / THOUSAND:g} is empty"
-            raise PlanError(f"{before}: there is no pushback {i + 1}", try_this="leave that factor out, or take factors that lie further apart")
+            before = (
+                f"the pit at {shells.factors[i] / THOUSAND:g} is that at {shells.factors[i - 1] / THOUSAND:g}"
+                if i
+                else f"the pit at {shells.factors[0] / THOUSAND:g} is empty"
+            )
+            raise PlanError(
+                f"{before}: there is no pushback {i + 1}",
+                try_this="leave that factor out, or take factors that lie further apart",
+            )
 
     def __len__(self) -> int:
         return len(self.shells.factors)
@@ -77,18 +86,29 @@ class Phases:
         shells = self.shells
         grid, cells = shells.study.model.grid, Cells.of(shells, base)
         cube = outlines.cube_of(shells.study.model, self.pushback, 0)
-        tonnes = outlines.cube_of(shells.study.model, shells.study.model.blocks.tonnes.to_numpy(float), 0.0)
+        tonnes = outlines.cube_of(
+            shells.study.model, shells.study.model.blocks.tonnes.to_numpy(float), 0.0
+        )
         rows = []
         for i, down in np.argwhere(cells.blocks > 0).tolist():
             level = grid.shape[2] - 1 - down
             here = cube[:, :, level] == i + 1
             if not here.any():
-                continue                     # air alone
+                continue  # air alone
             toe, centre, crest = grid.world(0, 0, [level - 0.5, level, level + 0.5])[2].tolist()
             found = cells.at(i, down) | {"blocks": int(here.sum())}
             rock = {name: found.pop(name) for name in ("blocks", "rock_t", "ore_t", "waste_t")}
-            mill = {"strip": rock["waste_t"] / rock["ore_t"] if rock["ore_t"] else np.nan, "feed_t": rock["ore_t"] * shells.study.priced.feed}
-            row = {"pushback": i + 1, "factor": shells.factors[i] / THOUSAND, "bench": centre, "toe": toe, "crest": crest}
+            mill = {
+                "strip": rock["waste_t"] / rock["ore_t"] if rock["ore_t"] else np.nan,
+                "feed_t": rock["ore_t"] * shells.study.priced.feed,
+            }
+            row = {
+                "pushback": i + 1,
+                "factor": shells.factors[i] / THOUSAND,
+                "bench": centre,
+                "toe": toe,
+                "crest": crest,
+            }
             rows.append(row | rock | mill | found | self.room(here, tonnes[:, :, level]))
         return pd.DataFrame(rows)
 
@@ -118,23 +138,39 @@ class Phases:
             (how many), the columns of `benches` from ``blocks`` on, and ``width_bench``, where it is thinnest.
         """
         found = self.benches(base) if benches is None else benches
-        names = [str(name)[len("metal_"):] for name in found.columns if str(name).startswith("metal_")]
+        names = [
+            str(name)[len("metal_") :] for name in found.columns if str(name).startswith("metal_")
+        ]
         rows = []
         for (pushback, factor), part in found.groupby(["pushback", "factor"], sort=True):
             ore = float(part.ore_t.sum())
-            row: dict[str, Any] = {"pushback": pushback, "factor": factor, "top": part.crest.max(), "bottom": part.toe.min(), "benches": len(part)}
+            row: dict[str, Any] = {
+                "pushback": pushback,
+                "factor": factor,
+                "top": part.crest.max(),
+                "bottom": part.toe.min(),
+                "benches": len(part),
+            }
             row |= {name: part[name].sum() for name in SUMMED}
             row["strip"] = float(row["waste_t"]) / ore if ore else np.nan
             for name in names:
-                row[f"grade_{name}"] = float((part[f"grade_{name}"].fillna(0) * part.ore_t).sum()) / ore if ore else np.nan
+                row[f"grade_{name}"] = (
+                    float((part[f"grade_{name}"].fillna(0) * part.ore_t).sum()) / ore
+                    if ore
+                    else np.nan
+                )
                 row[f"metal_{name}"] = part[f"metal_{name}"].sum()
             at = part.width.idxmin()
             row |= {"width": part.width[at], "width_bench": part.bench[at]}
-            row |= {name: part[name].sum() for name in ("narrow_blocks", "narrow_t") if name in part}
+            row |= {
+                name: part[name].sum() for name in ("narrow_blocks", "narrow_t") if name in part
+            }
             rows.append(row)
         return pd.DataFrame(rows)
 
     def of_blocks(self) -> pd.DataFrame:
         """The pushback of each block: ``id``, ``row`` (as a spreadsheet counts it; 0 for blocks that were added), ``pushback``."""
         model = self.shells.study.model
-        return pd.DataFrame({"id": model.blocks["id"].to_numpy(), "row": model.table_row, "pushback": self.pushback})
+        return pd.DataFrame(
+            {"id": model.blocks["id"].to_numpy(), "row": model.table_row, "pushback": self.pushback}
+        )

@@ -47,8 +47,15 @@ Bools = npt.NDArray[np.bool_]
 Floats = npt.NDArray[np.float32]
 TENTHS = tuple(tenth / 10 for tenth in range(1, 10))
 SPREAD = (0.1, 0.5, 0.9)
-ASKED = ("ix", "iy", "iz", "row", "tonnes", "rock")      # columns that pricing and `.blocks` ask for, beside those that [economics] names
-SCRATCH = "pitplan."                         # folders of `.blocks` and certificates, in TMPDIR
+ASKED = (
+    "ix",
+    "iy",
+    "iz",
+    "row",
+    "tonnes",
+    "rock",
+)  # columns that pricing and `.blocks` ask for, beside those that [economics] names
+SCRATCH = "pitplan."  # folders of `.blocks` and certificates, in TMPDIR
 ROOM = "TMPDIR=/a/larger/disk: a realisation's blocks and certificate are written there"
 
 
@@ -87,17 +94,28 @@ def folder_of(study: Study) -> Path:
 def setup_of(study: Study) -> Setup | None:
     """What was asked for by `prepare` over this very model, None where nothing was."""
     try:
-        found = kept_json.read(folder_of(study) / "risk.json", SETUP, command("risk", study.named, "--realisations", "FILE"))
+        found = kept_json.read(
+            folder_of(study) / "risk.json",
+            SETUP,
+            command("risk", study.named, "--realisations", "FILE"),
+        )
     except FileNotFoundError:
         return None
     if found["column"] not in [metal["grade"] for metal in found["economics"]["metals"]]:
-        raise kept_json.Damaged(f"{folder_of(study) / 'risk.json'} is damaged: column is {kept_json.shown(found['column'])}", try_this=command("risk", study.named, "--realisations", "FILE"))
+        raise kept_json.Damaged(
+            f"{folder_of(study) / 'risk.json'} is damaged: column is {kept_json.shown(found['column'])}",
+            try_this=command("risk", study.named, "--realisations", "FILE"),
+        )
     return Setup(**{key: found[key] for key in SETUP}) if found["study"] == study.key else None
 
 
 def are_factors(value: Any) -> bool:
     """Whether this is a list of factors in thousandths, ascending."""
-    return bool(value) and kept_json.is_list(kept_json.is_factor)(value) and all(a < b for a, b in zip(value, value[1:]))
+    return (
+        bool(value)
+        and kept_json.is_list(kept_json.is_factor)(value)
+        and all(a < b for a, b in zip(value, value[1:]))
+    )
 
 
 def is_economics(value: Any) -> bool:
@@ -111,11 +129,26 @@ def is_economics(value: Any) -> bool:
 
 # What risk.json has, and what each may be. Realisations lie in the folder risk, or where the planner's own file does.
 SETUP: dict[str, kept_json.Holds] = {
-    "study": kept_json.is_word, "file": lambda value: kept_json.is_file_name(value) or kept_json.is_path(value) and Path(value).is_absolute(), "column": kept_json.is_word,
-    "digests": lambda value: kept_json.is_list(kept_json.is_digest)(value) and 0 < len(value) < 1 << 16, "factors": are_factors, "economics": is_economics}
+    "study": kept_json.is_word,
+    "file": lambda value: kept_json.is_file_name(value)
+    or kept_json.is_path(value)
+    and Path(value).is_absolute(),
+    "column": kept_json.is_word,
+    "digests": lambda value: kept_json.is_list(kept_json.is_digest)(value)
+    and 0 < len(value) < 1 << 16,
+    "factors": are_factors,
+    "economics": is_economics,
+}
 
 
-def prepare(study: Study, economics: Economics, realisations: Path, factors: Sequence[int], metal: str | None = None, keys: TableKeys | None = None) -> Setup:
+def prepare(
+    study: Study,
+    economics: Economics,
+    realisations: Path,
+    factors: Sequence[int],
+    metal: str | None = None,
+    keys: TableKeys | None = None,
+) -> Setup:
     """Looks through the realisations, and writes down what is to be run. No pit is found yet.
 
     Parameters
@@ -144,9 +177,16 @@ def prepare(study: Study, economics: Economics, realisations: Path, factors: Seq
         grades, file = opened(realisations, work, study, keys)
         if grades.ndim != 2 or grades.shape[1] not in (rows, lines):
             shape = " x ".join(map(str, grades.shape))
-            raise PlanError(f"the realisations are {shape}, and the table has {rows:,} rows", table=realisations, try_this="a realisation for each row of the .npy, or a column for each of a CSV")
+            raise PlanError(
+                f"the realisations are {shape}, and the table has {rows:,} rows",
+                table=realisations,
+                try_this="a realisation for each row of the .npy, or a column for each of a CSV",
+            )
         if len(grades) >= 1 << 16 or not len(grades):
-            raise PlanError(f"{len(grades):,} realisations: from 1 to {(1 << 16) - 1:,} can be counted", table=realisations)
+            raise PlanError(
+                f"{len(grades):,} realisations: from 1 to {(1 << 16) - 1:,} can be counted",
+                table=realisations,
+            )
         digests = [digest_of(checked(grades[r], r, realisations)) for r in range(len(grades))]
         found = Setup(study.key, file, column, digests, sorted(set(factors)), asdict(economics))
         (work / "risk.json").write_text(json.dumps(asdict(found), indent=1))
@@ -166,7 +206,10 @@ def rows_of(study: Study) -> int:
     row_block = study.model.row_block
     held = row_block[row_block >= 0]
     if len(np.unique(held)) < len(held):
-        raise PlanError("realisations over a table with sub-blocks: whose grade would count?", try_this="a table of whole blocks, and realisations over it")
+        raise PlanError(
+            "realisations over a table with sub-blocks: whose grade would count?",
+            try_this="a table of whole blocks, and realisations over it",
+        )
     return len(held)
 
 
@@ -179,7 +222,9 @@ def by_line(grades: Floats, row_block: npt.NDArray[np.int32]) -> Floats:
     return found
 
 
-def opened(path: Path, work: Path, study: Study | None = None, keys: TableKeys | None = None) -> tuple[Any, str]:
+def opened(
+    path: Path, work: Path, study: Study | None = None, keys: TableKeys | None = None
+) -> tuple[Any, str]:
     """The realisations as an array that is read where it is asked, and the file that has them."""
     if path.suffix == ".npy":
         try:
@@ -202,43 +247,85 @@ def of_table(path: Path, model: Model | None, keys: TableKeys | None) -> Floats:
     PlanError
         Where a cell is no number, an id isn't the table's, or there is no other column.
     """
-    own = {key: model.columns[key] for key in ("id", *PLACES) if key in model.columns} if model else {}
-    frame = read_frame(path, dialect_beside(path, keys.encoding if keys else None), [own["id"]] if "id" in own else [])
+    own = (
+        {key: model.columns[key] for key in ("id", *PLACES) if key in model.columns}
+        if model
+        else {}
+    )
+    frame = read_frame(
+        path,
+        dialect_beside(path, keys.encoding if keys else None),
+        [own["id"]] if "id" in own else [],
+    )
     if model is not None and own.get("id") in frame.columns:
         same_ids(frame[own["id"]], model, path)
     names = [name for name in frame.columns if name not in own.values()]
     if not names:
         raise PlanError("has no column of a realisation", table=path)
     try:
-        return np.stack([number_column(frame[name], path.name, keys.absent if keys else ()).astype(np.float32) for name in names])
+        return np.stack(
+            [
+                number_column(frame[name], path.name, keys.absent if keys else ()).astype(
+                    np.float32
+                )
+                for name in names
+            ]
+        )
     except PlanError as error:
-        if error.column in names and "id" not in own and pd.to_numeric(frame[error.column], errors="coerce").isna().all():
-            raise PlanError(error.what, table=error.table, row=error.row, column=error.column,
-                            try_this=f"columns = {{ id = {json.dumps(error.column, ensure_ascii=False)} }} in [model] and pitplan build, if these are the blocks' ids, or a file without this column") from None
+        if (
+            error.column in names
+            and "id" not in own
+            and pd.to_numeric(frame[error.column], errors="coerce").isna().all()
+        ):
+            raise PlanError(
+                error.what,
+                table=error.table,
+                row=error.row,
+                column=error.column,
+                try_this=f"columns = {{ id = {json.dumps(error.column, ensure_ascii=False)} }} in [model] and pitplan build, if these are the blocks' ids, or a file without this column",
+            ) from None
         raise
 
 
 def same_ids(found: pd.Series, model: Model, path: Path) -> None:
     """Refuses realisations whose rows are of other blocks than the table's."""
-    told = model.blocks[model.blocks["row"] >= 0].sort_values("row")["id"].astype(str).str.strip().to_numpy()
+    told = (
+        model.blocks[model.blocks["row"] >= 0]
+        .sort_values("row")["id"]
+        .astype(str)
+        .str.strip()
+        .to_numpy()
+    )
     given = found.fillna("").astype(str).str.strip().to_numpy()
     least = min(len(told), len(given))
     wrong = told[:least] != given[:least]
     if wrong.any():
         at = int(np.argmax(wrong))
-        raise PlanError(f"{given[at]!r} stands where the table has {told[at]!r}", table=path, row=int(found.index[at]), column=found.name,
-                        try_this="a row for each row of the table, in its order")
+        raise PlanError(
+            f"{given[at]!r} stands where the table has {told[at]!r}",
+            table=path,
+            row=int(found.index[at]),
+            column=found.name,
+            try_this="a row for each row of the table, in its order",
+        )
 
 
 def checked(grades: npt.NDArray[Any], number: int, path: Path) -> npt.NDArray[Any]:
     """A realisation, refused where a cell is no grade."""
     if grades.dtype.kind not in "iuf":
-        raise PlanError(f"the realisations are of type {grades.dtype}, and have to be numbers", table=path)
+        raise PlanError(
+            f"the realisations are of type {grades.dtype}, and have to be numbers", table=path
+        )
     wrong = ~(np.isfinite(grades) & (grades >= 0))
     if wrong.any():
         at = int(np.argmax(wrong))
-        raise PlanError(f"{grades[at]} is no grade; {int(wrong.sum()):,} cells are so", table=path, row=at, column=f"of realisation {number}",
-                        try_this="0 where a block isn't estimated")
+        raise PlanError(
+            f"{grades[at]} is no grade; {int(wrong.sum()):,} cells are so",
+            table=path,
+            row=at,
+            column=f"of realisation {number}",
+            try_this="0 where a block isn't estimated",
+        )
     return grades
 
 
@@ -258,20 +345,43 @@ def words_in(value: Any) -> list[str]:
 
 def lean_model(study: Study, economics: dict[str, Any]) -> Model:
     """The study's model without the columns that pricing doesn't ask for: the planner's names of 10,000,000 blocks take a gigabyte."""
-    said = unicodedata.normalize("NFKC", "\n".join(words_in(economics)))       # as Python reads the plain words of a formula
+    said = unicodedata.normalize(
+        "NFKC", "\n".join(words_in(economics))
+    )  # as Python reads the plain words of a formula
     with np.load(study.where / "blocks.npz", allow_pickle=False) as file:
         told = store.told_of(file)
         columns: dict[str, Any] = {}
         for name in told["order"]:
-            if name not in ASKED and not re.search(rf"(?<!\w){re.escape(unicodedata.normalize('NFKC', name))}(?!\w)", said) and not set("'\"\\") & set(name):
-                continue                     # a name with quotes may stand there in another spelling
+            if (
+                name not in ASKED
+                and not re.search(
+                    rf"(?<!\w){re.escape(unicodedata.normalize('NFKC', name))}(?!\w)", said
+                )
+                and not set("'\"\\") & set(name)
+            ):
+                continue  # a name with quotes may stand there in another spelling
             if store.COLUMN + name in file.files:
                 columns[name] = file[store.COLUMN + name]
-            else:                            # each word once, however many blocks have it
-                codes, words = pd.factorize(store.bytes_as_words(file[store.WORDS + name], told["blocks"]))
+            else:  # each word once, however many blocks have it
+                codes, words = pd.factorize(
+                    store.bytes_as_words(file[store.WORDS + name], told["blocks"])
+                )
                 columns[name] = words[codes]
-        grid = Grid(store.three(told["origin"]), store.three(told["size"]), store.three(told["shape"]), told["rotation"])
-        return Model(pd.DataFrame(columns), grid, told["name"], told["notes"], told["columns"], file["row_block"], told["depth"])
+        grid = Grid(
+            store.three(told["origin"]),
+            store.three(told["size"]),
+            store.three(told["shape"]),
+            told["rotation"],
+        )
+        return Model(
+            pd.DataFrame(columns),
+            grid,
+            told["name"],
+            told["notes"],
+            told["columns"],
+            file["row_block"],
+            told["depth"],
+        )
 
 
 class Realisation(Study):
@@ -290,7 +400,13 @@ class Realisation(Study):
     def __init__(self, base: Study, setup: Setup, number: int, model: Model | None = None) -> None:
         super().__init__(base.folder, base.given, base.named)
         self.base, self.setup, self.number, self.shared = base, setup, number, model
-        named = [base.key, base.manifest["files"]["blocks.npz"], json.dumps(setup.economics, sort_keys=True), setup.column, setup.digests[number]]
+        named = [
+            base.key,
+            base.manifest["files"]["blocks.npz"],
+            json.dumps(setup.economics, sort_keys=True),
+            setup.column,
+            setup.digests[number],
+        ]
         self.key = hashlib.sha256("\n".join(named).encode()).hexdigest()
         self.made: Path | None = None
 
@@ -315,11 +431,24 @@ class Realisation(Study):
         rows = self.model.blocks["row"].to_numpy()
         grades = np.where(rows >= 0, self.grades()[np.maximum(rows, 0)], 0).astype(float)
         blocks = self.model.blocks.assign(**{self.setup.column: grades})
-        model = Model(blocks, self.model.grid, self.model.name, columns=self.model.columns, row_block=self.model.row_block, depth=self.model.depth)
+        model = Model(
+            blocks,
+            self.model.grid,
+            self.model.name,
+            columns=self.model.columns,
+            row_block=self.model.row_block,
+            depth=self.model.depth,
+        )
         try:
             return economics_of(self.setup.economics).priced(model)
-        except PlanError as error:           # the economics stand in that file
-            raise type(error)(error.what, table=error.table or folder_of(self.base) / "risk.json", row=error.row, column=error.column, try_this=error.try_this) from None
+        except PlanError as error:  # the economics stand in that file
+            raise type(error)(
+                error.what,
+                table=error.table or folder_of(self.base) / "risk.json",
+                row=error.row,
+                column=error.column,
+                try_this=error.try_this,
+            ) from None
 
     def grades(self) -> Floats:
         """The grades of this realisation, of shape (lines of the table below its header,).
@@ -331,24 +460,36 @@ class Realisation(Study):
         """
         path = folder_of(self.base) / self.setup.file
         try:
-            found: Floats = np.ascontiguousarray(np.load(path, mmap_mode="r", allow_pickle=False)[self.number], np.float32)
+            found: Floats = np.ascontiguousarray(
+                np.load(path, mmap_mode="r", allow_pickle=False)[self.number], np.float32
+            )
         except (OSError, *store.DAMAGED) as error:
-            raise PlanError(f"realisation {self.number} can't be read: {error}", table=path, try_this=command("risk", self.base.named, "--realisations", "FILE")) from None
+            raise PlanError(
+                f"realisation {self.number} can't be read: {error}",
+                table=path,
+                try_this=command("risk", self.base.named, "--realisations", "FILE"),
+            ) from None
         if digest_of(found) != self.setup.digests[self.number]:
-            raise PlanError(f"realisation {self.number} has changed since pitplan risk looked through it", table=path, try_this=command("risk", self.base.named, "--realisations", "FILE"))
+            raise PlanError(
+                f"realisation {self.number} has changed since pitplan risk looked through it",
+                table=path,
+                try_this=command("risk", self.base.named, "--realisations", "FILE"),
+            )
         return by_line(found, self.model.row_block)
 
     def place(self, factor: int) -> Path:
         """The folder of a factor's result (in thousandths)."""
         return self.folder / "runs" / f"r{self.number:04d}" / f"f{factor:05d}"
 
-    keeps = False                            # its digest is kept
+    keeps = False  # its digest is kept
 
     def room(self, work: Path) -> Path:
         """The certificate is written in this machine's scratch, and never goes over the network."""
         return self.made.parent if self.made else work
 
-    def run(self, factor: int, told: Told | None = None, sure: Callable[[], None] | None = None) -> Verdict:
+    def run(
+        self, factor: int, told: Told | None = None, sure: Callable[[], None] | None = None
+    ) -> Verdict:
         """One pit of this realisation, as `Study.run`; the certificate isn't kept, its digest is."""
         done = self.verdict(factor)
         if done:
@@ -368,15 +509,22 @@ class Realisation(Study):
         if self.made:
             yield self.files
             return
-        self.began = time.monotonic()             # pricing and writing count with the first pit: `pitplan status` reckons by what pits took
+        self.began = (
+            time.monotonic()
+        )  # pricing and writing count with the first pit: `pitplan status` reckons by what pits took
         sweep(Path(tempfile.gettempdir()), SCRATCH + "*")
-        with tempfile.TemporaryDirectory(prefix=SCRATCH + mark(), ignore_cleanup_errors=True) as scratch:
+        with tempfile.TemporaryDirectory(
+            prefix=SCRATCH + mark(), ignore_cleanup_errors=True
+        ) as scratch:
             self.made = Path(scratch) / "mine.blocks"
             try:
                 write_blocks(self.made, self.model, self.priced)
                 yield self.files
             except OSError as error:
-                raise MachineError(f"{error.filename or scratch}: {error.strerror}", try_this=ROOM if error.errno in FULL else None) from error
+                raise MachineError(
+                    f"{error.filename or scratch}: {error.strerror}",
+                    try_this=ROOM if error.errno in FULL else None,
+                ) from error
             finally:
                 self.made = self.began = None
 
@@ -391,7 +539,10 @@ def realisation(base: Study, number: int) -> Realisation:
     """
     setup = setup_of(base)
     if setup is None:
-        raise PlanError("no realisations were asked for over the model that stands there", try_this=command("risk", base.named, "--realisations", "FILE"))
+        raise PlanError(
+            "no realisations were asked for over the model that stands there",
+            try_this=command("risk", base.named, "--realisations", "FILE"),
+        )
     if not 0 <= number < len(setup.digests):
         raise PlanError(f"there is no realisation {number}: they are 0 to {len(setup.digests) - 1}")
     return Realisation(base, setup, number)
@@ -400,7 +551,11 @@ def realisation(base: Study, number: int) -> Realisation:
 def tasks(study: Study) -> list[Task]:
     """The tasks of the realisations that were asked for: one for each, with all of its factors."""
     setup = setup_of(study)
-    return [Task("realisation", str(r), tuple(setup.factors)) for r in range(len(setup.digests))] if setup else []
+    return (
+        [Task("realisation", str(r), tuple(setup.factors)) for r in range(len(setup.digests))]
+        if setup
+        else []
+    )
 
 
 class Risk:
@@ -432,10 +587,20 @@ class Risk:
     def __init__(self, study: Study) -> None:
         setup = setup_of(study)
         if setup is None:
-            raise PlanError("no realisations were asked for over the model that stands there", try_this=command("risk", study.named, "--realisations", "FILE"))
+            raise PlanError(
+                "no realisations were asked for over the model that stands there",
+                try_this=command("risk", study.named, "--realisations", "FILE"),
+            )
         study.verify()
-        self.study, self.setup, self.factors, self.count = study, setup, setup.factors, len(setup.digests)
-        self.hits: npt.NDArray[np.uint16] = np.zeros((len(self.factors), study.manifest["blocks"]), np.uint16)
+        self.study, self.setup, self.factors, self.count = (
+            study,
+            setup,
+            setup.factors,
+            len(setup.digests),
+        )
+        self.hits: npt.NDArray[np.uint16] = np.zeros(
+            (len(self.factors), study.manifest["blocks"]), np.uint16
+        )
         tonnes = lean_model(study, setup.economics).blocks.tonnes.to_numpy(float)
         self.side, self.floor = np.zeros((2, len(self.factors), self.count), np.int64)
         touching, on_floor = edges.touching(study), edges.on_floor(study.model)
@@ -444,14 +609,26 @@ class Risk:
             one, below = Realisation(study, setup, r), np.zeros(study.manifest["blocks"], bool)
             for i, factor in enumerate(self.factors):
                 mask, verdict = one.mask(factor), one.verdict(factor)
-                assert verdict is not None       # its mask has just been read
+                assert verdict is not None  # its mask has just been read
                 if (below & ~mask).any():
-                    raise Disagreement(f"realisation {r}: the pit at {self.factors[i - 1] / THOUSAND:g} isn't within that at {factor / THOUSAND:g}, and pit proves that it is",
-                                       try_this="were results of several models mixed in this folder?")
+                    raise Disagreement(
+                        f"realisation {r}: the pit at {self.factors[i - 1] / THOUSAND:g} isn't within that at {factor / THOUSAND:g}, and pit proves that it is",
+                        try_this="were results of several models mixed in this folder?",
+                    )
                 self.hits[i] += mask
-                self.side[i, r], self.floor[i, r] = np.count_nonzero(mask & touching), np.count_nonzero(mask & on_floor)
+                self.side[i, r], self.floor[i, r] = np.count_nonzero(
+                    mask & touching
+                ), np.count_nonzero(mask & on_floor)
                 below = mask
-                rows.append({"realisation": r, "factor": factor / THOUSAND, "blocks": verdict["count"], "rock_t": float(tonnes[mask].sum()), "worth": float(verdict["worth"])})
+                rows.append(
+                    {
+                        "realisation": r,
+                        "factor": factor / THOUSAND,
+                        "blocks": verdict["count"],
+                        "rock_t": float(tonnes[mask].sum()),
+                        "worth": float(verdict["worth"]),
+                    }
+                )
         self.runs = pd.DataFrame(rows)
 
     def likelihood(self, factor: int = THOUSAND) -> npt.NDArray[np.float64]:
@@ -470,7 +647,10 @@ class Risk:
     def at(self, factor: int) -> int:
         """Where a factor stands in the series."""
         if factor not in self.factors:
-            raise PlanError(f"no realisation was run at factor {factor / THOUSAND:g}", try_this=", ".join(f"{f / THOUSAND:g}" for f in self.factors))
+            raise PlanError(
+                f"no realisation was run at factor {factor / THOUSAND:g}",
+                try_this=", ".join(f"{f / THOUSAND:g}" for f in self.factors),
+            )
         return self.factors.index(factor)
 
     def table(self) -> pd.DataFrame:
@@ -480,7 +660,11 @@ class Risk:
         for factor, of in self.runs.groupby("factor"):
             row: dict[str, Any] = {"factor": factor, "realisations": len(of)}
             for name in ("blocks", "rock_t", "worth"):
-                row |= {f"{name}_least": of[name].min(), f"{name}_mean": of[name].mean(), f"{name}_most": of[name].max()}
+                row |= {
+                    f"{name}_least": of[name].min(),
+                    f"{name}_mean": of[name].mean(),
+                    f"{name}_most": of[name].max(),
+                }
                 row |= {f"{name}_p{int(100 * share)}": of[name].quantile(share) for share in SPREAD}
             rows.append(row)
         return pd.DataFrame(rows)
@@ -498,12 +682,23 @@ class Risk:
             assert verdict is not None
             best[r] = float(verdict["worth"])
         tonnes = lean_model(self.study, self.setup.economics).blocks.tonnes.to_numpy(float)
-        return pd.DataFrame({"likelihood": TENTHS, "blocks": [int(m.sum()) for m in masks], "rock_t": [float(tonnes[m].sum()) for m in masks],
-                             "worth_least": worths.min(axis=1), "worth_mean": worths.mean(axis=1), "worth_most": worths.max(axis=1), "best_mean": best.mean()})
+        return pd.DataFrame(
+            {
+                "likelihood": TENTHS,
+                "blocks": [int(m.sum()) for m in masks],
+                "rock_t": [float(tonnes[m].sum()) for m in masks],
+                "worth_least": worths.min(axis=1),
+                "worth_mean": worths.mean(axis=1),
+                "worth_most": worths.max(axis=1),
+                "best_mean": best.mean(),
+            }
+        )
 
     def of_blocks(self) -> pd.DataFrame:
         """The likelihood of each block at each factor, beside its id and row as a spreadsheet counts it (0: a block that was added)."""
-        model, found = self.study.model, {f"likelihood_{spelled_factor(f)}": self.likelihood(f) for f in self.factors}
+        model, found = self.study.model, {
+            f"likelihood_{spelled_factor(f)}": self.likelihood(f) for f in self.factors
+        }
         return pd.DataFrame({"id": model.blocks["id"].to_numpy(), "row": model.table_row, **found})
 
 
@@ -555,11 +750,15 @@ def means(study: Study, setup: Setup) -> Means:
     table = model.numbers(setup.column, "realisations")[there][covered]
     metal = next(m for m in setup.economics["metals"] if m["grade"] == setup.column)
     whole = float(tonnes.sum())
-    simulated, planned = (float((grades * tonnes).sum()) / whole if whole > 0 else np.nan for grades in (total[covered] / len(setup.digests), table))
+    simulated, planned = (
+        float((grades * tonnes).sum()) / whole if whole > 0 else np.nan
+        for grades in (total[covered] / len(setup.digests), table)
+    )
     return Means(metal["name"], metal["grade_unit"], simulated, planned, int(covered.sum()))
 
 
 def spelled_factor(factor: int) -> str:
     """A factor as a share of the price, for names of columns."""
     from decimal import Decimal
+
     return spelled(Decimal(factor) / THOUSAND)

@@ -14,11 +14,11 @@ from ..model.grid import Grid
 
 Floats = npt.NDArray[np.float64]
 Ints = npt.NDArray[np.int64]
-AT_ONCE = 4_000_000                          # columns under triangles that are looked at in one go
+AT_ONCE = 4_000_000  # columns under triangles that are looked at in one go
 SLACK = 1e-9
-MOST = 1_000_000                             # faces and other entities that the blocks of a DXF may bring
-DEEPEST = 32                                 # blocks that a block may stand in
-FAR = 1e12                                   # how far from 0 a corner may be
+MOST = 1_000_000  # faces and other entities that the blocks of a DXF may bring
+DEEPEST = 32  # blocks that a block may stand in
+FAR = 1e12  # how far from 0 a corner may be
 
 
 @dataclass(frozen=True)
@@ -43,13 +43,16 @@ def of_points(points: Floats, table: object) -> Surface:
     Raises PlanError where no three of them span a triangle.
     """
     from scipy.spatial import Delaunay, QhullError
+
     points = near(points, table)
     lowest = points[np.lexsort((points[:, 2], points[:, 1], points[:, 0]))]
     first = np.ones(len(lowest), bool)
     first[1:] = (lowest[1:, :2] != lowest[:-1, :2]).any(axis=1)
     kept = lowest[first]
     try:
-        return Surface(kept, Delaunay(kept[:, :2] - kept[:, :2].mean(axis=0)).simplices.astype(np.int64))
+        return Surface(
+            kept, Delaunay(kept[:, :2] - kept[:, :2].mean(axis=0)).simplices.astype(np.int64)
+        )
     except (QhullError, ValueError):
         raise PlanError(f"{len(kept):,} points don't span a surface", table=table) from None
 
@@ -64,6 +67,7 @@ def of_dxf(path: Path, layers: Sequence[str] = ()) -> Surface:
         corner is no place.
     """
     from ezdxf.lldxf.const import DXFError
+
     there, kinds, faces = set[str](), set[str](), list[list[Any]]()
     entities = Entities(path)
     try:
@@ -80,9 +84,15 @@ def of_dxf(path: Path, layers: Sequence[str] = ()) -> Surface:
         if layer not in there:
             raise PlanError(f"has no layer {layer!r}{meant(layer, sorted(there))}", table=path)
     if not faces:
-        raise PlanError("has no faces" + (", but " + ", ".join(sorted(kinds)) if kinds else ""), table=path, try_this="triangulate it in the CAD package, or give its points as CSV (x, y, z)")
+        raise PlanError(
+            "has no faces" + (", but " + ", ".join(sorted(kinds)) if kinds else ""),
+            table=path,
+            try_this="triangulate it in the CAD package, or give its points as CSV (x, y, z)",
+        )
     fans = [(face[0], face[i], face[i + 1]) for face in faces for i in range(1, len(face) - 1)]
-    points, corner = np.unique(near(np.array(fans, float).reshape(-1, 3), path), axis=0, return_inverse=True)
+    points, corner = np.unique(
+        near(np.array(fans, float).reshape(-1, 3), path), axis=0, return_inverse=True
+    )
     return Surface(points, corner.reshape(-1, 3).astype(np.int64))
 
 
@@ -91,7 +101,11 @@ def near(points: Floats, path: object) -> Floats:
     wrong = ~(np.abs(points) <= FAR).all(axis=1)
     if wrong.any():
         x, y, z = points[int(np.argmax(wrong))]
-        raise PlanError(f"{int(wrong.sum()):,} corners are no places, the first is ({x:g}, {y:g}, {z:g})", table=path, try_this="take these faces out in the CAD package, or name the --layer of the design")
+        raise PlanError(
+            f"{int(wrong.sum()):,} corners are no places, the first is ({x:g}, {y:g}, {z:g})",
+            table=path,
+            try_this="take these faces out in the CAD package, or name the --layer of the design",
+        )
     return points
 
 
@@ -112,33 +126,52 @@ class Entities:
         """Counts what blocks bring. Raises PlanError where it is more than `MOST`."""
         self.left -= count
         if self.left < 0:
-            raise PlanError(f"its blocks bring more than {MOST:,} faces and other entities", table=self.path, try_this="explode the blocks of the design in the CAD package, and leave the others out")
+            raise PlanError(
+                f"its blocks bring more than {MOST:,} faces and other entities",
+                table=self.path,
+                try_this="explode the blocks of the design in the CAD package, and leave the others out",
+            )
 
     def of(self, entities: Any, around: tuple[str, ...] = ()) -> Iterator[tuple[Any, bool]]:
         """The simple entities of some entities, and whether each is of a block; `around` are the blocks that these stand in.
         Raises PlanError where a block holds itself, or stands in `DEEPEST` others."""
         from ezdxf.entities.insert import Insert
         from ezdxf.protocols import SupportsVirtualEntities, virtual_entities
+
         for entity in entities:
             kind = entity.dxftype()
             self.take(1 if around else 0)
             if isinstance(entity, Insert) and entity.mcount > 1:
                 many = entity.dxf.row_count * entity.dxf.column_count
-                self.take(many if many > self.left else 0)           # before they are gone through one by one
+                self.take(
+                    many if many > self.left else 0
+                )  # before they are gone through one by one
                 yield from self.of(entity.multi_insert(), around)
             elif isinstance(entity, Insert):
                 yield from ((attribute, True) for attribute in entity.attribs)
-                yield from self.of(virtual_entities(entity), self.deeper(around, str(entity.dxf.name)))
-            elif isinstance(entity, SupportsVirtualEntities):        # a dimension has a block without a name; a polyline has its own faces alone
-                yield from self.of(virtual_entities(entity), around if kind == "POLYLINE" else self.deeper(around, ""))
+                yield from self.of(
+                    virtual_entities(entity), self.deeper(around, str(entity.dxf.name))
+                )
+            elif isinstance(
+                entity, SupportsVirtualEntities
+            ):  # a dimension has a block without a name; a polyline has its own faces alone
+                yield from self.of(
+                    virtual_entities(entity),
+                    around if kind == "POLYLINE" else self.deeper(around, ""),
+                )
             else:
                 yield entity, bool(around)
 
     def deeper(self, around: tuple[str, ...], name: str) -> tuple[str, ...]:
         """The blocks that a block's own entities stand in."""
         if name and name in around or len(around) >= DEEPEST:
-            raise PlanError(f"the block {name!r} holds itself" if name in around else f"blocks stand in each other more than {DEEPEST} deep", table=self.path,
-                            try_this="mend it in the CAD package, or explode the blocks of the design there")
+            raise PlanError(
+                f"the block {name!r} holds itself"
+                if name in around
+                else f"blocks stand in each other more than {DEEPEST} deep",
+                table=self.path,
+                try_this="mend it in the CAD package, or explode the blocks of the design there",
+            )
         return (*around, name)
 
 
@@ -147,6 +180,7 @@ def document(path: Path) -> Any:
     from ezdxf import recover
     from ezdxf.filemanagement import readfile
     from ezdxf.lldxf.const import DXFError, DXFStructureError
+
     try:
         try:
             return readfile(path)
@@ -161,6 +195,7 @@ def document(path: Path) -> Any:
 def faces_of(entity: Any) -> Iterator[list[Any]]:
     """The faces of an entity of a DXF, each as its corners."""
     from ezdxf.render.mesh import MeshBuilder
+
     kind = entity.dxftype()
     if kind == "3DFACE":
         yield [tuple(corner) for corner in entity.wcs_vertices()]
@@ -190,7 +225,9 @@ def heights(surface: Surface, grid: Grid) -> tuple[Floats, Floats]:
     flat = np.abs(twice) > SLACK
     plan, z, twice = plan[flat], z[flat], twice[flat]
     least = np.maximum(np.ceil(plan.min(axis=1) - SLACK), 0).astype(np.int64)
-    most = np.minimum(np.floor(plan.max(axis=1) + SLACK), np.array(grid.shape[:2]) - 1).astype(np.int64)
+    most = np.minimum(np.floor(plan.max(axis=1) + SLACK), np.array(grid.shape[:2]) - 1).astype(
+        np.int64
+    )
     spans = np.maximum(most - least + 1, 0)
     low, high = np.full(grid.shape[:2], np.nan), np.full(grid.shape[:2], np.nan)
     for some in pieces(spans.prod(axis=1)):

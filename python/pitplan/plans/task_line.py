@@ -35,7 +35,11 @@ class Task:
     def label(self) -> str:
         """Its name in file names, which have at most 255 bytes: of many factors the first, the last and a digest of all."""
         whole = str(self).replace(" ", "_").replace(",", "_")
-        return whole if len(whole) <= 100 else f"{self.kind}_{self.name}_{self.factors[0]}-{self.factors[-1]}_{hashlib.sha256(whole.encode()).hexdigest()[:16]}"
+        return (
+            whole
+            if len(whole) <= 100
+            else f"{self.kind}_{self.name}_{self.factors[0]}-{self.factors[-1]}_{hashlib.sha256(whole.encode()).hexdigest()[:16]}"
+        )
 
 
 def task_of(words: Sequence[str]) -> Task:
@@ -53,7 +57,11 @@ def task_of(words: Sequence[str]) -> Task:
     if len(words) != 3 or words[0] not in ("run", "realisation"):
         raise PlanError(f"{' '.join(words)!r} is no task", try_this=example)
     parts = words[2].split(",")
-    if not all(part.isdigit() for part in parts) or (words[0] == "realisation" and not words[1].isdigit()):
-        raise PlanError(f"{' '.join(words)!r} is no task: factors are whole thousandths", try_this=example)
+    if not all(part.isdigit() for part in parts) or (
+        words[0] == "realisation" and not words[1].isdigit()
+    ):
+        raise PlanError(
+            f"{' '.join(words)!r} is no task: factors are whole thousandths", try_this=example
+        )
     factors = tuple(sorted({thousandths(int(part) / 1000) for part in parts}))
     return Task(words[0], str(int(words[1])) if words[0] == "realisation" else words[1], factors)

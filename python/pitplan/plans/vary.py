@@ -30,8 +30,8 @@ from .task_line import BASE, Task
 if TYPE_CHECKING:
     from matplotlib.figure import Figure
 
-PERCENT = ("price", "recovery", "mining", "processing")      # of what stands in study.toml
-SLOPE = "slope"                                              # in degrees
+PERCENT = ("price", "recovery", "mining", "processing")  # of what stands in study.toml
+SLOPE = "slope"  # in degrees
 WHAT = (*PERCENT, SLOPE)
 UNITS = {**{name: "%" for name in PERCENT}, SLOPE: " degrees"}
 
@@ -83,23 +83,40 @@ def changes_of(words: Iterable[str]) -> list[Change]:
     for word in words:
         parts = re.fullmatch(r"(\w+)=([-+\d.,]+?)(?:\.\.([-+\d.]+))?", word)
         if not parts:
-            raise PlanError(f"{word!r} is no change", try_this="price=-20..20 recovery=-5..5 slope=-3..3")
+            raise PlanError(
+                f"{word!r} is no change", try_this="price=-20..20 recovery=-5..5 slope=-3..3"
+            )
         if parts[1] not in WHAT:
-            raise PlanError(f"{word!r}: {parts[1]!r} isn't among what can be varied{meant(parts[1], WHAT)}", try_this=", ".join(WHAT))
+            raise PlanError(
+                f"{word!r}: {parts[1]!r} isn't among what can be varied{meant(parts[1], WHAT)}",
+                try_this=", ".join(WHAT),
+            )
         try:
-            values = [float(part) for part in [*parts[2].split(","), *([parts[3]] if parts[3] else [])]]
+            values = [
+                float(part) for part in [*parts[2].split(","), *([parts[3]] if parts[3] else [])]
+            ]
         except ValueError:
-            raise PlanError(f"{word!r} has something that is no number", try_this=f"{parts[1]}=-5..5") from None
+            raise PlanError(
+                f"{word!r} has something that is no number", try_this=f"{parts[1]}=-5..5"
+            ) from None
         for value in values:
             if value == 0 or value <= -100:
-                raise PlanError(f"{word!r}: a change of {value:g}{UNITS[parts[1]]} is none that can be made")
+                raise PlanError(
+                    f"{word!r}: a change of {value:g}{UNITS[parts[1]]} is none that can be made"
+                )
             found.append(Change(parts[1], value))
     if len({change.name for change in found}) < len(found):
         raise PlanError("a change is asked for twice")
     return found
 
 
-def prepare(study: Study, economics: Economics, slopes: Slopes, changes: Sequence[Change], factor: int = THOUSAND) -> Asked:
+def prepare(
+    study: Study,
+    economics: Economics,
+    slopes: Slopes,
+    changes: Sequence[Change],
+    factor: int = THOUSAND,
+) -> Asked:
     """Builds what the changes need, and writes down what is to be run. No pit is found yet.
 
     Parameters
@@ -123,21 +140,42 @@ def prepare(study: Study, economics: Economics, slopes: Slopes, changes: Sequenc
     return asked
 
 
-def changed(economics: Economics, slopes: Slopes, change: Change, model: Model) -> tuple[Economics, Slopes]:
+def changed(
+    economics: Economics, slopes: Slopes, change: Change, model: Model
+) -> tuple[Economics, Slopes]:
     """The economics and the slopes with one change."""
     share = 1 + change.by / 100
     if change.what == SLOPE:
-        regions = {name: turned(angles, change.by) for name, angles in slopes.regions.items()} if slopes.regions else None
+        regions = (
+            {name: turned(angles, change.by) for name, angles in slopes.regions.items()}
+            if slopes.regions
+            else None
+        )
         return economics, replace(slopes, angles=turned(slopes.angles, change.by), regions=regions)
     if change.what == "recovery":
-        return replace(economics, metals=tuple(replace(m, recovery=times(m.recovery, share, model)) for m in economics.metals)), slopes
-    return replace(economics, **{change.what: times(getattr(economics, change.what), share, model)}), slopes
+        return (
+            replace(
+                economics,
+                metals=tuple(
+                    replace(m, recovery=times(m.recovery, share, model)) for m in economics.metals
+                ),
+            ),
+            slopes,
+        )
+    return (
+        replace(economics, **{change.what: times(getattr(economics, change.what), share, model)}),
+        slopes,
+    )
 
 
 def times(amount: Amount, share: float, model: Model) -> Amount:
     """An amount times a number."""
     if isinstance(amount, str):
-        return f"column({amount!r}) * {share!r}" if amount in model.blocks.columns else f"({amount}) * {share!r}"
+        return (
+            f"column({amount!r}) * {share!r}"
+            if amount in model.blocks.columns
+            else f"({amount}) * {share!r}"
+        )
     if isinstance(amount, (int, float)):
         return amount * share
     return {rock: value * share for rock, value in amount.items()}
@@ -145,7 +183,11 @@ def times(amount: Amount, share: float, model: Model) -> Amount:
 
 def turned(angles: Any, by: float) -> Any:
     """Angles by so many degrees steeper."""
-    return [(bearing, angle + by) for bearing, angle in angles] if isinstance(angles, (list, tuple)) else angles + by
+    return (
+        [(bearing, angle + by) for bearing, angle in angles]
+        if isinstance(angles, (list, tuple))
+        else angles + by
+    )
 
 
 def price_factor(factor: int, change: Change) -> int:
@@ -158,9 +200,13 @@ def price_factor(factor: int, change: Change) -> int:
     """
     exact = factor * (1 + change.by / 100)
     if abs(exact - round(exact)) > 1e-6:
-        near = round(exact) if round(exact) != factor else factor + (1 if change.by > 0 else -1)      # no change is none that can be made
-        raise PlanError(f"{change} of factor {factor / THOUSAND:g} is factor {exact / THOUSAND:.9g}, and factors are whole thousandths",
-                        try_this=f"{change.what}={100 * (near / factor - 1):+.9g}")
+        near = (
+            round(exact) if round(exact) != factor else factor + (1 if change.by > 0 else -1)
+        )  # no change is none that can be made
+        raise PlanError(
+            f"{change} of factor {factor / THOUSAND:g} is factor {exact / THOUSAND:.9g}, and factors are whole thousandths",
+            try_this=f"{change.what}={100 * (near / factor - 1):+.9g}",
+        )
     return thousandths(round(exact) / THOUSAND)
 
 
@@ -175,15 +221,30 @@ def asked_of(study: Study) -> Asked | None:
         found = kept_json.read(path, ASKED, command("vary", study.named, "price=-20..20"))
     except FileNotFoundError:
         return None
-    return Asked(found["study"], found["factor"], [(what, by) for what, by in found["changes"]]) if found["study"] == study.key else None
+    return (
+        Asked(found["study"], found["factor"], [(what, by) for what, by in found["changes"]])
+        if found["study"] == study.key
+        else None
+    )
 
 
 def is_change(value: Any) -> bool:
     """Whether this is a change that can be made: it names a folder, so that no other word may stand there."""
-    return isinstance(value, list) and len(value) == 2 and value[0] in WHAT and kept_json.is_number(value[1]) and value[1] != 0 and value[1] > -100
+    return (
+        isinstance(value, list)
+        and len(value) == 2
+        and value[0] in WHAT
+        and kept_json.is_number(value[1])
+        and value[1] != 0
+        and value[1] > -100
+    )
 
 
-ASKED: dict[str, kept_json.Holds] = {"study": kept_json.is_word, "factor": kept_json.is_factor, "changes": kept_json.is_list(is_change)}      # what vary.json has
+ASKED: dict[str, kept_json.Holds] = {
+    "study": kept_json.is_word,
+    "factor": kept_json.is_factor,
+    "changes": kept_json.is_list(is_change),
+}  # what vary.json has
 
 
 def scenario(base: Study, name: str) -> Study:
@@ -191,7 +252,10 @@ def scenario(base: Study, name: str) -> Study:
     asked = asked_of(base)
     names = [change.name for change in asked.each() if change.what != "price"] if asked else []
     if name not in names:
-        raise PlanError(f"there is no scenario {name!r} of the model that stands there{meant(name, names)}", try_this=command("vary", base.named, "price=-20..20"))
+        raise PlanError(
+            f"there is no scenario {name!r} of the model that stands there{meant(name, names)}",
+            try_this=command("vary", base.named, "price=-20..20"),
+        )
     return Study(place(base, name), base.given)
 
 
@@ -227,18 +291,31 @@ def table(study: Study) -> pd.DataFrame:
     """
     asked = asked_of(study)
     if asked is None:
-        raise PlanError("no what-ifs were asked for over the model that stands there", try_this=command("vary", study.named, "price=-20..20"))
+        raise PlanError(
+            "no what-ifs were asked for over the model that stands there",
+            try_this=command("vary", study.named, "price=-20..20"),
+        )
     tonnes, rows = study.model.blocks.tonnes.to_numpy(float), []
     for change in (None, *asked.each()):
         of = task(asked, change)
         one, factor = study if of.name == BASE else scenario(study, of.name), of.factors[0]
         one.verify()
         held, verdict = one.mask(factor), one.verdict(factor)
-        mask = held[:len(tonnes)]                # blocks after those are air, which other slopes lead through
-        assert verdict is not None               # its mask has just been read
-        rows.append({"what": change.what if change else BASE, "by": change.by if change else 0.0, "unit": UNITS[change.what].strip() if change else "",
-                     "factor": factor / THOUSAND, "blocks": verdict["count"], "rock_t": float(tonnes[mask].sum()), "worth": float(verdict["worth"]),
-                     "side_blocks": int((held & edges.touching(one)).sum()), "floor_blocks": int((held & edges.on_floor(one.model)).sum())})
+        mask = held[: len(tonnes)]  # blocks after those are air, which other slopes lead through
+        assert verdict is not None  # its mask has just been read
+        rows.append(
+            {
+                "what": change.what if change else BASE,
+                "by": change.by if change else 0.0,
+                "unit": UNITS[change.what].strip() if change else "",
+                "factor": factor / THOUSAND,
+                "blocks": verdict["count"],
+                "rock_t": float(tonnes[mask].sum()),
+                "worth": float(verdict["worth"]),
+                "side_blocks": int((held & edges.touching(one)).sum()),
+                "floor_blocks": int((held & edges.on_floor(one.model)).sum()),
+            }
+        )
     found = pd.DataFrame(rows)
     found.insert(7, "difference", found.worth - found.worth.iloc[0])
     return found
@@ -248,17 +325,37 @@ def tornado(found: pd.DataFrame, currency: str = "$") -> Figure:
     """The tornado chart of `table`: for each thing a bar from its lowest to its highest worth, the longest on top."""
     from matplotlib.figure import Figure
     from ..base.units_shown import scale_of
+
     base = float(found.worth.iloc[0])
     money = scale_of(found.worth, currency)
-    groups = sorted(found.iloc[1:].groupby("what"), key=lambda group: float(max(group[1].worth.max(), base) - min(group[1].worth.min(), base)))
+    groups = sorted(
+        found.iloc[1:].groupby("what"),
+        key=lambda group: float(max(group[1].worth.max(), base) - min(group[1].worth.min(), base)),
+    )
     figure = Figure(figsize=(8.5, 1.6 + 0.6 * len(groups)), layout="constrained")
     axes = figure.add_subplot()
     for at, (_, group) in enumerate(groups):
         for row in group.itertuples():
             up = row.by > 0
-            axes.barh(at, (row.worth - base) / money.divisor, left=base / money.divisor, height=0.6, color="#8a8a8a" if up else "#f1efe9", hatch="" if up else "///", edgecolor="black", linewidth=0.6)
-            axes.annotate(f"{row.by:+g}{UNITS[row.what]}", (row.worth / money.divisor, at), xytext=(4 if row.worth >= base else -4, 0), textcoords="offset points",
-                          ha="left" if row.worth >= base else "right", va="center", fontsize=8)
+            axes.barh(
+                at,
+                (row.worth - base) / money.divisor,
+                left=base / money.divisor,
+                height=0.6,
+                color="#8a8a8a" if up else "#f1efe9",
+                hatch="" if up else "///",
+                edgecolor="black",
+                linewidth=0.6,
+            )
+            axes.annotate(
+                f"{row.by:+g}{UNITS[row.what]}",
+                (row.worth / money.divisor, at),
+                xytext=(4 if row.worth >= base else -4, 0),
+                textcoords="offset points",
+                ha="left" if row.worth >= base else "right",
+                va="center",
+                fontsize=8,
+            )
     axes.axvline(base / money.divisor, color="black", linewidth=1)
     axes.set_yticks(range(len(groups)), [str(name) for name, _ in groups])
     axes.margins(x=0.18)

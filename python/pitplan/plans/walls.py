@@ -17,8 +17,8 @@ if TYPE_CHECKING:
 
 Bools = npt.NDArray[np.bool_]
 Ints = npt.NDArray[np.int64]
-SECTORS = 16                                 # of bearings: each 22.5 degrees wide, the first around north
-LEVELS = 6                                   # over which a wall is measured, where the slopes look at fewer
+SECTORS = 16  # of bearings: each 22.5 degrees wide, the first around north
+LEVELS = 6  # over which a wall is measured, where the slopes look at fewer
 COLUMNS = ("bearing", "pairs", "steepest", "built", "height", "away", "id", "x", "y", "bench")
 
 
@@ -34,10 +34,14 @@ def sector_of(bearing: float) -> int:
 def away_of(grid: Grid, dx: int, dy: int) -> tuple[float, float]:
     """How far away a column so many blocks along x and y is, and at which bearing, in degrees."""
     east, north, _ = Grid((0.0, 0.0, 0.0), grid.size, rotation=grid.rotation).world(dx, dy, 0)
-    return math.hypot(float(east), float(north)), math.degrees(math.atan2(float(east), float(north)))
+    return math.hypot(float(east), float(north)), math.degrees(
+        math.atan2(float(east), float(north))
+    )
 
 
-def worst(model: Model, resting: Resting, held: Bools, broken: tuple[Ints, Ints, Ints]) -> pd.DataFrame:
+def worst(
+    model: Model, resting: Resting, held: Bools, broken: tuple[Ints, Ints, Ints]
+) -> pd.DataFrame:
     """The steepest wall of each sector of bearings in which a design breaks the slopes.
 
     A wall is measured from the centre of a block that the design digs, and that breaks the slopes in this sector, up to the
@@ -62,24 +66,45 @@ def worst(model: Model, resting: Resting, held: Bools, broken: tuple[Ints, Ints,
     if not len(blocks):
         return pd.DataFrame(columns=list(COLUMNS))
     ways, way, counts = np.unique(offsets[:, :2], axis=0, return_inverse=True, return_counts=True)
-    sectors = np.array([sector_of(away_of(model.grid, dx, dy)[1]) if dx or dy else -1 for dx, dy in ways.tolist()])[way.ravel()]
-    lines = steepest(model, resting, held, {int(sector): np.unique(blocks[sectors == sector]) for sector in np.unique(sectors)})
+    sectors = np.array(
+        [sector_of(away_of(model.grid, dx, dy)[1]) if dx or dy else -1 for dx, dy in ways.tolist()]
+    )[way.ravel()]
+    lines = steepest(
+        model,
+        resting,
+        held,
+        {int(sector): np.unique(blocks[sectors == sector]) for sector in np.unique(sectors)},
+    )
     rows: dict[int, dict[str, Any]] = {}
     for (dx, dy), count in zip(ways.tolist(), counts.tolist()):
         if dx == dy == 0:
             at = np.flatnonzero((offsets[:, :2] == 0).all(axis=1))
-            rows[-1] = {"bearing": math.nan, "pairs": count, "steepest": 90.0, "built": math.nan, "height": int(offsets[at, 2].max()) * model.grid.size[2], "away": 0.0, "block": int(blocks[at[0]])}
+            rows[-1] = {
+                "bearing": math.nan,
+                "pairs": count,
+                "steepest": 90.0,
+                "built": math.nan,
+                "height": int(offsets[at, 2].max()) * model.grid.size[2],
+                "away": 0.0,
+                "block": int(blocks[at[0]]),
+            }
             continue
         sector = sector_of(away_of(model.grid, dx, dy)[1])
         row = rows.setdefault(sector, dict(lines[sector], pairs=0))
         row["pairs"] += count
-    found = pd.DataFrame(list(rows.values())).sort_values("steepest", ascending=False, kind="stable", ignore_index=True)
+    found = pd.DataFrame(list(rows.values())).sort_values(
+        "steepest", ascending=False, kind="stable", ignore_index=True
+    )
     foot = found["block"].to_numpy()
     x, y, z = model.xyz()
-    return found.assign(id=model.blocks["id"].to_numpy()[foot], x=x[foot], y=y[foot], bench=z[foot])[list(COLUMNS)]
+    return found.assign(
+        id=model.blocks["id"].to_numpy()[foot], x=x[foot], y=y[foot], bench=z[foot]
+    )[list(COLUMNS)]
 
 
-def steepest(model: Model, resting: Resting, held: Bools, feet: dict[int, Ints]) -> dict[int, dict[str, Any]]:
+def steepest(
+    model: Model, resting: Resting, held: Bools, feet: dict[int, Ints]
+) -> dict[int, dict[str, Any]]:
     """The steepest line of each sector from one of the sector's own `feet` up to rock that stands: a block that breaks the slopes
     elsewhere may lie in a region whose walls may be steeper.
 
@@ -102,16 +127,32 @@ def steepest(model: Model, resting: Resting, held: Bools, feet: dict[int, Ints])
             if foot is None or dx == dy == 0:
                 continue
             x, y, z = resting.place[foot].T
-            inside = (x + dx >= 0) & (x + dx < grid.shape[0]) & (y + dy >= 0) & (y + dy < grid.shape[1])
+            inside = (
+                (x + dx >= 0) & (x + dx < grid.shape[0]) & (y + dy >= 0) & (y + dy < grid.shape[1])
+            )
             if not inside.any():
                 continue
             up = np.minimum(standing[x[inside] + dx, y[inside] + dy] - z[inside], levels)
             at = int(np.argmax(up))
             angle = math.degrees(math.atan2(int(up[at]) * grid.size[2], away))
             if up[at] > 0 and (sector not in found or angle > found[sector]["steepest"]):
-                found[sector] = {"steepest": angle, "bearing": round(bearing, 6) % 360, "height": int(up[at]) * grid.size[2], "away": away, "block": int(foot[inside][at])}
-    outlines = [Outline(wall(grid.size, 45.0, grid.rotation), offsets) for offsets in resting.offsets]
-    return {sector: {**line, "built": outlines[int(resting.region[line["block"]])].slope(line["bearing"])} for sector, line in found.items()}
+                found[sector] = {
+                    "steepest": angle,
+                    "bearing": round(bearing, 6) % 360,
+                    "height": int(up[at]) * grid.size[2],
+                    "away": away,
+                    "block": int(foot[inside][at]),
+                }
+    outlines = [
+        Outline(wall(grid.size, 45.0, grid.rotation), offsets) for offsets in resting.offsets
+    ]
+    return {
+        sector: {
+            **line,
+            "built": outlines[int(resting.region[line["block"]])].slope(line["bearing"]),
+        }
+        for sector, line in found.items()
+    }
 
 
 def window(resting: Resting) -> tuple[int, int, int]:
@@ -119,4 +160,8 @@ def window(resting: Resting) -> tuple[int, int, int]:
     every = np.array([offset for offsets in resting.offsets for offset in offsets] or [(1, 1, 1)])
     highest = int(every[:, 2].max())
     times = -(-LEVELS // highest)
-    return highest * times, int(np.abs(every[:, 0]).max()) * times, int(np.abs(every[:, 1]).max()) * times
+    return (
+        highest * times,
+        int(np.abs(every[:, 0]).max()) * times,
+        int(np.abs(every[:, 1]).max()) * times,
+    )

@@ -9,8 +9,8 @@ from scipy import ndimage
 
 Bools = npt.NDArray[np.bool_]
 Floats = npt.NDArray[np.float64]
-STEPS = 4                                    # radii that are tried, in the shorter side of a block: widths are told to half a block
-FINE = 32                                    # steps up to which each is tried
+STEPS = 4  # radii that are tried, in the shorter side of a block: widths are told to half a block
+FINE = 32  # steps up to which each is tried
 SLACK = 1e-9
 
 
@@ -53,9 +53,15 @@ def widths(plane: Bools, size: tuple[float, float], wanted: float = 0.0) -> Floa
     half = (size[0] / 2, size[1] / 2)
     room = ndimage.distance_transform_edt(lattice(window), sampling=half)
     step = min(size) / STEPS
-    radii = {step * k for k in rungs(math.floor(room.max() / step + SLACK))} | ({wanted / 2} if wanted > 0 else set())
+    radii = {step * k for k in rungs(math.floor(room.max() / step + SLACK))} | (
+        {wanted / 2} if wanted > 0 else set()
+    )
     for radius in sorted(radii, reverse=True):
-        width[window & (width == 0) & (by_squares(window, 2 * radius, size) | by_circles(room, radius, half))] = 2 * radius
+        width[
+            window
+            & (width == 0)
+            & (by_squares(window, 2 * radius, size) | by_circles(room, radius, half))
+        ] = (2 * radius)
         if (width[window] > 0).all():
             break
     return found
@@ -72,7 +78,11 @@ def rungs(most: int) -> list[int]:
 def thinnest(width: Floats, size: tuple[float, float]) -> float:
     """The least of some widths, rounded down to half of a cell's shorter side."""
     unit = 2 * min(size) / STEPS
-    return math.floor(float(width[width > 0].min()) / unit + SLACK) * unit if (width > 0).any() else math.nan
+    return (
+        math.floor(float(width[width > 0].min()) / unit + SLACK) * unit
+        if (width > 0).any()
+        else math.nan
+    )
 
 
 def by_squares(plane: Bools, side: float, size: tuple[float, float]) -> Bools:
@@ -81,7 +91,9 @@ def by_squares(plane: Bools, side: float, size: tuple[float, float]) -> Bools:
     if across[0] > plane.shape[0] or across[1] > plane.shape[1]:
         return np.zeros_like(plane)
     pad = max(across)
-    found: Bools = ndimage.grey_opening(np.pad(plane, pad).astype(np.uint8), size=across)[pad:-pad, pad:-pad].astype(bool)
+    found: Bools = ndimage.grey_opening(np.pad(plane, pad).astype(np.uint8), size=across)[
+        pad:-pad, pad:-pad
+    ].astype(bool)
     return found
 
 

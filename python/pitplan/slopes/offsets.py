@@ -27,17 +27,24 @@ Offset = Tuple[int, int, int]
 Angles = Union[float, Sequence[Tuple[float, float]]]
 Fits = Callable[[Sequence[Offset]], bool]
 
-PAIRS = 1 << 27                 # the most pairs of a block and a predecessor that `pit` takes
-OFFSETS = 4096                  # the most offsets
-MEAN, WORST, SIGNED = 0.5, 1.0, 0.25    # degrees that a wall may err by: on average, anywhere, on average with its sign
-TOO_STEEP = 1000                # what a wall that is too steep weighs, and each degree of it, where none may be: more than all that is flatter
-SIDE = 0.25                     # the least share that the lesser of the errors to both sides has of the greater
+PAIRS = 1 << 27  # the most pairs of a block and a predecessor that `pit` takes
+OFFSETS = 4096  # the most offsets
+MEAN, WORST, SIGNED = (
+    0.5,
+    1.0,
+    0.25,
+)  # degrees that a wall may err by: on average, anywhere, on average with its sign
+TOO_STEEP = 1000  # what a wall that is too steep weighs, and each degree of it, where none may be: more than all that is flatter
+SIDE = 0.25  # the least share that the lesser of the errors to both sides has of the greater
 FLATTEST, STEEPEST = 5.0, 89.0  # degrees that may be asked for
-SLACK = 1e-9                    # relative: numbers so near to each other are one number, spelled in two ways
-TRIES = (10, 400), (24, 300)    # the search looks so many levels up that a wall comes 10 blocks out, at 400 stretches; then further
+SLACK = 1e-9  # relative: numbers so near to each other are one number, spelled in two ways
+TRIES = (10, 400), (
+    24,
+    300,
+)  # the search looks so many levels up that a wall comes 10 blocks out, at 400 stretches; then further
 MOST_LEVELS = 200
-NARROWEST, WIDEST = 0.9, 1.6    # the least and the greatest stretch, but where a safe wall needs more
-NEAR = 3                        # where a wall comes this many blocks out, a cone of that stretch has a block on each side of it
+NARROWEST, WIDEST = 0.9, 1.6  # the least and the greatest stretch, but where a safe wall needs more
+NEAR = 3  # where a wall comes this many blocks out, a cone of that stretch has a block on each side of it
 
 
 class SlopeError(ValueError):
@@ -60,8 +67,16 @@ class TooSteep(SlopeError):
     def __init__(self, nearest: Pattern) -> None:
         bearing, asked = nearest.steepest_at(), nearest.wall
         self.nearest = nearest
-        self.what = ("a wall that is nowhere steeper than asked can't be built in blocks of %s with the offsets that pit takes: the nearest is %.1f degrees "
-                     "at bearing %.0f, where %.1f are asked for" % (" x ".join("%g" % side for side in asked.size), nearest.built(bearing), bearing, asked.slope(bearing)))
+        self.what = (
+            "a wall that is nowhere steeper than asked can't be built in blocks of %s with the offsets that pit takes: the nearest is %.1f degrees "
+            "at bearing %.0f, where %.1f are asked for"
+            % (
+                " x ".join("%g" % side for side in asked.size),
+                nearest.built(bearing),
+                bearing,
+                asked.slope(bearing),
+            )
+        )
         super().__init__("%s; take %s" % (self.what, self.advice))
 
 
@@ -99,7 +114,10 @@ class Wall:
     def leans(self) -> set[float]:
         """By how many degrees the slope rises for each degree of bearing, between one bearing that is given and the next."""
         after = self.slopes[1:] + self.slopes[:1]
-        return {(two - one) / ((other - bearing) % 360 or 360) for (bearing, one), (other, two) in zip(self.slopes, after)}
+        return {
+            (two - one) / ((other - bearing) % 360 or 360)
+            for (bearing, one), (other, two) in zip(self.slopes, after)
+        }
 
     def turned(self, x: float, y: float) -> tuple[float, float]:
         """Metres east and north of metres along the model's axes."""
@@ -133,17 +151,29 @@ def wall(size: Sequence[float], angles: Angles, rotation: float = 0.0) -> Wall:
         Where a number is out of range, or two slopes are given at one bearing.
     """
     if len(size) != 3 or not all(math.isfinite(s) and s > 0 for s in size):
-        raise SlopeError("a block has three sizes above 0, as 20 20 10; there is %s" % " ".join("%g" % s for s in size))
+        raise SlopeError(
+            "a block has three sizes above 0, as 20 20 10; there is %s"
+            % " ".join("%g" % s for s in size)
+        )
     if not math.isfinite(rotation):
         raise SlopeError("the rotation is a number of degrees")
-    pairs = [(0.0, float(angles))] if isinstance(angles, (int, float)) else [(float(b), float(a)) for b, a in angles]
+    pairs = (
+        [(0.0, float(angles))]
+        if isinstance(angles, (int, float))
+        else [(float(b), float(a)) for b, a in angles]
+    )
     if not pairs:
         raise SlopeError("no slope is given; it is in degrees, as 45")
     for bearing, angle in pairs:
         if not FLATTEST <= angle <= STEEPEST:
-            raise SlopeError("a slope is from %g to %g degrees from the horizontal; there is %g" % (FLATTEST, STEEPEST, angle))
+            raise SlopeError(
+                "a slope is from %g to %g degrees from the horizontal; there is %g"
+                % (FLATTEST, STEEPEST, angle)
+            )
         if not 0 <= bearing <= 360:
-            raise SlopeError("a bearing is from 0 to 360 degrees clockwise from north; there is %g" % bearing)
+            raise SlopeError(
+                "a bearing is from 0 to 360 degrees clockwise from north; there is %g" % bearing
+            )
     slopes = sorted({(bearing % 360, angle) for bearing, angle in pairs})
     for (bearing, one), (other, two) in zip(slopes, slopes[1:]):
         if bearing == other:
@@ -185,17 +215,26 @@ class Error:
         if is_safe:
             return max(self.mean / MEAN, self.bound(is_safe))
         is_one_sided = min(self.steepest, -self.flattest) < SIDE * self.worst
-        return max(self.mean / MEAN, self.worst / WORST, abs(self.signed) / SIGNED, 1.5 if is_one_sided else 0)
+        return max(
+            self.mean / MEAN,
+            self.worst / WORST,
+            abs(self.signed) / SIGNED,
+            1.5 if is_one_sided else 0,
+        )
 
     def bound(self, is_safe: bool) -> float:
         """What `badness` is at least, by the extremes alone."""
-        return self.worst / WORST + (TOO_STEEP * (1 + self.steepest) if is_safe and self.is_too_steep else 0)
+        return self.worst / WORST + (
+            TOO_STEEP * (1 + self.steepest) if is_safe and self.is_too_steep else 0
+        )
 
     def __str__(self) -> str:
         """In words, with two decimals."""
         lean = "%.2f %s" % (abs(self.signed), "steeper" if self.signed >= 0 else "flatter")
-        return "%.2f degrees off on average (%s, with its sign), at most %.2f steeper and %.2f flatter than asked" % (
-            self.mean, lean, max(self.steepest, 0), max(-self.flattest, 0))
+        return (
+            "%.2f degrees off on average (%s, with its sign), at most %.2f steeper and %.2f flatter than asked"
+            % (self.mean, lean, max(self.steepest, 0), max(-self.flattest, 0))
+        )
 
 
 @dataclass(frozen=True)
@@ -229,11 +268,21 @@ class Pattern:
     def steepest_at(self) -> float:
         """The bearing at which the wall is steepest beside what was asked; the least of several."""
         outline = Outline(self.wall, self.offsets)
-        bearings: list[float] = sorted(bearing % 360.0 for bearing in [*map(float, range(360)), *_steep(self.wall, outline, True)])
-        return max(bearings, key=lambda bearing: round(outline.slope(bearing) - self.wall.slope(bearing), 6))
+        bearings: list[float] = sorted(
+            bearing % 360.0
+            for bearing in [*map(float, range(360)), *_steep(self.wall, outline, True)]
+        )
+        return max(
+            bearings,
+            key=lambda bearing: round(outline.slope(bearing) - self.wall.slope(bearing), 6),
+        )
 
     def __str__(self) -> str:
-        return "%d offsets, the highest %d up: a deep wall is %s" % (len(self.offsets), self.levels, self.error)
+        return "%d offsets, the highest %d up: a deep wall is %s" % (
+            len(self.offsets),
+            self.levels,
+            self.error,
+        )
 
 
 class Outline:
@@ -276,7 +325,9 @@ class Outline:
     def corner_slopes(self) -> Iterator[tuple[float, float]]:
         """The bearing and the degrees of the wall at each corner: there it is flattest."""
         for start, (east, north) in zip(self._starts, self.corners):
-            yield start, math.degrees(math.atan2(1.0, math.hypot(east, north))) if self._is_open else 90.0
+            yield start, math.degrees(
+                math.atan2(1.0, math.hypot(east, north))
+            ) if self._is_open else 90.0
 
     def nearest(self) -> list[float]:
         """The bearings at which an edge is nearest: there the wall is steepest."""
@@ -294,7 +345,7 @@ class Outline:
             whole = lean * (out * out + 1)
             sine = -2 * whole / (out + math.sqrt(out * out + 4 * lean * whole))
             at = bearing + math.degrees(math.asin(sine)) if abs(sine) < 1 else math.nan
-            if (at - start) % 360 <= (end - start) % 360:               # else it is beyond the edge
+            if (at - start) % 360 <= (end - start) % 360:  # else it is beyond the edge
                 yield at
 
 
@@ -323,7 +374,12 @@ def error_of(asked: Wall, outline: Outline, is_safe: bool = False) -> Error:
     """
     off = [outline.slope(bearing) - slope for bearing, slope in enumerate(_by_degree(asked))]
     steepest, flattest = _extremes(asked, outline, is_safe)
-    return Error(sum(abs(each) for each in off) / 360, sum(off) / 360, max(steepest, *off), min(flattest, *off))
+    return Error(
+        sum(abs(each) for each in off) / 360,
+        sum(off) / 360,
+        max(steepest, *off),
+        min(flattest, *off),
+    )
 
 
 @functools.lru_cache(maxsize=16)
@@ -340,7 +396,9 @@ def _steep(asked: Wall, outline: Outline, is_safe: bool) -> Iterator[float]:
             yield from outline.steepest_beside(lean)
 
 
-def _extremes(asked: Wall, outline: Outline, is_safe: bool, flat: float = math.inf, steep: float = math.inf) -> tuple[float, float]:
+def _extremes(
+    asked: Wall, outline: Outline, is_safe: bool, flat: float = math.inf, steep: float = math.inf
+) -> tuple[float, float]:
     """The greatest and the least error; the looking ends at the first that is flatter or steeper by more than these."""
     flattest = math.inf
     for bearing, slope in outline.corner_slopes():
@@ -370,10 +428,16 @@ class _Cones:
         self.levels, self.widest, self.across, self.wide = levels, widest, across, 2 * across + 1
         self.origin = 1 << (along * self.wide + across)
         self.along = along
-        found = sorted((asked.stretch(i, j), i, j) for i in range(-across, across + 1) for j in range(-along, along + 1))
+        found = sorted(
+            (asked.stretch(i, j), i, j)
+            for i in range(-across, across + 1)
+            for j in range(-along, along + 1)
+        )
         self.found = [f for f in found if f[0] <= widest * levels * (1 + SLACK)]
         self.far = [far for far, _, _ in self.found]
-        self.sets, self.counts = {0: 0}, [0]            # sets of the nearest columns by their count, and these counts ascending
+        self.sets, self.counts = {0: 0}, [
+            0
+        ]  # sets of the nearest columns by their count, and these counts ascending
 
     def level(self, k: int, stretch: float) -> int:
         """The columns of level k of the cone; of columns as far away as each other all or none."""
@@ -381,7 +445,9 @@ class _Cones:
         while 0 < count < len(self.far) and self.far[count] <= self.far[count - 1] * (1 + SLACK):
             count += 1
         if count not in self.sets:
-            near = self.counts[bisect.bisect_right(self.counts, count) - 1]      # its columns come first here too
+            near = self.counts[
+                bisect.bisect_right(self.counts, count) - 1
+            ]  # its columns come first here too
             bits = bytearray(((2 * self.along + 1) * self.wide + 7) // 8)
             for _, i, j in self.found[near:count]:
                 at = (j + self.along) * self.wide + i + self.across
@@ -399,7 +465,7 @@ class _Cones:
             cuts = [cut for cut, before in zip(cuts, [-1.0] + cuts) if cut > before * (1 + SLACK)]
             if len(cuts) >= most:
                 break
-        return cuts[::-(-len(cuts) // most)]
+        return cuts[:: -(-len(cuts) // most)]
 
     def needed(self, stretch: float) -> Iterator[list[Offset]]:
         """The offsets that no sum of others comes to, up to each level at which there are new ones, and 4,096 in all."""
@@ -428,7 +494,9 @@ def within(blocks: int) -> Fits:
     return lambda offsets: len(offsets) * blocks <= PAIRS
 
 
-def search(asked: Wall, *, safe: bool = False, levels: int | None = None, fits: Fits = within(0)) -> Pattern:
+def search(
+    asked: Wall, *, safe: bool = False, levels: int | None = None, fits: Fits = within(0)
+) -> Pattern:
     """The fewest offsets that hold a wall.
 
     Parameters
@@ -472,7 +540,9 @@ def search(asked: Wall, *, safe: bool = False, levels: int | None = None, fits: 
         judged = functools.partial(_best, cones, asked, safe, fits)
         found = judged(cones.cuts(NARROWEST, most)) or judged(cones.cuts(0.0, most))
         if found is None:
-            raise SlopeError("not even one offset fits into the %s pairs that pit takes" % f"{PAIRS:,}")
+            raise SlopeError(
+                "not even one offset fits into the %s pairs that pit takes" % f"{PAIRS:,}"
+            )
         tried.append(found)
         if found.is_held:
             break
@@ -497,30 +567,36 @@ def _flatter(asked: Wall, levels: int, fits: Fits) -> Pattern | None:
     return None
 
 
-def _best(cones: _Cones, asked: Wall, safe: bool, fits: Fits, stretches: Sequence[float]) -> Pattern | None:
+def _best(
+    cones: _Cones, asked: Wall, safe: bool, fits: Fits, stretches: Sequence[float]
+) -> Pattern | None:
     """The best pattern of cones that are stretched, of any number of levels; None where none fits."""
     best: Pattern | None = None
-    least = math.inf                                    # badness of the best; 1 where it holds
+    least = math.inf  # badness of the best; 1 where it holds
     seen: dict[object, Error | None] = {}
     for stretch in stretches:
         corners: list[Offset] = []
-        count = 0                                       # of the offsets that the corners are of
+        count = 0  # of the offsets that the corners are of
         for offsets in cones.needed(stretch):
             if best and best.is_held and len(offsets) > len(best.offsets) or not fits(offsets):
                 break
             outline = Outline(asked, corners + offsets[count:])
             corners, count = outline.at or list(offsets), len(offsets)
-            if outline.corners not in seen:             # None: the extremes alone are worse than the best
+            if outline.corners not in seen:  # None: the extremes alone are worse than the best
                 flat = least * WORST
-                steepest, flattest = _extremes(asked, outline, safe, flat, max(SLACK, least / TOO_STEEP - 1) if safe else flat)
-                if -flattest > flat:                    # further levels make the wall flatter still
+                steepest, flattest = _extremes(
+                    asked, outline, safe, flat, max(SLACK, least / TOO_STEEP - 1) if safe else flat
+                )
+                if -flattest > flat:  # further levels make the wall flatter still
                     break
                 bound = Error(0, 0, steepest, flattest).bound(safe)
                 seen[outline.corners] = error_of(asked, outline, safe) if bound <= least else None
             error = seen[outline.corners]
             if error is None:
                 continue
-            found = Pattern(asked, tuple(offsets), offsets[-1][2], error, error.badness(safe) <= 1 + SLACK)
+            found = Pattern(
+                asked, tuple(offsets), offsets[-1][2], error, error.badness(safe) <= 1 + SLACK
+            )
             if best is None or _rank(found, safe) < _rank(best, safe):
                 best, least = found, max(1 + SLACK, error.badness(safe))
     return best
@@ -533,4 +609,6 @@ def _rank(pattern: Pattern, safe: bool) -> tuple[float, ...]:
 
 def settings(pattern: Pattern) -> str:
     """The offsets as settings of `pit slopes --pattern settings`."""
-    return "offsets = [\n%s]\n" % "".join("    [%d, %d, %d],\n" % offset for offset in pattern.offsets)
+    return "offsets = [\n%s]\n" % "".join(
+        "    [%d, %d, %d],\n" % offset for offset in pattern.offsets
+    )

@@ -27,9 +27,11 @@ from . import offsets as search
 from .offsets import Angles, Offset, Pattern
 
 DEFAULT = "default"
-STEP = 15                               # degrees of bearing between two rows of the table of asked and built angles
+STEP = 15  # degrees of bearing between two rows of the table of asked and built angles
 Ints = npt.NDArray[np.int64]
-Heard = Callable[[str, int, int], None]      # a region whose predecessors are begun, which it is of how many
+Heard = Callable[
+    [str, int, int], None
+]  # a region whose predecessors are begun, which it is of how many
 
 
 @dataclass
@@ -69,16 +71,33 @@ class Slopes:
     safe: bool = False
     levels: int | None = None
     heard: Heard | None = field(default=None, init=False, repr=False, compare=False)
-    _found: dict[tuple[Any, ...], dict[str, Pattern]] = field(default_factory=dict, init=False, repr=False, compare=False)
+    _found: dict[tuple[Any, ...], dict[str, Pattern]] = field(
+        default_factory=dict, init=False, repr=False, compare=False
+    )
 
     def __post_init__(self) -> None:
-        refuse_wrong("slopes", {name: value for name, value in vars(self).items() if name in keys_of("slopes")})
+        refuse_wrong(
+            "slopes",
+            {name: value for name, value in vars(self).items() if name in keys_of("slopes")},
+        )
         if self.regions and not self.by:
-            raise PlanError("[slopes] has regions, and doesn't say which column names them", try_this='by = "SECTOR"', key=("slopes", "regions"))
+            raise PlanError(
+                "[slopes] has regions, and doesn't say which column names them",
+                try_this='by = "SECTOR"',
+                key=("slopes", "regions"),
+            )
         if self.by and not self.regions:
-            raise PlanError(f"[slopes] by is {self.by!r}, and no region has angles of its own", try_this="regions = { NORTH = 38 }", key=("slopes", "by"))
+            raise PlanError(
+                f"[slopes] by is {self.by!r}, and no region has angles of its own",
+                try_this="regions = { NORTH = 38 }",
+                key=("slopes", "by"),
+            )
         if DEFAULT in (self.regions or {}):
-            raise PlanError(f"[slopes] regions: {DEFAULT!r} is what the slopes of all other blocks are called", try_this="angles, for the blocks of no region; or another word in that column", key=("slopes", "regions", DEFAULT))
+            raise PlanError(
+                f"[slopes] regions: {DEFAULT!r} is what the slopes of all other blocks are called",
+                try_this="angles, for the blocks of no region; or another word in that column",
+                key=("slopes", "regions", DEFAULT),
+            )
         wrong = Gathered()
         for name in self.names:
             with wrong.part(*key_of(name)):
@@ -92,7 +111,9 @@ class Slopes:
 
     def wall(self, region: str, size: tuple[float, float, float], rotation: float) -> search.Wall:
         """What is asked for in a region."""
-        angles, where = self.angles if region == DEFAULT else (self.regions or {})[region], angles_key(region)
+        angles, where = self.angles if region == DEFAULT else (self.regions or {})[
+            region
+        ], angles_key(region)
         try:
             return search.wall(size, angles, rotation)
         except search.SlopeError as error:
@@ -116,7 +137,11 @@ class Slopes:
         try:
             return searched(wall, self.safe, self.levels)
         except search.TooSteep as error:
-            raise PlanError(f"[slopes] {angles_key(region)}, safe = true: {error.what}", try_this=error.advice, key=("slopes", "safe")) from None
+            raise PlanError(
+                f"[slopes] {angles_key(region)}, safe = true: {error.what}",
+                try_this=error.advice,
+                key=("slopes", "safe"),
+            ) from None
 
     def offsets_by_region(self, grid: Grid) -> dict[str, list[Offset]]:
         """The offsets (dx, dy, dz) of each region, "default" first."""
@@ -149,14 +174,26 @@ class Slopes:
         if not self.regions:
             return np.zeros(len(model), np.int64)
         if self.by not in model.blocks.columns:
-            raise PlanError(f"[slopes] by: the table has no column {self.by!r}{meant(str(self.by), map(str, model.blocks.columns))}", key=("slopes", "by"))
+            raise PlanError(
+                f"[slopes] by: the table has no column {self.by!r}{meant(str(self.by), map(str, model.blocks.columns))}",
+                key=("slopes", "by"),
+            )
         codes, there = pd.factorize(coded(model, [str(self.by)]).blocks[self.by])
         texts = [text_of(value) for value in there]
         wrong = Gathered()
-        wrong.add(PlanError(f"[slopes] no block has {self.by} = {name}{meant(name, sorted(texts))}", key=key_of(name)) for name in self.regions if name not in texts)
+        wrong.add(
+            PlanError(
+                f"[slopes] no block has {self.by} = {name}{meant(name, sorted(texts))}",
+                key=key_of(name),
+            )
+            for name in self.regions
+            if name not in texts
+        )
         wrong.tell()
         index = {name: i for i, name in enumerate(self.names) if i}
-        of_code = np.array([*(index.get(text, 0) for text in texts), 0], np.int64)       # the last is that of an empty cell, whose code is -1
+        of_code = np.array(
+            [*(index.get(text, 0) for text in texts), 0], np.int64
+        )  # the last is that of an empty cell, whose code is -1
         return cast(Ints, of_code[codes])
 
 
@@ -212,11 +249,17 @@ def check_limits(slopes: Slopes, model: Model) -> None:
         count = _over(model, pattern)
         if not count:
             continue
-        fitting = [(levels, tried) for levels, tried in _with_fewer_levels(pattern, slopes.safe) if not _over(model, tried)]
+        fitting = [
+            (levels, tried)
+            for levels, tried in _with_fewer_levels(pattern, slopes.safe)
+            if not _over(model, tried)
+        ]
         told = f"[slopes] {name}: {len(pattern.offsets)} offsets make {count:,} pairs over {len(model):,} blocks, and pit takes {search.PAIRS:,}"
         if not fitting:
             raise PlanError(told, try_this="larger blocks: even one level up is too much")
-        levels, tried = min(fitting, key=lambda found: (found[1].error.badness(slopes.safe), -found[0]))
+        levels, tried = min(
+            fitting, key=lambda found: (found[1].error.badness(slopes.safe), -found[0])
+        )
         raise PlanError(told, try_this=f"levels = {levels} in [slopes]: {tried}; or larger blocks")
 
 
@@ -238,7 +281,9 @@ def _over(model: Model, pattern: Pattern) -> int:
     return count if count > search.PAIRS else 0
 
 
-def write_prec(slopes: Slopes, model: Model, pit: Pit, blocks_file: Path, out: Path) -> dict[str, list[Offset]]:
+def write_prec(
+    slopes: Slopes, model: Model, pit: Pit, blocks_file: Path, out: Path
+) -> dict[str, list[Offset]]:
     """Writes the predecessors of each block, by the slopes of the region that the block is in.
 
     Parameters
@@ -268,7 +313,10 @@ def write_prec(slopes: Slopes, model: Model, pit: Pit, blocks_file: Path, out: P
         if slopes.heard:
             slopes.heard(name, i + 1, len(patterns))
         settings = out.parent / f"slope-{i}.toml"
-        settings.write_text("".join(f"# {line}\n" for line in f"{name}: {pattern}".splitlines()) + search.settings(pattern))
+        settings.write_text(
+            "".join(f"# {line}\n" for line in f"{name}: {pattern}".splitlines())
+            + search.settings(pattern)
+        )
         parts.append(out.with_name(f"{out.name}.{i}.part"))
         pit.slopes(blocks_file, settings, parts[-1])
     if len(parts) == 1:
@@ -297,8 +345,13 @@ def merge(parts: Sequence[Path], choice: Ints, out: Path) -> None:
     with ExitStack() as opened, open(out, "wb") as target:
         files = [opened.enter_context(open(part, "rb")) for part in parts]
         try:
-            target.writelines(lines[i] for i, lines in zip(choice.tolist(), zip(*files, strict=True), strict=True))
+            target.writelines(
+                lines[i] for i, lines in zip(choice.tolist(), zip(*files, strict=True), strict=True)
+            )
         except ValueError:
-            raise PlanError(f"pit slopes wrote a file that hasn't a line for each of the {len(choice):,} blocks", table=out.name) from None
+            raise PlanError(
+                f"pit slopes wrote a file that hasn't a line for each of the {len(choice):,} blocks",
+                table=out.name,
+            ) from None
     for part in parts:
         part.unlink()

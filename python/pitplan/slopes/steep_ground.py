@@ -42,12 +42,16 @@ def with_air(model: Model, slopes: Slopes) -> Model:
         The blocks of `model`, in their order, then those of air: their `row` is -1.
     """
     index = model.index
-    top = np.where((index >= 0).any(axis=2), index.shape[2] - 1 - (index >= 0)[:, :, ::-1].argmax(axis=2), -1)
+    top = np.where(
+        (index >= 0).any(axis=2), index.shape[2] - 1 - (index >= 0)[:, :, ::-1].argmax(axis=2), -1
+    )
     highest = np.take_along_axis(index, np.maximum(top, 0)[:, :, None], axis=2)[:, :, 0]
     air = (np.arange(index.shape[2]) > top[:, :, None]) & (top >= 0)[:, :, None]
     region = np.where(air, highest[:, :, None], index)
     region = np.where(region >= 0, slopes.region_of(model).astype(np.int16)[region], np.int16(-1))
-    found = led_through(index >= 0, air, region, list(slopes.offsets_by_region(model.grid).values()))
+    found = led_through(
+        index >= 0, air, region, list(slopes.offsets_by_region(model.grid).values())
+    )
     i, j, k = np.nonzero(found)
     if not len(i):
         return model
@@ -73,24 +77,35 @@ def led_through(there: Bools, air: Bools, region: Ints, offsets: Offsets) -> Boo
     """
     to, of = np.zeros_like(air), np.zeros_like(air)
     levels = np.flatnonzero(air.any(axis=(0, 1))).tolist()
-    for k in reversed(levels):                               # from the top: which air leads to a block
+    for k in reversed(levels):  # from the top: which air leads to a block
         for r, low, high, up in steps(offsets, air.shape, range(k + 1, air.shape[2]), k):
-            to[(*low, k)] |= (there[(*high, up)] | to[(*high, up)]) & air[(*low, k)] & (region[(*low, k)] == r)
+            to[(*low, k)] |= (
+                (there[(*high, up)] | to[(*high, up)]) & air[(*low, k)] & (region[(*low, k)] == r)
+            )
     if not to.any():
         return to
-    for k in levels:                                         # from below: to which of it a block leads
+    for k in levels:  # from below: to which of it a block leads
         for r, low, high, down in steps(offsets, air.shape, range(k), k):
-            of[(*high, k)] |= (there[(*low, down)] | of[(*low, down)]) & (region[(*low, down)] == r) & to[(*high, k)]
+            of[(*high, k)] |= (
+                (there[(*low, down)] | of[(*low, down)])
+                & (region[(*low, down)] == r)
+                & to[(*high, k)]
+            )
     return of
 
 
-def steps(offsets: Offsets, shape: tuple[int, ...], levels: range, at: int) -> Iterator[tuple[int, Slices, Slices, int]]:
+def steps(
+    offsets: Offsets, shape: tuple[int, ...], levels: range, at: int
+) -> Iterator[tuple[int, Slices, Slices, int]]:
     """The offsets between a level and others: the region, the columns that an offset leads from and to, and the other level."""
     for r, every in enumerate(offsets):
         for dx, dy, dz in every:
             for other in (at + dz, at - dz):
                 if other in levels and abs(dx) < shape[0] and abs(dy) < shape[1]:
-                    yield r, (before(dx, shape[0]), before(dy, shape[1])), (before(-dx, shape[0]), before(-dy, shape[1])), other
+                    yield r, (before(dx, shape[0]), before(dy, shape[1])), (
+                        before(-dx, shape[0]),
+                        before(-dy, shape[1]),
+                    ), other
 
 
 def before(step: int, count: int) -> slice:

@@ -19,15 +19,25 @@ Ints = npt.NDArray[np.int64]
 
 
 # What is said of a pit that touches the model's side, or reaches its floor, and what to try; the first with how many blocks do.
-SIDE = ("touches the side of the model ({}): a place that the slope asks for isn't in the model, so no wall is held there", "a wider model, or widen in [model]")
-FLOOR = ("reaches the model's floor ({}): what lies deeper isn't in the model, so no pit can follow ore down there", "a model that goes deeper")
+SIDE = (
+    "touches the side of the model ({}): a place that the slope asks for isn't in the model, so no wall is held there",
+    "a wider model, or widen in [model]",
+)
+FLOOR = (
+    "reaches the model's floor ({}): what lies deeper isn't in the model, so no pit can follow ore down there",
+    "a model that goes deeper",
+)
 
 
 def ground(model: Model) -> tuple[Ints, Ints]:
     """The highest level of rock and the lowest level with a row of each column, of shape (nx, ny); of a column without rows, those of
-    the nearest column that has some, as far as one can tell by going along the axes. Rows of air, without tonnes, are no ground."""
+    the nearest column that has some, as far as one can tell by going along the axes. Rows of air, without tonnes, are no ground.
+    """
     index = model.index
-    there, rock = index >= 0, np.append(model.blocks["tonnes"].to_numpy() > 0, False)[index]      # the last is that of -1: no row
+    there, rock = (
+        index >= 0,
+        np.append(model.blocks["tonnes"].to_numpy() > 0, False)[index],
+    )  # the last is that of -1: no row
     has = there.any(axis=2)
     top = np.where(rock.any(axis=2), there.shape[2] - 1 - rock[:, :, ::-1].argmax(axis=2), -1)
     low = np.where(has, there.argmax(axis=2), 0)
@@ -64,17 +74,22 @@ def touching(study: Study) -> Bools:
 
 def highest_touching(model: Model, regions: Iterable[Sequence[Sequence[int]]]) -> Iterator[Ints]:
     """For the offsets of each region the highest level at which a block of each column asks for such a place, of shape (nx, ny). Every
-    block below that level asks for one too: the same offset leads it to a lower place of the same column."""
+    block below that level asks for one too: the same offset leads it to a lower place of the same column.
+    """
     top, low = ground(model)
     columns = (model.index >= 0).any(axis=2)
-    shaft = enclosed(columns)                # a study with such columns was built only where the planner called them air
+    shaft = enclosed(
+        columns
+    )  # a study with such columns was built only where the planner called them air
     x, y = np.indices(columns.shape)
     for offsets in regions:
         highest = np.full(columns.shape, -1)
         for dx, dy, dz in offsets:
-            near = np.clip(x + dx, 0, columns.shape[0] - 1), np.clip(y + dy, 0, columns.shape[1] - 1)
+            near = np.clip(x + dx, 0, columns.shape[0] - 1), np.clip(
+                y + dy, 0, columns.shape[1] - 1
+            )
             beyond = (near[0] != x + dx) | (near[1] != y + dy) | ~(columns | shaft)[near]
-            within = np.where(shaft[near], -1, low[near] - 1)        # below the lowest row
+            within = np.where(shaft[near], -1, low[near] - 1)  # below the lowest row
             highest = np.maximum(highest, np.where(beyond, top[near], within) - dz)
         yield highest
 

@@ -17,26 +17,90 @@ from ..model.grid import Floats, Grid
 from ..model.subblocks import OFF
 from ..slopes.slopes import DEFAULT
 from ..table.column_names import PLACES, REGIONS, SIZES, which_columns
-from ..table.csv_text import NO_PLACE, Dialect, dialect_of, head_of, names_of, number_column, read_frame
+from ..table.csv_text import (
+    NO_PLACE,
+    Dialect,
+    dialect_of,
+    head_of,
+    names_of,
+    number_column,
+    read_frame,
+)
 from ..table.formula import text_of
 from .study_template import aligned, metal, template
 
 UTF_8 = Dialect().encoding
-MARKS = ("-99", "-999", "-9999", "-99.0", "-999.0", "-1", "-1.0", "-", "--", "*", "N/A", "n/a", "NA", "#N/A", "NaN", "nan", "absent", "null", "NULL", "None",
-         "N/D", "n/d", "ND", "nd", "N.D.", "n.d.", "S/D", "s/d", "SD", "s/i", "S/I", "")
-MOSTLY = 0.9                                 # the share of numbers from which a column is one of numbers with a few words among them
-LIMIT = re.compile(r"<\s*\d*[.,]?\d+")      # below the limit of an assay
+MARKS = (
+    "-99",
+    "-999",
+    "-9999",
+    "-99.0",
+    "-999.0",
+    "-1",
+    "-1.0",
+    "-",
+    "--",
+    "*",
+    "N/A",
+    "n/a",
+    "NA",
+    "#N/A",
+    "NaN",
+    "nan",
+    "absent",
+    "null",
+    "NULL",
+    "None",
+    "N/D",
+    "n/d",
+    "ND",
+    "nd",
+    "N.D.",
+    "n.d.",
+    "S/D",
+    "s/d",
+    "SD",
+    "s/i",
+    "S/I",
+    "",
+)
+MOSTLY = (
+    0.9  # the share of numbers from which a column is one of numbers with a few words among them
+)
+LIMIT = re.compile(r"<\s*\d*[.,]?\d+")  # below the limit of an assay
 MOST_LIMITS = 20
-MOST_REGIONS = 12                            # of slopes: a column with more words than that names something else
+MOST_REGIONS = 12  # of slopes: a column with more words than that names something else
 # Columns that look like grades, and the units that such a metal usually comes in.
-METALS = {"cu": ("copper", "%", "t", 8500), "au": ("gold", "g/t", "oz", 1900), "ag": ("silver", "g/t", "oz", 23), "mo": ("molybdenum", "ppm", "lb", 15),
-          "zn": ("zinc", "%", "t", 2600), "pb": ("lead", "%", "t", 2100), "ni": ("nickel", "%", "t", 17000), "co": ("cobalt", "%", "t", 33000),
-          "fe": ("iron", "%", "t", 110), "u3o8": ("uranium", "ppm", "lb", 60), "li2o": ("lithia", "%", "t", 15000), "pt": ("platinum", "g/t", "oz", 950)}
+METALS = {
+    "cu": ("copper", "%", "t", 8500),
+    "au": ("gold", "g/t", "oz", 1900),
+    "ag": ("silver", "g/t", "oz", 23),
+    "mo": ("molybdenum", "ppm", "lb", 15),
+    "zn": ("zinc", "%", "t", 2600),
+    "pb": ("lead", "%", "t", 2100),
+    "ni": ("nickel", "%", "t", 17000),
+    "co": ("cobalt", "%", "t", 33000),
+    "fe": ("iron", "%", "t", 110),
+    "u3o8": ("uranium", "ppm", "lb", 60),
+    "li2o": ("lithia", "%", "t", 15000),
+    "pt": ("platinum", "g/t", "oz", 950),
+}
 # What a column's name says of its unit.
-UNITS = {"ppb": "ppb", "ppm": "ppm", "gpt": "g/t", "gmt": "g/t", "pct": "%", "perc": "%", "percent": "%", "kgt": "kg/t"}
-AIRS = re.compile(r"air|aire|ar|airblock|void|vacio|vacío|vazio", re.IGNORECASE)      # how a rock is called that is none
-SAMPLE = 1500                                # blocks that the grid is looked for in
-PLACES_OFF = 0.02                            # in the unit of the coordinates: how far their rounding may put two blocks off
+UNITS = {
+    "ppb": "ppb",
+    "ppm": "ppm",
+    "gpt": "g/t",
+    "gmt": "g/t",
+    "pct": "%",
+    "perc": "%",
+    "percent": "%",
+    "kgt": "kg/t",
+}
+AIRS = re.compile(
+    r"air|aire|ar|airblock|void|vacio|vacío|vazio", re.IGNORECASE
+)  # how a rock is called that is none
+SAMPLE = 1500  # blocks that the grid is looked for in
+PLACES_OFF = 0.02  # in the unit of the coordinates: how far their rounding may put two blocks off
 
 
 @dataclass
@@ -83,7 +147,9 @@ class Look:
     notes: list[str] = field(default_factory=list)
 
 
-def look_at(table: Path, given: Mapping[str, str] | None = None, encoding: str | None = None) -> Look:
+def look_at(
+    table: Path, given: Mapping[str, str] | None = None, encoding: str | None = None
+) -> Look:
     """Looks at a table of blocks.
 
     Parameters
@@ -102,23 +168,45 @@ def look_at(table: Path, given: Mapping[str, str] | None = None, encoding: str |
     """
     dialect = dialect_of(table, encoding or UTF_8)
     said = () if encoding is None else ("--encoding", encoding)
-    names = which_columns(names_of(head_of(table, dialect.encoding, 1)[0], dialect.separator), given or {}, table.name,
-                          lambda near: command("init", ".", str(table), *said, *(word for key, name in {**(given or {}), **near}.items() for word in ("--column", f"{key}={name}"))))
+    names = which_columns(
+        names_of(head_of(table, dialect.encoding, 1)[0], dialect.separator),
+        given or {},
+        table.name,
+        lambda near: command(
+            "init",
+            ".",
+            str(table),
+            *said,
+            *(
+                word
+                for key, name in {**(given or {}), **near}.items()
+                for word in ("--column", f"{key}={name}")
+            ),
+        ),
+    )
     frame = read_frame(table, dialect, [names[key] for key in ("id", "rock") if key in names])
     look = Look(dialect, names, len(frame), columns=[str(name) for name in frame.columns])
     look.absent, where = marks_in(frame, names)
-    look.notes += [f"{mark or 'an empty cell'} stands for \"not estimated\" in {', '.join(columns)}, and counts as 0" for mark, columns in where.items()]
+    look.notes += [
+        f"{mark or 'an empty cell'} stands for \"not estimated\" in {', '.join(columns)}, and counts as 0"
+        for mark, columns in where.items()
+    ]
     x, y, z = (number_column(frame[names[key]], table.name, hint=NO_PLACE) for key in PLACES)
     find_grid(look, frame, x, y, z)
     look.grades = [str(name) for name in frame.columns if is_grade(frame, str(name), look)]
     look.region, look.regions = regions_in(frame, look)
     if "rock" in names:
-        look.rocks = [str(rock) for rock in frame[names["rock"]].fillna("").str.strip().value_counts().index[:12]]
+        look.rocks = [
+            str(rock)
+            for rock in frame[names["rock"]].fillna("").str.strip().value_counts().index[:12]
+        ]
         look.airs = airs_among(frame, names, look.absent)
     if not {"tonnes", "density"} & set(names):
         look.notes.append("no column of tonnes or density was found: name it in columns")
     if "rock" not in names:
-        look.notes.append("no column of rocks was found: name it in columns, where costs or recoveries go by rock")
+        look.notes.append(
+            "no column of rocks was found: name it in columns, where costs or recoveries go by rock"
+        )
     if dialect.skip:
         look.notes.append(f"{dialect.skip} lines below the header hold no blocks")
     return look
@@ -130,7 +218,9 @@ def marks_in(frame: pd.DataFrame, names: dict[str, str]) -> tuple[list[str], dic
     kept = {names[key] for key in (*PLACES, *SIZES, "id", "rock") if key in names}
     where: dict[str, list[str]] = {}
     numbers = frame.select_dtypes("number")
-    plain = set(numbers.columns[((numbers.min() >= 0) & ~numbers.isna().any()).to_numpy()])      # all at once: a table may have 100,000 columns
+    plain = set(
+        numbers.columns[((numbers.min() >= 0) & ~numbers.isna().any()).to_numpy()]
+    )  # all at once: a table may have 100,000 columns
     for name in frame.columns:
         if name not in kept and name not in plain:
             for mark in marks_of(frame[name]):
@@ -147,7 +237,11 @@ def marks_of(values: pd.Series) -> list[str]:
     if share_of_numbers(values) <= 0.5:
         return []
     words = words_among(values)
-    return [mark for mark in MARKS if mark in words] + sorted(word for word in words if LIMIT.fullmatch(word))[:MOST_LIMITS] + ([""] if values.isna().any() else [])
+    return (
+        [mark for mark in MARKS if mark in words]
+        + sorted(word for word in words if LIMIT.fullmatch(word))[:MOST_LIMITS]
+        + ([""] if values.isna().any() else [])
+    )
 
 
 def share_of_numbers(values: pd.Series) -> float:
@@ -157,7 +251,10 @@ def share_of_numbers(values: pd.Series) -> float:
 
 def words_among(values: pd.Series) -> list[str]:
     """The different cells of a column that are no numbers and aren't empty."""
-    return [str(word).strip() for word in values[pd.to_numeric(values, errors="coerce").isna() & values.notna()].unique()]
+    return [
+        str(word).strip()
+        for word in values[pd.to_numeric(values, errors="coerce").isna() & values.notna()].unique()
+    ]
 
 
 def is_grade(frame: pd.DataFrame, name: str, look: Look) -> bool:
@@ -170,23 +267,35 @@ def is_grade(frame: pd.DataFrame, name: str, look: Look) -> bool:
     except PlanError as error:
         is_one = share_of_numbers(frame[name]) > MOSTLY
         if is_one:
-            look.notes.append(f"column {name}, row {0 if error.row is None else error.row + 2}: {error.what}; if that stands for \"not estimated\", put it into absent")
+            look.notes.append(
+                f'column {name}, row {0 if error.row is None else error.row + 2}: {error.what}; if that stands for "not estimated", put it into absent'
+            )
         return is_one
-    if metal_of(name) is not None and (values < 0).mean() < 0.5:       # kriging leaves a few below 0: `build` names their row
+    if (
+        metal_of(name) is not None and (values < 0).mean() < 0.5
+    ):  # kriging leaves a few below 0: `build` names their row
         return True
     return bool(values.min() >= 0) and len(np.unique(values)) > 12
 
 
 def regions_in(frame: pd.DataFrame, look: Look) -> tuple[str, list[str]]:
     """The column that seems to say in which region of slopes a block is, by its name and its few values, and these; "" where there is none."""
+
     def rank(name: str) -> int:
         return next((at for at, part in enumerate(REGIONS) if part in name.lower()), len(REGIONS))
 
     for name in sorted((str(name) for name in frame.columns), key=rank):
         if rank(name) == len(REGIONS):
             break
-        there = sorted({text_of(value) for value in frame[name].dropna().unique()} - {"", *look.absent})
-        if name not in look.names.values() and name not in look.grades and 1 < len(there) <= MOST_REGIONS and DEFAULT not in there:
+        there = sorted(
+            {text_of(value) for value in frame[name].dropna().unique()} - {"", *look.absent}
+        )
+        if (
+            name not in look.names.values()
+            and name not in look.grades
+            and 1 < len(there) <= MOST_REGIONS
+            and DEFAULT not in there
+        ):
             return name, there
     return "", []
 
@@ -194,7 +303,10 @@ def regions_in(frame: pd.DataFrame, look: Look) -> tuple[str, list[str]]:
 def metal_of(column: str) -> tuple[str, str, str, float] | None:
     """The usual metal, units and price of a column's name, as CU_PCT, au_gpt, AUPPB, "Ag (g/t)" or ley_zn."""
     words = re.split(r"[^a-z0-9]+", column.lower())
-    bare = [word.removesuffix(next((unit for unit in UNITS if word.endswith(unit)), "")) for word in words]
+    bare = [
+        word.removesuffix(next((unit for unit in UNITS if word.endswith(unit)), ""))
+        for word in words
+    ]
     return next((METALS[word] for word in (*words, *bare) if word in METALS), None)
 
 
@@ -207,14 +319,30 @@ def unit_of(column: str) -> str | None:
     name = column.lower()
     spelt = next((unit for unit in ("kg/t", "g/t", "mg/kg", "%") if unit in name), None)
     words = re.split(r"[^a-z0-9]+", name)
-    return spelt or next((UNITS[unit] for word in words for unit in UNITS if word == unit or word.endswith(unit) and word.removesuffix(unit) in METALS), None)
+    return spelt or next(
+        (
+            UNITS[unit]
+            for word in words
+            for unit in UNITS
+            if word == unit or word.endswith(unit) and word.removesuffix(unit) in METALS
+        ),
+        None,
+    )
 
 
 def airs_among(frame: pd.DataFrame, names: Mapping[str, str], absent: Sequence[str]) -> list[str]:
     """The rocks that weigh nothing, or are called air."""
     rock = frame[names["rock"]].fillna("").str.strip()
-    kinds, weighed = rock.unique(), next((names[key] for key in ("tonnes", "density") if key in names), None)
-    weight = pd.Series(1.0, frame.index) if weighed is None else pd.to_numeric(frame[weighed].mask(frame[weighed].astype(str).isin(list(absent))), errors="coerce").fillna(0.0)
+    kinds, weighed = rock.unique(), next(
+        (names[key] for key in ("tonnes", "density") if key in names), None
+    )
+    weight = (
+        pd.Series(1.0, frame.index)
+        if weighed is None
+        else pd.to_numeric(
+            frame[weighed].mask(frame[weighed].astype(str).isin(list(absent))), errors="coerce"
+        ).fillna(0.0)
+    )
     heavy = set(rock[weight.to_numpy() > 0])
     return [str(kind) for kind in kinds if kind not in heavy or AIRS.fullmatch(str(kind))]
 
@@ -227,24 +355,40 @@ def find_grid(look: Look, frame: pd.DataFrame, x: Floats, y: Floats, z: Floats) 
         look.size = (float(lengths[0].max()), float(lengths[1].max()), float(lengths[2].max()))
         is_whole = np.logical_and.reduce([v >= v.max() * (1 - OFF) for v in lengths])
         look.has_sub_blocks = not is_whole.all()
-        if is_whole.any():                   # centres of sub-blocks are on no grid of whole blocks, and a fit to them is off
+        if (
+            is_whole.any()
+        ):  # centres of sub-blocks are on no grid of whole blocks, and a fit to them is off
             x, y, z = x[is_whole], y[is_whole], z[is_whole]
     level = z == pd.Series(z).mode().iloc[0]
-    near = np.argsort((x[level] - np.median(x[level])) ** 2 + (y[level] - np.median(y[level])) ** 2)[:SAMPLE]
+    near = np.argsort(
+        (x[level] - np.median(x[level])) ** 2 + (y[level] - np.median(y[level])) ** 2
+    )[:SAMPLE]
     across, along = steps(x[level][near], y[level][near])
     height = least_step(z)
     if across is None or along is None or height is None:
-        look.notes.append("the grid couldn't be told: one level, row or column alone" if look.size else "the size of a block couldn't be told: one level, row or column alone")
+        look.notes.append(
+            "the grid couldn't be told: one level, row or column alone"
+            if look.size
+            else "the size of a block couldn't be told: one level, row or column alone"
+        )
         return
     look.rotation = turned(x, y, across, along)
     u, v = Grid((0, 0, 0), (1, 1, 1), rotation=look.rotation).local(x - x[0], y - y[0])
     if look.size is None:
-        look.size = (length_of(u, math.hypot(*across)), length_of(v, math.hypot(*along)), length_of(z, height))
+        look.size = (
+            length_of(u, math.hypot(*across)),
+            length_of(v, math.hypot(*along)),
+            length_of(z, height),
+        )
     if look.rotation:
-        look.notes.append(f"the model seems to be turned by {look.rotation:g} degrees: compare with the package")
+        look.notes.append(
+            f"the model seems to be turned by {look.rotation:g} degrees: compare with the package"
+        )
 
 
-def steps(east: Floats, north: Floats) -> tuple[tuple[float, float] | None, tuple[float, float] | None]:
+def steps(
+    east: Floats, north: Floats
+) -> tuple[tuple[float, float] | None, tuple[float, float] | None]:
     """The shortest steps between blocks of a level along the model's x axis (from 45 degrees north to 45 south of east) and
     along its y axis, as (east, north); None where no two blocks are neighbours so."""
     de, dn = (v[:, None] - v[None, :] for v in (east, north))
@@ -283,7 +427,10 @@ def length_of(values: Floats, step: float) -> float:
 
 def shortest(value: float, off: float) -> float:
     """The number with the fewest decimals that is no further away than `off`."""
-    return next((found for decimals in range(6) if abs((found := round(value, decimals)) - value) <= off), value)
+    return next(
+        (found for decimals in range(6) if abs((found := round(value, decimals)) - value) <= off),
+        value,
+    )
 
 
 def least_step(values: Floats) -> float | None:
@@ -295,20 +442,52 @@ def least_step(values: Floats) -> float | None:
 def written(look: Look, table: str) -> str:
     """The text of a study.toml for a table; `table` is its path as the text names it."""
     size = ", ".join(f"{v:g}" for v in look.size) if look.size else "20, 20, 10"
-    by_rock = ", ".join(f"{key(rock)} = 2.50" for rock in look.rocks[:3]) + (", other = 2.50" if len(look.rocks) > 3 else "")
-    return aligned(template().substitute(
-        table=quoted(table), columns=", ".join(f"{name} = {quoted(column)}" for name, column in look.names.items()), size=size,
-        size_told="" if look.size else "; it couldn't be told: fill it in", rotation=f"{look.rotation:g}", absent=", ".join(map(quoted, look.absent)),
-        encoding="" if look.dialect.encoding == UTF_8 else f"\nencoding = {quoted(look.dialect.encoding)}", regularise="true" if look.has_sub_blocks else "false", x=in_formula(look.names["x"]), z=in_formula(look.names["z"]), by_rock=f"; by rock: {{ {by_rock} }}" if by_rock else "",
-        mill=", ".join(map(quoted, [rock for rock in look.rocks if rock not in look.airs][:2] or ["ORE"])), metals=metals(look),
-        by=quoted(look.region or "SECTOR"), regions=", ".join(f"{key(name)} = 45" for name in look.regions) or "NORTH = 38, SOUTH = [[0, 44], [180, 50]]"))
+    by_rock = ", ".join(f"{key(rock)} = 2.50" for rock in look.rocks[:3]) + (
+        ", other = 2.50" if len(look.rocks) > 3 else ""
+    )
+    return aligned(
+        template().substitute(
+            table=quoted(table),
+            columns=", ".join(f"{name} = {quoted(column)}" for name, column in look.names.items()),
+            size=size,
+            size_told="" if look.size else "; it couldn't be told: fill it in",
+            rotation=f"{look.rotation:g}",
+            absent=", ".join(map(quoted, look.absent)),
+            encoding=""
+            if look.dialect.encoding == UTF_8
+            else f"\nencoding = {quoted(look.dialect.encoding)}",
+            regularise="true" if look.has_sub_blocks else "false",
+            x=in_formula(look.names["x"]),
+            z=in_formula(look.names["z"]),
+            by_rock=f"; by rock: {{ {by_rock} }}" if by_rock else "",
+            mill=", ".join(
+                map(quoted, [rock for rock in look.rocks if rock not in look.airs][:2] or ["ORE"])
+            ),
+            metals=metals(look),
+            by=quoted(look.region or "SECTOR"),
+            regions=", ".join(f"{key(name)} = 45" for name in look.regions)
+            or "NORTH = 38, SOUTH = [[0, 44], [180, 50]]",
+        )
+    )
 
 
 def metals(look: Look) -> str:
     """The lines of the metals: those whose columns are known, else one to be filled in."""
-    usual = [(column, found) for column in look.grades if (found := metal_of(column))] or [(look.grades[0] if look.grades else "GRADE", ("metal", "%", "t", 8500))]
-    return "\n".join(metal({"name": name, "grade": column, "grade_unit": unit_of(column) or grade_unit, "price": price, "price_unit": price_unit})
-                     for column, (name, grade_unit, price_unit, price) in usual)
+    usual = [(column, found) for column in look.grades if (found := metal_of(column))] or [
+        (look.grades[0] if look.grades else "GRADE", ("metal", "%", "t", 8500))
+    ]
+    return "\n".join(
+        metal(
+            {
+                "name": name,
+                "grade": column,
+                "grade_unit": unit_of(column) or grade_unit,
+                "price": price,
+                "price_unit": price_unit,
+            }
+        )
+        for column, (name, grade_unit, price_unit, price) in usual
+    )
 
 
 def in_formula(name: str) -> str:
@@ -320,9 +499,20 @@ def in_formula(name: str) -> str:
 
 def key(word: str) -> str:
     """A word as a key of TOML."""
-    return word if word and all(c.isascii() and (c.isalnum() or c in "_-") for c in word) else quoted(word)
+    return (
+        word
+        if word and all(c.isascii() and (c.isalnum() or c in "_-") for c in word)
+        else quoted(word)
+    )
 
 
 def quoted(word: str) -> str:
     """A word as a text of TOML, in one line whatever is in it."""
-    return '"' + "".join(f"\\u{ord(c):04x}" if ord(c) < 32 or ord(c) == 127 else c for c in word.replace("\\", "\\\\").replace('"', '\\"')) + '"'
+    return (
+        '"'
+        + "".join(
+            f"\\u{ord(c):04x}" if ord(c) < 32 or ord(c) == 127 else c
+            for c in word.replace("\\", "\\\\").replace('"', '\\"')
+        )
+        + '"'
+    )

@@ -12,7 +12,7 @@ from pathlib import Path
 from ..base.whole_file import whole_file
 
 NOTES, OLDER = ".written.json", "older"
-Stamp = tuple[int, int]                      # of a file: its bytes, and when it was written, in nanoseconds
+Stamp = tuple[int, int]  # of a file: its bytes, and when it was written, in nanoseconds
 _watched: dict[Path, tuple[str, dict[str, Stamp]]] = {}
 
 
@@ -36,7 +36,9 @@ def note() -> None:
     """Notes what was written since `watch`. Where that fails, as on a full disk, files stay where they are later on."""
     for folder, (model, before) in _watched.items():
         try:
-            new = {name: stamp for name, stamp in stamps(folder).items() if before.get(name) != stamp}
+            new = {
+                name: stamp for name, stamp in stamps(folder).items() if before.get(name) != stamp
+            }
             if new:
                 keep(folder, noted(folder) | {name: (model, *stamp) for name, stamp in new.items()})
         except OSError:
@@ -47,7 +49,10 @@ def note() -> None:
 def noted(folder: Path) -> dict[str, tuple[str, int, int]]:
     """The model and the stamp of each file that was noted; none where the notes can't be read."""
     try:
-        return {str(name): (str(model), int(size), int(when)) for name, (model, size, when) in json.loads((folder / NOTES).read_text()).items()}
+        return {
+            str(name): (str(model), int(size), int(when))
+            for name, (model, size, when) in json.loads((folder / NOTES).read_text()).items()
+        }
     except (OSError, ValueError, TypeError, AttributeError):
         return {}
 
@@ -55,7 +60,11 @@ def noted(folder: Path) -> dict[str, tuple[str, int, int]]:
 def keep(folder: Path, notes: dict[str, tuple[str, int, int]]) -> None:
     """Writes the notes of the files that are there."""
     with whole_file(folder / NOTES) as part:
-        part.write_text(json.dumps({name: entry for name, entry in sorted(notes.items()) if (folder / name).is_file()}))
+        part.write_text(
+            json.dumps(
+                {name: entry for name, entry in sorted(notes.items()) if (folder / name).is_file()}
+            )
+        )
 
 
 def set_aside(folder: Path, models: set[str]) -> tuple[list[str], list[str]]:

@@ -17,8 +17,8 @@ if TYPE_CHECKING:
     from .shells import Shells
 
 Floats = npt.NDArray[np.float64]
-YEARS = 15                                   # that the largest pit takes, where no rate is given
-MOST_YEARS = 1000                            # that it may take: what needs longer has a rate in another unit
+YEARS = 15  # that the largest pit takes, where no rate is given
+MOST_YEARS = 1000  # that it may take: what needs longer has a rate in another unit
 
 
 @dataclass(frozen=True)
@@ -40,14 +40,27 @@ class Rates:
     discount: float = 0.10
 
     def __post_init__(self) -> None:
-        refuse_wrong("shells", {"mining_rate": self.mining, "mill_rate": self.mill, "discount": self.discount})
+        refuse_wrong(
+            "shells",
+            {"mining_rate": self.mining, "mill_rate": self.mill, "discount": self.discount},
+        )
 
     def over(self, rock: float, feed: float) -> Rates:
         """The rates, with those that weren't told for this much rock and feed. Raises PlanError where that takes more than `MOST_YEARS`."""
-        for name, rate, tonnes in (("mining_rate", self.mining, rock), ("mill_rate", self.mill, feed)):
+        for name, rate, tonnes in (
+            ("mining_rate", self.mining, rock),
+            ("mill_rate", self.mill, feed),
+        ):
             if rate and tonnes > MOST_YEARS * rate:
-                raise PlanError(f"[shells] {name} = {rate:g}: the largest pit's {tonnes:,.0f} tonnes would take {min(tonnes / rate, 1e9):,.0f} years", try_this=f"{name} in tonnes a year, as {max(tonnes / YEARS, 1):.2g}; the pits stand, and aren't found again")
-        return Rates(self.mining or max(rock / YEARS, 1.0), self.mill or max(feed / YEARS, 1.0), self.discount)
+                raise PlanError(
+                    f"[shells] {name} = {rate:g}: the largest pit's {tonnes:,.0f} tonnes would take {min(tonnes / rate, 1e9):,.0f} years",
+                    try_this=f"{name} in tonnes a year, as {max(tonnes / YEARS, 1):.2g}; the pits stand, and aren't found again",
+                )
+        return Rates(
+            self.mining or max(rock / YEARS, 1.0),
+            self.mill or max(feed / YEARS, 1.0),
+            self.discount,
+        )
 
 
 @dataclass(frozen=True)
@@ -58,7 +71,7 @@ class Cells:
     ore: Floats
     worth: Floats
     metal: dict[str, Floats]
-    graded: dict[str, Floats]                # ore tonnes times their grade
+    graded: dict[str, Floats]  # ore tonnes times their grade
     blocks: Floats
 
     @classmethod
@@ -70,16 +83,30 @@ class Cells:
         tonnes, ore = m.blocks.tonnes.to_numpy(float), p.milled(base)
 
         def summed(values: npt.NDArray[Any]) -> Floats:
-            found: Floats = np.bincount(cell, values, (s + 1) * nz).astype(float).reshape(s + 1, nz)[:s]
+            found: Floats = (
+                np.bincount(cell, values, (s + 1) * nz).astype(float).reshape(s + 1, nz)[:s]
+            )
             return found
-        return cls(summed(tonnes), summed(tonnes * ore), summed(p.worth(base)), {k: summed(v * ore) for k, v in p.metal.items()},
-                   {k: summed(v * tonnes * ore) for k, v in p.grade.items()}, summed(np.ones(len(m))))
 
+        return cls(
+            summed(tonnes),
+            summed(tonnes * ore),
+            summed(p.worth(base)),
+            {k: summed(v * ore) for k, v in p.metal.items()},
+            {k: summed(v * tonnes * ore) for k, v in p.grade.items()},
+            summed(np.ones(len(m))),
+        )
 
     def at(self, i: int, down: int) -> dict[str, Any]:
         """What lies in shell i (from 0) on the bench so far down from the top, in the columns of `benches`."""
         rock, ore = float(self.rock[i, down]), float(self.ore[i, down])
-        found: dict[str, Any] = {"blocks": int(self.blocks[i, down]), "rock_t": rock, "ore_t": ore, "waste_t": rock - ore, "worth": float(self.worth[i, down])}
+        found: dict[str, Any] = {
+            "blocks": int(self.blocks[i, down]),
+            "rock_t": rock,
+            "ore_t": ore,
+            "waste_t": rock - ore,
+            "worth": float(self.worth[i, down]),
+        }
         for name in self.metal:
             found[f"grade_{name}"] = float(self.graded[name][i, down]) / ore if ore else np.nan
             found[f"metal_{name}"] = float(self.metal[name][i, down])
@@ -109,14 +136,33 @@ def table(shells: Shells, base: int, rates: Rates) -> pd.DataFrame:
     rates = rates.over(float(c.rock.sum()), float(c.ore.sum()) * p.feed)
     rows, worths = [], worths_of(shells, base)
     for i, factor in enumerate(shells.factors):
-        rock, ore = float(c.rock[:i + 1].sum()), float(c.ore[:i + 1].sum())
-        best, worst = (discounted(order(c.rock[:i + 1]), order(c.ore[:i + 1]) * p.feed, order(c.worth[:i + 1]), rates) for order in (by_shell, by_bench))
-        row: dict[str, Any] = {"factor": factor / THOUSAND, "blocks": int(c.blocks[:i + 1].sum()), "rock_t": rock, "ore_t": ore, "waste_t": rock - ore,
-                               "strip": (rock - ore) / ore if ore else np.nan, "feed_t": ore * p.feed, "worth_at_factor": shells.verdicts[i]["worth"],
-                               "worth_at_base": float(Decimal(worths[i])), "npv_best": best[0], "npv_worst": worst[0], "years": best[1]}
+        rock, ore = float(c.rock[: i + 1].sum()), float(c.ore[: i + 1].sum())
+        best, worst = (
+            discounted(
+                order(c.rock[: i + 1]),
+                order(c.ore[: i + 1]) * p.feed,
+                order(c.worth[: i + 1]),
+                rates,
+            )
+            for order in (by_shell, by_bench)
+        )
+        row: dict[str, Any] = {
+            "factor": factor / THOUSAND,
+            "blocks": int(c.blocks[: i + 1].sum()),
+            "rock_t": rock,
+            "ore_t": ore,
+            "waste_t": rock - ore,
+            "strip": (rock - ore) / ore if ore else np.nan,
+            "feed_t": ore * p.feed,
+            "worth_at_factor": shells.verdicts[i]["worth"],
+            "worth_at_base": float(Decimal(worths[i])),
+            "npv_best": best[0],
+            "npv_worst": worst[0],
+            "years": best[1],
+        }
         for name in p.metal:
-            row[f"grade_{name}"] = float(c.graded[name][:i + 1].sum()) / ore if ore else np.nan
-            row[f"metal_{name}"] = float(c.metal[name][:i + 1].sum())
+            row[f"grade_{name}"] = float(c.graded[name][: i + 1].sum()) / ore if ore else np.nan
+            row[f"metal_{name}"] = float(c.metal[name][: i + 1].sum())
         rows.append(row)
     return pd.DataFrame(rows)
 
@@ -154,7 +200,10 @@ def discounted(rock: Floats, feed: Floats, worth: Floats, rates: Rates) -> tuple
     assert rates.mining and rates.mill
     takes = np.maximum(rock / rates.mining, feed / rates.mill)
     ends = np.cumsum(takes)
-    return float(np.sum(worth / (1 + rates.discount) ** (ends - takes / 2))), float(ends[-1]) if len(ends) else 0.0
+    return (
+        float(np.sum(worth / (1 + rates.discount) ** (ends - takes / 2))),
+        float(ends[-1]) if len(ends) else 0.0,
+    )
 
 
 def benches(shells: Shells, base: int) -> pd.DataFrame:
@@ -167,5 +216,13 @@ def benches(shells: Shells, base: int) -> pd.DataFrame:
         ``waste_t``, ``worth`` (at the base factor), and for each metal ``grade_<metal>`` and ``metal_<metal>``, as in `table`.
     """
     g, c = shells.study.model.grid, Cells.of(shells, base)
-    return pd.DataFrame([{"bench": g.origin[2] + (g.shape[2] - 1 - down) * g.size[2], "shell": shells.factors[i] / THOUSAND} | c.at(i, down)
-                         for down, i in np.argwhere(c.blocks.T > 0).tolist()])
+    return pd.DataFrame(
+        [
+            {
+                "bench": g.origin[2] + (g.shape[2] - 1 - down) * g.size[2],
+                "shell": shells.factors[i] / THOUSAND,
+            }
+            | c.at(i, down)
+            for down, i in np.argwhere(c.blocks.T > 0).tolist()
+        ]
+    )

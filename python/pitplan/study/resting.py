@@ -29,7 +29,9 @@ class Resting:
         b = study.model.blocks
         self.place = np.column_stack([b.ix, b.iy, b.iz]).astype(np.int64)
         self.index, self.region = study.model.index, study.region
-        self.offsets: list[list[tuple[int, int, int]]] = [[(o[0], o[1], o[2]) for o in found] for found in study.manifest["offsets"].values()]
+        self.offsets: list[list[tuple[int, int, int]]] = [
+            [(o[0], o[1], o[2]) for o in found] for found in study.manifest["offsets"].values()
+        ]
 
     def pairs(self, blocks: Ints) -> Iterator[tuple[Ints, Ints, tuple[int, int, int]]]:
         """Blocks and the predecessors that they have at an offset, offset by offset.
@@ -54,7 +56,10 @@ class Resting:
         blocks, predecessors : int arrays of shape (pairs,)
         offsets : int array of shape (pairs, 3)
         """
-        found = [np.column_stack([b, p, np.broadcast_to(offset, (len(b), 3))])[~held[p]] for b, p, offset in self.pairs(np.flatnonzero(held))]
+        found = [
+            np.column_stack([b, p, np.broadcast_to(offset, (len(b), 3))])[~held[p]]
+            for b, p, offset in self.pairs(np.flatnonzero(held))
+        ]
         every = np.concatenate(found) if found else np.empty((0, 5), np.int64)
         every = every[np.lexsort((every[:, 1], every[:, 0]))]
         return every[:, 0], every[:, 1], every[:, 2:]
@@ -71,7 +76,9 @@ class Resting:
         out = held.copy()
         level = self.place[:, 2]
         order = np.argsort(level, kind="stable")
-        for here in np.split(order, np.flatnonzero(np.diff(level[order])) + 1):       # offsets go up, so each level is settled before it is looked at
+        for here in np.split(
+            order, np.flatnonzero(np.diff(level[order])) + 1
+        ):  # offsets go up, so each level is settled before it is looked at
             for _, above, _ in self.pairs(here[out[here]]):
                 out[above if only is None else above[only[above]]] = True
         return out

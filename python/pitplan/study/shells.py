@@ -30,12 +30,21 @@ def thousandths(share: float) -> int:
     >>> thousandths(0.85)
     850
     """
-    if isinstance(share, bool) or not isinstance(share, (int, float, np.floating, np.integer)) or not abs(share) < float("inf"):
+    if (
+        isinstance(share, bool)
+        or not isinstance(share, (int, float, np.floating, np.integer))
+        or not abs(share) < float("inf")
+    ):
         raise PlanError(f"a factor is {share!r}, and has to be a share of the price, as 0.85")
     found = round(float(share) * THOUSAND)
     if abs(found - share * THOUSAND) > 1e-6 or not 0 <= found <= LARGEST_FACTOR:
-        hint = f"{share / THOUSAND:g}" if LARGEST_FACTOR / THOUSAND < share <= LARGEST_FACTOR else None
-        raise PlanError(f"a factor is {share:g}, and has to be a share of the price in whole thousandths, from 0 to {LARGEST_FACTOR // THOUSAND}", try_this=hint)
+        hint = (
+            f"{share / THOUSAND:g}" if LARGEST_FACTOR / THOUSAND < share <= LARGEST_FACTOR else None
+        )
+        raise PlanError(
+            f"a factor is {share:g}, and has to be a share of the price in whole thousandths, from 0 to {LARGEST_FACTOR // THOUSAND}",
+            try_this=hint,
+        )
     return found
 
 
@@ -46,9 +55,15 @@ def factors(low: float, high: float, step: float) -> list[int]:
     [900, 950, 1000, 1050, 1100]
     """
     if not (0 < step < float("inf") and -float("inf") < low <= high):
-        raise PlanError(f"factors from {low:g} to {high:g} by {step:g}: there are none", try_this="from = 0.30, to = 1.20, step = 0.05")
+        raise PlanError(
+            f"factors from {low:g} to {high:g} by {step:g}: there are none",
+            try_this="from = 0.30, to = 1.20, step = 0.05",
+        )
     if step * THOUSAND < 1 - 1e-6:
-        raise PlanError(f"factors from {low:g} to {high:g} by {step:g}: factors are whole thousandths, so that a step is at least 0.001", try_this="step = 0.05")
+        raise PlanError(
+            f"factors from {low:g} to {high:g} by {step:g}: factors are whole thousandths, so that a step is at least 0.001",
+            try_this="step = 0.05",
+        )
     # so many that one of them is above the largest, if `high` is far above it
     count = int(min((high - low) / step, LARGEST_FACTOR + 1) + 1e-9)
     return [thousandths(round(low + i * step, 9)) for i in range(count + 1)]
@@ -58,7 +73,10 @@ def series_of(shares: Iterable[float]) -> list[int]:
     """Shares of the price in ascending order, as factors in thousandths."""
     found = [thousandths(share) for share in shares]
     if not found or any(b <= a for a, b in zip(found, found[1:])):
-        raise PlanError(f"factors = {[f / THOUSAND for f in found]} aren't in ascending order", try_this="factors = { from = 0.30, to = 1.20, step = 0.05 } for a series")
+        raise PlanError(
+            f"factors = {[f / THOUSAND for f in found]} aren't in ascending order",
+            try_this="factors = { from = 0.30, to = 1.20, step = 0.05 } for a series",
+        )
     return found
 
 
@@ -95,7 +113,9 @@ class Shells:
     def __init__(self, study: Study, series: Iterable[int]) -> None:
         self.study = study
         self.factors = sorted(series)
-        self.shell: npt.NDArray[np.int16] = np.full(study.manifest["blocks"], len(self.factors), np.int16)
+        self.shell: npt.NDArray[np.int16] = np.full(
+            study.manifest["blocks"], len(self.factors), np.int16
+        )
         self.verdicts: list[Verdict] = []
         with study.verifying():
             self.read()
@@ -106,12 +126,14 @@ class Shells:
         for i in reversed(range(len(self.factors))):
             mask = self.study.mask(self.factors[i])
             if below is not None and (mask & ~below).any():
-                raise Disagreement(f"the pit at {self.factors[i] / THOUSAND:g} isn't within that at {self.factors[i + 1] / THOUSAND:g}, and pit proves that it is",
-                                   try_this="were results of several models mixed in this folder?")
+                raise Disagreement(
+                    f"the pit at {self.factors[i] / THOUSAND:g} isn't within that at {self.factors[i + 1] / THOUSAND:g}, and pit proves that it is",
+                    try_this="were results of several models mixed in this folder?",
+                )
             self.shell[mask] = i
             below = mask
             verdict = self.study.verdict(self.factors[i])
-            assert verdict is not None       # its mask has just been read
+            assert verdict is not None  # its mask has just been read
             self.verdicts.insert(0, verdict)
 
     def __len__(self) -> int:
@@ -130,7 +152,11 @@ class Shells:
         workers, told
             As of `Study.shells`.
         """
-        return self if self.certified == len(self) else self.study.shells(self.factors, workers, told, certificates=True)
+        return (
+            self
+            if self.certified == len(self)
+            else self.study.shells(self.factors, workers, told, certificates=True)
+        )
 
     @cached_property
     def dug(self) -> npt.NDArray[np.int16]:
@@ -147,10 +173,24 @@ class Shells:
     def of_blocks(self) -> pd.DataFrame:
         """The first shell that has each block: ``id``, ``row`` (as a spreadsheet counts it; 0 for blocks that were added) and
         ``shell``, the factor as a share of the price, empty where no pit has the block."""
-        model, shares = self.study.model, np.array([*(factor / THOUSAND for factor in self.factors), np.nan])
-        return pd.DataFrame({"id": model.blocks["id"].to_numpy(), "row": model.table_row, "shell": shares[self.shell]})
+        model, shares = self.study.model, np.array(
+            [*(factor / THOUSAND for factor in self.factors), np.nan]
+        )
+        return pd.DataFrame(
+            {
+                "id": model.blocks["id"].to_numpy(),
+                "row": model.table_row,
+                "shell": shares[self.shell],
+            }
+        )
 
-    def table(self, base: float = THOUSAND, mining_rate: float | None = None, mill_rate: float | None = None, discount: float = 0.10) -> pd.DataFrame:
+    def table(
+        self,
+        base: float = THOUSAND,
+        mining_rate: float | None = None,
+        mill_rate: float | None = None,
+        discount: float = 0.10,
+    ) -> pd.DataFrame:
         """Pit by pit: a row for each factor. See `pit_by_pit.table`."""
         return pit_by_pit.table(self, int(base), pit_by_pit.Rates(mining_rate, mill_rate, discount))
 

@@ -47,21 +47,48 @@ if TYPE_CHECKING:
     from .shells import Shells
 
 Bools = npt.NDArray[np.bool_]
-Told = Callable[[int, str, float], None]     # a factor, what is done for it, and how far that is, from 0 to 1
+Told = Callable[
+    [int, str, float], None
+]  # a factor, what is done for it, and how far that is, from 0 to 1
 COLUMNS = ("revenue", "processing", "mining", "tonnes")
 READ = ("mine.blocks", "mine.prec", "settings.toml")
 # What manifest.json and a verdict have at least, and what each may be. A file of the model lies beside the manifest, and nowhere else.
 MANIFEST: dict[str, kept_json.Holds] = {
-    "key": kept_json.is_digest, "files": lambda value: kept_json.is_table(kept_json.is_digest, kept_json.is_file_name)(value) and {*READ, "blocks.npz"} <= set(value),
-    "blocks": kept_json.is_count, "pairs": kept_json.is_count, "offsets": kept_json.is_table(kept_json.is_list(kept_json.is_offset)),
-    "metals": kept_json.is_table(kept_json.is_one({"grade": kept_json.is_word, "grade_unit": kept_json.is_word, "price_unit": kept_json.is_word})),
-    "currency": kept_json.is_word, "source": kept_json.is_none_or(kept_json.is_one({"table": kept_json.is_path, "sha256": kept_json.is_digest})),
-    "keys": kept_json.is_word, "pit": kept_json.is_list(kept_json.is_word)}
+    "key": kept_json.is_digest,
+    "files": lambda value: kept_json.is_table(kept_json.is_digest, kept_json.is_file_name)(value)
+    and {*READ, "blocks.npz"} <= set(value),
+    "blocks": kept_json.is_count,
+    "pairs": kept_json.is_count,
+    "offsets": kept_json.is_table(kept_json.is_list(kept_json.is_offset)),
+    "metals": kept_json.is_table(
+        kept_json.is_one(
+            {
+                "grade": kept_json.is_word,
+                "grade_unit": kept_json.is_word,
+                "price_unit": kept_json.is_word,
+            }
+        )
+    ),
+    "currency": kept_json.is_word,
+    "source": kept_json.is_none_or(
+        kept_json.is_one({"table": kept_json.is_path, "sha256": kept_json.is_digest})
+    ),
+    "keys": kept_json.is_word,
+    "pit": kept_json.is_list(kept_json.is_word),
+}
 VERDICT: dict[str, kept_json.Holds] = {
-    "factor": kept_json.is_factor, "count": kept_json.is_count, "worth": kept_json.is_amount, "certificate": kept_json.is_none_or(kept_json.is_digest), "bits": kept_json.is_digest,
-    "model": kept_json.is_word, "pit": kept_json.is_list(kept_json.is_word), "seconds": kept_json.is_number, "host": kept_json.is_word}
-TIMES = 10                                   # that a folder is tried to be put where other processes put theirs
-FULL = (errno.ENOSPC, errno.EDQUOT)          # a disk has no room, or its user's share of it
+    "factor": kept_json.is_factor,
+    "count": kept_json.is_count,
+    "worth": kept_json.is_amount,
+    "certificate": kept_json.is_none_or(kept_json.is_digest),
+    "bits": kept_json.is_digest,
+    "model": kept_json.is_word,
+    "pit": kept_json.is_list(kept_json.is_word),
+    "seconds": kept_json.is_number,
+    "host": kept_json.is_word,
+}
+TIMES = 10  # that a folder is tried to be put where other processes put theirs
+FULL = (errno.ENOSPC, errno.EDQUOT)  # a disk has no room, or its user's share of it
 
 
 class Verdict(TypedDict):
@@ -101,19 +128,30 @@ class Study:
         Where the folder is no study, or its making was cut off.
     """
 
-    def __init__(self, folder: str | Path, program: Pit | None = None, named: Path | None = None) -> None:
+    def __init__(
+        self, folder: str | Path, program: Pit | None = None, named: Path | None = None
+    ) -> None:
         self.folder, self.named = Path(folder), named or Path(folder)
         self.where = self.folder / "model"
         try:
-            self.manifest = kept_json.read(self.where / "manifest.json", MANIFEST, command("build", self.named))
+            self.manifest = kept_json.read(
+                self.where / "manifest.json", MANIFEST, command("build", self.named)
+            )
         except (FileNotFoundError, NotADirectoryError):
-            raise PlanError(f"{self.folder} is no study, or was never built", try_this=command("build", self.named)) from None
+            raise PlanError(
+                f"{self.folder} is no study, or was never built",
+                try_this=command("build", self.named),
+            ) from None
         self.key: str = self.manifest["key"]
         self.given = program
-        self.added_up = set[tuple[int, str, int, str]]()     # of pits that this object added up and kept: factor, digest of the bits, count, worth
+        self.added_up = set[
+            tuple[int, str, int, str]
+        ]()  # of pits that this object added up and kept: factor, digest of the bits, count, worth
 
-    keeps = True                             # the certificate of each pit, packed, beside it
-    began: float | None = None               # when what the next pit needs was begun, where that was before its run
+    keeps = True  # the certificate of each pit, packed, beside it
+    began: float | None = (
+        None  # when what the next pit needs was begun, where that was before its run
+    )
 
     def room(self, work: Path) -> Path:
         """The folder in which a certificate is written while it is checked: beside the result, unless told otherwise."""
@@ -178,7 +216,15 @@ class Study:
         self.model, self.priced, self.region, self.sides
 
     @classmethod
-    def create(cls, folder: str | Path, model: Model, economics: Economics, slopes: Slopes, program: Pit | None = None, keys: str = "") -> Study:
+    def create(
+        cls,
+        folder: str | Path,
+        model: Model,
+        economics: Economics,
+        slopes: Slopes,
+        program: Pit | None = None,
+        keys: str = "",
+    ) -> Study:
         """Makes the files that `pit` reads. A model that stands there already is replaced once the new one is whole. Where the
         ground is steeper than the slopes, blocks of air are added, as `steep_ground.with_air` says.
 
@@ -200,8 +246,11 @@ class Study:
         from ..model.subblocks import coded
         from ..slopes.slopes import count_pairs, write_prec
         from ..slopes.steep_ground import with_air
+
         folder, pit = Path(folder), program or Pit()
-        model = with_air(coded(model, economics.codes() | ({slopes.by} if slopes.by else set())), slopes)
+        model = with_air(
+            coded(model, economics.codes() | ({slopes.by} if slopes.by else set())), slopes
+        )
         priced = economics.priced(model)
         if model.has_sub_blocks:
             model = replace(model, fenced=(economics.forbid, priced.forbidden))
@@ -210,14 +259,36 @@ class Study:
         sweep(folder, ".model.*")
         with made_whole(folder / "model") as work:
             write_blocks(work / "mine.blocks", model, priced)
-            (work / "settings.toml").write_text("".join(f"{name} = {i}\n" for i, name in enumerate(COLUMNS)))
+            (work / "settings.toml").write_text(
+                "".join(f"{name} = {i}\n" for i, name in enumerate(COLUMNS))
+            )
             offsets = write_prec(slopes, model, pit, work / "mine.blocks", work / "mine.prec")
             store.save(work / "blocks.npz", model, priced, region)
             files = {path.name: sha256(path) for path in sorted(work.iterdir())}
-            manifest = {"key": key_of(files), "files": files, "blocks": len(model), "pairs": count_pairs(slopes, model), "pit": pit.version(), "keys": keys, "notes": model.notes,
-                        "source": {"table": near(model.source, folder), "sha256": sha256(model.source)} if model.source else None,
-                        "offsets": {name: [list(map(int, o)) for o in found] for name, found in offsets.items()}, "currency": economics.currency,
-                        "metals": {m.name: {"grade": m.grade, "grade_unit": m.grade_unit, "price_unit": m.price_unit} for m in economics.metals}}
+            manifest = {
+                "key": key_of(files),
+                "files": files,
+                "blocks": len(model),
+                "pairs": count_pairs(slopes, model),
+                "pit": pit.version(),
+                "keys": keys,
+                "notes": model.notes,
+                "source": {"table": near(model.source, folder), "sha256": sha256(model.source)}
+                if model.source
+                else None,
+                "offsets": {
+                    name: [list(map(int, o)) for o in found] for name, found in offsets.items()
+                },
+                "currency": economics.currency,
+                "metals": {
+                    m.name: {
+                        "grade": m.grade,
+                        "grade_unit": m.grade_unit,
+                        "price_unit": m.price_unit,
+                    }
+                    for m in economics.metals
+                },
+            }
             (work / "manifest.json").write_text(json.dumps(manifest, indent=1))
         return cls(folder, pit)
 
@@ -233,7 +304,12 @@ class Study:
         for name, digest in self.manifest["files"].items():
             path = self.where / name
             if not path.is_file() or sha256_unless_known(path) != digest:
-                raise PlanError(f"{path} isn't the file that the build made" if path.is_file() else f"{path} is gone", try_this=command("build", self.named))
+                raise PlanError(
+                    f"{path} isn't the file that the build made"
+                    if path.is_file()
+                    else f"{path} is gone",
+                    try_this=command("build", self.named),
+                )
 
     @contextmanager
     def verifying(self) -> Iterator[Callable[[], None]]:
@@ -256,23 +332,31 @@ class Study:
         """The verdict of a run that is done over this very model, else None."""
         try:
             return self.told(factor)
-        except kept_json.Damaged:            # the pit is found again
+        except kept_json.Damaged:  # the pit is found again
             return None
 
     def told(self, factor: int) -> Verdict | None:
         """As `verdict`. Raises `kept_json.Damaged` where it isn't one that `kept` writes."""
         try:
-            found = kept_json.read(self.place(factor) / "verdict.json", VERDICT, command("shells", self.named))
+            found = kept_json.read(
+                self.place(factor) / "verdict.json", VERDICT, command("shells", self.named)
+            )
         except (FileNotFoundError, NotADirectoryError):
             return None
-        return cast(Verdict, found) if found["model"] == self.key and found["factor"] == factor else None
+        return (
+            cast(Verdict, found)
+            if found["model"] == self.key and found["factor"] == factor
+            else None
+        )
 
     def certified(self, factor: int) -> Verdict | None:
         """The verdict of a pit whose certificate `pit check` accepted, over this very model, else None."""
         found = self.verdict(factor)
         return found if found and found["certificate"] else None
 
-    def run(self, factor: int, told: Told | None = None, sure: Callable[[], None] | None = None) -> Verdict:
+    def run(
+        self, factor: int, told: Told | None = None, sure: Callable[[], None] | None = None
+    ) -> Verdict:
         """One pit with its certificate: found, checked, added up again, and put in its place whole. Where it is there already,
         nothing is done; where the pit is there without a certificate, it has to be the same.
 
@@ -299,10 +383,15 @@ class Study:
         self.began = None
         stated = self.mask(factor) if self.verdict(factor) else None
         with made_whole(place) as work:
-            found = self.program.best(self.files, factor, self.room(work) / "best.cert", solving(told, factor), self.keeps)
+            found = self.program.best(
+                self.files, factor, self.room(work) / "best.cert", solving(told, factor), self.keeps
+            )
             self.agree(found, factor)
             if stated is not None and (stated != found.mask).any():
-                raise Disagreement(f"at factor {factor / THOUSAND:g} pit shells stated another pit than pit solve found, and the best pit is one", try_this="keep the folder, and tell the maintainers")
+                raise Disagreement(
+                    f"at factor {factor / THOUSAND:g} pit shells stated another pit than pit solve found, and the best pit is one",
+                    try_this="keep the folder, and tell the maintainers",
+                )
             if sure:
                 sure()
             return self.kept(work, found, time.monotonic() - began)
@@ -311,13 +400,28 @@ class Study:
         """Writes a pit that has been added up, and its verdict, into a folder that is then renamed to its place."""
         bits = np.packbits(found.mask)
         np.savez_compressed(work / "pit.npz", bits=bits)
-        done = Verdict(factor=found.factor, count=found.count, worth=found.worth, certificate=found.certificate, bits=hashlib.sha256(bits.tobytes()).hexdigest(), model=self.key,
-                       pit=self.version, seconds=round(seconds, 2), host=host())
+        done = Verdict(
+            factor=found.factor,
+            count=found.count,
+            worth=found.worth,
+            certificate=found.certificate,
+            bits=hashlib.sha256(bits.tobytes()).hexdigest(),
+            model=self.key,
+            pit=self.version,
+            seconds=round(seconds, 2),
+            host=host(),
+        )
         (work / "verdict.json").write_text(json.dumps(done, indent=1))
         self.added_up.add((found.factor, done["bits"], found.count, found.worth))
         return done
 
-    def run_series(self, factors: Sequence[int], workers: int = 1, told: Told | None = None, sure: Callable[[], None] | None = None) -> None:
+    def run_series(
+        self,
+        factors: Sequence[int],
+        workers: int = 1,
+        told: Told | None = None,
+        sure: Callable[[], None] | None = None,
+    ) -> None:
         """The pits at some factors without certificates, from one run of `pit shells`: each added up again, and put in its place.
 
         Parameters
@@ -334,7 +438,9 @@ class Study:
         """
         began, pits = time.monotonic(), self.folder / "runs" / "base"
         pits.mkdir(parents=True, exist_ok=True)
-        with tempfile.TemporaryDirectory(prefix=f".f{factors[0]:05d}-{factors[-1]:05d}.{mark()}", dir=pits) as work:
+        with tempfile.TemporaryDirectory(
+            prefix=f".f{factors[0]:05d}-{factors[-1]:05d}.{mark()}", dir=pits
+        ) as work:
             found = self.program.series(self.files, factors, Path(work), workers, proving(told))
         for pit in found:
             self.agree(pit, pit.factor)
@@ -350,19 +456,26 @@ class Study:
         """The first two checks: the pit's worth, added up again from the planner's table in whole numbers, is `pit`'s to the
         last digit, and so is its count of blocks."""
         if found.factor != factor or found.size != self.manifest["blocks"]:
-            raise Disagreement(f"the pit is of factor {found.factor / THOUSAND:g} over {found.size:,} blocks, and {factor / THOUSAND:g} over {self.manifest['blocks']:,} was asked for")
+            raise Disagreement(
+                f"the pit is of factor {found.factor / THOUSAND:g} over {found.size:,} blocks, and {factor / THOUSAND:g} over {self.manifest['blocks']:,} was asked for"
+            )
         self.adds_up(found.mask, found.count, found.worth, factor)
 
     def adds_up(self, mask: Bools, count: int, worth: str, factor: int) -> None:
         """Raises Disagreement where a pit's blocks aren't `count`, or the table doesn't add up to `worth` over them; and PlanError
-        where the pit digs a block that `forbid` keeps, which costs the most that `pit` reads for one and was worth digging all the same."""
+        where the pit digs a block that `forbid` keeps, which costs the most that `pit` reads for one and was worth digging all the same.
+        """
         ours, counted = self.priced.worth_of(mask, factor), int(np.count_nonzero(mask))
         if ours != worth or counted != count:
-            raise Disagreement(f"at factor {factor / THOUSAND:g} pit says {count:,} blocks worth {worth}, and the table adds up to {counted:,} blocks worth {ours}",
-                               try_this="this is a mistake in pitplan or damage on the disk: keep the folder, and tell the maintainers")
+            raise Disagreement(
+                f"at factor {factor / THOUSAND:g} pit says {count:,} blocks worth {worth}, and the table adds up to {counted:,} blocks worth {ours}",
+                try_this="this is a mistake in pitplan or damage on the disk: keep the folder, and tell the maintainers",
+            )
         if (mask & self.priced.forbidden).any():
-            raise PlanError(f"[economics] forbid: at factor {factor / THOUSAND:g} the mine brings so much that blocks are dug that may not be",
-                            try_this="prices and costs in thousands, or no factor as large")
+            raise PlanError(
+                f"[economics] forbid: at factor {factor / THOUSAND:g} the mine brings so much that blocks are dug that may not be",
+                try_this="prices and costs in thousands, or no factor as large",
+            )
 
     def mask(self, factor: int) -> Bools:
         """Whether a block is in the pit at a factor (in thousandths), of shape (blocks,), with all checks made again. Where these very
@@ -377,10 +490,16 @@ class Study:
         """
         done = self.told(factor)
         if not done:
-            raise PlanError(f"the pit at factor {factor / THOUSAND:g} hasn't been run over this model", try_this=command("shells", self.named))
+            raise PlanError(
+                f"the pit at factor {factor / THOUSAND:g} hasn't been run over this model",
+                try_this=command("shells", self.named),
+            )
         bits = bits_of(self.place(factor) / "pit.npz")
         if bits is None or hashlib.sha256(bits.tobytes()).hexdigest() != done["bits"]:
-            raise Disagreement(f"{self.place(factor) / 'pit.npz'} isn't what was {'accepted' if done['certificate'] else 'stated'}", try_this=f"take {self.place(factor)} away, then: {command('shells', self.named)}")
+            raise Disagreement(
+                f"{self.place(factor) / 'pit.npz'} isn't what was {'accepted' if done['certificate'] else 'stated'}",
+                try_this=f"take {self.place(factor)} away, then: {command('shells', self.named)}",
+            )
         mask: Bools = np.unpackbits(bits, count=self.manifest["blocks"]).astype(bool)
         if (factor, done["bits"], done["count"], done["worth"]) not in self.added_up:
             self.adds_up(mask, done["count"], done["worth"], factor)
@@ -395,6 +514,7 @@ class Study:
             1.0 is the price as it stands.
         """
         from .shells import thousandths
+
         factor = thousandths(share)
         self.verify()
         self.run(factor)
@@ -402,7 +522,13 @@ class Study:
         self.agree(found, factor)
         return found
 
-    def shells(self, series: Sequence[int] | None = None, workers: int | None = None, told: Told | None = None, certificates: bool = False) -> Shells:
+    def shells(
+        self,
+        series: Sequence[int] | None = None,
+        workers: int | None = None,
+        told: Told | None = None,
+        certificates: bool = False,
+    ) -> Shells:
         """The proved pit at each factor; those that are there already aren't run again.
 
         Without certificates they come from one run of `pit shells` for each 64 factors, where this `pit` has the option
@@ -421,9 +547,12 @@ class Study:
         """
         from .shells import Shells, factors
         from .workers import run_all, run_series
+
         found = sorted(set(series)) if series is not None else factors(0.3, 1.2, 0.05)
         sweep(self.folder / "runs" / "base")
-        (run_all if certificates or not self.program.states_blocks else run_series)(self, found, workers, told)
+        (run_all if certificates or not self.program.states_blocks else run_series)(
+            self, found, workers, told
+        )
         return Shells(self, found)
 
 
@@ -460,7 +589,10 @@ def bits_of(path: Path) -> npt.NDArray[np.uint8] | None:
     except store.DAMAGED:
         return None
     except OSError as error:
-        if error.errno not in (errno.ENOENT, errno.EINVAL):       # the second where a damaged file leads before its beginning
+        if error.errno not in (
+            errno.ENOENT,
+            errno.EINVAL,
+        ):  # the second where a damaged file leads before its beginning
             raise
         return None
 
@@ -473,8 +605,16 @@ def key_of(files: dict[str, str]) -> str:
 def write_blocks(path: Path, model: Model, priced: Priced) -> None:
     """`.blocks`: number, place, and the four columns of `COLUMNS`, amounts as exact decimals."""
     b = model.blocks
-    table = pd.DataFrame({"b": np.arange(len(b)), "x": b.ix.to_numpy(), "y": b.iy.to_numpy(), "z": b.iz.to_numpy(),
-                          **{name: as_text(getattr(priced, name), priced.rounding) for name in COLUMNS[:3]}, "tonnes": np.round(b.tonnes.to_numpy(), 3)})
+    table = pd.DataFrame(
+        {
+            "b": np.arange(len(b)),
+            "x": b.ix.to_numpy(),
+            "y": b.iy.to_numpy(),
+            "z": b.iz.to_numpy(),
+            **{name: as_text(getattr(priced, name), priced.rounding) for name in COLUMNS[:3]},
+            "tonnes": np.round(b.tonnes.to_numpy(), 3),
+        }
+    )
     table.to_csv(path, sep=" ", header=False, index=False)
 
 
@@ -515,7 +655,11 @@ def put(work: Path, place: Path) -> None:
         except BaseException as error:
             if older.exists() and not place.exists() and work.exists():
                 os.rename(older, place)
-            if not left or not isinstance(error, OSError) or error.errno not in (errno.ENOTEMPTY, errno.EEXIST):
+            if (
+                not left
+                or not isinstance(error, OSError)
+                or error.errno not in (errno.ENOTEMPTY, errno.EEXIST)
+            ):
                 raise
         finally:
             shutil.rmtree(older, ignore_errors=True)

@@ -20,7 +20,7 @@ from .shells import factors, series_of
 
 NAME = "study.toml"
 RATES = ("mining_rate", "mill_rate", "discount")
-FAR = 10 ** 100                              # how far from 0 a whole number may be
+FAR = 10**100  # how far from 0 a whole number may be
 
 
 @dataclass(frozen=True)
@@ -97,14 +97,23 @@ def toml_of(study: Path) -> dict[str, Any]:
         text = path.read_text("utf-8-sig")
         return tomllib.loads(text)
     except NotADirectoryError:
-        raise PlanError(f"{study} is a file, and a study is a folder", try_this=f"{command('init', study)}, if it is a table") from None
+        raise PlanError(
+            f"{study} is a file, and a study is a folder",
+            try_this=f"{command('init', study)}, if it is a table",
+        ) from None
     except FileNotFoundError:
-        raise PlanError(f"{path} isn't there", try_this=f"the folder of a study, or {command('init', '.', 'TABLE.csv')} to begin one") from None
+        raise PlanError(
+            f"{path} isn't there",
+            try_this=f"the folder of a study, or {command('init', '.', 'TABLE.csv')} to begin one",
+        ) from None
     except (UnicodeDecodeError, RecursionError) as error:
         raise PlanError(f"isn't TOML: {error}", table=path) from None
-    except ValueError as error:              # also a number of more digits than Python reads
-        raise PlanError(f"isn't TOML: {error}{line_of(text, str(error))}", table=path,
-                        try_this="numbers with a point as 2.4, words in quotes, every bracket closed") from None
+    except ValueError as error:  # also a number of more digits than Python reads
+        raise PlanError(
+            f"isn't TOML: {error}{line_of(text, str(error))}",
+            table=path,
+            try_this="numbers with a point as 2.4, words in quotes, every bracket closed",
+        ) from None
 
 
 def line_of(text: str, said: str) -> str:
@@ -156,11 +165,36 @@ class Parts:
 
     def whole(self) -> StudyFile:
         """All of it, where nothing is wrong."""
-        assert self.table is not None and self.keys is not None and self.economics is not None and self.slopes is not None and self.factors is not None
-        values = {section: study_keys.with_defaults(section, self.told.get(section, {})) for section in study_keys.SECTIONS}
-        rates = {name: self.told["shells"][name] for name in RATES if name in self.told.get("shells", {})}
-        digest = hashlib.sha256(json.dumps([self.told[name] for name in study_keys.NEEDED], sort_keys=True, default=str).encode()).hexdigest()
-        return StudyFile(self.path, self.table, self.keys, self.economics, self.slopes, self.factors, rates, digest, values)
+        assert (
+            self.table is not None
+            and self.keys is not None
+            and self.economics is not None
+            and self.slopes is not None
+            and self.factors is not None
+        )
+        values = {
+            section: study_keys.with_defaults(section, self.told.get(section, {}))
+            for section in study_keys.SECTIONS
+        }
+        rates = {
+            name: self.told["shells"][name] for name in RATES if name in self.told.get("shells", {})
+        }
+        digest = hashlib.sha256(
+            json.dumps(
+                [self.told[name] for name in study_keys.NEEDED], sort_keys=True, default=str
+            ).encode()
+        ).hexdigest()
+        return StudyFile(
+            self.path,
+            self.table,
+            self.keys,
+            self.economics,
+            self.slopes,
+            self.factors,
+            rates,
+            digest,
+            values,
+        )
 
 
 def parts_of(path: Path, told: Mapping[str, Any]) -> Parts:
@@ -171,7 +205,9 @@ def parts_of(path: Path, told: Mapping[str, Any]) -> Parts:
     if found.errors.errors:
         return found
     found.errors.add(wrong_sections(told))
-    sections = {name: told.get(name, {} if name == "shells" else None) for name in study_keys.SECTIONS}
+    sections = {
+        name: told.get(name, {} if name == "shells" else None) for name in study_keys.SECTIONS
+    }
     right = []
     for name, section in sections.items():
         if isinstance(section, Mapping):
@@ -189,19 +225,37 @@ def parts_of(path: Path, told: Mapping[str, Any]) -> Parts:
             found.slopes = made("slopes", Slopes, told["slopes"])
     if "shells" in right:
         with found.errors.part("shells", "factors"):
-            found.factors = series(study_keys.with_defaults("shells", sections["shells"])["factors"])
+            found.factors = series(
+                study_keys.with_defaults("shells", sections["shells"])["factors"]
+            )
     return found
 
 
 def wrong_sections(told: Mapping[str, Any]) -> list[PlanError]:
     """Sections that a study.toml has and may not have, or needs and hasn't."""
     names = study_keys.SECTIONS
-    found = [PlanError(f"the file has no section {name!r}{meant(name, names)}", try_this=", ".join(names), key=(name,)) for name in told if name not in names]
+    found = [
+        PlanError(
+            f"the file has no section {name!r}{meant(name, names)}",
+            try_this=", ".join(names),
+            key=(name,),
+        )
+        for name in told
+        if name not in names
+    ]
     for name in names:
         if name in told and not isinstance(told[name], Mapping):
-            found.append(PlanError(f"{name} has to be a section: [{name}] in a line of its own", key=(name,)))
+            found.append(
+                PlanError(f"{name} has to be a section: [{name}] in a line of its own", key=(name,))
+            )
         elif name in study_keys.NEEDED and name not in told:
-            found.append(PlanError(f"there is no section [{name}]", try_this=f"{command('init', '.', 'TABLE.csv')} writes all of them", key=(name,)))
+            found.append(
+                PlanError(
+                    f"there is no section [{name}]",
+                    try_this=f"{command('init', '.', 'TABLE.csv')} writes all of them",
+                    key=(name,),
+                )
+            )
     return found
 
 
@@ -218,8 +272,14 @@ def wrong_in_section(section: str, values: Mapping[str, Any]) -> list[PlanError]
 def wrong_in_metal(metal: Mapping[str, Any], at: int) -> list[PlanError]:
     """What is wrong with each key of one of the metals."""
     name: str | int = metal["name"] if isinstance(metal.get("name"), str) else at
-    where, path = f"[economics] metal {at + 1 if name == at else name}", ("economics", study_keys.METALS, name)
-    return study_keys.wrong_in(study_keys.METALS, metal, where, path) + study_keys.missing_in(study_keys.METALS, metal, where, path)
+    where, path = f"[economics] metal {at + 1 if name == at else name}", (
+        "economics",
+        study_keys.METALS,
+        name,
+    )
+    return study_keys.wrong_in(study_keys.METALS, metal, where, path) + study_keys.missing_in(
+        study_keys.METALS, metal, where, path
+    )
 
 
 def made(section: str, kind: Any, found: Mapping[str, Any]) -> Any:

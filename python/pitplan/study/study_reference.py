@@ -21,15 +21,30 @@ DIALECT = "https://json-schema.org/draft/2020-12/schema"
 
 def tables() -> str:
     """The tables of the reference, one for each section and one for a metal."""
-    titles = {section: f"## [{section}]" for section in SECTIONS} | {METALS: "## A metal of [economics]"}
-    return "\n".join(f"{title}\n\n{HEAD}" + "".join(row(key) for key in KEYS if key.section == section) for section, title in titles.items())
+    titles = {section: f"## [{section}]" for section in SECTIONS} | {
+        METALS: "## A metal of [economics]"
+    }
+    return "\n".join(
+        f"{title}\n\n{HEAD}" + "".join(row(key) for key in KEYS if key.section == section)
+        for section, title in titles.items()
+    )
 
 
 def row(key: Key) -> str:
     """A row of a table."""
     unit = f"; {key.unit.replace('{currency}', 'currency')}" if key.unit else ""
-    default = "needed" if key.is_needed else f"`{spelled(key.default)}`" if key.default is not None else ""
-    return f"| `{key.name}` | {key.help} | {in_cell(key.must)}{in_cell(unit)} | {default} |\n".replace("|  |", "| |")
+    default = (
+        "needed"
+        if key.is_needed
+        else f"`{spelled(key.default)}`"
+        if key.default is not None
+        else ""
+    )
+    return (
+        f"| `{key.name}` | {key.help} | {in_cell(key.must)}{in_cell(unit)} | {default} |\n".replace(
+            "|  |", "| |"
+        )
+    )
 
 
 def in_cell(text: str) -> str:
@@ -45,13 +60,25 @@ def with_tables(document: str) -> str:
 def schema() -> dict[str, Any]:
     """A JSON Schema of study.toml, for editors that complete and check a TOML file by one."""
     sections = {section: table_of(section) for section in SECTIONS}
-    return {"$schema": DIALECT, "title": "study.toml of pitplan", "type": "object", "properties": sections, "required": list(NEEDED), "additionalProperties": False}
+    return {
+        "$schema": DIALECT,
+        "title": "study.toml of pitplan",
+        "type": "object",
+        "properties": sections,
+        "required": list(NEEDED),
+        "additionalProperties": False,
+    }
 
 
 def table_of(section: str) -> dict[str, Any]:
     """The schema of a section, or of a metal."""
     keys = [key for key in KEYS if key.section == section]
-    return {"type": "object", "properties": {key.name: value_of(key) for key in keys}, "required": [key.name for key in keys if key.is_needed], "additionalProperties": False}
+    return {
+        "type": "object",
+        "properties": {key.name: value_of(key) for key in keys},
+        "required": [key.name for key in keys if key.is_needed],
+        "additionalProperties": False,
+    }
 
 
 def value_of(key: Key) -> dict[str, Any]:
@@ -62,10 +89,15 @@ def value_of(key: Key) -> dict[str, Any]:
     if key.kind == "choice":
         found["enum"] = list(key.choices)
     if key.kind == "columns":
-        found["properties"], found["additionalProperties"] = {name: {"type": "string"} for name in key.choices}, False
+        found["properties"], found["additionalProperties"] = {
+            name: {"type": "string"} for name in key.choices
+        }, False
     if key.kind == "metals":
         found["items"] = table_of(METALS)
-    bounds = {"exclusiveMinimum" if key.above else "minimum": key.least, "exclusiveMaximum" if key.below else "maximum": key.most}
+    bounds = {
+        "exclusiveMinimum" if key.above else "minimum": key.least,
+        "exclusiveMaximum" if key.below else "maximum": key.most,
+    }
     limits = {name: value for name, value in bounds.items() if abs(value) != float("inf")}
     if found.get("type") == "array" and limits:
         found["items"] = {**found["items"], **limits}

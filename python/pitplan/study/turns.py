@@ -20,9 +20,15 @@ from typing import IO
 
 from ..base.errors import MachineError
 
-LOCK = Path("log", "lock")                   # within a study
-EVERY = 0.2                                  # seconds between two looks whether it is free
-NONE_HERE = (errno.ENOLCK, errno.EOPNOTSUPP, errno.ENOSYS, errno.EINVAL, errno.EBADF)      # of file systems that know no such locks
+LOCK = Path("log", "lock")  # within a study
+EVERY = 0.2  # seconds between two looks whether it is free
+NONE_HERE = (
+    errno.ENOLCK,
+    errno.EOPNOTSUPP,
+    errno.ENOSYS,
+    errno.EINVAL,
+    errno.EBADF,
+)  # of file systems that know no such locks
 
 
 @dataclass(frozen=True)
@@ -47,7 +53,9 @@ Waiting = Callable[[str], None]
 
 
 @contextmanager
-def turn(folder: Path, words: Sequence[str], waits: bool = True, waiting: Waiting | None = None) -> Iterator[None]:
+def turn(
+    folder: Path, words: Sequence[str], waits: bool = True, waiting: Waiting | None = None
+) -> Iterator[None]:
     """Has a study to itself for as long as what is within runs.
 
     Parameters
@@ -99,10 +107,13 @@ def taken(file: IO[str], folder: Path, waits: bool, waiting: Waiting | None) -> 
                 return
             if error.errno not in (errno.EWOULDBLOCK, errno.EACCES):
                 raise
-        if tries == 1:                       # the first time it may be one that looks whether it is held
+        if tries == 1:  # the first time it may be one that looks whether it is held
             said = f"{holder(folder) or 'another command'} has the study {folder}"
             if not waits:
-                raise Held(said, try_this="the same when it is done; without --no-wait it waits for its turn")
+                raise Held(
+                    said,
+                    try_this="the same when it is done; without --no-wait it waits for its turn",
+                )
             if waiting:
                 waiting(said)
         time.sleep(EVERY)
@@ -112,7 +123,11 @@ def write(file: IO[str], words: Sequence[str]) -> None:
     """Writes who holds it, for others."""
     file.seek(0)
     file.truncate()
-    file.write(json.dumps(asdict(Holder(" ".join(words), os.getpid(), os.uname().nodename, user(), time.time()))))
+    file.write(
+        json.dumps(
+            asdict(Holder(" ".join(words), os.getpid(), os.uname().nodename, user(), time.time()))
+        )
+    )
     file.flush()
 
 
@@ -128,7 +143,13 @@ def holder(folder: Path) -> Holder | None:
     """Who wrote the lock last; None where that can't be read. Whether it still holds it `is_held` says."""
     try:
         found = json.loads((folder / LOCK).read_text("utf-8"))
-        return Holder(str(found["command"]), int(found["pid"]), str(found["host"]), str(found["user"]), float(found["since"]))
+        return Holder(
+            str(found["command"]),
+            int(found["pid"]),
+            str(found["host"]),
+            str(found["user"]),
+            float(found["since"]),
+        )
     except (OSError, ValueError, KeyError, TypeError):
         return None
 

@@ -13,10 +13,13 @@ from ..pit.program import MOST_FACTORS
 if TYPE_CHECKING:
     from .study import Study, Told, Verdict
 
-PER_BLOCK, PER_PAIR = 350, 22                # bytes of `pit solve`: a tenth more than was measured at 84,000 blocks, 0.4 and 2.6 million pairs
-OWN = 40                                     # bytes a block of this process, for each pit at a time
-SHARE = 0.8                                  # of the free memory, that may be taken
-SECONDS_A_BLOCK, SECONDS_A_PAIR = 2.5e-6, 1.4e-7       # of `pit solve` and `pit check`, likewise
+PER_BLOCK, PER_PAIR = (
+    350,
+    22,
+)  # bytes of `pit solve`: a tenth more than was measured at 84,000 blocks, 0.4 and 2.6 million pairs
+OWN = 40  # bytes a block of this process, for each pit at a time
+SHARE = 0.8  # of the free memory, that may be taken
+SECONDS_A_BLOCK, SECONDS_A_PAIR = 2.5e-6, 1.4e-7  # of `pit solve` and `pit check`, likewise
 
 
 @dataclass(frozen=True)
@@ -45,7 +48,9 @@ def workers_for(study: Study, wanted: int | None = None) -> int:
     return max(1, min(wanted or processors(), room))
 
 
-def run_all(study: Study, factors: Sequence[int], workers: int | None = None, told: Told | None = None) -> None:
+def run_all(
+    study: Study, factors: Sequence[int], workers: int | None = None, told: Told | None = None
+) -> None:
     """Finds the pits that aren't there yet. A `pit` that somebody ends, as the system does where memory is short, is started
     once more, alone, when the others are done.
 
@@ -59,12 +64,16 @@ def run_all(study: Study, factors: Sequence[int], workers: int | None = None, to
     study.program.is_stopped = False
     left = missing(factors, study.certified, told)
     if left:
-        with study.verifying() as sure:      # nothing is kept before the files are known to be those of the build
-            for factor in at_once(study, sorted(left, reverse=True), workers_for(study, workers), told, sure):
+        with study.verifying() as sure:  # nothing is kept before the files are known to be those of the build
+            for factor in at_once(
+                study, sorted(left, reverse=True), workers_for(study, workers), told, sure
+            ):
                 one(study, factor, told, sure)
 
 
-def missing(factors: Sequence[int], there: Callable[[int], Verdict | None], told: Told | None) -> list[int]:
+def missing(
+    factors: Sequence[int], there: Callable[[int], Verdict | None], told: Told | None
+) -> list[int]:
     """The factors whose pits aren't there; of the others it tells that they are done."""
     left = [factor for factor in factors if not there(factor)]
     for factor in factors:
@@ -73,7 +82,9 @@ def missing(factors: Sequence[int], there: Callable[[int], Verdict | None], told
     return left
 
 
-def run_series(study: Study, factors: Sequence[int], workers: int | None = None, told: Told | None = None) -> None:
+def run_series(
+    study: Study, factors: Sequence[int], workers: int | None = None, told: Told | None = None
+) -> None:
     """Finds the pits that aren't there yet, without certificates: one run of `pit shells` for each `MOST_FACTORS` of them. A run that
     somebody ends, as the system does where memory is short, is started once more, one factor at a time.
 
@@ -90,7 +101,7 @@ def run_series(study: Study, factors: Sequence[int], workers: int | None = None,
         return
     with study.verifying() as sure, ThreadPoolExecutor(1) as pool:
         for at in range(0, len(left), MOST_FACTORS):
-            some = left[at:at + MOST_FACTORS]
+            some = left[at : at + MOST_FACTORS]
             try:
                 series(study, pool, some, min(workers_for(study, workers), len(some)), told, sure)
             except MachineError as error:
@@ -101,7 +112,14 @@ def run_series(study: Study, factors: Sequence[int], workers: int | None = None,
                 series(study, pool, some, 1, told, sure)
 
 
-def series(study: Study, pool: ThreadPoolExecutor, factors: Sequence[int], workers: int, told: Told | None, sure: Callable[[], None]) -> None:
+def series(
+    study: Study,
+    pool: ThreadPoolExecutor,
+    factors: Sequence[int],
+    workers: int,
+    told: Told | None,
+    sure: Callable[[], None],
+) -> None:
     """One run of `pit shells`; what the tables of a series need is read beside it."""
     running = pool.submit(study.run_series, factors, workers, told, sure)
     try:
@@ -121,11 +139,15 @@ def one(study: Study, factor: int, told: Told | None, sure: Callable[[], None]) 
     return done
 
 
-def at_once(study: Study, factors: Sequence[int], workers: int, told: Told | None, sure: Callable[[], None]) -> list[int]:
+def at_once(
+    study: Study, factors: Sequence[int], workers: int, told: Told | None, sure: Callable[[], None]
+) -> list[int]:
     """Runs all factors, the dearest first, and returns those whose `pit` was killed."""
     killed: list[int] = []
     with ThreadPoolExecutor(workers) as pool:
-        running: dict[Future[Verdict], int] = {pool.submit(one, study, factor, told, sure): factor for factor in factors}
+        running: dict[Future[Verdict], int] = {
+            pool.submit(one, study, factor, told, sure): factor for factor in factors
+        }
         try:
             study.read_ahead()
             while running:

@@ -7,39 +7,220 @@ from collections.abc import Callable, Mapping, Sequence
 
 from ..base.errors import PlanError, meant
 
-AIR = "air"                                  # the rock of a place within the model that the planner calls air
+AIR = "air"  # the rock of a place within the model that the planner calls air
 
 # In lower case; the first of a list that a table has is taken. Datamine: IJK XC YC ZC XINC YINC ZINC DENSITY ROCK.
 # Vulcan: centroid_x dim_x. Surpac: x y z with x_size or dim_x. Micromine: EAST NORTH RL with _EAST _NORTH _RL for the
 # sizes. MineSight: EAST NORTH ELEV (or ELEVATION) and ROCK, with TONS. Then the words of tables in Spanish, Portuguese and
 # French. Whoever finds his package's name missing adds it here, or names the column in study.toml.
 USUAL: dict[str, tuple[str, ...]] = {
-    "id": ("id", "blockid", "block_id", "block id", "ijk", "block", "index", "blockno", "block_no", "bid", "bloque", "bloco", "bloc", "codigo", "código"),
-    "x": ("x", "xc", "centroid_x", "xcentre", "xcenter", "x_centre", "x_center", "centre_x", "center_x", "mid_x", "xmid",
-          "east", "easting", "e", "xworld", "x_world", "xpt", "xm", "este", "leste", "est",
-          "x_centro", "xcentro", "centro_x", "x_centroide", "centroide_x"),
-    "y": ("y", "yc", "centroid_y", "ycentre", "ycenter", "y_centre", "y_center", "centre_y", "center_y", "mid_y", "ymid",
-          "north", "northing", "n", "yworld", "y_world", "ypt", "ym", "norte", "nord",
-          "y_centro", "ycentro", "centro_y", "y_centroide", "centroide_y"),
-    "z": ("z", "zc", "centroid_z", "zcentre", "zcenter", "z_centre", "z_center", "centre_z", "center_z", "mid_z", "zmid",
-          "rl", "elev", "elevation", "level", "zworld", "z_world", "zpt", "zm", "cota", "elevacion", "elevacao", "cote",
-          "z_centro", "zcentro", "centro_z", "z_centroide", "centroide_z"),
-    "dx": ("xinc", "dim_x", "_east", "dx", "xlen", "xlength", "x_length", "size_x", "xsize", "x_size", "_x"),
-    "dy": ("yinc", "dim_y", "_north", "dy", "ylen", "ylength", "y_length", "size_y", "ysize", "y_size", "_y"),
-    "dz": ("zinc", "dim_z", "_rl", "dz", "zlen", "zlength", "z_length", "size_z", "zsize", "z_size", "_z"),
+    "id": (
+        "id",
+        "blockid",
+        "block_id",
+        "block id",
+        "ijk",
+        "block",
+        "index",
+        "blockno",
+        "block_no",
+        "bid",
+        "bloque",
+        "bloco",
+        "bloc",
+        "codigo",
+        "código",
+    ),
+    "x": (
+        "x",
+        "xc",
+        "centroid_x",
+        "xcentre",
+        "xcenter",
+        "x_centre",
+        "x_center",
+        "centre_x",
+        "center_x",
+        "mid_x",
+        "xmid",
+        "east",
+        "easting",
+        "e",
+        "xworld",
+        "x_world",
+        "xpt",
+        "xm",
+        "este",
+        "leste",
+        "est",
+        "x_centro",
+        "xcentro",
+        "centro_x",
+        "x_centroide",
+        "centroide_x",
+    ),
+    "y": (
+        "y",
+        "yc",
+        "centroid_y",
+        "ycentre",
+        "ycenter",
+        "y_centre",
+        "y_center",
+        "centre_y",
+        "center_y",
+        "mid_y",
+        "ymid",
+        "north",
+        "northing",
+        "n",
+        "yworld",
+        "y_world",
+        "ypt",
+        "ym",
+        "norte",
+        "nord",
+        "y_centro",
+        "ycentro",
+        "centro_y",
+        "y_centroide",
+        "centroide_y",
+    ),
+    "z": (
+        "z",
+        "zc",
+        "centroid_z",
+        "zcentre",
+        "zcenter",
+        "z_centre",
+        "z_center",
+        "centre_z",
+        "center_z",
+        "mid_z",
+        "zmid",
+        "rl",
+        "elev",
+        "elevation",
+        "level",
+        "zworld",
+        "z_world",
+        "zpt",
+        "zm",
+        "cota",
+        "elevacion",
+        "elevacao",
+        "cote",
+        "z_centro",
+        "zcentro",
+        "centro_z",
+        "z_centroide",
+        "centroide_z",
+    ),
+    "dx": (
+        "xinc",
+        "dim_x",
+        "_east",
+        "dx",
+        "xlen",
+        "xlength",
+        "x_length",
+        "size_x",
+        "xsize",
+        "x_size",
+        "_x",
+    ),
+    "dy": (
+        "yinc",
+        "dim_y",
+        "_north",
+        "dy",
+        "ylen",
+        "ylength",
+        "y_length",
+        "size_y",
+        "ysize",
+        "y_size",
+        "_y",
+    ),
+    "dz": (
+        "zinc",
+        "dim_z",
+        "_rl",
+        "dz",
+        "zlen",
+        "zlength",
+        "z_length",
+        "size_z",
+        "zsize",
+        "z_size",
+        "_z",
+    ),
     "tonnes": ("tonnes", "tonnage", "tons", "tonne", "ton", "mass", "toneladas", "tonelaje"),
-    "density": ("density", "sg", "bd", "dens", "specific_gravity", "bulk_density", "insitu_density", "rho", "densidad", "densidade", "densite"),
-    "rock": ("rock", "rocktype", "rock_type", "rock type", "lith", "lithology", "material", "mat", "domain", "zone", "rtype", "lito", "litologia", "litología", "roca", "rocha", "roche", "zona"),
+    "density": (
+        "density",
+        "sg",
+        "bd",
+        "dens",
+        "specific_gravity",
+        "bulk_density",
+        "insitu_density",
+        "rho",
+        "densidad",
+        "densidade",
+        "densite",
+    ),
+    "rock": (
+        "rock",
+        "rocktype",
+        "rock_type",
+        "rock type",
+        "lith",
+        "lithology",
+        "material",
+        "mat",
+        "domain",
+        "zone",
+        "rtype",
+        "lito",
+        "litologia",
+        "litología",
+        "roca",
+        "rocha",
+        "roche",
+        "zona",
+    ),
 }
 # Parts of names of columns that say in which region of slopes a block is, the likeliest first.
-REGIONS = ("sector", "setor", "secteur", "geotec", "gtdom", "gt_dom", "slope", "talud", "wall", "pared", "region", "região", "dominio", "domain", "zona", "zone")
+REGIONS = (
+    "sector",
+    "setor",
+    "secteur",
+    "geotec",
+    "gtdom",
+    "gt_dom",
+    "slope",
+    "talud",
+    "wall",
+    "pared",
+    "region",
+    "região",
+    "dominio",
+    "domain",
+    "zona",
+    "zone",
+)
 PLACES = ("x", "y", "z")
 SIZES = ("dx", "dy", "dz")
-NUMBER = re.compile(r"[+-]?\d*[.,]?\d+")      # that no column is called
-ALIKE = 0.6                                  # from 0 to 1: names that are less alike aren't offered
+NUMBER = re.compile(r"[+-]?\d*[.,]?\d+")  # that no column is called
+ALIKE = 0.6  # from 0 to 1: names that are less alike aren't offered
 
 
-def which_columns(header: Sequence[str], given: Mapping[str, str], table: str, typed: Callable[[dict[str, str]], str] | None = None) -> dict[str, str]:
+def which_columns(
+    header: Sequence[str],
+    given: Mapping[str, str],
+    table: str,
+    typed: Callable[[dict[str, str]], str] | None = None,
+) -> dict[str, str]:
     """The table's own name for each of `USUAL`, where it has one.
 
     Parameters
@@ -62,21 +243,35 @@ def which_columns(header: Sequence[str], given: Mapping[str, str], table: str, t
         if key not in USUAL:
             raise PlanError(f"[model] columns has no key {key!r}{meant(key, USUAL)}")
         if name not in header:
-            raise PlanError(f"there is no column {name!r} for {key}{meant(name, header)}", table=table)
+            raise PlanError(
+                f"there is no column {name!r} for {key}{meant(name, header)}", table=table
+            )
         found[key] = name
     lower = {name.lower(): name for name in header}
     for key, usual in USUAL.items():
-        hits = [lower[name] for name in usual if name in lower and lower[name] not in found.values()]
+        hits = [
+            lower[name] for name in usual if name in lower and lower[name] not in found.values()
+        ]
         if key not in found and hits:
             found[key] = hits[0]
     missing = [key for key in PLACES if key not in found]
     if missing:
         if len(header) < len(PLACES) or any(NUMBER.fullmatch(name) for name in header):
-            raise PlanError(f"the first line isn't the header line, or has another separator than a comma, a semicolon or a tab: {', '.join(header)}", table=table,
-                            try_this="a first line with a name for each column, and no line above it")
+            raise PlanError(
+                f"the first line isn't the header line, or has another separator than a comma, a semicolon or a tab: {', '.join(header)}",
+                table=table,
+                try_this="a first line with a name for each column, and no line above it",
+            )
         near = nearest(missing, [name for name in header if name not in found.values()])
-        raise PlanError(f"no column is known as {', '.join(missing)}; the header line has {', '.join(header)}", table=table,
-                        try_this=typed(near) if typed else "columns = { " + ", ".join(f'{key} = "{name}"' for key, name in near.items()) + " } in [model]")
+        raise PlanError(
+            f"no column is known as {', '.join(missing)}; the header line has {', '.join(header)}",
+            table=table,
+            try_this=typed(near)
+            if typed
+            else "columns = { "
+            + ", ".join(f'{key} = "{name}"' for key, name in near.items())
+            + " } in [model]",
+        )
     return found
 
 

@@ -25,13 +25,20 @@ from ..base.machine import free_memory
 SEPARATORS = ",;\t"
 THOUSANDS = re.compile(r"[+-]?[1-9]\d{0,2}(([,'\s]\d{3})+(\.\d+)?|([.\s]\d{3})+,\d+)")
 COMMA_DECIMAL = re.compile(r"([+-]?\d*),(\d+(?:[eE][+-]?\d+)?)")
-GROUPED = re.compile(r"[+-]?[1-9]\d{0,2}([.,])\d{3}(\1\d{3})*")       # a whole number with thousands separators, or one with three decimals
-SMALL, MOST_TIMES = 1 << 26, 200              # bytes that any table may unpack to, and how many times its size a larger one may
-HELD = 3                                     # bytes of memory that a byte of a table takes while it is read
-SAY_ENCODING = 'save it as "CSV UTF-8"; or tell init --encoding cp1252, or say encoding = "cp1252" in [model]'
-MOST_WORDS = 1000                            # different cells that a column of codes has at most; one of numbers with a mark among them has more
-NO_WEIGHT = "its tonnes or density in that cell: a cell that counts as \"not estimated\" weighs 0, and makes air of rock"
-NO_PLACE = "fill its place in, or take the row out"      # what to try where a coordinate is no number
+GROUPED = re.compile(
+    r"[+-]?[1-9]\d{0,2}([.,])\d{3}(\1\d{3})*"
+)  # a whole number with thousands separators, or one with three decimals
+SMALL, MOST_TIMES = (
+    1 << 26,
+    200,
+)  # bytes that any table may unpack to, and how many times its size a larger one may
+HELD = 3  # bytes of memory that a byte of a table takes while it is read
+SAY_ENCODING = (
+    'save it as "CSV UTF-8"; or tell init --encoding cp1252, or say encoding = "cp1252" in [model]'
+)
+MOST_WORDS = 1000  # different cells that a column of codes has at most; one of numbers with a mark among them has more
+NO_WEIGHT = 'its tonnes or density in that cell: a cell that counts as "not estimated" weighs 0, and makes air of rock'
+NO_PLACE = "fill its place in, or take the row out"  # what to try where a coordinate is no number
 EMPTY = Remedy(("model", "absent"), [""], 'if an empty cell stands for "not estimated"', adds=True)
 PLAIN = re.compile(r"[+-]?(\d+\.?\d*|\.\d+)([eE][+-]?\d+)?")
 
@@ -54,7 +61,12 @@ class Unpacked(io.RawIOBase):
     def __init__(self, path: Path) -> None:
         self.path, self.file = path, gzip.open(path, "rb")
         size, memory = MOST_TIMES * path.stat().st_size, free_memory() // HELD
-        self.left, self.why = max(SMALL, min(size, memory)), f"{MOST_TIMES} times its size" if size <= memory else f"{memory:,} bytes, which is what the free memory takes"
+        self.left, self.why = (
+            max(SMALL, min(size, memory)),
+            f"{MOST_TIMES} times its size"
+            if size <= memory
+            else f"{memory:,} bytes, which is what the free memory takes",
+        )
 
     def readable(self) -> bool:
         return True
@@ -70,7 +82,11 @@ class Unpacked(io.RawIOBase):
         count = self.file.readinto(buffer)
         self.left -= count
         if self.left < 0:
-            raise PlanError(f"unpacks to more than {self.why}", table=self.path, try_this="is it a table? Unpack it, and look")
+            raise PlanError(
+                f"unpacks to more than {self.why}",
+                table=self.path,
+                try_this="is it a table? Unpack it, and look",
+            )
         return count
 
     def close(self) -> None:
@@ -92,8 +108,10 @@ def opened(path: Path) -> IO[bytes]:
         return open(path, "rb")
     except FileNotFoundError:
         raise PlanError("there is no such file", table=path) from None
-    except (OSError, ValueError) as error:   # ValueError: a name with a byte of zeros
-        raise PlanError(f"can't be opened: {getattr(error, 'strerror', None) or error}", table=path) from None
+    except (OSError, ValueError) as error:  # ValueError: a name with a byte of zeros
+        raise PlanError(
+            f"can't be opened: {getattr(error, 'strerror', None) or error}", table=path
+        ) from None
 
 
 def head_of(path: Path, encoding: str = "utf-8-sig", lines: int = 12) -> list[str]:
@@ -113,9 +131,15 @@ def head_of(path: Path, encoding: str = "utf-8-sig", lines: int = 12) -> list[st
     if start[:2] in (b"\xff\xfe", b"\xfe\xff"):
         raise PlanError("is text in UTF-16", table=path, try_this='save it as "CSV UTF-8"')
     if start in (b"PK\x03\x04", b"\xd0\xcf\x11\xe0"):
-        raise PlanError("is a spreadsheet and no text", table=path, try_this='save it as "CSV UTF-8"')
+        raise PlanError(
+            "is a spreadsheet and no text", table=path, try_this='save it as "CSV UTF-8"'
+        )
     if b"\0" in b"".join(raw[:1]):
-        raise PlanError("has bytes of zeros in its header line: it is text in UTF-16, or no text", table=path, try_this='save it as "CSV UTF-8"')
+        raise PlanError(
+            "has bytes of zeros in its header line: it is text in UTF-16, or no text",
+            table=path,
+            try_this='save it as "CSV UTF-8"',
+        )
     try:
         text = [line.decode(encoding).rstrip("\r\n") for line in raw]
     except (UnicodeDecodeError, LookupError):
@@ -123,9 +147,19 @@ def head_of(path: Path, encoding: str = "utf-8-sig", lines: int = 12) -> list[st
     if not text or not text[0].strip():
         raise PlanError("has no header line", table=path)
     if "\r" in text[0]:
-        raise PlanError("a carriage return stands within the header line", table=path, row=-1, try_this='save it as "CSV UTF-8", in which lines end as on Windows or Unix')
+        raise PlanError(
+            "a carriage return stands within the header line",
+            table=path,
+            row=-1,
+            try_this='save it as "CSV UTF-8", in which lines end as on Windows or Unix',
+        )
     if text[0].count('"') % 2:
-        raise PlanError("a name in the header line goes on in the next line", table=path, row=-1, try_this="names of columns in one line each")
+        raise PlanError(
+            "a name in the header line goes on in the next line",
+            table=path,
+            row=-1,
+            try_this="names of columns in one line each",
+        )
     return text
 
 
@@ -135,14 +169,22 @@ def no_text(path: Path, encoding: str) -> PlanError:
     try:
         codecs.lookup(encoding)
     except LookupError:
-        return PlanError(f"{encoding!r} is no encoding that is known", table=path, try_this='"utf-8", or "cp1252" as Excel saves in western Europe and Latin America')
+        return PlanError(
+            f"{encoding!r} is no encoding that is known",
+            table=path,
+            try_this='"utf-8", or "cp1252" as Excel saves in western Europe and Latin America',
+        )
     with suppress(OSError, EOFError, zlib.error), opened(path) as file:
         for row, line in enumerate(file, -1):
             try:
                 line.decode(encoding)
             except UnicodeDecodeError as error:
-                return PlanError(f"isn't text in {called}: the byte {line[error.start]:#04x} stands behind {line[:error.start].decode(encoding, 'replace')[-20:]!r}",
-                                 table=path, row=row, try_this=SAY_ENCODING)
+                return PlanError(
+                    f"isn't text in {called}: the byte {line[error.start]:#04x} stands behind {line[:error.start].decode(encoding, 'replace')[-20:]!r}",
+                    table=path,
+                    row=row,
+                    try_this=SAY_ENCODING,
+                )
     return PlanError(f"isn't text in {called}", table=path, try_this=SAY_ENCODING)
 
 
@@ -154,11 +196,14 @@ def separator_of(header: str) -> str:
 def names_of(header: str, separator: str) -> list[str]:
     """The names of the columns, without blanks and quotes around them; those without a name are called by number."""
     try:
-        names = [name.strip() for name in next(csv.reader([header], delimiter=separator, skipinitialspace=True))]
-    except csv.Error as error:               # a name of more than 128 kB
+        names = [
+            name.strip()
+            for name in next(csv.reader([header], delimiter=separator, skipinitialspace=True))
+        ]
+    except csv.Error as error:  # a name of more than 128 kB
         raise PlanError(f"the header line is none: {error}", row=-1) from None
     while names and not names[-1]:
-        names.pop()                          # a separator at the end of the header line
+        names.pop()  # a separator at the end of the header line
     return [name or f"column {i + 1}" for i, name in enumerate(names)]
 
 
@@ -172,10 +217,19 @@ def dialect_of(path: Path, encoding: str = "utf-8-sig") -> Dialect:
     rows = [line.split(separator) for line in head[1:] if line.strip()]
     cells_of = [cell.strip() for row in rows for cell in row]
     with_comma = [cell for cell in cells_of if COMMA_DECIMAL.fullmatch(cell)]
-    has_points = any("." in cell and PLAIN.fullmatch(cell) and not GROUPED.fullmatch(cell) for cell in cells_of)
-    commas = separator != "," and with_comma and not (has_points and all(map(GROUPED.fullmatch, with_comma)))      # else 14,100 is whole beside 0.45
+    has_points = any(
+        "." in cell and PLAIN.fullmatch(cell) and not GROUPED.fullmatch(cell) for cell in cells_of
+    )
+    commas = (
+        separator != ","
+        and with_comma
+        and not (has_points and all(map(GROUPED.fullmatch, with_comma)))
+    )  # else 14,100 is whole beside 0.45
     decimal = "," if commas else "."
-    counts = [sum(bool(PLAIN.fullmatch(cell.strip().replace(decimal, "."))) for cell in row) for row in rows]
+    counts = [
+        sum(bool(PLAIN.fullmatch(cell.strip().replace(decimal, "."))) for cell in row)
+        for row in rows
+    ]
     skip = next((i for i, n in enumerate(counts) if n >= 3), 0)
     return Dialect(separator, decimal, encoding, skip)
 
@@ -235,7 +289,9 @@ def refuse_doubled(names: Sequence[str], path: object) -> None:
     """Refuses a name that two columns have."""
     doubled = next((name for name, count in Counter(names).items() if count > 1), None)
     if doubled is not None:
-        raise PlanError(f"two columns are called {doubled}", table=path, try_this="another name for one of them")
+        raise PlanError(
+            f"two columns are called {doubled}", table=path, try_this="another name for one of them"
+        )
 
 
 def points_for_commas(frame: pd.DataFrame, words: Collection[str], path: Path) -> None:
@@ -246,10 +302,16 @@ def points_for_commas(frame: pd.DataFrame, words: Collection[str], path: Path) -
             continue
         values = frame[name]
         refuse_points(values, path)
-        swapped = values.astype(object).where(values.map(type) == str).str.replace(f"^{COMMA_DECIMAL.pattern}$", r"\1.\2", regex=True)
+        swapped = (
+            values.astype(object)
+            .where(values.map(type) == str)
+            .str.replace(f"^{COMMA_DECIMAL.pattern}$", r"\1.\2", regex=True)
+        )
         spelt = swapped.where(swapped.notna(), values)
         found = pd.to_numeric(spelt, errors="coerce")
-        frame[name] = found if found.notna().equals(spelt.notna()) else spelt      # 0,15 and 0.15 are numbers both
+        frame[name] = (
+            found if found.notna().equals(spelt.notna()) else spelt
+        )  # 0,15 and 0.15 are numbers both
 
 
 def refuse_points(values: pd.Series, path: Path) -> None:
@@ -259,27 +321,60 @@ def refuse_points(values: pd.Series, path: Path) -> None:
     text = filled.astype(str).str.strip()
     is_plain, is_text = text.str.fullmatch(PLAIN.pattern), filled.map(type) == str
     pointed = is_plain & is_text & text.str.contains(".", regex=False)
-    if pointed.any() and text[pointed].str.fullmatch(GROUPED.pattern).all() and (is_plain | text.str.fullmatch(COMMA_DECIMAL.pattern)).mean() > 0.5:
+    if (
+        pointed.any()
+        and text[pointed].str.fullmatch(GROUPED.pattern).all()
+        and (is_plain | text.str.fullmatch(COMMA_DECIMAL.pattern)).mean() > 0.5
+    ):
         row = pointed.idxmax()
-        raise PlanError(f"the cell is {text[row]!r}, with a point, and decimals of this table have a comma", table=path, row=int(row), column=values.name,
-                        try_this="take the thousands separators out; or a comma in its place, if it is a decimal")
+        raise PlanError(
+            f"the cell is {text[row]!r}, with a point, and decimals of this table have a comma",
+            table=path,
+            row=int(row),
+            column=values.name,
+            try_this="take the thousands separators out; or a comma in its place, if it is a decimal",
+        )
 
 
-def parsed(path: Path, dialect: Dialect, names: Sequence[str], words: Collection[str]) -> pd.DataFrame:
+def parsed(
+    path: Path, dialect: Dialect, names: Sequence[str], words: Collection[str]
+) -> pd.DataFrame:
     """The cells of a table by pandas; a row with more cells than the header line is told, never cut off."""
-    given: dict[str, Any] = dict(sep=dialect.separator, decimal=dialect.decimal, encoding=dialect.encoding, header=None,
-                                 skiprows=1 + dialect.skip, skipinitialspace=True, keep_default_na=False, na_values={name: [""] for name in ("", *names) if name not in words},
-                                 skip_blank_lines=False, index_col=False, dtype={name: str for name in words if name in names})
+    given: dict[str, Any] = dict(
+        sep=dialect.separator,
+        decimal=dialect.decimal,
+        encoding=dialect.encoding,
+        header=None,
+        skiprows=1 + dialect.skip,
+        skipinitialspace=True,
+        keep_default_na=False,
+        na_values={name: [""] for name in ("", *names) if name not in words},
+        skip_blank_lines=False,
+        index_col=False,
+        dtype={name: str for name in words if name in names},
+    )
     try:
         with warnings.catch_warnings():
-            warnings.simplefilter("ignore", pd.errors.DtypeWarning)      # number_column tells the cell
+            warnings.simplefilter("ignore", pd.errors.DtypeWarning)  # number_column tells the cell
             warnings.simplefilter("error", pd.errors.ParserWarning)
             try:
                 with opened(path) as file:
-                    return of_one_kind(pd.read_csv(file, names=list(names), **given), path, names, given)
+                    return of_one_kind(
+                        pd.read_csv(file, names=list(names), **given), path, names, given
+                    )
             except pd.errors.ParserWarning:
                 with opened(path) as file:
-                    return of_one_kind(without_ends(pd.read_csv(file, names=[*names, ""], **given), names, path, dialect.skip), path, [*names, ""], given)
+                    return of_one_kind(
+                        without_ends(
+                            pd.read_csv(file, names=[*names, ""], **given),
+                            names,
+                            path,
+                            dialect.skip,
+                        ),
+                        path,
+                        [*names, ""],
+                        given,
+                    )
     except pd.errors.ParserWarning:
         raise too_long(path, dialect, len(names)) from None
     except pd.errors.EmptyDataError:
@@ -292,25 +387,48 @@ def parsed(path: Path, dialect: Dialect, names: Sequence[str], words: Collection
         raise PlanError(f"can't be read: {error}", table=path) from None
 
 
-def of_one_kind(frame: pd.DataFrame, path: Path, names: Sequence[str], given: Mapping[str, Any]) -> pd.DataFrame:
+def of_one_kind(
+    frame: pd.DataFrame, path: Path, names: Sequence[str], given: Mapping[str, Any]
+) -> pd.DataFrame:
     """The table with each column of few words as text throughout. pandas reads a large table piece by piece: where a piece has
     numbers alone, 007 is 7 there, and another code than the 007 of a piece that has a word too. And of the words TRUE and FALSE, in
     any spelling, it makes what is no word."""
-    mixed = [name for name in frame.columns if frame[name].dtype.kind in "bO" and pd.api.types.infer_dtype(frame[name], skipna=True).startswith(("mixed", "boolean"))
-             and frame[name].nunique() <= MOST_WORDS]
+    mixed = [
+        name
+        for name in frame.columns
+        if frame[name].dtype.kind in "bO"
+        and pd.api.types.infer_dtype(frame[name], skipna=True).startswith(("mixed", "boolean"))
+        and frame[name].nunique() <= MOST_WORDS
+    ]
     if mixed:
         with opened(path) as file:
-            text = pd.read_csv(file, names=list(names), **{**given, "usecols": mixed, "dtype": str, "na_values": {name: [""] for name in mixed}})
+            text = pd.read_csv(
+                file,
+                names=list(names),
+                **{
+                    **given,
+                    "usecols": mixed,
+                    "dtype": str,
+                    "na_values": {name: [""] for name in mixed},
+                },
+            )
         frame[mixed] = text[mixed]
     return frame
 
 
 def too_long(path: Path, dialect: Dialect, width: int) -> PlanError:
     """The error of the first row that has more cells than the header line."""
-    with suppress(csv.Error), opened(path) as file, io.TextIOWrapper(file, dialect.encoding, newline="") as text:       # a cell of more than 128 kB
+    with suppress(csv.Error), opened(path) as file, io.TextIOWrapper(
+        file, dialect.encoding, newline=""
+    ) as text:  # a cell of more than 128 kB
         for row, cells_of in enumerate(csv.reader(text, delimiter=dialect.separator), -1):
             if row >= dialect.skip and len(cells_of) > width:
-                return PlanError(f"has {len(cells_of)} cells, and the header line {width}", table=path, row=row, try_this="is there a separator within a number or a name?")
+                return PlanError(
+                    f"has {len(cells_of)} cells, and the header line {width}",
+                    table=path,
+                    row=row,
+                    try_this="is there a separator within a number or a name?",
+                )
     return PlanError("has rows with more cells than the header line", table=path)
 
 
@@ -319,8 +437,12 @@ def without_ends(frame: pd.DataFrame, names: Sequence[str], path: Path, skip: in
     more = frame[""].notna().to_numpy()
     if more.any():
         row = int(np.argmax(more))
-        raise PlanError(f"has {len(names) + 1} cells, and the header line {len(names)}", table=path, row=row + skip,
-                        try_this="is there a separator within a number or a name?")
+        raise PlanError(
+            f"has {len(names) + 1} cells, and the header line {len(names)}",
+            table=path,
+            row=row + skip,
+            try_this="is there a separator within a number or a name?",
+        )
     kept: pd.DataFrame = frame[list(names)]
     return kept
 
@@ -330,11 +452,17 @@ def uneven(path: Path, said: str, width: int) -> PlanError:
     found = re.search(r"Expected \d+ fields in line (\d+), saw (\d+)", said)
     if not found:
         return PlanError(f"isn't a table: {said.strip()}", table=path)
-    return PlanError(f"has {found[2]} cells, and the header line {width}", table=path, row=int(found[1]) - 2,
-                     try_this="is there a separator within a number or a name?")
+    return PlanError(
+        f"has {found[2]} cells, and the header line {width}",
+        table=path,
+        row=int(found[1]) - 2,
+        try_this="is there a separator within a number or a name?",
+    )
 
 
-def number_column(values: pd.Series, table: object, absent: Collection[str] = (), hint: str | None = None) -> npt.NDArray[np.float64]:
+def number_column(
+    values: pd.Series, table: object, absent: Collection[str] = (), hint: str | None = None
+) -> npt.NDArray[np.float64]:
     """A column as numbers.
 
     Parameters
@@ -367,8 +495,16 @@ def number_column(values: pd.Series, table: object, absent: Collection[str] = ()
     if bad.any():
         row = int(np.argmax(bad))
         what = "empty" if np.isnan(found[row]) else "not finite"
-        raise PlanError(f"{cells(int(bad.sum()))} {what}", table=table, row=int(values.index[row]), column=values.name, try_this=hint or (EMPTY if what == "empty" else None)
-                        ).with_cells(Cell(int(values.index[i]), "" if np.isnan(found[i]) else f"{found[i]:g}") for i in np.flatnonzero(bad)[1:MOST_CELLS])
+        raise PlanError(
+            f"{cells(int(bad.sum()))} {what}",
+            table=table,
+            row=int(values.index[row]),
+            column=values.name,
+            try_this=hint or (EMPTY if what == "empty" else None),
+        ).with_cells(
+            Cell(int(values.index[i]), "" if np.isnan(found[i]) else f"{found[i]:g}")
+            for i in np.flatnonzero(bad)[1:MOST_CELLS]
+        )
     return found
 
 
@@ -386,7 +522,9 @@ def cells(n: int) -> str:
     return "the cell is" if n == 1 else f"{n:,} cells are"
 
 
-def numbers_of(values: pd.Series, table: object, absent: Collection[str], hint: str | None = None) -> pd.Series:
+def numbers_of(
+    values: pd.Series, table: object, absent: Collection[str], hint: str | None = None
+) -> pd.Series:
     """The numbers that a column of words spells; the first word that spells none is told."""
     empty = values.isna()
     text = values.astype(str).str.strip().mask(empty, "")
@@ -399,8 +537,15 @@ def numbers_of(values: pd.Series, table: object, absent: Collection[str], hint: 
         n = int(bad.sum())
         what = "the cell is no number" if n == 1 else f"{n:,} cells are no numbers, the first is"
         there = f" {cell!r}" if cell else " empty"
-        raise PlanError(what + (": it is" if n == 1 else "") + there, table=table, row=int(values.index[row]), column=values.name, try_this=remedy(cell, hint)
-                        ).with_cells(Cell(int(values.index[i]), str(text.iloc[i])) for i in np.flatnonzero(bad)[1:MOST_CELLS])
+        raise PlanError(
+            what + (": it is" if n == 1 else "") + there,
+            table=table,
+            row=int(values.index[row]),
+            column=values.name,
+            try_this=remedy(cell, hint),
+        ).with_cells(
+            Cell(int(values.index[i]), str(text.iloc[i])) for i in np.flatnonzero(bad)[1:MOST_CELLS]
+        )
     return found.astype(float)
 
 
@@ -410,4 +555,6 @@ def remedy(cell: str, hint: str | None) -> str | Remedy:
         return Remedy(("model", "decimal"), ",")
     if THOUSANDS.fullmatch(cell):
         return "take the thousands separators out"
-    return hint or Remedy(("model", "absent"), [cell], 'if that stands for "not estimated"', adds=True)
+    return hint or Remedy(
+        ("model", "absent"), [cell], 'if that stands for "not estimated"', adds=True
+    )

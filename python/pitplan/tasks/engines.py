@@ -25,8 +25,8 @@ from ..plans.task_line import Task
 from ..study.study import Study, host
 from .task import Tasks, memory_of_task
 
-MOST = 1000                                  # tasks of an array: Slurm takes 1,001 unless its site says otherwise
-SPARE = 1.3                                  # times the memory that is guessed, asked of the scheduler
+MOST = 1000  # tasks of an array: Slurm takes 1,001 unless its site says otherwise
+SPARE = 1.3  # times the memory that is guessed, asked of the scheduler
 SLURM = """#!/bin/sh
 #SBATCH --job-name={name}
 #SBATCH --array=1-{count}%{at_once}
@@ -81,8 +81,13 @@ def command() -> str:
     own = TOP / "bin" / "pitplan"
     found = str(own) if own.is_file() else shutil.which("pitplan")
     if found is None:
-        raise PlanError("the command pitplan isn't on the path, and a cluster's script starts it", try_this="./install in the repository, on a disk that all machines have")
-    return (f"env PIT={shlex.quote(found_program())} " if os.environ.get("PIT") else "") + shlex.quote(found)
+        raise PlanError(
+            "the command pitplan isn't on the path, and a cluster's script starts it",
+            try_this="./install in the repository, on a disk that all machines have",
+        )
+    return (
+        f"env PIT={shlex.quote(found_program())} " if os.environ.get("PIT") else ""
+    ) + shlex.quote(found)
 
 
 def job_name(study: Study) -> str:
@@ -102,7 +107,10 @@ def listed(study: Study, tasks: Sequence[Task]) -> Path:
     try:
         (study.folder / "log").mkdir(exist_ok=True)
     except FileExistsError:
-        raise PlanError(f"{study.folder / 'log'} is a file, and what tasks say is kept in a folder of that name", try_this="another name for the file") from None
+        raise PlanError(
+            f"{study.folder / 'log'} is a file, and what tasks say is kept in a folder of that name",
+            try_this="another name for the file",
+        ) from None
     number = max((int(path.name) for path in top.iterdir() if path.name.isdigit()), default=0) + 1
     folder = top / str(number)
     folder.mkdir()
@@ -112,7 +120,15 @@ def listed(study: Study, tasks: Sequence[Task]) -> Path:
 
 def slurm_script(study: Study, count: int, folder: str, limits: Limits = Limits()) -> str:
     """The script of an array of so many tasks, listed in a folder ``submit/N``."""
-    return SLURM.format(name=job_name(study), count=count, at_once=limits.at_once, mega=megabytes(study), minutes=limits.minutes, list=f"{folder}/tasks.txt", command=command())
+    return SLURM.format(
+        name=job_name(study),
+        count=count,
+        at_once=limits.at_once,
+        mega=megabytes(study),
+        minutes=limits.minutes,
+        list=f"{folder}/tasks.txt",
+        command=command(),
+    )
 
 
 def submit_slurm(study: Study, tasks: Sequence[Task], limits: Limits = Limits()) -> list[str]:
@@ -130,12 +146,16 @@ def submit_slurm(study: Study, tasks: Sequence[Task], limits: Limits = Limits())
     """
     jobs = []
     for at in range(0, len(tasks), MOST):
-        part = tasks[at:at + MOST]
+        part = tasks[at : at + MOST]
         folder = listed(study, part)
-        (folder / "array.sh").write_text(slurm_script(study, len(part), f"submit/{folder.name}", limits))
+        (folder / "array.sh").write_text(
+            slurm_script(study, len(part), f"submit/{folder.name}", limits)
+        )
         said = asked(["sbatch", "--parsable", f"submit/{folder.name}/array.sh"], study.folder)
         job = said.strip().split(";")[0]
-        (folder / "submitted.json").write_text(json.dumps({"engine": "slurm", "job": job, "host": host()}))
+        (folder / "submitted.json").write_text(
+            json.dumps({"engine": "slurm", "job": job, "host": host()})
+        )
         jobs.append(job)
     return jobs
 
@@ -143,9 +163,13 @@ def submit_slurm(study: Study, tasks: Sequence[Task], limits: Limits = Limits())
 def asked(words: Sequence[str], folder: Path) -> str:
     """What a scheduler's program says. Raises MachineError where it isn't there or ends with a fault."""
     try:
-        ran = subprocess.run(words, cwd=folder, capture_output=True, text=True, stdin=subprocess.DEVNULL)
+        ran = subprocess.run(
+            words, cwd=folder, capture_output=True, text=True, stdin=subprocess.DEVNULL
+        )
     except FileNotFoundError:
-        raise MachineError(f"{words[0]} isn't there: is this a machine of the cluster?", try_this="--engine local") from None
+        raise MachineError(
+            f"{words[0]} isn't there: is this a machine of the cluster?", try_this="--engine local"
+        ) from None
     if ran.returncode:
         raise MachineError(f"{words[0]}: {(ran.stderr or ran.stdout).strip()}")
     return ran.stdout
@@ -170,10 +194,16 @@ class Handed:
         """What stands last in the log; before `STOPPED`, which a task says that is ended, and which doesn't say why. "" where there is
         nothing, None where there is no log: the task never began."""
         try:
-            lines = [line.strip() for line in self.log.read_text(errors="replace").split("\n") if line.strip()]
+            lines = [
+                line.strip()
+                for line in self.log.read_text(errors="replace").split("\n")
+                if line.strip()
+            ]
         except OSError:
             return None
-        return in_a_line(next((line for line in reversed(lines) if line != STOPPED), STOPPED if lines else ""))
+        return in_a_line(
+            next((line for line in reversed(lines) if line != STOPPED), STOPPED if lines else "")
+        )
 
 
 def in_slurm(study: Study) -> dict[Task, Handed]:
@@ -185,22 +215,44 @@ def in_slurm(study: Study) -> dict[Task, Handed]:
         Where Slurm can't be asked.
     """
     lists = {}
-    there = [path for path in (study.folder / "submit").glob("*/submitted.json") if path.parent.name.isdecimal()]
+    there = [
+        path
+        for path in (study.folder / "submit").glob("*/submitted.json")
+        if path.parent.name.isdecimal()
+    ]
     for path in sorted(there, key=lambda path: int(path.parent.name)):
-        told = kept_json.read(path, {"engine": kept_json.is_word, "job": lambda value: isinstance(value, str) and re.fullmatch(r"\w*", value) is not None}, f"take {path} away")
+        told = kept_json.read(
+            path,
+            {
+                "engine": kept_json.is_word,
+                "job": lambda value: isinstance(value, str)
+                and re.fullmatch(r"\w*", value) is not None,
+            },
+            f"take {path} away",
+        )
         if told["engine"] == "slurm":
             lists[told["job"]] = (path.parent / "tasks.txt").read_text().splitlines()
     if not lists:
         return {}
     states = {}
-    for line in asked(["squeue", "--noheader", "--array", f"--name={job_name(study)}", "--format=%F %K %T"], study.folder).splitlines():
+    for line in asked(
+        ["squeue", "--noheader", "--array", f"--name={job_name(study)}", "--format=%F %K %T"],
+        study.folder,
+    ).splitlines():
         job, index, state = line.split()[:3]
         states[job, index] = state
-    return {task_in(line): Handed(states.get((job, str(at)), ""), study.folder / "log" / f"{job}_{at}.log") for job, lines in lists.items() for at, line in enumerate(lines, 1)}
+    return {
+        task_in(line): Handed(
+            states.get((job, str(at)), ""), study.folder / "log" / f"{job}_{at}.log"
+        )
+        for job, lines in lists.items()
+        for at, line in enumerate(lines, 1)
+    }
 
 
 def task_in(line: str) -> Task:
     from ..plans.task_line import task_of
+
     return task_of(line.split())
 
 
@@ -211,12 +263,18 @@ def write_snakefile(study: Study, tasks: Sequence[Task]) -> Path:
     """
     folder = listed(study, tasks)
     place = f"submit/{folder.name}"
-    quoted = json.dumps(command().replace("{", "{{").replace("}", "}}"))[1:-1]       # Python's words are quoted as JSON's are
-    (folder / "Snakefile").write_text(SNAKEFILE.format(folder=place, count=len(tasks), mega=megabytes(study), command=quoted))
+    quoted = json.dumps(command().replace("{", "{{").replace("}", "}}"))[
+        1:-1
+    ]  # Python's words are quoted as JSON's are
+    (folder / "Snakefile").write_text(
+        SNAKEFILE.format(folder=place, count=len(tasks), mega=megabytes(study), command=quoted)
+    )
     (folder / "slurm-status").write_text(STATUS)
     it = folder / "slurm-status"
-    it.chmod(it.stat().st_mode | it.stat().st_mode >> 2 & 0o111)       # who may read it may run it
-    (folder / "submitted.json").write_text(json.dumps({"engine": "snakemake", "job": "", "host": host()}))
+    it.chmod(it.stat().st_mode | it.stat().st_mode >> 2 & 0o111)  # who may read it may run it
+    (folder / "submitted.json").write_text(
+        json.dumps({"engine": "snakemake", "job": "", "host": host()})
+    )
     return folder
 
 
@@ -225,11 +283,19 @@ def snakemake_lines(folder: Path) -> dict[str, str]:
     place = f"submit/{folder.name}"
     start = f"snakemake --snakefile {place}/Snakefile --rerun-incomplete --retries 3"
     cluster = "sbatch --parsable --cpus-per-task=1 --mem={resources.mem_mb}M --output=log/%j.log"
-    return {"this machine": f"{start} --jobs 4", "Slurm": f"{start} --jobs 100 --cluster '{cluster}' --cluster-status {place}/slurm-status",
-            "another scheduler": f"{start} --jobs 100 --cluster 'qsub ..' --cluster-status YOUR-SCRIPT"}
+    return {
+        "this machine": f"{start} --jobs 4",
+        "Slurm": f"{start} --jobs 100 --cluster '{cluster}' --cluster-status {place}/slurm-status",
+        "another scheduler": f"{start} --jobs 100 --cluster 'qsub ..' --cluster-status YOUR-SCRIPT",
+    }
 
 
-def run_dask(study: Study, tasks: Iterable[Task], client: Any, heard: Callable[[Task, int, int], None] | None = None) -> None:
+def run_dask(
+    study: Study,
+    tasks: Iterable[Task],
+    client: Any,
+    heard: Callable[[Task, int, int], None] | None = None,
+) -> None:
     """Does tasks over the workers of a ``distributed.Client``. Words alone go over the network; the study's folder is shared.
 
     Dask sees the memory of its own process and not that of the `pit` beneath it: as many workers as memory has room for is
@@ -247,9 +313,21 @@ def run_dask(study: Study, tasks: Iterable[Task], client: Any, heard: Callable[[
         As `Tasks.do`. A worker that dies costs the task that it had in hand, which is started again elsewhere.
     """
     from distributed import as_completed
+
     asked_for = list(tasks)
     folder, program = str(study.folder.resolve()), study.program.program
-    futures = {client.submit(do_words, folder, program, str(task), key=f"{job_name(study)} {task}", pure=False, retries=3): task for task in asked_for}
+    futures = {
+        client.submit(
+            do_words,
+            folder,
+            program,
+            str(task),
+            key=f"{job_name(study)} {task}",
+            pure=False,
+            retries=3,
+        ): task
+        for task in asked_for
+    }
     for done, future in enumerate(as_completed(futures), 1):
         future.result()
         if heard:
@@ -259,4 +337,5 @@ def run_dask(study: Study, tasks: Iterable[Task], client: Any, heard: Callable[[
 def do_words(folder: str, program: str, words: str) -> int:
     """Does a task in a worker of Dask."""
     from ..pit.program import Pit
+
     return Tasks(Path(folder), Pit(program)).do(task_in(words))

@@ -25,9 +25,9 @@ from ..study.workers import SHARE
 from .task import memory_of_task
 
 TRIES = 3
-PATIENCE = 20                                # seconds that a process gets to take away what it has half done
+PATIENCE = 20  # seconds that a process gets to take away what it has half done
 START = "import sys; sys.path.insert(0, {!r}); from pitplan.cli.main import main; main()"
-Heard = Callable[[Task, int, int], None]     # a task that is done, how many are, and of how many
+Heard = Callable[[Task, int, int], None]  # a task that is done, how many are, and of how many
 
 
 def processes_for(study: Study, wanted: int | None = None) -> int:
@@ -36,7 +36,9 @@ def processes_for(study: Study, wanted: int | None = None) -> int:
     return max(1, min(wanted or processors(), room))
 
 
-def run_local(study: Study, tasks: Iterable[Task], workers: int | None = None, heard: Heard | None = None) -> int:
+def run_local(
+    study: Study, tasks: Iterable[Task], workers: int | None = None, heard: Heard | None = None
+) -> int:
     """Does tasks on this machine. Those that are done already are passed over by whoever lists them (`Tasks.left`).
 
     Parameters
@@ -73,6 +75,7 @@ def run_local(study: Study, tasks: Iterable[Task], workers: int | None = None, h
             done[0] += 1
             if heard:
                 heard(task, done[0], len(left))
+
     with ThreadPoolExecutor(count) as pool:
         try:
             futures = [pool.submit(worker.work, tell) for worker in team]
@@ -107,7 +110,10 @@ class Worker:
                 if self.is_ended:
                     return
             else:
-                raise MachineError(f"{task}: its process was ended {TRIES} times", try_this="fewer --workers: memory was short, or somebody ended it")
+                raise MachineError(
+                    f"{task}: its process was ended {TRIES} times",
+                    try_this="fewer --workers: memory was short, or somebody ended it",
+                )
         self.let_go()
 
     def does(self, task: Task) -> bool:
@@ -125,7 +131,11 @@ class Worker:
             return False
         answer = json.loads(said)
         if "what" in answer:
-            raise {"NotAccepted": NotAccepted, "Disagreement": Disagreement, "MachineError": MachineError}.get(answer["kind"], PlanError)(f"{task}: {answer['what']}", try_this=answer["try"])
+            raise {
+                "NotAccepted": NotAccepted,
+                "Disagreement": Disagreement,
+                "MachineError": MachineError,
+            }.get(answer["kind"], PlanError)(f"{task}: {answer['what']}", try_this=answer["try"])
         return True
 
     def running(self) -> subprocess.Popen[str]:
@@ -138,8 +148,23 @@ class Worker:
                 before = [setpriv, "--pdeathsig", "TERM", "--"] if setpriv else []
                 start = START.format(str(Path(__file__).resolve().parents[2]))
                 environment = {**os.environ, "PIT": self.study.program.program}
-                self.process = subprocess.Popen([*before, sys.executable, "-I", "-c", start, "task", str(self.study.folder), "-"], stdin=subprocess.PIPE, stdout=subprocess.PIPE, text=True,
-                                                env=environment, process_group=0)          # ctrl-C is for this process, which ends it
+                self.process = subprocess.Popen(
+                    [
+                        *before,
+                        sys.executable,
+                        "-I",
+                        "-c",
+                        start,
+                        "task",
+                        str(self.study.folder),
+                        "-",
+                    ],
+                    stdin=subprocess.PIPE,
+                    stdout=subprocess.PIPE,
+                    text=True,
+                    env=environment,
+                    process_group=0,
+                )  # ctrl-C is for this process, which ends it
             return self.process
 
     def let_go(self) -> None:
@@ -150,7 +175,7 @@ class Worker:
                 try:
                     self.process.wait(PATIENCE)
                 except subprocess.TimeoutExpired:
-                    pass                     # `end` sees to it
+                    pass  # `end` sees to it
 
     def end(self) -> None:
         """Ends the process: it takes away what it has half done, and its `pit` ends with it."""
@@ -171,11 +196,26 @@ def answer_to(error: BaseException) -> str:
     if isinstance(error, PlanError):
         place = str(error).split("\n  try: ")[0]
         return json.dumps({"what": place, "try": error.try_this, "kind": type(error).__name__})
-    words = "memory was refused" if isinstance(error, MemoryError) else f"{getattr(error, 'filename', '') or ''}: {getattr(error, 'strerror', error)}"
-    return json.dumps({"what": words, "try": "fewer --workers" if isinstance(error, MemoryError) else None, "kind": "MachineError"})
+    words = (
+        "memory was refused"
+        if isinstance(error, MemoryError)
+        else f"{getattr(error, 'filename', '') or ''}: {getattr(error, 'strerror', error)}"
+    )
+    return json.dumps(
+        {
+            "what": words,
+            "try": "fewer --workers" if isinstance(error, MemoryError) else None,
+            "kind": "MachineError",
+        }
+    )
 
 
-def serve(do: Callable[[Task], object], lines: Iterable[str], say: Callable[[str], None], parse: Callable[[Sequence[str]], Task]) -> None:
+def serve(
+    do: Callable[[Task], object],
+    lines: Iterable[str],
+    say: Callable[[str], None],
+    parse: Callable[[Sequence[str]], Task],
+) -> None:
     """The process's own side: does the tasks of its standard input, and says a line of each."""
     for line in lines:
         try:

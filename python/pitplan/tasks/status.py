@@ -42,7 +42,9 @@ class State:
     missing: int = 0
 
 
-def states(study: Study, tasks: Sequence[Task], in_hand: Mapping[Task, Handed] | None = None) -> list[State]:
+def states(
+    study: Study, tasks: Sequence[Task], in_hand: Mapping[Task, Handed] | None = None
+) -> list[State]:
     """Where each task is.
 
     Parameters
@@ -68,22 +70,44 @@ def state_of(of: Tasks, task: Task, handed: Handed | None) -> State:
         return State(task, WAITING, "in Slurm's queue", len(missing))
     at, is_dead = half_done(of.study(task).place(missing[0]).parent, missing)
     if handed and not handed.state and at - {host()}:
-        at, is_dead = at & {host()}, True    # it was another machine's, and Slurm has it no more
+        at, is_dead = at & {host()}, True  # it was another machine's, and Slurm has it no more
     if at or (handed and handed.state):
-        return State(task, RUNNING, f"on {', '.join(sorted(at))}" if at else f"Slurm says {handed.state if handed else ''}", len(missing))
+        return State(
+            task,
+            RUNNING,
+            f"on {', '.join(sorted(at))}" if at else f"Slurm says {handed.state if handed else ''}",
+            len(missing),
+        )
     try:
-        return State(task, FAILED, str(json.loads(of.note(task).read_text())["words"]), len(missing))
-    except (FileNotFoundError, NotADirectoryError, ValueError, KeyError, TypeError):      # the last three of a note that is damaged
+        return State(
+            task, FAILED, str(json.loads(of.note(task).read_text())["words"]), len(missing)
+        )
+    except (
+        FileNotFoundError,
+        NotADirectoryError,
+        ValueError,
+        KeyError,
+        TypeError,
+    ):  # the last three of a note that is damaged
         last = handed.last_line() if handed else None
         if last is not None and DONE_WORDS.search(last):
-            last = None                      # it was done, over a model that stands there no more
-        why = f"; its log ends with: {last}" if last not in (None, "", STOPPED) else ": killed, out of memory, or out of time"
-        return State(task, FAILED, ENDED + why, len(missing)) if is_dead or last is not None else State(task, TO_DO, "", len(missing))
+            last = None  # it was done, over a model that stands there no more
+        why = (
+            f"; its log ends with: {last}"
+            if last not in (None, "", STOPPED)
+            else ": killed, out of memory, or out of time"
+        )
+        return (
+            State(task, FAILED, ENDED + why, len(missing))
+            if is_dead or last is not None
+            else State(task, TO_DO, "", len(missing))
+        )
 
 
 def half_done(folder: Path, missing: Sequence[int]) -> tuple[set[str], bool]:
     """On which machines somebody works at one of these factors, and whether a process of this machine that is no more has left
-    something half done. What a process of another machine has left can't be told from what it is at."""
+    something half done. What a process of another machine has left can't be told from what it is at.
+    """
     at, is_dead = set(), False
     for path in folder.glob(".f*"):
         parts = path.name.removesuffix(".old").rsplit(".", 3)
@@ -99,13 +123,20 @@ def half_done(folder: Path, missing: Sequence[int]) -> tuple[set[str], bool]:
 def is_of(name: str, missing: Sequence[int]) -> bool:
     """Whether a folder of that name, of a factor (".f00800") or of a series (".f00300-01200"), is for one of these factors."""
     found = re.fullmatch(r"\.f(\d+)(?:-(\d+))?", name)
-    return found is not None and any(int(found[1]) <= factor <= int(found[2] or found[1]) for factor in missing)
+    return found is not None and any(
+        int(found[1]) <= factor <= int(found[2] or found[1]) for factor in missing
+    )
 
 
 def seconds_left(study: Study, found: Sequence[State]) -> float | None:
     """How long the rest will take, from the pits that are found and as many at a time as run now; None where none is found yet."""
     of = Tasks(study.folder, study.given)
-    took = [max(verdict["seconds"], 0.0) for state in found for factor in state.task.factors if (verdict := of.study(state.task).verdict(factor))]
+    took = [
+        max(verdict["seconds"], 0.0)
+        for state in found
+        for factor in state.task.factors
+        if (verdict := of.study(state.task).verdict(factor))
+    ]
     left = sum(state.missing for state in found)
     if not took:
         return None if left else 0.0

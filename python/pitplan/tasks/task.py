@@ -25,9 +25,11 @@ from ..study.workers import memory_of
 if TYPE_CHECKING:
     from ..pit.program import Pit
 
-MADE = 200                                   # bytes a block that a realisation's process holds beside its `pit` (bench/scale.csv)
-DONE_WORDS = re.compile(r": (?:\d+ pits? found|done before)$")      # of `told`, at the end of a task's log
-PROCESS = 200_000_000                        # bytes of a process of this package with nothing in it
+MADE = 200  # bytes a block that a realisation's process holds beside its `pit` (bench/scale.csv)
+DONE_WORDS = re.compile(
+    r": (?:\d+ pits? found|done before)$"
+)  # of `told`, at the end of a task's log
+PROCESS = 200_000_000  # bytes of a process of this package with nothing in it
 
 
 def told(task: Task, count: int) -> str:
@@ -55,9 +57,14 @@ class Tasks:
         """The study that a task runs over. Raises PlanError where there is no such scenario or realisation."""
         from ..plans.risk import realisation
         from ..plans.vary import scenario
+
         at = (task.kind, task.name) if task.name != BASE else (BASE, "")
         if at not in self.opened:
-            self.opened[at] = realisation(self.base, int(task.name)) if task.kind == "realisation" else scenario(self.base, task.name)
+            self.opened[at] = (
+                realisation(self.base, int(task.name))
+                if task.kind == "realisation"
+                else scenario(self.base, task.name)
+            )
         return self.opened[at]
 
     def missing(self, task: Task) -> list[int]:
@@ -78,6 +85,7 @@ class Tasks:
             As `Study.run`; its words are kept in the folder ``log`` until the task is done, for `pitplan status`.
         """
         from ..plans.risk import Realisation
+
         missing, study = self.missing(task), self.study(task)
         if missing:
             sweep(study.place(missing[0]).parent)
@@ -91,8 +99,8 @@ class Tasks:
                 raise
             finally:
                 if isinstance(study, Realisation):
-                    study.__dict__.pop("priced", None)      # the next one has others
-        with suppress(NotADirectoryError):   # where log is a file
+                    study.__dict__.pop("priced", None)  # the next one has others
+        with suppress(NotADirectoryError):  # where log is a file
             self.note(task).unlink(missing_ok=True)
         return len(missing)
 
@@ -111,7 +119,9 @@ class Tasks:
         """Keeps what a task failed with; on a full disk it can't be kept, and the words have been told anyway."""
         try:
             self.note(task).parent.mkdir(exist_ok=True)
-            self.note(task).write_text(json.dumps({"task": str(task), "words": words, "host": host(), "time": time.time()}))
+            self.note(task).write_text(
+                json.dumps({"task": str(task), "words": words, "host": host(), "time": time.time()})
+            )
         except OSError:
             pass
 
@@ -129,4 +139,9 @@ def memory_by_size(blocks: int, pairs: int) -> int:
 def wanted(study: Study, factors: Sequence[int]) -> list[Task]:
     """All tasks of a study: its own factors, its what-ifs, and its realisations, of those that were asked for."""
     from ..plans import risk, vary
-    return [*(Task("run", BASE, (factor,)) for factor in factors), *vary.tasks(study), *risk.tasks(study)]
+
+    return [
+        *(Task("run", BASE, (factor,)) for factor in factors),
+        *vary.tasks(study),
+        *risk.tasks(study),
+    ]

@@ -26,7 +26,11 @@ Cells = npt.NDArray[np.bool_]
 def widest_bench(found: Comparison) -> float:
     """The bench on which the design and the best pit differ by most tonnes."""
     benches = found.benches
-    return float(benches.bench[(benches.left_t + benches.over_t).idxmax()]) if len(benches) else float("nan")
+    return (
+        float(benches.bench[(benches.left_t + benches.over_t).idxmax()])
+        if len(benches)
+        else float("nan")
+    )
 
 
 def plan(model: Model, found: Comparison, elevation: float) -> Figure:
@@ -42,7 +46,14 @@ def plan(model: Model, found: Comparison, elevation: float) -> Figure:
     scale = min(MOST_INCHES[0] / wide, MOST_INCHES[1] / high)
     width, height = max(wide * scale + 1.6, 8.0), high * scale + 2.3
     figure = Figure(figsize=(width, height))
-    axes = figure.add_axes(((width - wide * scale) / 2 / width + 0.03, 1.5 / height, wide * scale / width, high * scale / height))
+    axes = figure.add_axes(
+        (
+            (width - wide * scale) / 2 / width + 0.03,
+            1.5 / height,
+            wide * scale / width,
+            high * scale / height,
+        )
+    )
     for cells, (colour, hatch) in ((held & best, BOTH), (best & ~held, LEFT), (held & ~best, OVER)):
         fill(axes, cells, cut, colour, hatch)
     axes.plot(*planes.borders(there, cut), color="#777777", linewidth=0.6)
@@ -57,7 +68,10 @@ def plan(model: Model, found: Comparison, elevation: float) -> Figure:
         each.set_major_formatter(SEPARATED)
     axes.locator_params(axis="x", nbins=6)
     add_north_and_scale(axes)
-    axes.set_title(f"{found.design.name} beside the best pit at factor {factor_text(found.factor)}: {cut.title}", fontsize=11)
+    axes.set_title(
+        f"{found.design.name} beside the best pit at factor {factor_text(found.factor)}: {cut.title}",
+        fontsize=11,
+    )
     figure.legend(handles=key(held, best), loc="lower center", ncol=3, frameon=False)
     return figure
 
@@ -66,7 +80,10 @@ def frame(cells: Cells, cut: planes.Plane) -> tuple[tuple[float, float], tuple[f
     """From where to where a picture of some cells goes, in x and in y, with a margin; of none, over the whole plan."""
     at = np.argwhere(cells)
     if not len(at):
-        return (float(cut.across.min()), float(cut.across.max())), (float(cut.up.min()), float(cut.up.max()))
+        return (float(cut.across.min()), float(cut.across.max())), (
+            float(cut.up.min()),
+            float(cut.up.max()),
+        )
     corners = np.concatenate([at + step for step in ((0, 0), (0, 1), (1, 0), (1, 1))])
     spans = []
     for places in (cut.across, cut.up):
@@ -79,15 +96,43 @@ def frame(cells: Cells, cut: planes.Plane) -> tuple[tuple[float, float], tuple[f
 def fill(axes: Any, cells: Cells, cut: planes.Plane, colour: str, hatch: str) -> None:
     """Colours some cells: one polygon for each run of cells in a row."""
     from matplotlib.collections import PolyCollection
+
     edge = np.diff(np.pad(cells, ((0, 0), (1, 1))).astype(np.int8), axis=1)
     (rows, first), (_, end) = np.nonzero(edge == 1), np.nonzero(edge == -1)
-    corners = np.stack([np.stack([cut.across[j, i], cut.up[j, i]], axis=-1) for j, i in ((rows, first), (rows, end), (rows + 1, end), (rows + 1, first))], axis=1)
-    axes.add_collection(PolyCollection(list(corners), facecolor=colour, edgecolor="#606060" if hatch else colour, hatch=hatch or None, linewidth=0 if hatch else 0.5))
+    corners = np.stack(
+        [
+            np.stack([cut.across[j, i], cut.up[j, i]], axis=-1)
+            for j, i in ((rows, first), (rows, end), (rows + 1, end), (rows + 1, first))
+        ],
+        axis=1,
+    )
+    axes.add_collection(
+        PolyCollection(
+            list(corners),
+            facecolor=colour,
+            edgecolor="#606060" if hatch else colour,
+            hatch=hatch or None,
+            linewidth=0 if hatch else 0.5,
+        )
+    )
 
 
 def key(held: Cells, best: Cells) -> list[Any]:
     """What colours and lines are."""
+
     def patch(cells: Cells, kind: tuple[str, str], word: str) -> Patch:
-        return Patch(facecolor=kind[0], hatch=kind[1] or None, edgecolor="#606060", linewidth=0.4, label=word + ("" if cells.any() else ": none here"))
-    return [patch(held & best, BOTH, "In both"), patch(best & ~held, LEFT, "Left by the design"), patch(held & ~best, OVER, "Beyond the best pit"),
-            Line2D([], [], color="black", linewidth=2.0, label="Best pit"), Line2D([], [], color="#b2182b", linewidth=1.6, linestyle=(0, (4, 1.5)), label="Design")]
+        return Patch(
+            facecolor=kind[0],
+            hatch=kind[1] or None,
+            edgecolor="#606060",
+            linewidth=0.4,
+            label=word + ("" if cells.any() else ": none here"),
+        )
+
+    return [
+        patch(held & best, BOTH, "In both"),
+        patch(best & ~held, LEFT, "Left by the design"),
+        patch(held & ~best, OVER, "Beyond the best pit"),
+        Line2D([], [], color="black", linewidth=2.0, label="Best pit"),
+        Line2D([], [], color="#b2182b", linewidth=1.6, linestyle=(0, (4, 1.5)), label="Design"),
+    ]

@@ -20,7 +20,7 @@ if TYPE_CHECKING:
 
 Bools = npt.NDArray[np.bool_]
 Levels = npt.NDArray[np.uint16]
-NO_COLUMN = 65535        # the model has no rock here
+NO_COLUMN = 65535  # the model has no rock here
 
 
 def surfaces(study: Study, pits: Iterable[tuple[str, Bools]]) -> Levels:
@@ -44,7 +44,10 @@ def surfaces(study: Study, pits: Iterable[tuple[str, Bools]]) -> Levels:
         it is of pushbacks.
     """
     index = study.model.index
-    rock, high = placed(study.model.is_rock, index), index.shape[2]                     # rows of air above the ground are no ground
+    rock, high = (
+        placed(study.model.is_rock, index),
+        index.shape[2],
+    )  # rows of air above the ground are no ground
     ground = np.where(rock.any(axis=2), high - rock[:, :, ::-1].argmax(axis=2), 0)
     below = np.arange(high) < ground[:, :, None]
     out = [ground]
@@ -53,7 +56,9 @@ def surfaces(study: Study, pits: Iterable[tuple[str, Bools]]) -> Levels:
         level = np.where(dug.any(axis=2), dug.argmax(axis=2), ground)
         hung = (rock & ~dug & (np.arange(high) >= level[:, :, None])).any(axis=2)
         if hung.any():
-            raise overhang(study, name, index[(*np.argwhere(hung)[0], level[hung][0])], int(hung.sum()))
+            raise overhang(
+                study, name, index[(*np.argwhere(hung)[0], level[hung][0])], int(hung.sum())
+            )
         out.append(level)
     return np.where(ground == 0, NO_COLUMN, np.stack(out)).astype(np.uint16)
 
@@ -67,13 +72,19 @@ def placed(held: Bools, index: npt.NDArray[np.int32]) -> Bools:
 def overhang(study: Study, name: str, block: int, count: int) -> PlanError:
     """The error of a set that has a block without what is straight above it."""
     places = f"; {count:,} columns are so" if count > 1 else ""
-    return PlanError(f"{name} has block {study.model.blocks['id'].iloc[int(block)]} without all that is above it{places}: its surface isn't one height for each column",
-                     try_this=f"{command('plot', study.named)}, which draws sections and benches as they are")
+    return PlanError(
+        f"{name} has block {study.model.blocks['id'].iloc[int(block)]} without all that is above it{places}: its surface isn't one height for each column",
+        try_this=f"{command('plot', study.named)}, which draws sections and benches as they are",
+    )
 
 
 def packed_marks(held: Bools, index: npt.NDArray[np.int32]) -> str:
     """A set of blocks as text: a bit for each place of the grid, level by level of each column, by zlib and base64; "" for none."""
-    return base64.b64encode(zlib.compress(np.packbits(placed(held, index)).tobytes(), 9)).decode() if held.any() else ""
+    return (
+        base64.b64encode(zlib.compress(np.packbits(placed(held, index)).tobytes(), 9)).decode()
+        if held.any()
+        else ""
+    )
 
 
 def packed(levels: Levels) -> str:

@@ -45,23 +45,49 @@ def data_of(study: Study, views: Sequence[View]) -> dict[str, Any]:
         return [round(float(east), 3), round(float(north), 3)]
 
     corners = [place(i - 0.5, j - 0.5) for i, j in ((0, 0), (nx, 0), (nx, ny), (0, ny))]
-    return {"shape": list(grid.shape), "size": list(grid.size), "rotation": grid.rotation, "corners": corners, "centre": place(nx / 2 - 0.5, ny / 2 - 0.5),
-            "floor": grid.origin[2] - grid.size[2] / 2, "forbidden": packed_marks(study.priced.forbidden, study.model.index), "views": [of_view(view) for view in views]}
+    return {
+        "shape": list(grid.shape),
+        "size": list(grid.size),
+        "rotation": grid.rotation,
+        "corners": corners,
+        "centre": place(nx / 2 - 0.5, ny / 2 - 0.5),
+        "floor": grid.origin[2] - grid.size[2] / 2,
+        "forbidden": packed_marks(study.priced.forbidden, study.model.index),
+        "views": [of_view(view) for view in views],
+    }
 
 
 def of_view(view: View) -> dict[str, Any]:
     """A view as the script reads it."""
-    return {"name": view.name, "slider": view.slider, "steps": view.table.names, "labels": view.labels, "paint": view.paint, "beside": view.is_beside,
-            "patterns": len(view.labels) <= PATTERNS, "start": view.start, "middle": view.middle, "heights": packed(view.levels)}
+    return {
+        "name": view.name,
+        "slider": view.slider,
+        "steps": view.table.names,
+        "labels": view.labels,
+        "paint": view.paint,
+        "beside": view.is_beside,
+        "patterns": len(view.labels) <= PATTERNS,
+        "start": view.start,
+        "middle": view.middle,
+        "heights": packed(view.levels),
+    }
 
 
 def table_html(table: Table) -> str:
     """A table with its caption as HTML."""
-    head = "".join(f'<th scope="col">{html.escape(heading)}</th>' for heading in [table.first, *(heading for heading, _ in table.columns)])
+    head = "".join(
+        f'<th scope="col">{html.escape(heading)}</th>'
+        for heading in [table.first, *(heading for heading, _ in table.columns)]
+    )
     rows = zip(*(texts for _, texts in table.columns))
-    body = "".join(f'<tr><th scope="row">{html.escape(name)}</th>' + "".join(f"<td>{html.escape(cell)}</td>" for cell in row) + "</tr>\n" for name, row in zip(table.names, rows))
+    body = "".join(
+        f'<tr><th scope="row">{html.escape(name)}</th>'
+        + "".join(f"<td>{html.escape(cell)}</td>" for cell in row)
+        + "</tr>\n"
+        for name, row in zip(table.names, rows)
+    )
     caption = html.escape(table.caption)
-    return (f'<h2>{caption}</h2>\n<div class="scroll" tabindex="0" role="region" aria-label="{caption}"><table><thead><tr>{head}</tr></thead>\n<tbody>\n{body}</tbody></table></div>')
+    return f'<h2>{caption}</h2>\n<div class="scroll" tabindex="0" role="region" aria-label="{caption}"><table><thead><tr>{head}</tr></thead>\n<tbody>\n{body}</tbody></table></div>'
 
 
 def view_html(number: int, view: View, key: str) -> str:
@@ -73,12 +99,20 @@ def view_html(number: int, view: View, key: str) -> str:
 
 def facts_html(view: View) -> str:
     """The facts of the surface that is shown first."""
-    return "".join(f"<dt>{html.escape(heading)}</dt><dd>{html.escape(texts[view.start - 1])}</dd>" for heading, texts in view.table.columns)
+    return "".join(
+        f"<dt>{html.escape(heading)}</dt><dd>{html.escape(texts[view.start - 1])}</dd>"
+        for heading, texts in view.table.columns
+    )
 
 
 def script_text(value: Any) -> str:
     """JSON that ends no script element, whatever text is in it."""
-    return json.dumps(value, separators=(",", ":"), ensure_ascii=True).replace("<", "\\u003c").replace(">", "\\u003e").replace("&", "\\u0026")
+    return (
+        json.dumps(value, separators=(",", ":"), ensure_ascii=True)
+        .replace("<", "\\u003c")
+        .replace(">", "\\u003e")
+        .replace("&", "\\u0026")
+    )
 
 
 def filled(template: str, places: Mapping[str, str]) -> str:
@@ -88,10 +122,14 @@ def filled(template: str, places: Mapping[str, str]) -> str:
 
 def policy(template: str, libraries: Mapping[str, str]) -> str:
     """A policy by which the browser fetches nothing, and runs only the scripts that are this page's, by their digests."""
+
     def digest(text: str) -> str:
         return "'sha256-" + base64.b64encode(hashlib.sha256(text.encode()).digest()).decode() + "'"
 
-    scripts = [filled(text, libraries) for text in re.findall(r"<script>(.*?)</script>", template, re.DOTALL)]
+    scripts = [
+        filled(text, libraries)
+        for text in re.findall(r"<script>(.*?)</script>", template, re.DOTALL)
+    ]
     styles = re.findall(r"<style>(.*?)</style>", template, re.DOTALL)
     return f"default-src 'none'; script-src {' '.join(map(digest, scripts))}; style-src {' '.join(map(digest, styles))}; base-uri 'none'; form-action 'none'"
 
@@ -99,12 +137,18 @@ def policy(template: str, libraries: Mapping[str, str]) -> str:
 def library_texts() -> dict[str, str]:
     """three.js and its orbit controls. Raises PlanError where Debian's package isn't installed."""
     try:
-        return {name: (THREE_JS / file).read_text(encoding="utf-8") for name, file in LIBRARIES.items()}
+        return {
+            name: (THREE_JS / file).read_text(encoding="utf-8") for name, file in LIBRARIES.items()
+        }
     except FileNotFoundError as missing:
-        raise PlanError(f"three.js isn't installed: {missing.filename}", try_this="apt install libjs-three") from None
+        raise PlanError(
+            f"three.js isn't installed: {missing.filename}", try_this="apt install libjs-three"
+        ) from None
 
 
-def write_views(path: str | os.PathLike[str], study: Study, views: Sequence[View], title: str) -> Path:
+def write_views(
+    path: str | os.PathLike[str], study: Study, views: Sequence[View], title: str
+) -> Path:
     """Writes the page of some views.
 
     Parameters
@@ -127,16 +171,32 @@ def write_views(path: str | os.PathLike[str], study: Study, views: Sequence[View
     """
     libraries, first = library_texts(), views[0]
     template = (Path(__file__).parent / "page.html").read_text(encoding="utf-8")
-    places = {"title": html.escape(title), "slider": html.escape(first.slider), "steps": str(len(first.table.names)), "start": str(first.start),
-              "step": html.escape(first.table.names[first.start - 1]), "facts": facts_html(first), "tables": "\n".join(view_html(n, view, study.key) for n, view in enumerate(views)),
-              "data": script_text(data_of(study, views))}
+    places = {
+        "title": html.escape(title),
+        "slider": html.escape(first.slider),
+        "steps": str(len(first.table.names)),
+        "start": str(first.start),
+        "step": html.escape(first.table.names[first.start - 1]),
+        "facts": facts_html(first),
+        "tables": "\n".join(view_html(n, view, study.key) for n, view in enumerate(views)),
+        "data": script_text(data_of(study, views)),
+    }
     with whole_file(path) as part:
-        part.write_text(filled(template, {**places, **libraries, "policy": policy(template, libraries)}), encoding="utf-8")
+        part.write_text(
+            filled(template, {**places, **libraries, "policy": policy(template, libraries)}),
+            encoding="utf-8",
+        )
     return Path(path)
 
 
-def write(shells: Shells, path: str | os.PathLike[str], table: pd.DataFrame | None = None, title: str | None = None, phases: Phases | None = None,
-          design: Comparison | None = None) -> Path:
+def write(
+    shells: Shells,
+    path: str | os.PathLike[str],
+    table: pd.DataFrame | None = None,
+    title: str | None = None,
+    phases: Phases | None = None,
+    design: Comparison | None = None,
+) -> Path:
     """Writes the page of a series of pits, and where they are asked for of pushbacks and of a design beside the best pit.
 
     Parameters
@@ -166,7 +226,9 @@ def write(shells: Shells, path: str | os.PathLike[str], table: pd.DataFrame | No
     return write_views(path, study, views, f"{title or study.model.name}: nested pits")
 
 
-def write_likelihood(found: Risk, factor: int, path: str | os.PathLike[str], pits: pd.DataFrame | None = None) -> Path:
+def write_likelihood(
+    found: Risk, factor: int, path: str | os.PathLike[str], pits: pd.DataFrame | None = None
+) -> Path:
     """Writes the page of likelihood over realisations at a factor (in thousandths); `pits` as `Risk.pits` gives it.
 
     Raises
@@ -177,4 +239,9 @@ def write_likelihood(found: Risk, factor: int, path: str | os.PathLike[str], pit
         Where the file can't be written.
     """
     view = page_views.likelihood(found, factor, found.pits(factor) if pits is None else pits)
-    return write_views(path, found.study, [view], f"{found.study.model.name}: likelihood over {found.count:,} realisations")
+    return write_views(
+        path,
+        found.study,
+        [view],
+        f"{found.study.model.name}: likelihood over {found.count:,} realisations",
+    )

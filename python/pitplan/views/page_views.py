@@ -26,15 +26,17 @@ if TYPE_CHECKING:
     from ..study.study import Study
 
 Bools = npt.NDArray[np.bool_]
-Columns = list[tuple[str, list[str]]]        # a heading with its unit, and the texts below it
-PATTERNS = 5                                 # that blocks are told apart by, unless there are more kinds of them
+Columns = list[tuple[str, list[str]]]  # a heading with its unit, and the texts below it
+PATTERNS = 5  # that blocks are told apart by, unless there are more kinds of them
 CERTIFIED = "Each pit has a certificate that pit check has accepted: no pit that keeps the slopes is worth more at its factor. "
 STATED = "Each pit is as pit shells states it, which is proved to state none but the best: no pit that keeps the slopes is worth more at its factor. "
 PITS = "Discounted: dug pit after pit (best case) or bench after bench (worst case)."
 PHASES = "After each pushback the mine is a pit that pit has proved. Amounts are those of the pushback alone, worths at the full price."
 DESIGN = "The best pit has a certificate that pit check has accepted: no pit that keeps the slopes is worth more at its factor."
-LIKELY = ("Each realisation has a pit that pit check has accepted. A block's likelihood is the share of the realisations whose pit has it; for every likelihood "
-          "the blocks of at least that keep the slopes. Worths of a fixed set of blocks over all realisations.")
+LIKELY = (
+    "Each realisation has a pit that pit check has accepted. A block's likelihood is the share of the realisations whose pit has it; for every likelihood "
+    "the blocks of at least that keep the slopes. Worths of a fixed set of blocks over all realisations."
+)
 
 
 @dataclass(frozen=True)
@@ -104,11 +106,18 @@ class View:
         """The row, the column and the bench of the model at which it is cut first: where most is dug, or most differs; of
         benches the one halfway down."""
         ground, shown = self.levels[0], self.levels[self.start]
-        low, high = (np.minimum(*self.levels[1:3]), np.maximum(*self.levels[1:3])) if self.is_beside else (shown, ground)
+        low, high = (
+            (np.minimum(*self.levels[1:3]), np.maximum(*self.levels[1:3]))
+            if self.is_beside
+            else (shown, ground)
+        )
         if (low == high).all():
             low, high = shown, ground
         depth = np.where(ground == NO_COLUMN, 0, high.astype(np.int64) - low)
-        found = [((low <= k) & (k < high)).sum() if depth.any() else 0 for k in range(int(np.where(ground == NO_COLUMN, 0, ground).max()))]
+        found = [
+            ((low <= k) & (k < high)).sum() if depth.any() else 0
+            for k in range(int(np.where(ground == NO_COLUMN, 0, ground).max()))
+        ]
         there = np.flatnonzero(found)
         level = int(np.argmax(found)) if self.is_beside or not len(there) else int(np.median(there))
         return [int(depth.sum(axis=0).argmax()), int(depth.sum(axis=1).argmax()), level]
@@ -132,16 +141,31 @@ def grade_texts(values: Any) -> list[str]:
 def rock_and_metal(table: pd.DataFrame, metals: Mapping[str, Mapping[str, str]]) -> Columns:
     """Ore, waste and strip ratio, and of each metal its grade and what is recovered: of a table with columns as `Shells.table`."""
     rock = scale_of(table["ore_t"] + table["waste_t"], "t")
-    found = [scaled("Ore", table["ore_t"], rock), scaled("Waste", table["waste_t"], rock), ("Strip ratio (t/t)", ratio(table["strip"]))]
+    found = [
+        scaled("Ore", table["ore_t"], rock),
+        scaled("Waste", table["waste_t"], rock),
+        ("Strip ratio (t/t)", ratio(table["strip"])),
+    ]
     for metal, units in metals.items():
-        found.append((f"Grade of ore, {metal} ({units['grade_unit']})", grade_texts(table[f"grade_{metal}"])))
-        found.append(scaled(f"Recovered {metal}", table[f"metal_{metal}"], scale_of(table[f"metal_{metal}"], units["price_unit"])))
+        found.append(
+            (f"Grade of ore, {metal} ({units['grade_unit']})", grade_texts(table[f"grade_{metal}"]))
+        )
+        found.append(
+            scaled(
+                f"Recovered {metal}",
+                table[f"metal_{metal}"],
+                scale_of(table[f"metal_{metal}"], units["price_unit"]),
+            )
+        )
     return found
 
 
 def bottoms(grid: Grid, levels: Levels) -> list[str]:
     """The toe of each surface's lowest bench, in metres; a dash where nothing is dug."""
-    lowest = [surface[dug].min() if (dug := surface < levels[0]).any() else np.nan for surface in levels[1:]]
+    lowest = [
+        surface[dug].min() if (dug := surface < levels[0]).any() else np.nan
+        for surface in levels[1:]
+    ]
     return lengths(grid.origin[2] + (level - 0.5) * grid.size[2] for level in map(float, lowest))
 
 
@@ -151,15 +175,41 @@ def pits(shells: Shells, table: pd.DataFrame) -> View:
     Raises PlanError where a pit's surface isn't one height for each column.
     """
     names = [factor_text(k) for k in shells.factors]
-    levels = surfaces(shells.study, ((f"the pit at factor {name}", shells.holds(i)) for i, name in enumerate(names)))
+    levels = surfaces(
+        shells.study,
+        ((f"the pit at factor {name}", shells.holds(i)) for i, name in enumerate(names)),
+    )
     currency = shells.study.currency
     money = scale_of(table["worth_at_base"], currency)
-    columns = [("Blocks", [f"{v:,}" for v in table["blocks"]]), ("Toe of the lowest bench (m)", bottoms(shells.study.model.grid, levels)),
-               (f"Worth at its own factor, proved ({currency})", [separated(str(v["worth"])) for v in shells.verdicts]), *rock_and_metal(table, shells.study.manifest["metals"])]
-    columns += [scaled(name, table[column], money) for name, column in (("Worth at factor 1", "worth_at_base"), ("Discounted, best case", "npv_best"), ("Discounted, worst case", "npv_worst"))]
+    columns = [
+        ("Blocks", [f"{v:,}" for v in table["blocks"]]),
+        ("Toe of the lowest bench (m)", bottoms(shells.study.model.grid, levels)),
+        (
+            f"Worth at its own factor, proved ({currency})",
+            [separated(str(v["worth"])) for v in shells.verdicts],
+        ),
+        *rock_and_metal(table, shells.study.manifest["metals"]),
+    ]
+    columns += [
+        scaled(name, table[column], money)
+        for name, column in (
+            ("Worth at factor 1", "worth_at_base"),
+            ("Discounted, best case", "npv_best"),
+            ("Discounted, worst case", "npv_worst"),
+        )
+    ]
     columns.append(("Years", [f"{v:.1f}" for v in table["years"]]))
     start = 1 + (shells.factors.index(THOUSAND) if THOUSAND in shells.factors else len(names) - 1)
-    return View("Pits by factor", "Pit at factor", Table("Pit by pit", "Factor", names, columns), levels, "First pit with the block, by factor", (CERTIFIED if shells.certified == len(shells) else STATED) + PITS, names, start)
+    return View(
+        "Pits by factor",
+        "Pit at factor",
+        Table("Pit by pit", "Factor", names, columns),
+        levels,
+        "First pit with the block, by factor",
+        (CERTIFIED if shells.certified == len(shells) else STATED) + PITS,
+        names,
+        start,
+    )
 
 
 def phases(found: Phases, table: pd.DataFrame | None = None) -> View:
@@ -169,14 +219,30 @@ def phases(found: Phases, table: pd.DataFrame | None = None) -> View:
     """
     study, count = found.shells.study, len(found)
     table = found.table() if table is None else table
-    pushed = [(f"the mine after pushback {k}", (found.pushback > 0) & (found.pushback <= k)) for k in range(1, count + 1)]
+    pushed = [
+        (f"the mine after pushback {k}", (found.pushback > 0) & (found.pushback <= k))
+        for k in range(1, count + 1)
+    ]
     columns = [("Factor of its pit", [factor_text(k) for k in found.shells.factors])]
     columns += [("From (m)", lengths(table["top"])), ("Down to (m)", lengths(table["bottom"]))]
     columns += [(name, [f"{v:,}" for v in table[name.lower()]]) for name in ("Benches", "Blocks")]
-    columns += [*rock_and_metal(table, study.manifest["metals"]), scaled("Worth at factor 1", table["worth"], scale_of(table["worth"], study.currency)),
-                ("Thinnest (m)", lengths(table["width"])), ("on the bench at (m)", lengths(table["width_bench"]))]
+    columns += [
+        *rock_and_metal(table, study.manifest["metals"]),
+        scaled("Worth at factor 1", table["worth"], scale_of(table["worth"], study.currency)),
+        ("Thinnest (m)", lengths(table["width"])),
+        ("on the bench at (m)", lengths(table["width_bench"])),
+    ]
     names = [str(k) for k in range(1, count + 1)]
-    return View("Pushbacks", "After pushback", Table("Pushbacks", "Pushback", names, columns), surfaces(study, pushed), "Pushback", PHASES, names, count)
+    return View(
+        "Pushbacks",
+        "After pushback",
+        Table("Pushbacks", "Pushback", names, columns),
+        surfaces(study, pushed),
+        "Pushback",
+        PHASES,
+        names,
+        count,
+    )
 
 
 def design(study: Study, found: Comparison) -> View:
@@ -185,21 +251,58 @@ def design(study: Study, found: Comparison) -> View:
     Raises PlanError where a surface isn't one height for each column.
     """
     from ..plans.compare_words import forbidden_lines, verdict_lines
+
     held, best = found.design.held, found.optimum
     levels = surfaces(study, ((f"the design {found.design.name}", held), ("the best pit", best)))
     table, currency = amounts_of(study, (held, best), found.factor), study.currency
-    gap = (separated(found.gap), f"{found.share(found.gap):.2%}") if found.gap is not None else ("-", "-")
-    columns = [("Blocks", [f"{v:,}" for v in table["blocks"]]), ("Toe of the lowest bench (m)", bottoms(study.model.grid, levels)),
-               (f"Worth at factor {factor_text(found.factor)}, exact ({currency})", [separated(found.worth), separated(found.bound)]),
-               (f"Below the proved bound ({currency})", [gap[0], "0"]), ("as a share of it", [gap[1], "0.00%"]), *rock_and_metal(table, study.manifest["metals"])]
+    gap = (
+        (separated(found.gap), f"{found.share(found.gap):.2%}")
+        if found.gap is not None
+        else ("-", "-")
+    )
+    columns = [
+        ("Blocks", [f"{v:,}" for v in table["blocks"]]),
+        ("Toe of the lowest bench (m)", bottoms(study.model.grid, levels)),
+        (
+            f"Worth at factor {factor_text(found.factor)}, exact ({currency})",
+            [separated(found.worth), separated(found.bound)],
+        ),
+        (f"Below the proved bound ({currency})", [gap[0], "0"]),
+        ("as a share of it", [gap[1], "0.00%"]),
+        *rock_and_metal(table, study.manifest["metals"]),
+    ]
     b = found.benches
     rock = scale_of(b[["design_t", "best_t"]], "t")
-    by_bench = Table("Bench by bench", "Bench at (m)", lengths(b["bench"]),
-                     [scaled(name, b[column], rock) for name, column in (("Design", "design_t"), ("Best pit", "best_t"), ("Left by the design", "left_t"), ("of it ore", "left_ore_t"),
-                                                                         ("Beyond the best pit", "over_t"), ("of that ore", "over_ore_t"))])
+    by_bench = Table(
+        "Bench by bench",
+        "Bench at (m)",
+        lengths(b["bench"]),
+        [
+            scaled(name, b[column], rock)
+            for name, column in (
+                ("Design", "design_t"),
+                ("Best pit", "best_t"),
+                ("Left by the design", "left_t"),
+                ("of it ore", "left_ore_t"),
+                ("Beyond the best pit", "over_t"),
+                ("of that ore", "over_ore_t"),
+            )
+        ],
+    )
     said = [*found.design.notes, *forbidden_lines(study, held), *verdict_lines(found, currency)]
-    return View(f"Design {found.design.name} beside the best pit", "Surface of", Table("Design and best pit", "Pit", [found.design.name, "best pit"], columns), levels,
-                "Design and best pit", DESIGN, ["in both", "beyond the best pit", "left by the design"], 1, True, said, [by_bench])
+    return View(
+        f"Design {found.design.name} beside the best pit",
+        "Surface of",
+        Table("Design and best pit", "Pit", [found.design.name, "best pit"], columns),
+        levels,
+        "Design and best pit",
+        DESIGN,
+        ["in both", "beyond the best pit", "left by the design"],
+        1,
+        True,
+        said,
+        [by_bench],
+    )
 
 
 def amounts_of(study: Study, masks: Sequence[Bools], factor: int) -> pd.DataFrame:
@@ -208,9 +311,17 @@ def amounts_of(study: Study, masks: Sequence[Bools], factor: int) -> pd.DataFram
     milled, rows = priced.milled(factor), []
     for mask in masks:
         ore = tonnes[mask & milled].sum()
-        row = {"blocks": int(mask.sum()), "ore_t": ore, "waste_t": tonnes[mask].sum() - ore, "strip": (tonnes[mask].sum() - ore) / ore if ore else np.nan}
+        row = {
+            "blocks": int(mask.sum()),
+            "ore_t": ore,
+            "waste_t": tonnes[mask].sum() - ore,
+            "strip": (tonnes[mask].sum() - ore) / ore if ore else np.nan,
+        }
         for name, grade in priced.grade.items():
-            row |= {f"grade_{name}": (grade * tonnes)[mask & milled].sum() / ore if ore else np.nan, f"metal_{name}": priced.metal[name][mask & milled].sum()}
+            row |= {
+                f"grade_{name}": (grade * tonnes)[mask & milled].sum() / ore if ore else np.nan,
+                f"metal_{name}": priced.metal[name][mask & milled].sum(),
+            }
         rows.append(row)
     return pd.DataFrame(rows)
 
@@ -224,16 +335,45 @@ def likelihood(found: Risk, factor: int, table: pd.DataFrame) -> View:
     table = table.sort_values("likelihood", ascending=False)
     shares = table["likelihood"].tolist()
     names = [f"{share:.0%}" for share in shares]
-    levels = surfaces(study, ((f"the pit of likelihood {name}", found.pit(share, factor)) for name, share in zip(names, shares)))
+    levels = surfaces(
+        study,
+        (
+            (f"the pit of likelihood {name}", found.pit(share, factor))
+            for name, share in zip(names, shares)
+        ),
+    )
     money = scale_of(table[["worth_least", "worth_mean", "worth_most", "best_mean"]], currency)
-    columns = [("Blocks", [f"{v:,}" for v in table["blocks"]]), ("Toe of the lowest bench (m)", bottoms(study.model.grid, levels)), scaled("Rock", table["rock_t"], scale_of(table["rock_t"], "t"))]
-    columns += [scaled(name, table[column], money) for name, column in (("Worth, least", "worth_least"), ("Worth, mean", "worth_mean"), ("Worth, most", "worth_most"))]
+    columns = [
+        ("Blocks", [f"{v:,}" for v in table["blocks"]]),
+        ("Toe of the lowest bench (m)", bottoms(study.model.grid, levels)),
+        scaled("Rock", table["rock_t"], scale_of(table["rock_t"], "t")),
+    ]
+    columns += [
+        scaled(name, table[column], money)
+        for name, column in (
+            ("Worth, least", "worth_least"),
+            ("Worth, mean", "worth_mean"),
+            ("Worth, most", "worth_most"),
+        )
+    ]
     most = int(np.argmax(table["worth_mean"]))
-    said = [f"{found.count:,} realisations at factor {factor_text(factor)}.",
-            f"Of these {len(names)} pits that of at least {names[most]} is worth most on the mean, {amount_text(table['worth_mean'].iloc[most], money)} {money.unit}; "
-            f"each realisation's own best pit is worth {amount_text(table['best_mean'].iloc[0], money)} on the mean."]
-    return View(f"Likelihood at factor {factor_text(factor)}", "Blocks of a likelihood of at least", Table("Pits by likelihood", "At least", names, columns), levels,
-                "Likelihood, at least", LIKELY, names, 1 + names.index("50%"), said=said, more=[spread(found, currency)])
+    said = [
+        f"{found.count:,} realisations at factor {factor_text(factor)}.",
+        f"Of these {len(names)} pits that of at least {names[most]} is worth most on the mean, {amount_text(table['worth_mean'].iloc[most], money)} {money.unit}; "
+        f"each realisation's own best pit is worth {amount_text(table['best_mean'].iloc[0], money)} on the mean.",
+    ]
+    return View(
+        f"Likelihood at factor {factor_text(factor)}",
+        "Blocks of a likelihood of at least",
+        Table("Pits by likelihood", "At least", names, columns),
+        levels,
+        "Likelihood, at least",
+        LIKELY,
+        names,
+        1 + names.index("50%"),
+        said=said,
+        more=[spread(found, currency)],
+    )
 
 
 def spread(found: Risk, currency: str) -> Table:
@@ -241,7 +381,22 @@ def spread(found: Risk, currency: str) -> Table:
     table = found.table()
     columns: Columns = []
     for name, column, unit in (("Rock", "rock_t", "t"), ("Worth", "worth", currency)):
-        ends = [(word, f"{column}_{key}") for word, key in (("least", "least"), ("p10", "p10"), ("median", "p50"), ("mean", "mean"), ("p90", "p90"), ("most", "most"))]
+        ends = [
+            (word, f"{column}_{key}")
+            for word, key in (
+                ("least", "least"),
+                ("p10", "p10"),
+                ("median", "p50"),
+                ("mean", "mean"),
+                ("p90", "p90"),
+                ("most", "most"),
+            )
+        ]
         scale = scale_of(table[[key for _, key in ends]], unit)
         columns += [scaled(f"{name}, {word}", table[key], scale) for word, key in ends]
-    return Table("Each realisation's own best pit, its worth at the factor's own price: a tenth lies below p10, a tenth above p90", "Factor", [factor_text(round(f * THOUSAND)) for f in table["factor"]], columns)
+    return Table(
+        "Each realisation's own best pit, its worth at the factor's own price: a tenth lies below p10, a tenth above p90",
+        "Factor",
+        [factor_text(round(f * THOUSAND)) for f in table["factor"]],
+        columns,
+    )

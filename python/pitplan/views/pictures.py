@@ -33,14 +33,16 @@ from .plane import Plane
 
 ROCK_HATCH, ROCK_EDGE = "....", "#9a9a9a"
 FENCE_HATCH, FENCE_EDGE = "xxxx", "#6b6b6b"
-FLAT = 1 / 8             # of its width: a section that is lower is drawn higher
-EASY = 1 / 5             # of its width: how high, about
+FLAT = 1 / 8  # of its width: a section that is lower is drawn higher
+EASY = 1 / 5  # of its width: how high, about
 MOST_EXAGGERATED = 20
 CASING = [patheffects.withStroke(linewidth=3.6, foreground="white")]
-THIN_CASING = [patheffects.withStroke(linewidth=2.4, foreground="white")]           # black dots on the darkest colour need one too
+THIN_CASING = [
+    patheffects.withStroke(linewidth=2.4, foreground="white")
+]  # black dots on the darkest colour need one too
 SEPARATED = FuncFormatter(lambda value, _: f"{value:,.10g}")
-LABELS_AN_INCH = 4.5     # elevations beside a section, one above the other
-MANY_WORDS = 8           # words of a text column that get a colour of their own
+LABELS_AN_INCH = 4.5  # elevations beside a section, one above the other
+MANY_WORDS = 8  # words of a text column that get a colour of their own
 
 
 @dataclass(frozen=True)
@@ -71,7 +73,7 @@ class Paint:
     norm: Normalize
     label: str
     ticks: list[tuple[float, str]] | None = None
-    beyond: str = "neither"                       # which ends of the scale are cut off
+    beyond: str = "neither"  # which ends of the scale are cut off
 
 
 def pit_index(shells: Shells, factor: float | None) -> int:
@@ -82,20 +84,33 @@ def pit_index(shells: Shells, factor: float | None) -> int:
     if factor is None:
         return len(shells.factors) - 1
     known = ", ".join(factor_text(k) for k in shells.factors)
-    raise PlanError(f"there is no pit at factor {factor:g}", try_this=f"one of {known}; or put it into factors in [shells] of study.toml, then: {command('shells', shells.study.named)}")
+    raise PlanError(
+        f"there is no pit at factor {factor:g}",
+        try_this=f"one of {known}; or put it into factors in [shells] of study.toml, then: {command('shells', shells.study.named)}",
+    )
 
 
 def paint(shells: Shells, colour: str) -> Paint:
     """The colours of the blocks. Raises PlanError where the model has no such column."""
     if colour == "shell":
         return paint_shells(shells)
-    if colour == "value":                    # what is forbidden is priced beyond all else, which no scale can show
+    if colour == "value":  # what is forbidden is priced beyond all else, which no scale can show
         priced = shells.study.priced
-        return paint_numbers(np.where(priced.forbidden, np.nan, priced.worth(THOUSAND)), f"Worth of a block at factor 1 ({shells.study.currency})")
+        return paint_numbers(
+            np.where(priced.forbidden, np.nan, priced.worth(THOUSAND)),
+            f"Worth of a block at factor 1 ({shells.study.currency})",
+        )
     blocks = shells.study.model.blocks
     if colour not in blocks.columns:
-        known = ["shell", "value", *(str(c) for c in blocks.columns if c not in ("ix", "iy", "iz", "row"))]
-        raise PlanError(f"there is no column {colour!r} to colour by{meant(colour, known)}", table=shells.study.model.name)
+        known = [
+            "shell",
+            "value",
+            *(str(c) for c in blocks.columns if c not in ("ix", "iy", "iz", "row")),
+        ]
+        raise PlanError(
+            f"there is no column {colour!r} to colour by{meant(colour, known)}",
+            table=shells.study.model.name,
+        )
     column = blocks[colour]
     if pd.api.types.is_numeric_dtype(column):
         return paint_numbers(column.to_numpy(float), colour)
@@ -109,7 +124,13 @@ def paint_shells(shells: Shells) -> Paint:
     table = ListedColormap(colormaps["viridis"](np.linspace(0.0, 0.9, max(count, 2)))[:count])
     ticks = [(float(i), factor_text(k)) for i, k in enumerate(shells.factors)]
     values = np.where(shells.shell < count, shells.shell, np.nan).astype(float)
-    return Paint(values, table, BoundaryNorm(np.arange(count + 1) - 0.5, count), "First pit with the block (factor)", ticks)
+    return Paint(
+        values,
+        table,
+        BoundaryNorm(np.arange(count + 1) - 0.5, count),
+        "First pit with the block (factor)",
+        ticks,
+    )
 
 
 def paint_numbers(values: NDArray[np.float64], label: str) -> Paint:
@@ -117,19 +138,38 @@ def paint_numbers(values: NDArray[np.float64], label: str) -> Paint:
     known = values[np.isfinite(values)]
     low, high = np.percentile(known, [1, 99]) if len(known) else (0.0, 1.0)
     if low == high:
-        low, high = (float(known.min()), float(known.max())) if len(known) and known.min() < known.max() else (low - 0.5, high + 0.5)
+        low, high = (
+            (float(known.min()), float(known.max()))
+            if len(known) and known.min() < known.max()
+            else (low - 0.5, high + 0.5)
+        )
     ends = (bool((known < low).any()), bool((known > high).any()))
-    beyond = {(False, False): "neither", (True, False): "min", (False, True): "max", (True, True): "both"}[ends]
+    beyond = {
+        (False, False): "neither",
+        (True, False): "min",
+        (False, True): "max",
+        (True, True): "both",
+    }[ends]
     return Paint(values, colormaps["YlGnBu"], Normalize(low, high), label, None, beyond)
 
 
 def paint_words(column: "pd.Series[str]", label: str) -> Paint:
     """A colour for each word, the most frequent first where there are too many."""
     words = column.value_counts().index[:MANY_WORDS].sort_values().tolist()
-    values = column.map({w: float(i) for i, w in enumerate(words)}).fillna(len(words)).to_numpy(float)
+    values = (
+        column.map({w: float(i) for i, w in enumerate(words)}).fillna(len(words)).to_numpy(float)
+    )
     names = words + (["others"] if (values == len(words)).any() else [])
-    table = ListedColormap(colormaps["viridis"](np.linspace(0.15, 0.95, max(len(names), 2)))[:len(names)])
-    return Paint(values, table, BoundaryNorm(np.arange(len(names) + 1) - 0.5, len(names)), label, [(float(i), str(w)) for i, w in enumerate(names)])
+    table = ListedColormap(
+        colormaps["viridis"](np.linspace(0.15, 0.95, max(len(names), 2)))[: len(names)]
+    )
+    return Paint(
+        values,
+        table,
+        BoundaryNorm(np.arange(len(names) + 1) - 0.5, len(names)),
+        label,
+        [(float(i), str(w)) for i, w in enumerate(names)],
+    )
 
 
 def middle_of(shells: Shells, style: Style = Style()) -> tuple[float, int]:
@@ -138,7 +178,9 @@ def middle_of(shells: Shells, style: Style = Style()) -> tuple[float, int]:
     inside = shells.dug <= pit_index(shells, style.pit)
     blocks = model.blocks[inside] if inside.any() else model.blocks
     level = int(np.median(blocks["iz"].unique()))
-    return model.grid.origin[2] + (level - 0.5) * model.grid.size[2], fullest_row(np.bincount(blocks["iy"], minlength=model.grid.shape[1]))
+    return model.grid.origin[2] + (level - 0.5) * model.grid.size[2], fullest_row(
+        np.bincount(blocks["iy"], minlength=model.grid.shape[1])
+    )
 
 
 def fullest_row(amounts: NDArray[Any]) -> int:
@@ -152,7 +194,11 @@ def exaggeration_of(cut: Plane, asked: float | None = None) -> float:
     if asked is not None:
         return asked
     wide, high = float(np.ptp(cut.across)), float(np.ptp(cut.up))
-    return 1.0 if high >= wide * FLAT else float(min(max(round(wide * EASY / high), 2), MOST_EXAGGERATED))
+    return (
+        1.0
+        if high >= wide * FLAT
+        else float(min(max(round(wide * EASY / high), 2), MOST_EXAGGERATED))
+    )
 
 
 def plan(shells: Shells, elevation: float, style: Style = Style()) -> Figure:
@@ -166,30 +212,54 @@ def plan(shells: Shells, elevation: float, style: Style = Style()) -> Figure:
     return figure
 
 
-def section(shells: Shells, *, north: float | None = None, east: float | None = None, row: int | None = None,
-            column: int | None = None, style: Style = Style()) -> Figure:
+def section(
+    shells: Shells,
+    *,
+    north: float | None = None,
+    east: float | None = None,
+    row: int | None = None,
+    column: int | None = None,
+    style: Style = Style(),
+) -> Figure:
     """A vertical section at a northing or easting (models that aren't turned), or along a row or column of the model.
 
     Raises PlanError where the model isn't cut there, and where not one place alone is given.
     """
     model = shells.study.model
-    places = [(axis, at, is_index) for axis, at, is_index in (("y", north, False), ("x", east, False), ("y", row, True), ("x", column, True)) if at is not None]
+    places = [
+        (axis, at, is_index)
+        for axis, at, is_index in (
+            ("y", north, False),
+            ("x", east, False),
+            ("y", row, True),
+            ("x", column, True),
+        )
+        if at is not None
+    ]
     if len(places) != 1:
-        raise PlanError("a section lies at one place", try_this="one of north, east, row and column")
+        raise PlanError(
+            "a section lies at one place", try_this="one of north, east, row and column"
+        )
     axis, at, is_index = places[0]
-    cut = planes.section(model, axis, int(at) if is_index else planes.line_at(model, axis, float(at)))
+    cut = planes.section(
+        model, axis, int(at) if is_index else planes.line_at(model, axis, float(at))
+    )
     figure, axes = draw(shells, cut, style, exaggeration_of(cut, style.exaggeration))
     toes = np.unique(cut.up)
-    high = figure.get_figheight() * axes.get_position().height    # inches
+    high = figure.get_figheight() * axes.get_position().height  # inches
     most = min(12, max(2, int(high * LABELS_AN_INCH)))
-    axes.set_yticks(toes[::-(-len(toes) // most)])                # elevations are those of benches
+    axes.set_yticks(toes[:: -(-len(toes) // most)])  # elevations are those of benches
     axes.grid(axis="y", color="#888888", linewidth=0.3)
     return figure
 
 
 def draw(shells: Shells, cut: Plane, style: Style, exaggeration: float) -> tuple[Figure, Any]:
     """The blocks of a plane, the outlines of pits, the key and the titles."""
-    model, colours, fence = shells.study.model, paint(shells, style.colour), shells.study.priced.forbidden
+    model, colours, fence = (
+        shells.study.model,
+        paint(shells, style.colour),
+        shells.study.priced.forbidden,
+    )
     figure, axes, beside = sheet(float(np.ptp(cut.across)), float(np.ptp(cut.up)) * exaggeration)
     shown = np.where(cut.number >= 0, colours.values[cut.number], np.nan)
     image = axes.pcolormesh(cut.across, cut.up, shown, cmap=colours.colours, norm=colours.norm)
@@ -197,7 +267,9 @@ def draw(shells: Shells, cut: Plane, style: Style, exaggeration: float) -> tuple
     hatch(axes, (cut.number >= 0) & np.isnan(shown) & ~shut, cut)
     handles = add_outlines(axes, shells, cut, pit_index(shells, style.pit))
     if style.colour == "shell":
-        handles.append(Patch(facecolor="white", edgecolor=ROCK_EDGE, hatch=ROCK_HATCH, label="Rock in no pit"))
+        handles.append(
+            Patch(facecolor="white", edgecolor=ROCK_EDGE, hatch=ROCK_HATCH, label="Rock in no pit")
+        )
     handles += add_fence(axes, shut, cut)
     add_colour_bar(figure, beside, image, colours)
     axes.set_aspect(exaggeration)
@@ -213,7 +285,9 @@ def draw(shells: Shells, cut: Plane, style: Style, exaggeration: float) -> tuple
 
 def second_line(cut: Plane, exaggeration: float) -> str:
     """What stands below a title: from where to where a slanting section runs, and by how much heights are drawn longer."""
-    words = [cut.note] * bool(cut.note) + [f"vertical exaggeration {exaggeration:g}"] * (exaggeration != 1)
+    words = [cut.note] * bool(cut.note) + [f"vertical exaggeration {exaggeration:g}"] * (
+        exaggeration != 1
+    )
     return "\n" + ", ".join(words) if words else ""
 
 
@@ -225,14 +299,23 @@ def sheet(wide: float, high: float) -> tuple[Figure, Any, Any]:
     scale = min(7.6 / wide, 8.0 / high)
     width, height = wide * scale, high * scale
     left, right, bottom, top = 1.15, 1.35, 1.05, 0.65
-    bar = max(height, 2.5)                       # a long flat section has a scale that is higher than it
+    bar = max(height, 2.5)  # a long flat section has a scale that is higher than it
     spare = bar - height
     whole_width, whole_height = max(width + left + right, 8.0), height + bottom + top + spare
     left += (whole_width - left - right - width) / 2
     figure = Figure(figsize=(whole_width, whole_height))
     low = bottom + spare / 2
-    axes = figure.add_axes((left / whole_width, low / whole_height, width / whole_width, height / whole_height))
-    beside = figure.add_axes(((left + width + 0.18) / whole_width, bottom / whole_height, 0.22 / whole_width, bar / whole_height))
+    axes = figure.add_axes(
+        (left / whole_width, low / whole_height, width / whole_width, height / whole_height)
+    )
+    beside = figure.add_axes(
+        (
+            (left + width + 0.18) / whole_width,
+            bottom / whole_height,
+            0.22 / whole_width,
+            bar / whole_height,
+        )
+    )
     return figure, axes, beside
 
 
@@ -244,7 +327,7 @@ def add_colour_bar(figure: Figure, beside: Any, image: Any, colours: Paint) -> N
         beside.yaxis.set_major_formatter(SEPARATED)
     else:
         room = max(8, int(figure.get_figheight() * 4) - 7)
-        ticks = colours.ticks[::-(-len(colours.ticks) // room)]
+        ticks = colours.ticks[:: -(-len(colours.ticks) // room)]
         bar.set_ticks([at for at, _ in ticks], labels=[text for _, text in ticks])
 
 
@@ -253,13 +336,31 @@ def add_outlines(axes: Any, shells: Shells, cut: Plane, chosen: int) -> list[Any
     there = cut.number >= 0
     axes.plot(*planes.borders(there, cut), color="#555555", linewidth=0.6)
     handles = []
-    first, last = min(int(shells.shell.min()), len(shells.factors) - 1), len(shells.factors) - 1      # at low factors no pit may pay
-    for i, width, stroke, word in ((chosen, 2.0, "-", "Pit"), (first, 1.2, ":", "Smallest pit,"), (last, 1.2, "--", "Largest pit,")):
+    first, last = (
+        min(int(shells.shell.min()), len(shells.factors) - 1),
+        len(shells.factors) - 1,
+    )  # at low factors no pit may pay
+    for i, width, stroke, word in (
+        (chosen, 2.0, "-", "Pit"),
+        (first, 1.2, ":", "Smallest pit,"),
+        (last, 1.2, "--", "Largest pit,"),
+    ):
         inside = there & (shells.shell[cut.number] <= i)
-        label = f"{word} at factor {factor_text(shells.factors[i])}" + ("" if inside.any() else ": not here")
+        label = f"{word} at factor {factor_text(shells.factors[i])}" + (
+            "" if inside.any() else ": not here"
+        )
         if word == "Pit" or (i != chosen and inside.any()):
-            axes.plot(*planes.borders(inside, cut), color="black", linewidth=width, linestyle=stroke, path_effects=CASING if word == "Pit" else THIN_CASING, zorder=3 if word == "Pit" else 2.5)
-            handles.append(Line2D([], [], color="black", linewidth=width, linestyle=stroke, label=label))
+            axes.plot(
+                *planes.borders(inside, cut),
+                color="black",
+                linewidth=width,
+                linestyle=stroke,
+                path_effects=CASING if word == "Pit" else THIN_CASING,
+                zorder=3 if word == "Pit" else 2.5,
+            )
+            handles.append(
+                Line2D([], [], color="black", linewidth=width, linestyle=stroke, label=label)
+            )
     return handles
 
 
@@ -268,19 +369,41 @@ def add_fence(axes: Any, cells: NDArray[np.bool_], cut: Plane) -> list[Any]:
     if not cells.any():
         return []
     hatch(axes, cells, cut, (FENCE_HATCH, FENCE_EDGE), "none")
-    return [Patch(facecolor="white", edgecolor=FENCE_EDGE, hatch=FENCE_HATCH, label="May not be dug")]
+    return [
+        Patch(facecolor="white", edgecolor=FENCE_EDGE, hatch=FENCE_HATCH, label="May not be dug")
+    ]
 
 
-def hatch(axes: Any, cells: NDArray[np.bool_], cut: Plane, pattern: tuple[str, str] = (ROCK_HATCH, ROCK_EDGE), face: str = "white") -> None:
+def hatch(
+    axes: Any,
+    cells: NDArray[np.bool_],
+    cut: Plane,
+    pattern: tuple[str, str] = (ROCK_HATCH, ROCK_EDGE),
+    face: str = "white",
+) -> None:
     """A pattern over a set of cells, dots unless told: one outline for each run of cells in a row."""
     edge = np.diff(np.pad(cells, ((0, 0), (1, 1))).astype(np.int8), axis=1)
     (rows, first), (_, end) = np.nonzero(edge == 1), np.nonzero(edge == -1)
     if not len(rows):
         return
     corners = [(rows, first), (rows, end), (rows + 1, end), (rows + 1, first), (rows, first)]
-    points = np.stack([np.stack([cut.across[c], cut.up[c]], axis=-1) for c in corners], axis=1).reshape(-1, 2)
-    codes = np.tile([Outline.MOVETO, Outline.LINETO, Outline.LINETO, Outline.LINETO, Outline.CLOSEPOLY], len(rows))
-    axes.add_patch(PathPatch(Outline(points, codes), facecolor=face, edgecolor=pattern[1], hatch=pattern[0], linewidth=0, zorder=0.5 if face == "white" else 1.5))
+    points = np.stack(
+        [np.stack([cut.across[c], cut.up[c]], axis=-1) for c in corners], axis=1
+    ).reshape(-1, 2)
+    codes = np.tile(
+        [Outline.MOVETO, Outline.LINETO, Outline.LINETO, Outline.LINETO, Outline.CLOSEPOLY],
+        len(rows),
+    )
+    axes.add_patch(
+        PathPatch(
+            Outline(points, codes),
+            facecolor=face,
+            edgecolor=pattern[1],
+            hatch=pattern[0],
+            linewidth=0,
+            zorder=0.5 if face == "white" else 1.5,
+        )
+    )
 
 
 def add_north_and_scale(axes: Any) -> None:
@@ -289,14 +412,43 @@ def add_north_and_scale(axes: Any) -> None:
     fifth = (high - low) / 5
     power = 10.0 ** np.floor(np.log10(fifth))
     length = power * max(k for k in (1, 2, 5) if k * power <= fifth)
-    axes.add_artist(AnchoredSizeBar(axes.transData, length, f"{length:,g} m", "lower right", pad=0.4, borderpad=0.6, sep=4,
-                                    size_vertical=(high - low) / 300, fontproperties=FontProperties(size=9)))
-    axes.annotate("N", xy=(0.97, 0.97), xytext=(0.97, 0.87), xycoords="axes fraction", ha="center", va="center", fontsize=12, fontweight="bold",
-                  arrowprops={"arrowstyle": "-|>", "linewidth": 2, "color": "black"}, bbox={"boxstyle": "round,pad=0.15", "facecolor": "white", "edgecolor": "none", "alpha": 0.8})
+    axes.add_artist(
+        AnchoredSizeBar(
+            axes.transData,
+            length,
+            f"{length:,g} m",
+            "lower right",
+            pad=0.4,
+            borderpad=0.6,
+            sep=4,
+            size_vertical=(high - low) / 300,
+            fontproperties=FontProperties(size=9),
+        )
+    )
+    axes.annotate(
+        "N",
+        xy=(0.97, 0.97),
+        xytext=(0.97, 0.87),
+        xycoords="axes fraction",
+        ha="center",
+        va="center",
+        fontsize=12,
+        fontweight="bold",
+        arrowprops={"arrowstyle": "-|>", "linewidth": 2, "color": "black"},
+        bbox={
+            "boxstyle": "round,pad=0.15",
+            "facecolor": "white",
+            "edgecolor": "none",
+            "alpha": 0.8,
+        },
+    )
 
 
-LINES = (("worth_at_base", "Undiscounted", "-", "s", "black"), ("npv_best", "Discounted, pit after pit (best case)", "--", "o", "#1b5e8c"),
-         ("npv_worst", "Discounted, bench after bench (worst case)", ":", "^", "#a3341f"))
+LINES = (
+    ("worth_at_base", "Undiscounted", "-", "s", "black"),
+    ("npv_best", "Discounted, pit after pit (best case)", "--", "o", "#1b5e8c"),
+    ("npv_worst", "Discounted, bench after bench (worst case)", ":", "^", "#a3341f"),
+)
 
 
 def pit_by_pit(table: pd.DataFrame, currency: str = "$", name: str = "") -> Figure:
@@ -313,10 +465,32 @@ def pit_by_pit(table: pd.DataFrame, currency: str = "$", name: str = "") -> Figu
     axes = figure.add_axes((0.085, 0.27, 0.825, 0.67))
     at = np.arange(len(table))
     rock = scale_of(table["ore_t"] + table["waste_t"], "t")
-    axes.bar(at, table["ore_t"] / rock.divisor, color="#8a8a8a", edgecolor="black", linewidth=0.4, width=0.8, label="Ore")
-    axes.bar(at, table["waste_t"] / rock.divisor, bottom=table["ore_t"] / rock.divisor, color="#f1efe9", edgecolor="#777777", hatch="///", linewidth=0.4, width=0.8, label="Waste")
+    axes.bar(
+        at,
+        table["ore_t"] / rock.divisor,
+        color="#8a8a8a",
+        edgecolor="black",
+        linewidth=0.4,
+        width=0.8,
+        label="Ore",
+    )
+    axes.bar(
+        at,
+        table["waste_t"] / rock.divisor,
+        bottom=table["ore_t"] / rock.divisor,
+        color="#f1efe9",
+        edgecolor="#777777",
+        hatch="///",
+        linewidth=0.4,
+        width=0.8,
+        label="Waste",
+    )
     step = -(-len(at) // 24)
-    axes.set_xticks(at[::step], [factor_text(round(f * 1000)) for f in table["factor"][::step]], rotation=90 if len(at) > 12 else 0)
+    axes.set_xticks(
+        at[::step],
+        [factor_text(round(f * 1000)) for f in table["factor"][::step]],
+        rotation=90 if len(at) > 12 else 0,
+    )
     axes.set_xlabel("Factor of the price")
     axes.set_ylabel(f"Rock in the pit ({rock.unit})")
     axes.set_ylim(0, float((table["ore_t"] + table["waste_t"]).max()) / rock.divisor * 1.05 or 1.0)
@@ -325,7 +499,9 @@ def pit_by_pit(table: pd.DataFrame, currency: str = "$", name: str = "") -> Figu
     return figure
 
 
-def add_worths(right: Any, left: Any, table: pd.DataFrame, at: NDArray[np.int64], currency: str) -> None:
+def add_worths(
+    right: Any, left: Any, table: pd.DataFrame, at: NDArray[np.int64], currency: str
+) -> None:
     """The lines of worth with a ring at the greatest of each, and one key for bars and lines."""
     money: Scale = scale_of(table["worth_at_base"], currency)
     for column, label, stroke, mark, colour in LINES:
@@ -333,9 +509,26 @@ def add_worths(right: Any, left: Any, table: pd.DataFrame, at: NDArray[np.int64]
             continue
         worth = table[column].to_numpy(float) / money.divisor
         best = int(np.argmax(worth))
-        right.plot(at, worth, linestyle=stroke, marker=mark, markersize=4, color=colour, linewidth=1.6, path_effects=CASING,
-                   label=f"{label}; greatest at {factor_text(round(float(table['factor'].iloc[best]) * THOUSAND))}")
-        right.plot(at[best], worth[best], marker="o", markersize=11, markerfacecolor="none", markeredgecolor=colour, linestyle="none")
+        right.plot(
+            at,
+            worth,
+            linestyle=stroke,
+            marker=mark,
+            markersize=4,
+            color=colour,
+            linewidth=1.6,
+            path_effects=CASING,
+            label=f"{label}; greatest at {factor_text(round(float(table['factor'].iloc[best]) * THOUSAND))}",
+        )
+        right.plot(
+            at[best],
+            worth[best],
+            marker="o",
+            markersize=11,
+            markerfacecolor="none",
+            markeredgecolor=colour,
+            linestyle="none",
+        )
     all_worths = table[[c for c, *_ in LINES if c in table]].to_numpy(float) / money.divisor
     low, high = min(0.0, float(all_worths.min())), max(0.0, float(all_worths.max()))
     right.set_ylim(low * 1.05, high * 1.05 or 1.0)
@@ -343,7 +536,14 @@ def add_worths(right: Any, left: Any, table: pd.DataFrame, at: NDArray[np.int64]
     for each in (left.yaxis, right.yaxis):
         each.set_major_formatter(SEPARATED)
     handles = [h for a in (right, left) for h in a.get_legend_handles_labels()[0]]
-    left.legend(handles, [h.get_label() for h in handles], loc="upper center", bbox_to_anchor=(0.5, -0.17), ncol=2, frameon=False)
+    left.legend(
+        handles,
+        [h.get_label() for h in handles],
+        loc="upper center",
+        bbox_to_anchor=(0.5, -0.17),
+        ncol=2,
+        frameon=False,
+    )
 
 
 def save(figure: Figure, path: str | os.PathLike[str], dpi: int = 120) -> Path:

@@ -50,8 +50,10 @@ def bench_at(model: Model, elevation: float) -> int:
     toe = g.origin[2] - g.size[2] / 2
     level = int(np.floor((elevation - toe) / g.size[2] + 1e-9))
     if not 0 <= level < g.shape[2]:
-        raise PlanError(f"{model.name} has no bench at elevation {elevation:,.10g}",
-                        try_this=f"an elevation from {toe:,.10g} to {toe + g.shape[2] * g.size[2]:,.10g}")
+        raise PlanError(
+            f"{model.name} has no bench at elevation {elevation:,.10g}",
+            try_this=f"an elevation from {toe:,.10g} to {toe + g.shape[2] * g.size[2]:,.10g}",
+        )
     return level
 
 
@@ -63,13 +65,17 @@ def line_at(model: Model, axis: str, coordinate: float) -> int:
     g, d = model.grid, "xy".index(axis)
     word, option = (("easting", "--column"), ("northing", "--row"))[d]
     if g.rotation % 360 != 0:
-        raise PlanError(f"{model.name} is turned by {g.rotation:g} degrees: its {option[2:]}s cross every {word} at a slant",
-                        try_this=f"{option} N, from 0 to {g.shape[d] - 1}, a section along the model's own axis")
+        raise PlanError(
+            f"{model.name} is turned by {g.rotation:g} degrees: its {option[2:]}s cross every {word} at a slant",
+            try_this=f"{option} N, from 0 to {g.shape[d] - 1}, a section along the model's own axis",
+        )
     low = g.origin[d] - g.size[d] / 2
     index = int(np.floor((coordinate - low) / g.size[d] + 1e-9))
     if not 0 <= index < g.shape[d]:
-        raise PlanError(f"{model.name} has no block at {word} {coordinate:,.10g}",
-                        try_this=f"{word}s from {low:,.10g} to {low + g.shape[d] * g.size[d]:,.10g}")
+        raise PlanError(
+            f"{model.name} has no block at {word} {coordinate:,.10g}",
+            try_this=f"{word}s from {low:,.10g} to {low + g.shape[d] * g.size[d]:,.10g}",
+        )
     return index
 
 
@@ -79,8 +85,13 @@ def bench(model: Model, level: int) -> Plane:
     u, v = np.meshgrid(np.arange(g.shape[0] + 1) - 0.5, np.arange(g.shape[1] + 1) - 0.5)
     east, north, _ = g.world(u, v, 0)
     toe = g.origin[2] + (level - 0.5) * g.size[2]
-    return Plane(of_rock(model)[:, :, level].T, np.asarray(east), np.asarray(north), ("Easting (m)", "Northing (m)"),
-                 f"bench {toe:,.10g} (toe) to {toe + g.size[2]:,.10g} m (crest)")
+    return Plane(
+        of_rock(model)[:, :, level].T,
+        np.asarray(east),
+        np.asarray(north),
+        ("Easting (m)", "Northing (m)"),
+        f"bench {toe:,.10g} (toe) to {toe + g.size[2]:,.10g} m (crest)",
+    )
 
 
 def section(model: Model, axis: str, index: int) -> Plane:
@@ -91,11 +102,18 @@ def section(model: Model, axis: str, index: int) -> Plane:
     g, fixed = model.grid, "xy".index(axis)
     along = 1 - fixed
     if not 0 <= index < g.shape[fixed]:
-        raise PlanError(f"{model.name} has no {('column', 'row')[fixed]} {index}", try_this=f"a number from 0 to {g.shape[fixed] - 1}")
+        raise PlanError(
+            f"{model.name} has no {('column', 'row')[fixed]} {index}",
+            try_this=f"a number from 0 to {g.shape[fixed] - 1}",
+        )
     turned = g.rotation % 360 != 0
-    start = g.size[along] / 2 if turned else g.origin[along]      # a turned section is measured from its own end
-    u, v = np.meshgrid(start + (np.arange(g.shape[along] + 1) - 0.5) * g.size[along],
-                       g.origin[2] + (np.arange(g.shape[2] + 1) - 0.5) * g.size[2])
+    start = (
+        g.size[along] / 2 if turned else g.origin[along]
+    )  # a turned section is measured from its own end
+    u, v = np.meshgrid(
+        start + (np.arange(g.shape[along] + 1) - 0.5) * g.size[along],
+        g.origin[2] + (np.arange(g.shape[2] + 1) - 0.5) * g.size[2],
+    )
     cut = of_rock(model)[index] if axis == "x" else of_rock(model)[:, index]
     # to the right lies the axis along the section, so one looks a quarter turn to the left of it
     right = (90.0, 0.0)[along] + g.rotation
@@ -106,7 +124,9 @@ def section(model: Model, axis: str, index: int) -> Plane:
     else:
         label = ("Easting (m)", "Northing (m)")[along]
         where = f"section at {('easting', 'northing')[fixed]} {g.origin[fixed] + index * g.size[fixed]:,.10g}, looking {('west', 'north')[fixed]}"
-    return Plane(cut.T, u, v, (label, "Elevation (m)"), where, ends(model, axis, index) if turned else "")
+    return Plane(
+        cut.T, u, v, (label, "Elevation (m)"), where, ends(model, axis, index) if turned else ""
+    )
 
 
 def ends(model: Model, axis: str, index: int) -> str:
@@ -118,7 +138,9 @@ def ends(model: Model, axis: str, index: int) -> str:
     return "from " + " to ".join(texts)
 
 
-def borders(inside: NDArray[np.bool_], plane: Plane) -> tuple[NDArray[np.float64], NDArray[np.float64]]:
+def borders(
+    inside: NDArray[np.bool_], plane: Plane
+) -> tuple[NDArray[np.float64], NDArray[np.float64]]:
     """The border of a set of cells as one line with gaps (nan), which matplotlib draws at once: a closed ring for each outline and
     hole, so that dashes run on round the corners of small cells."""
     gap = np.full(1, np.nan)

@@ -30,28 +30,64 @@ def section(found: Risk, factor: int = THOUSAND, row: int | None = None) -> Figu
     from matplotlib import colormaps
     from matplotlib.lines import Line2D
     from matplotlib.patches import Patch
-    from .pictures import CASING, ROCK_EDGE, ROCK_HATCH, SEPARATED, add_fence, exaggeration_of, fullest_row, hatch, second_line, sheet
+    from .pictures import (
+        CASING,
+        ROCK_EDGE,
+        ROCK_HATCH,
+        SEPARATED,
+        add_fence,
+        exaggeration_of,
+        fullest_row,
+        hatch,
+        second_line,
+        sheet,
+    )
+
     likelihood, model = found.likelihood(factor), found.study.model
     if row is None:
-        row = fullest_row(np.bincount(model.blocks.iy.to_numpy(), weights=likelihood, minlength=model.grid.shape[1]))
+        row = fullest_row(
+            np.bincount(
+                model.blocks.iy.to_numpy(), weights=likelihood, minlength=model.grid.shape[1]
+            )
+        )
     cut = cut_of(model, "y", row)
     exaggeration = exaggeration_of(cut)
     there = cut.number >= 0
     shut = there & found.study.priced.forbidden[cut.number]
     values = np.where(there, likelihood[cut.number], np.nan)
     figure, axes, beside = sheet(float(np.ptp(cut.across)), float(np.ptp(cut.up)) * exaggeration)
-    image = axes.pcolormesh(cut.across, cut.up, np.where(values > 0, values, np.nan), cmap=colormaps["cividis_r"], vmin=0, vmax=1)
+    image = axes.pcolormesh(
+        cut.across,
+        cut.up,
+        np.where(values > 0, values, np.nan),
+        cmap=colormaps["cividis_r"],
+        vmin=0,
+        vmax=1,
+    )
     hatch(axes, there & ~(values > 0) & ~shut, cut)
     axes.plot(*borders(there, cut), color="#555555", linewidth=0.6)
     handles = []
     for share, stroke in LINES:
-        axes.plot(*borders(there & found.pit(share, factor)[cut.number], cut), color="black", linewidth=1.4, linestyle=stroke, path_effects=CASING)
-        handles.append(Line2D([], [], color="black", linestyle=stroke, label=f"Blocks of at least {share:.0%}"))
-    handles.append(Patch(facecolor="white", edgecolor=ROCK_EDGE, hatch=ROCK_HATCH, label="Rock in no pit"))
+        axes.plot(
+            *borders(there & found.pit(share, factor)[cut.number], cut),
+            color="black",
+            linewidth=1.4,
+            linestyle=stroke,
+            path_effects=CASING,
+        )
+        handles.append(
+            Line2D([], [], color="black", linestyle=stroke, label=f"Blocks of at least {share:.0%}")
+        )
+    handles.append(
+        Patch(facecolor="white", edgecolor=ROCK_EDGE, hatch=ROCK_HATCH, label="Rock in no pit")
+    )
     handles += add_fence(axes, shut, cut)
     figure.colorbar(image, cax=beside, label=f"Likelihood over {found.count} realisations")
     axes.set_aspect(exaggeration)
-    axes.set_title(f"{model.name}: {cut.title}, likelihood at factor {factor / THOUSAND:g}{second_line(cut, exaggeration)}", fontsize=12)
+    axes.set_title(
+        f"{model.name}: {cut.title}, likelihood at factor {factor / THOUSAND:g}{second_line(cut, exaggeration)}",
+        fontsize=12,
+    )
     for each in (axes.xaxis, axes.yaxis):
         each.set_major_formatter(SEPARATED)
     axes.set_xlabel(cut.labels[0])

@@ -20,9 +20,20 @@ COPPER = TOP / "examples" / "copper"
 
 def words_of(case):
     """The words of a case as whole paths, `check` left out."""
-    near = {line.split()[0]: case / line.split()[1] for line in (case / "same-as").read_text().splitlines()} if (case / "same-as").exists() else {}
+    near = (
+        {
+            line.split()[0]: case / line.split()[1]
+            for line in (case / "same-as").read_text().splitlines()
+        }
+        if (case / "same-as").exists()
+        else {}
+    )
     words = (case / "words").read_text().split("\n")[1:]
-    return [word if word.startswith("--") else str(near.get(word, case / word)) for word in words if word]
+    return [
+        word if word.startswith("--") else str(near.get(word, case / word))
+        for word in words
+        if word
+    ]
 
 
 def plain(words, capsys):
@@ -34,13 +45,17 @@ def plain(words, capsys):
 
 def checked(words):
     """The line of `pit check`, and its exit status."""
-    ran = subprocess.run([os.environ["PIT"], "check", *map(str, words)], capture_output=True, text=True)
+    ran = subprocess.run(
+        [os.environ["PIT"], "check", *map(str, words)], capture_output=True, text=True
+    )
     return (ran.stdout or ran.stderr).strip(), ran.returncode
 
 
 @pytest.mark.parametrize("case", CASES, ids=lambda case: case.name)
 def test_it_answers_the_cases_as_they_ask(case, capsys):
-    wanted = "".join((case / name).read_text() for name in ("stdout", "stderr") if (case / name).exists()).strip()
+    wanted = "".join(
+        (case / name).read_text() for name in ("stdout", "stderr") if (case / name).exists()
+    ).strip()
     assert plain(words_of(case), capsys)[0] == wanted
 
 
@@ -57,16 +72,27 @@ def changed(lines, r):
     kind = r.choice(["number"] * 6 + ["gone", "doubled", "moved", "word", "cut"])
     if kind == "number" and numbers:
         i = r.choice(numbers)
-        words[i] = r.choice([str(int(words[i]) + r.choice([-1, 1, 10 ** 9])), "0", "-" + words[i], words[i] + "0", "0" + words[i], str(2 ** 127)])
+        words[i] = r.choice(
+            [
+                str(int(words[i]) + r.choice([-1, 1, 10**9])),
+                "0",
+                "-" + words[i],
+                words[i] + "0",
+                "0" + words[i],
+                str(2**127),
+            ]
+        )
         lines[at] = " ".join(words)
     elif kind == "word":
-        lines[at] = " ".join([r.choice(["PIT", "SOURCE", "REST", "SINK", "END", "pit", ""]), *words[1:]])
+        lines[at] = " ".join(
+            [r.choice(["PIT", "SOURCE", "REST", "SINK", "END", "pit", ""]), *words[1:]]
+        )
     elif kind == "doubled":
         lines.insert(at, lines[at])
     elif kind == "moved":
         lines.insert(r.randrange(len(lines)), lines.pop(at))
     elif kind == "cut":
-        return "\n".join(lines)[:r.randrange(1, 400)]
+        return "\n".join(lines)[: r.randrange(1, 400)]
     else:
         del lines[at]
     return "".join(line + "\n" for line in lines)
@@ -80,7 +106,9 @@ def agree(files, certificate, tmp_path, capsys, count, seed):
         path.write_text(changed(lines, r))
         ours, theirs = plain([*files, path], capsys), checked([*files, path])
         assert ours == theirs, path.read_text()
-        found[re.split(r"[ (]", ours[0].replace("REFUSED ", "").replace("fault: certificate ", ""))[0]] += 1
+        found[
+            re.split(r"[ (]", ours[0].replace("REFUSED ", "").replace("fault: certificate ", ""))[0]
+        ] += 1
     return found
 
 
@@ -96,8 +124,19 @@ def test_they_agree_on_faults_in_a_model_of_values(tmp_path, capsys):
 @pytest.mark.parametrize("group", ["pair", "scaled", "worth"])
 def test_they_agree_on_faults_in_a_model_of_a_mill(tmp_path, capsys, group):
     study = mines.study_of(tmp_path, mines.table(5, 4, 3, 8))
-    files = ["--prec", study.prec_file, "--blocks", study.blocks_file, "--settings", study.settings_file]
-    text = subprocess.run([os.environ["PIT"], "solve", *files, "--factor", "1000", "--group", group], capture_output=True, text=True).stdout
+    files = [
+        "--prec",
+        study.prec_file,
+        "--blocks",
+        study.blocks_file,
+        "--settings",
+        study.settings_file,
+    ]
+    text = subprocess.run(
+        [os.environ["PIT"], "solve", *files, "--factor", "1000", "--group", group],
+        capture_output=True,
+        text=True,
+    ).stdout
     assert text.startswith("PITCERT 2")
     found = agree(files, text, tmp_path, capsys, COUNT, group)
     assert len(found) >= 6, found
@@ -105,23 +144,43 @@ def test_they_agree_on_faults_in_a_model_of_a_mill(tmp_path, capsys, group):
 
 def test_they_agree_on_sound_certificates(tmp_path, capsys):
     for seed in range(6):
-        study = mines.study_of(tmp_path / str(seed), mines.table(6, 5, 4, seed)) if (tmp_path / str(seed)).mkdir() is None else None
-        files = ["--prec", study.prec_file, "--blocks", study.blocks_file, "--settings", study.settings_file]
+        study = (
+            mines.study_of(tmp_path / str(seed), mines.table(6, 5, 4, seed))
+            if (tmp_path / str(seed)).mkdir() is None
+            else None
+        )
+        files = [
+            "--prec",
+            study.prec_file,
+            "--blocks",
+            study.blocks_file,
+            "--settings",
+            study.settings_file,
+        ]
         for factor in (0, 700, 1300):
             path = tmp_path / f"{seed}-{factor}.cert"
-            found = Pit().best(Files(study.prec_file, study.blocks_file, study.settings_file), factor, path)
+            found = Pit().best(
+                Files(study.prec_file, study.blocks_file, study.settings_file), factor, path
+            )
             line, status = plain([*files, f"{path}.gz"], capsys)
             assert (line, status) == (f"ACCEPTED {found.count} {found.worth}", 0)
 
 
 def test_several_certificates_are_judged_in_one_reading_of_the_model(tmp_path, capsys, monkeypatch):
     lines = (COPPER / "copper.cert").read_text().splitlines()
-    texts = {"sound": lines, "less": [line for line in lines if line != "PIT 3"], "cut": lines[:-1], "other": [lines[0], "BLOCKS 7", *lines[2:]]}
+    texts = {
+        "sound": lines,
+        "less": [line for line in lines if line != "PIT 3"],
+        "cut": lines[:-1],
+        "other": [lines[0], "BLOCKS 7", *lines[2:]],
+    }
     for name, text in texts.items():
         (tmp_path / name).write_text("".join(line + "\n" for line in text))
     (tmp_path / "no.gz").write_bytes(b"not packed")
     read, predecessors = [], plainly.Predecessors
-    monkeypatch.setattr(plainly, "Predecessors", lambda *words: read.append(words) or predecessors(*words))
+    monkeypatch.setattr(
+        plainly, "Predecessors", lambda *words: read.append(words) or predecessors(*words)
+    )
     files = ["--prec", COPPER / "copper.prec", "--upit", COPPER / "copper.upit"]
     names = [*texts, "no.gz", "sound"]
     said, status = plain([*files, *(tmp_path / name for name in names)], capsys)
@@ -130,14 +189,31 @@ def test_several_certificates_are_judged_in_one_reading_of_the_model(tmp_path, c
     assert [status for _, status in alone] == [0, 1, 3, 3, 3, 0] and len(read) == 1 + len(names)
 
 
-@pytest.mark.parametrize("text, what", [("0 0 0 0 1 2\n1 0 0 0 1 2\n1 0 0 1 1 2\n", "second record"), ("0 0 0 0 x 2\n", "no decimal"), ("0 0 0 0 1\n", "column is missing"),
-                                        ("1 0 0 0 1 2\n", "numbered from 0"), ("0 0 0 0 -1 2\n", "below 0"), ("0 0.5 0 0 1 2\n", "coordinate")])
+@pytest.mark.parametrize(
+    "text, what",
+    [
+        ("0 0 0 0 1 2\n1 0 0 0 1 2\n1 0 0 1 1 2\n", "second record"),
+        ("0 0 0 0 x 2\n", "no decimal"),
+        ("0 0 0 0 1\n", "column is missing"),
+        ("1 0 0 0 1 2\n", "numbered from 0"),
+        ("0 0 0 0 -1 2\n", "below 0"),
+        ("0 0.5 0 0 1 2\n", "coordinate"),
+    ],
+)
 def test_a_model_that_cannot_be_read_is_told(tmp_path, capsys, text, what):
     (tmp_path / "b").write_text(text)
     (tmp_path / "p").write_text("")
     (tmp_path / "s").write_text("revenue = 0\ncost = 1\n")
     (tmp_path / "c").write_text("PITCERT 1\n")
-    words = ["--prec", tmp_path / "p", "--blocks", tmp_path / "b", "--settings", tmp_path / "s", tmp_path / "c"]
+    words = [
+        "--prec",
+        tmp_path / "p",
+        "--blocks",
+        tmp_path / "b",
+        "--settings",
+        tmp_path / "s",
+        tmp_path / "c",
+    ]
     line, status = plain(words, capsys)
     assert status == 3 and line.startswith("plainly: ") and what in line
     assert checked(words)[1] == 3
@@ -145,8 +221,21 @@ def test_a_model_that_cannot_be_read_is_told(tmp_path, capsys, text, what):
 
 def test_settings_that_are_no_text_are_told(tmp_path, capsys):
     """Without a word for it Python's own status is 1, which says that the certificate is refused."""
-    for name, data in {"b": b"0 0 0 0 1 2\n", "p": b"", "s": b"revenue = 0\ncost = 1 # \xe9\n", "c": b"PITCERT 1\n"}.items():
+    for name, data in {
+        "b": b"0 0 0 0 1 2\n",
+        "p": b"",
+        "s": b"revenue = 0\ncost = 1 # \xe9\n",
+        "c": b"PITCERT 1\n",
+    }.items():
         (tmp_path / name).write_bytes(data)
-    words = ["--prec", tmp_path / "p", "--blocks", tmp_path / "b", "--settings", tmp_path / "s", tmp_path / "c"]
+    words = [
+        "--prec",
+        tmp_path / "p",
+        "--blocks",
+        tmp_path / "b",
+        "--settings",
+        tmp_path / "s",
+        tmp_path / "c",
+    ]
     line, status = plain(words, capsys)
     assert status == 3 and line.startswith("plainly: ") and checked(words)[1] == 3

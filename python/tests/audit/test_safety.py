@@ -43,13 +43,77 @@ PACKAGE = TOP / "python" / "pitplan"
 MARKUP = "</script><script>alert(1)</script><img src=x onerror=alert(2)>[red]"
 
 ESCAPES = [
-    "__import__('os').system('touch {0}')", "@__import__('os').system('touch {0}')", "@os.system('touch {0}')", "open('{0}', 'w')", "exec('1')", "eval('1')",
-    "CU.values", "CU.__class__", "CU.__class__.__mro__[-1].__subclasses__()", "().__class__", "'a'.format", "'{{0.__class__}}'.format(CU)", "f'{{CU.__class__}}'",
-    "CU[0]", "[CU for CU in (1,)]", "(lambda: 1)()", "where.__globals__", "max.__self__", "column.__globals__", "column(column('CU'))", "column('CU').__class__",
-    "(x := 1)", "CU if CU else CU", "{{1: 2}}", "[1]", "(1, 2)", "{{1}}", "*CU", "CU; CU", "import os", "await CU", "yield", "None", "True", "...", "1j", "b'a'",
-    "print(1)", "getattr(CU, 'values')", "vars()", "globals()", "locals()", "max(*CU)", "max(a=1)", "where(1, 2)", "sqrt()", "np.load('x')", "pd.eval('1')", "CU @ CU", "CU << 9",
-    "1 .__class__", "CU in CU", "CU is CU", "__builtins__", "__name__", "self", "self.table", "9" * 3000, "(" * 500 + "1" + ")" * 500, "-" * 1500 + "1", "1" + "+1" * 900,
-    "9**9**9**9", "'a' * 999999999", "'a' + 'b'", "CU + 'a'", "'CU'", "", " ", "\x00", "1 if", "CU\nCU",
+    "__import__('os').system('touch {0}')",
+    "@__import__('os').system('touch {0}')",
+    "@os.system('touch {0}')",
+    "open('{0}', 'w')",
+    "exec('1')",
+    "eval('1')",
+    "CU.values",
+    "CU.__class__",
+    "CU.__class__.__mro__[-1].__subclasses__()",
+    "().__class__",
+    "'a'.format",
+    "'{{0.__class__}}'.format(CU)",
+    "f'{{CU.__class__}}'",
+    "CU[0]",
+    "[CU for CU in (1,)]",
+    "(lambda: 1)()",
+    "where.__globals__",
+    "max.__self__",
+    "column.__globals__",
+    "column(column('CU'))",
+    "column('CU').__class__",
+    "(x := 1)",
+    "CU if CU else CU",
+    "{{1: 2}}",
+    "[1]",
+    "(1, 2)",
+    "{{1}}",
+    "*CU",
+    "CU; CU",
+    "import os",
+    "await CU",
+    "yield",
+    "None",
+    "True",
+    "...",
+    "1j",
+    "b'a'",
+    "print(1)",
+    "getattr(CU, 'values')",
+    "vars()",
+    "globals()",
+    "locals()",
+    "max(*CU)",
+    "max(a=1)",
+    "where(1, 2)",
+    "sqrt()",
+    "np.load('x')",
+    "pd.eval('1')",
+    "CU @ CU",
+    "CU << 9",
+    "1 .__class__",
+    "CU in CU",
+    "CU is CU",
+    "__builtins__",
+    "__name__",
+    "self",
+    "self.table",
+    "9" * 3000,
+    "(" * 500 + "1" + ")" * 500,
+    "-" * 1500 + "1",
+    "1" + "+1" * 900,
+    "9**9**9**9",
+    "'a' * 999999999",
+    "'a' + 'b'",
+    "CU + 'a'",
+    "'CU'",
+    "",
+    " ",
+    "\x00",
+    "1 if",
+    "CU\nCU",
 ]
 # of these some are numbers, and no way out: they have to give a number for each row, or an error
 NUMBERS = {"-" * 1500 + "1", "1" + "+1" * 900}
@@ -78,26 +142,36 @@ def test_the_formulas_of_recheck_reach_no_more(tmp_path, text):
     row = {"CU": 0.5, "ROCK": "a"}
     told = recheck.Told()
     if not text.startswith("'a' *") and text != "9**9**9**9":
-        found = told.attempt("mining", lambda: float(recheck.Formula(text, lambda name: row[name]).value()))
+        found = told.attempt(
+            "mining", lambda: float(recheck.Formula(text, lambda name: row[name]).value())
+        )
         assert found is None or isinstance(found, float)
-        assert found is None or text in NUMBERS or re.fullmatch(r"[\d.+()-]+|True|\(+1\)+", text), text
+        assert (
+            found is None or text in NUMBERS or re.fullmatch(r"[\d.+()-]+|True|\(+1\)+", text)
+        ), text
     assert not list(tmp_path.iterdir())
 
 
 @pytest.mark.parametrize("text", ["9**9**9**9", "'a' * 999999999"])
 def test_the_formulas_of_recheck_end(text):
-    assert recheck.Told().attempt("mining", lambda: float(recheck.Formula(text, {}.__getitem__).value())) in (None, math.inf)
+    assert recheck.Told().attempt(
+        "mining", lambda: float(recheck.Formula(text, {}.__getitem__).value())
+    ) in (None, math.inf)
 
 
 def test_what_a_formula_may_do_it_does(table):
-    assert worked_out("where(CU > 1 and ROCK == 'b', max(CU, 2), -CU) * 2 ** 2", table, "mining").tolist() == [-2.0, 8.0]
+    assert worked_out(
+        "where(CU > 1 and ROCK == 'b', max(CU, 2), -CU) * 2 ** 2", table, "mining"
+    ).tolist() == [-2.0, 8.0]
 
 
 def calls_and_imports():
     for path in sorted(PACKAGE.rglob("*.py")):
         for node in ast.walk(ast.parse(path.read_text())):
             if isinstance(node, (ast.Import, ast.ImportFrom)):
-                yield path, "import " + " ".join([getattr(node, "module", None) or "", *(name.name for name in node.names)]), node
+                yield path, "import " + " ".join(
+                    [getattr(node, "module", None) or "", *(name.name for name in node.names)]
+                ), node
             elif isinstance(node, ast.Call):
                 yield path, ast.unparse(node.func), node
 
@@ -105,8 +179,17 @@ def calls_and_imports():
 def test_no_module_of_the_package_can_run_a_stranger_s_code():
     for path, name, node in calls_and_imports():
         last = name.split(".")[-1]
-        assert not re.match(r"import .*\b(pickle|marshal|shelve|dill|joblib|cloudpickle)\b", name), (path, name)
-        assert name not in ("eval", "exec", "compile", "__import__", "os.system", "os.popen") and last not in ("eval", "query", "read_pickle", "to_pickle", "getoutput"), (path, name)
+        assert not re.match(
+            r"import .*\b(pickle|marshal|shelve|dill|joblib|cloudpickle)\b", name
+        ), (path, name)
+        assert name not in (
+            "eval",
+            "exec",
+            "compile",
+            "__import__",
+            "os.system",
+            "os.popen",
+        ) and last not in ("eval", "query", "read_pickle", "to_pickle", "getoutput"), (path, name)
         if isinstance(node, ast.Call):
             words = {word.arg: ast.unparse(word.value) for word in node.keywords}
             assert words.get("shell", "False") == "False", (path, name)
@@ -137,14 +220,21 @@ def test_a_model_with_code_in_it_is_refused(tmp_path):
         store.load_model(tmp_path / "t.csv")
 
 
-STRANGE = mines.STUDY_TOML.replace('by = "SECTOR"', "").replace("angles = 45", 'angles = 45\nby = "SECTOR"\nregions = { "../../evil" = 40 }').replace(
-    'name = "copper"', f'name = "../../=cmd {MARKUP}"').replace("processing = {", f"currency = '../{MARKUP}'\nprocessing = {{ '=cmd()' = 8, \"../../{MARKUP}\" = 7,")
+STRANGE = (
+    mines.STUDY_TOML.replace('by = "SECTOR"', "")
+    .replace("angles = 45", 'angles = 45\nby = "SECTOR"\nregions = { "../../evil" = 40 }')
+    .replace('name = "copper"', f'name = "../../=cmd {MARKUP}"')
+    .replace(
+        "processing = {",
+        f"currency = '../{MARKUP}'\nprocessing = {{ '=cmd()' = 8, \"../../{MARKUP}\" = 7,",
+    )
+)
 
 
 def strange_mine():
     """A mine whose words are paths, formulas of a spreadsheet and markup."""
     frame = mines.table(7, 6, 4, 3)
-    frame["IJK"] = [f"=HYPERLINK(\"{i}\"){MARKUP}" for i in range(len(frame))]
+    frame["IJK"] = [f'=HYPERLINK("{i}"){MARKUP}' for i in range(len(frame))]
     frame["SECTOR"] = np.where(frame["SECTOR"] == "WEST", "../../evil", "=2+3")
     frame.loc[::5, "ROCK"] = "=cmd()"
     frame.loc[::7, "ROCK"] = f"../../{MARKUP}"
@@ -169,7 +259,11 @@ def strange(tmp_path_factory):
 
 def test_nothing_is_written_outside_the_study(strange):
     outer = strange.parents[2]
-    assert [path.relative_to(outer).as_posix() for path in sorted(outer.rglob("*")) if strange not in path.parents] == ["a", "a/b", "a/b/study"]
+    assert [
+        path.relative_to(outer).as_posix()
+        for path in sorted(outer.rglob("*"))
+        if strange not in path.parents
+    ] == ["a", "a/b", "a/b/study"]
     assert not [path for path in outer.rglob("*") if "evil" in path.name or "cmd" in path.name]
 
 
@@ -180,17 +274,24 @@ def test_words_are_no_markup_in_the_page(strange):
     for word in ("build", "shells", "page"):
         pitplan(word, plain)
     other = (plain / "out" / "pits.html").read_text()
-    assert [page.count(mark) for mark in ("<script", "</script", "<img", "<iframe")] == [other.count(mark) for mark in ("<script", "</script", "<img", "<iframe")]
+    assert [page.count(mark) for mark in ("<script", "</script", "<img", "<iframe")] == [
+        other.count(mark) for mark in ("<script", "</script", "<img", "<iframe")
+    ]
 
 
 def test_no_cell_that_pitplan_writes_is_a_formula(strange):
     found = 0
     for path in (*strange.glob("out/*.csv"), *strange.glob("bundle/tables/*.csv")):
         if path.name == "t.csv":
-            continue                         # the planner's own lines, byte for byte
+            continue  # the planner's own lines, byte for byte
         with open(path, newline="") as file:
             for row in csv.reader(file):
-                assert not [cell for cell in row if spreadsheets.FORMULA.match(cell) and not re.fullmatch(r"[+-]?[\d.]+(e[+-]?\d+)?", cell)], (path, row)
+                assert not [
+                    cell
+                    for cell in row
+                    if spreadsheets.FORMULA.match(cell)
+                    and not re.fullmatch(r"[+-]?[\d.]+(e[+-]?\d+)?", cell)
+                ], (path, row)
                 found += 1
     assert found > 20
 
@@ -207,14 +308,27 @@ def test_ids_are_no_formulas_where_the_table_is_gone(strange, tmp_path):
 
 
 def test_a_carriage_return_begins_no_row_in_what_is_written(tmp_path):
-    write_table(pd.DataFrame({"id": ["S\r=2+3", "=1", "a\nb", "-5"], "AU\r=1": [1, 2, 3, 4]}), tmp_path / "t.csv")
+    write_table(
+        pd.DataFrame({"id": ["S\r=2+3", "=1", "a\nb", "-5"], "AU\r=1": [1, 2, 3, 4]}),
+        tmp_path / "t.csv",
+    )
     with open(tmp_path / "t.csv", newline="") as file:
-        assert list(csv.reader(file)) == [["id", "AU =1"], ["S =2+3", "1"], ["'=1", "2"], ["a\nb", "3"], ["-5", "4"]]
+        assert list(csv.reader(file)) == [
+            ["id", "AU =1"],
+            ["S =2+3", "1"],
+            ["'=1", "2"],
+            ["a\nb", "3"],
+            ["-5", "4"],
+        ]
 
 
 def test_all_csv_is_written_by_one_function():
-    found = {path.name for path, name, node in calls_and_imports() if isinstance(node, ast.Call) and name.endswith(".to_csv")}
-    assert found == {"whole_file.py", "study.py"}      # the second writes the numbers of `.blocks`
+    found = {
+        path.name
+        for path, name, node in calls_and_imports()
+        if isinstance(node, ast.Call) and name.endswith(".to_csv")
+    }
+    assert found == {"whole_file.py", "study.py"}  # the second writes the numbers of `.blocks`
 
 
 def test_a_packed_table_that_unpacks_without_end_is_refused(tmp_path):
@@ -229,10 +343,14 @@ def test_a_packed_table_that_unpacks_without_end_is_refused(tmp_path):
 
 
 def test_a_packed_table_that_the_free_memory_does_not_take_is_refused(tmp_path, monkeypatch):
-    (tmp_path / "t.csv.gz").write_bytes(gzip.compress(b"".join(b"%d,0,0,0\n" % i for i in range(20000))))
+    (tmp_path / "t.csv.gz").write_bytes(
+        gzip.compress(b"".join(b"%d,0,0,0\n" % i for i in range(20000)))
+    )
     monkeypatch.setattr(csv_text, "SMALL", 1000)
     monkeypatch.setattr(csv_text, "free_memory", lambda: 300_000)
-    with pytest.raises(PlanError, match="unpacks to more than 100,000 bytes, which is what the free memory takes"):
+    with pytest.raises(
+        PlanError, match="unpacks to more than 100,000 bytes, which is what the free memory takes"
+    ):
         pp.read_table(tmp_path / "t.csv.gz", size=(1, 1, 1))
     monkeypatch.setattr(csv_text, "free_memory", lambda: 3_000_000)
     with pytest.raises(PlanError, match="isn't the header line"):
@@ -250,6 +368,7 @@ def test_the_names_of_very_many_columns_are_not_compared_pair_by_pair():
             nonlocal compared
             compared += 1
             return str.__eq__(self, other)
+
     names = [Name(f"c{i}") for i in range(40000)]
     csv_text.refuse_doubled(names, "t.csv")
     assert compared < 400_000
@@ -298,7 +417,10 @@ def test_who_may_write_in_what_is_written(tmp_path, umask):
         os.umask(before)
     for path in (bundle, *bundle.rglob("*")):
         assert mode_of(path) == (0o777 if path.is_dir() else 0o666) & ~umask, path
-    assert [mode_of(folder / name) for name in ("model", "runs/base/f01000")] == [0o775, 0o777 & ~umask & ~2]
+    assert [mode_of(folder / name) for name in ("model", "runs/base/f01000")] == [
+        0o775,
+        0o777 & ~umask & ~2,
+    ]
     assert {mode_of(path) for path in (folder / "out").iterdir()} == {0o666 & ~umask}
 
 
@@ -311,13 +433,75 @@ def changed(text, keys, value):
     return json.dumps(told)
 
 
-STRANGE_VALUES = [None, {}, [], "x", "../../x", -1, 1.5, 10 ** 400, math.nan, True, [[]], {"a": {}}, [None], "1" * 5000]
+STRANGE_VALUES = [
+    None,
+    {},
+    [],
+    "x",
+    "../../x",
+    -1,
+    1.5,
+    10**400,
+    math.nan,
+    True,
+    [[]],
+    {"a": {}},
+    [None],
+    "1" * 5000,
+]
 OF_STUDY = {
-    "model/manifest.json": [["key"], ["files"], ["files", "../../x"], ["files", "mine.prec"], ["blocks"], ["pairs"], ["offsets"], ["offsets", "default"], ["offsets", "default", 0], ["metals"],
-                            ["metals", "copper"], ["metals", "copper", "grade"], ["currency"], ["source"], ["source", "table"], ["source", "sha256"], ["pit"]],
-    "runs/base/f01000/verdict.json": [["factor"], ["count"], ["worth"], ["certificate"], ["bits"], ["model"], ["pit"], ["seconds"], ["host"]],
-    "vary/vary.json": [["study"], ["factor"], ["changes"], ["changes", 0], ["changes", 0, 0], ["changes", 0, 1]],
-    "risk/risk.json": [["study"], ["file"], ["column"], ["digests"], ["digests", 0], ["factors"], ["factors", 0], ["economics"], ["economics", "metals"], ["economics", "metals", 0, "price"], ["economics", "mining"]]}
+    "model/manifest.json": [
+        ["key"],
+        ["files"],
+        ["files", "../../x"],
+        ["files", "mine.prec"],
+        ["blocks"],
+        ["pairs"],
+        ["offsets"],
+        ["offsets", "default"],
+        ["offsets", "default", 0],
+        ["metals"],
+        ["metals", "copper"],
+        ["metals", "copper", "grade"],
+        ["currency"],
+        ["source"],
+        ["source", "table"],
+        ["source", "sha256"],
+        ["pit"],
+    ],
+    "runs/base/f01000/verdict.json": [
+        ["factor"],
+        ["count"],
+        ["worth"],
+        ["certificate"],
+        ["bits"],
+        ["model"],
+        ["pit"],
+        ["seconds"],
+        ["host"],
+    ],
+    "vary/vary.json": [
+        ["study"],
+        ["factor"],
+        ["changes"],
+        ["changes", 0],
+        ["changes", 0, 0],
+        ["changes", 0, 1],
+    ],
+    "risk/risk.json": [
+        ["study"],
+        ["file"],
+        ["column"],
+        ["digests"],
+        ["digests", 0],
+        ["factors"],
+        ["factors", 0],
+        ["economics"],
+        ["economics", "metals"],
+        ["economics", "metals", 0, "price"],
+        ["economics", "mining"],
+    ],
+}
 
 
 @pytest.fixture(scope="module")
@@ -357,9 +541,28 @@ def test_what_stands_in_a_study_is_read_by_a_checked_reader(asked_for, name):
                 try:
                     use(asked_for)
                 except PlanError as error:
-                    assert str(asked_for) in str(error) or "over this model" in str(error) or keys[0] == "economics" and "mining" in str(error), (keys, value, error)
+                    assert (
+                        str(asked_for) in str(error)
+                        or "over this model" in str(error)
+                        or keys[0] == "economics"
+                        and "mining" in str(error)
+                    ), (keys, value, error)
                 else:
-                    assert keys[-1] != "../../x" and value != "../../x" or keys[-1] in ("currency", "grade", "host", "study", "model", "table", "file", "mining"), (keys, value)
+                    assert (
+                        keys[-1] != "../../x"
+                        and value != "../../x"
+                        or keys[-1]
+                        in (
+                            "currency",
+                            "grade",
+                            "host",
+                            "study",
+                            "model",
+                            "table",
+                            "file",
+                            "mining",
+                        )
+                    ), (keys, value)
     finally:
         path.write_text(kept)
 
@@ -389,32 +592,60 @@ def test_a_manifest_names_no_file_of_another_folder(asked_for):
         path.write_text(kept)
 
 
-@pytest.mark.parametrize("where, text", [("angles", "angles = {0}"), ("regions", 'angles = 45\nby = "SECTOR"\nregions = {{ WEST = [[0, {0}]] }}'), ("processing", "processing = {{ OXI = {0}, SUL = 9.0 }}"),
-                                         ("size", "size = [20, 20, {0}]"), ("factors", "factors = [0.6, {0}]"), ("mining_rate", "mining_rate = {0}")])
+@pytest.mark.parametrize(
+    "where, text",
+    [
+        ("angles", "angles = {0}"),
+        ("regions", 'angles = 45\nby = "SECTOR"\nregions = {{ WEST = [[0, {0}]] }}'),
+        ("processing", "processing = {{ OXI = {0}, SUL = 9.0 }}"),
+        ("size", "size = [20, 20, {0}]"),
+        ("factors", "factors = [0.6, {0}]"),
+        ("mining_rate", "mining_rate = {0}"),
+    ],
+)
 @pytest.mark.parametrize("digits", [400, 5000])
 def test_a_number_of_very_many_digits_is_told(tmp_path, where, text, digits):
-    line = {"regions": "angles = 45", "processing": "processing = { OXI = 7.5, SUL = 9.0 }", "size": "size = [20, 20, 15]", "factors": "factors = [0.6, 1.0, 1.2]", "mining_rate": "mining_rate = 1e6"}.get(where, "angles = 45")
+    line = {
+        "regions": "angles = 45",
+        "processing": "processing = { OXI = 7.5, SUL = 9.0 }",
+        "size": "size = [20, 20, 15]",
+        "factors": "factors = [0.6, 1.0, 1.2]",
+        "mining_rate": "mining_rate = 1e6",
+    }.get(where, "angles = 45")
     assert line in mines.STUDY_TOML
-    (tmp_path / "study.toml").write_text(mines.STUDY_TOML.replace(line, text.format("1" + "0" * digits)))
-    with pytest.raises(PlanError, match=f"{where}.* has a number of very many digits" if digits == 400 else "isn't TOML"):
+    (tmp_path / "study.toml").write_text(
+        mines.STUDY_TOML.replace(line, text.format("1" + "0" * digits))
+    )
+    with pytest.raises(
+        PlanError,
+        match=f"{where}.* has a number of very many digits" if digits == 400 else "isn't TOML",
+    ):
         read_study_file(tmp_path)
 
 
-@pytest.mark.parametrize("shape", [(-1, 48), (2, -48), (10 ** 15, 48), (), (2, 48, 1)])
+@pytest.mark.parametrize("shape", [(-1, 48), (2, -48), (10**15, 48), (), (2, 48, 1)])
 def test_realisations_of_a_strange_shape_are_told(asked_for, tmp_path, shape):
     with open(tmp_path / "r.npy", "wb") as file:
-        np.lib.format.write_array_header_1_0(file, {"descr": "<f8", "fortran_order": False, "shape": shape})
+        np.lib.format.write_array_header_1_0(
+            file, {"descr": "<f8", "fortran_order": False, "shape": shape}
+        )
         file.write(bytes(8 * 96))
     with pytest.raises(PlanError, match="r.npy"):
         risk.prepare(pp.Study(asked_for), mines.costs(), tmp_path / "r.npy", [1000])
 
 
-@pytest.mark.parametrize("typed", ["/opt/a\\b/pitplan", r"'/opt/C:\new\table' \\x", 'a "b" {c}', "a\nb"])
+@pytest.mark.parametrize(
+    "typed", ["/opt/a\\b/pitplan", r"'/opt/C:\new\table' \\x", 'a "b" {c}', "a\nb"]
+)
 def test_a_snakefile_starts_the_very_command(asked_for, monkeypatch, typed):
     monkeypatch.setattr(engines, "command", lambda: typed)
-    text = (engines.write_snakefile(pp.Study(asked_for), [Task("run", "base", (1000,))]) / "Snakefile").read_text()
+    text = (
+        engines.write_snakefile(pp.Study(asked_for), [Task("run", "base", (1000,))]) / "Snakefile"
+    ).read_text()
     said = ast.literal_eval(text.split("    shell: ")[1].strip())
-    assert said.format(wildcards=SimpleNamespace(i=7)).startswith(f"{typed} task . $(sed -n 7p submit/")
+    assert said.format(wildcards=SimpleNamespace(i=7)).startswith(
+        f"{typed} task . $(sed -n 7p submit/"
+    )
 
 
 def test_a_file_called_log_hinders_no_task_and_is_told(asked_for):
@@ -423,18 +654,28 @@ def test_a_file_called_log_hinders_no_task_and_is_told(asked_for):
     task = Task("run", "base", (1000,))
     try:
         assert Tasks(asked_for).do(task) == 0
-        assert [state.state for state in states(pp.Study(asked_for), [task, Task("run", "base", (555,))], {})] == ["done", "to do"]
-        with pytest.raises(PlanError, match="log is a file, and what tasks say is kept in a folder of that name"):
+        assert [
+            state.state
+            for state in states(pp.Study(asked_for), [task, Task("run", "base", (555,))], {})
+        ] == ["done", "to do"]
+        with pytest.raises(
+            PlanError, match="log is a file, and what tasks say is kept in a folder of that name"
+        ):
             engines.listed(pp.Study(asked_for), [task])
     finally:
         (asked_for / "log").unlink()
 
 
 def test_a_pit_takes_no_negative_time_where_the_clock_is_set_back(asked_for, monkeypatch):
-    monkeypatch.setattr(time, "time", itertools.count(10 ** 9, -1000).__next__)
+    monkeypatch.setattr(time, "time", itertools.count(10**9, -1000).__next__)
     study = pp.Study(asked_for)
     study.run_series([777])
     assert 0 <= study.verdict(777)["seconds"] < 500 and study.verdict(777)["factor"] == 777
     verdict = study.place(777) / "verdict.json"
-    verdict.write_text(changed(verdict.read_text(), ["seconds"], -7.5))      # of an older pitplan
-    assert seconds_left(study, states(study, [Task("run", "base", (777,)), Task("run", "base", (778,))], {})) == 0
+    verdict.write_text(changed(verdict.read_text(), ["seconds"], -7.5))  # of an older pitplan
+    assert (
+        seconds_left(
+            study, states(study, [Task("run", "base", (777,)), Task("run", "base", (778,))], {})
+        )
+        == 0
+    )

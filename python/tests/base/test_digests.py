@@ -7,7 +7,7 @@ import pytest
 
 from pitplan.base import digests
 
-GRAIN = 0.05                                 # seconds: more than the grain of the system's clock for files
+GRAIN = 0.05  # seconds: more than the grain of the system's clock for files
 
 
 @pytest.fixture
@@ -52,8 +52,10 @@ def test_a_file_that_is_left_alone_is_read_once(tmp_path, at_once):
     path = tmp_path / "a"
     path.write_bytes(b"first")
     time.sleep(GRAIN)
-    assert [digests.sha256_unless_known(path) for _ in range(3)] == [digest(b"first")] * 3 and len(at_once) == 1
-    path.read_bytes()                        # to read it changes nothing
+    assert [digests.sha256_unless_known(path) for _ in range(3)] == [digest(b"first")] * 3 and len(
+        at_once
+    ) == 1
+    path.read_bytes()  # to read it changes nothing
     assert digests.sha256_unless_known(path) == digest(b"first") and len(at_once) == 1
 
 
@@ -72,7 +74,11 @@ def test_a_file_that_changes_while_it_is_read_isnt_known(tmp_path, at_once, monk
     path, read = tmp_path / "a", digests.sha256
     path.write_bytes(b"first")
     time.sleep(GRAIN)
-    monkeypatch.setattr(digests, "sha256", lambda name: (read(name), time.sleep(GRAIN), written_again(path, b"other"))[0])
+    monkeypatch.setattr(
+        digests,
+        "sha256",
+        lambda name: (read(name), time.sleep(GRAIN), written_again(path, b"other"))[0],
+    )
     assert digests.sha256_unless_known(path) == digest(b"first")
     monkeypatch.setattr(digests, "sha256", read)
     assert digests.sha256_unless_known(path) == digest(b"other")
@@ -81,23 +87,34 @@ def test_a_file_that_changes_while_it_is_read_isnt_known(tmp_path, at_once, monk
 def coarse(monkeypatch):
     """A system whose clock for files tells the same for a thousand seconds."""
     fine = digests.stamp_of
-    monkeypatch.setattr(digests, "stamp_of", lambda path: (told := fine(path))._replace(written=told.written // 10 ** 12 * 10 ** 12, changed=told.changed // 10 ** 12 * 10 ** 12))
+    monkeypatch.setattr(
+        digests,
+        "stamp_of",
+        lambda path: (told := fine(path))._replace(
+            written=told.written // 10**12 * 10**12, changed=told.changed // 10**12 * 10**12
+        ),
+    )
 
 
-@pytest.mark.parametrize("change", [put_in_its_place, linked_elsewhere, lambda path, text: path.write_bytes(text * 2)])
+@pytest.mark.parametrize(
+    "change", [put_in_its_place, linked_elsewhere, lambda path, text: path.write_bytes(text * 2)]
+)
 def test_another_file_is_known_by_more_than_its_times(tmp_path, at_once, monkeypatch, change):
     coarse(monkeypatch)
     path = tmp_path / "a"
     path.write_bytes(b"first")
     digests.sha256_unless_known(path)
     change(path, b"other")
-    assert digests.sha256_unless_known(path) == digest(path.read_bytes()) != digest(b"first") and len(at_once) == 2
+    assert (
+        digests.sha256_unless_known(path) == digest(path.read_bytes()) != digest(b"first")
+        and len(at_once) == 2
+    )
 
 
 def test_a_change_within_the_grain_of_the_clock_is_seen(tmp_path, monkeypatch):
     """Changes of as many bytes and at the same time, as far as the system tells: what was touched so lately isn't known at all."""
     coarse(monkeypatch)
-    monkeypatch.setattr(digests, "SETTLED", 10 ** 12)
+    monkeypatch.setattr(digests, "SETTLED", 10**12)
     path = tmp_path / "a"
     path.write_bytes(b"%06d" % 0)
     for n in range(1, 20):
@@ -106,4 +123,4 @@ def test_a_change_within_the_grain_of_the_clock_is_seen(tmp_path, monkeypatch):
 
 
 def test_what_counts_as_lately_is_more_than_the_grain_of_any_clock_for_files():
-    assert digests.SETTLED >= 2 * 10 ** 9
+    assert digests.SETTLED >= 2 * 10**9

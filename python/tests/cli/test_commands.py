@@ -32,32 +32,60 @@ def test_from_a_table_to_shells(tmp_path):
     assert pitplan("init", "mine.csv", cwd=tmp_path).returncode == 0
     study = tmp_path / "mine"
     told = read_study_file(study)
-    assert told.keys.size == [20, 20, 15] and [m.name for m in told.economics.metals] == ["copper", "gold"] and told.table.resolve() == tmp_path / "mine.csv"
-    text = (study / "study.toml").read_text().replace("factors = { from = 0.30, to = 1.20, step = 0.05 }", "factors = [0.5, 1.0, 1.5]")
+    assert (
+        told.keys.size == [20, 20, 15]
+        and [m.name for m in told.economics.metals] == ["copper", "gold"]
+        and told.table.resolve() == tmp_path / "mine.csv"
+    )
+    text = (
+        (study / "study.toml")
+        .read_text()
+        .replace("factors = { from = 0.30, to = 1.20, step = 0.05 }", "factors = [0.5, 1.0, 1.5]")
+    )
     (study / "study.toml").write_text(text)
-    built = pitplan("build", "mine", cwd=tmp_path)                       # the other commands name it from elsewhere
-    assert built.returncode == 0 and "pairs" in built.stdout and "SUL" in built.stdout and "MB" in built.stdout
+    built = pitplan("build", "mine", cwd=tmp_path)  # the other commands name it from elsewhere
+    assert (
+        built.returncode == 0
+        and "pairs" in built.stdout
+        and "SUL" in built.stdout
+        and "MB" in built.stdout
+    )
     ran = pitplan("shells", study)
-    assert ran.returncode == 0 and "factor 1 proved" in ran.stderr and "pit by pit" in ran.stdout, ran.stderr
+    assert (
+        ran.returncode == 0 and "factor 1 proved" in ran.stderr and "pit by pit" in ran.stdout
+    ), ran.stderr
     pits = pd.read_csv(study / "out/pit_by_pit.csv")
     back = pd.read_csv(study / "out/mine.csv")
     assert pits.factor.tolist() == [0.5, 1.0, 1.5] and back.drop(columns="pit_shell").equals(f)
-    assert (back.pit_shell <= 1.0).sum() == pits.blocks[1] and pd.read_csv(study / "out/benches.csv").blocks.sum() == pits.blocks[2]
+    assert (back.pit_shell <= 1.0).sum() == pits.blocks[1] and pd.read_csv(
+        study / "out/benches.csv"
+    ).blocks.sum() == pits.blocks[2]
     again = pitplan("shells", ".", cwd=study)
     assert again.returncode == 0 and again.stdout.replace(str(study), "").count("pit by pit") == 1
     # what was built counts only as long as study.toml says the same
     (study / "study.toml").write_text(text.replace("mining = 2.50", "mining = 2.60"))
     stale = pitplan("shells", study)
-    assert stale.returncode == 3 and "has changed since the study was built" in stale.stderr and hinted(stale) == [PITPLAN, "build", str(study)]
+    assert (
+        stale.returncode == 3
+        and "has changed since the study was built" in stale.stderr
+        and hinted(stale) == [PITPLAN, "build", str(study)]
+    )
     (study / "study.toml").write_text(text)
     f.assign(CU=f.CU + 1).to_csv(tmp_path / "mine.csv", index=False)
     assert "the table has changed" in pitplan("shells", study).stderr
     assert pitplan("init", "mine.csv", cwd=tmp_path).returncode == 3
 
 
-@pytest.mark.parametrize("words, status, said", [
-    (("build", "nowhere"), 3, "isn't there"), (("shells", "nowhere"), 3, "isn't there"), (("init", "nowhere.csv"), 3, "no such file"),
-    (("biuld",), 2, "No such command"), (("shells", ".", "--workers", "0"), 2, "--workers")])
+@pytest.mark.parametrize(
+    "words, status, said",
+    [
+        (("build", "nowhere"), 3, "isn't there"),
+        (("shells", "nowhere"), 3, "isn't there"),
+        (("init", "nowhere.csv"), 3, "no such file"),
+        (("biuld",), 2, "No such command"),
+        (("shells", ".", "--workers", "0"), 2, "--workers"),
+    ],
+)
 def test_wrong_words_and_files_have_their_status(tmp_path, words, status, said):
     ran = pitplan(*words, cwd=tmp_path)
     assert ran.returncode == status and said in ran.stderr and "Traceback" not in ran.stderr
@@ -65,51 +93,125 @@ def test_wrong_words_and_files_have_their_status(tmp_path, words, status, said):
 
 def test_shells_before_build_says_so(tmp_path):
     ran = pitplan("shells", written_study(tmp_path / "s"))
-    assert ran.returncode == 3 and "never built" in ran.stderr and hinted(ran) == [PITPLAN, "build", str(tmp_path / "s")]
+    assert (
+        ran.returncode == 3
+        and "never built" in ran.stderr
+        and hinted(ran) == [PITPLAN, "build", str(tmp_path / "s")]
+    )
 
 
 def test_each_hint_can_be_pasted(tmp_path):
     """What an error says to try is typed as it stands, until pitplan has nothing more to say; also where the folder has a space, a
     study.toml has another name, and the command is found on the path."""
-    written_study(tmp_path / "my mine").joinpath("study.toml").rename(tmp_path / "my mine" / "high price.toml")
+    written_study(tmp_path / "my mine").joinpath("study.toml").rename(
+        tmp_path / "my mine" / "high price.toml"
+    )
     path = f"{linked(tmp_path / 'bin')}:{os.environ['PATH']}"
     typed, said = "pitplan phases 0.6,1 'my mine/high price.toml'", []
     while typed and len(said) < 6:
-        ran = subprocess.run(["bash", "-c", typed], capture_output=True, text=True, cwd=tmp_path, env={**os.environ, "PATH": path})
+        ran = subprocess.run(
+            ["bash", "-c", typed],
+            capture_output=True,
+            text=True,
+            cwd=tmp_path,
+            env={**os.environ, "PATH": path},
+        )
         said.append(typed)
-        typed = next(iter(re.findall(r"try: (.*)" if ran.returncode else r"then: (.*)", ran.stderr + ran.stdout)), "")
-    assert said == ["pitplan phases 0.6,1 'my mine/high price.toml'", "pitplan build 'my mine/high price.toml'", "pitplan shells 'my mine/high price.toml'"], ran.stderr
+        typed = next(
+            iter(
+                re.findall(
+                    r"try: (.*)" if ran.returncode else r"then: (.*)", ran.stderr + ran.stdout
+                )
+            ),
+            "",
+        )
+    assert said == [
+        "pitplan phases 0.6,1 'my mine/high price.toml'",
+        "pitplan build 'my mine/high price.toml'",
+        "pitplan shells 'my mine/high price.toml'",
+    ], ran.stderr
 
 
 def test_tables_of_the_model_before_are_set_aside(tmp_path):
     """What pitplan wrote of another model goes to out/older; what is the user's stays, also a table that he wrote something into."""
     study = written_study(tmp_path / "s")
     text = (study / "study.toml").read_text()
-    for words in (("slopes",), ("build",), ("shells",), ("phases", "0.6,1"), ("compare", "--column", "CU")):
-        ran = pitplan(words[0], *words[1:2] if words[0] == "phases" else (), study, *words[1:] if words[0] == "compare" else ())
-        assert ran.returncode == (words[0] == "compare"), ran.stderr          # all that has copper is no pit
+    for words in (
+        ("slopes",),
+        ("build",),
+        ("shells",),
+        ("phases", "0.6,1"),
+        ("compare", "--column", "CU"),
+    ):
+        ran = pitplan(
+            words[0],
+            *words[1:2] if words[0] == "phases" else (),
+            study,
+            *words[1:] if words[0] == "compare" else (),
+        )
+        assert ran.returncode == (
+            words[0] == "compare"
+        ), ran.stderr  # all that has copper is no pit
     out = study / "out"
     (out / "mine.txt").write_text("of my own")
     (out / "benches.csv").write_text("a word of mine\n" + (out / "benches.csv").read_text())
-    before = {path.relative_to(out).as_posix(): path.read_bytes() for path in out.rglob("*") if path.is_file() and not path.name.startswith(".")}
-    assert {"pit_by_pit.csv", "t.csv", "phases.csv", "slopes.csv", "slopes.png", "compare-CU/summary.json"} <= set(before)
+    before = {
+        path.relative_to(out).as_posix(): path.read_bytes()
+        for path in out.rglob("*")
+        if path.is_file() and not path.name.startswith(".")
+    }
+    assert {
+        "pit_by_pit.csv",
+        "t.csv",
+        "phases.csv",
+        "slopes.csv",
+        "slopes.png",
+        "compare-CU/summary.json",
+    } <= set(before)
 
     def files():
-        return {path.relative_to(out).as_posix(): path.read_bytes() for path in out.rglob("*") if path.is_file() and not path.name.startswith(".")}
+        return {
+            path.relative_to(out).as_posix(): path.read_bytes()
+            for path in out.rglob("*")
+            if path.is_file() and not path.name.startswith(".")
+        }
+
     again = pitplan("build", study)
-    assert again.returncode == 0 and files() == before and "model before" not in again.stdout + again.stderr     # the same model
+    assert (
+        again.returncode == 0
+        and files() == before
+        and "model before" not in again.stdout + again.stderr
+    )  # the same model
     (study / "study.toml").write_text(text.replace("mining = 2.0", "mining = 2.1"))
     ran = pitplan("build", study)
     stay = {"mine.txt", "benches.csv", "slopes.csv", "slopes.png"}
-    assert {name: data for name, data in files().items()} == {name if name in stay else f"older/{name}": data for name, data in before.items()}
-    assert ran.returncode == 0 and f"{out}/older has what was written of the model before" in ran.stdout and "pit_by_pit.csv" in ran.stdout
-    assert ran.stderr.count("model before") == 1 and f"{out}/benches.csv is of the model before" in ran.stderr
+    assert {name: data for name, data in files().items()} == {
+        name if name in stay else f"older/{name}": data for name, data in before.items()
+    }
+    assert (
+        ran.returncode == 0
+        and f"{out}/older has what was written of the model before" in ran.stdout
+        and "pit_by_pit.csv" in ran.stdout
+    )
+    assert (
+        ran.stderr.count("model before") == 1
+        and f"{out}/benches.csv is of the model before" in ran.stderr
+    )
     (study / "study.toml").write_text(text.replace("angles = 45", "angles = 44"))
-    assert "slopes.csv, slopes.png" in pitplan("build", study).stdout and stay - set(files()) == {"slopes.csv", "slopes.png"}
+    assert "slopes.csv, slopes.png" in pitplan("build", study).stdout and stay - set(files()) == {
+        "slopes.csv",
+        "slopes.png",
+    }
 
 
 def test_help_needs_no_study_and_no_pit(tmp_path):
-    ran = subprocess.run([PITPLAN, "--help"], cwd=tmp_path, capture_output=True, text=True, env={**os.environ, "PIT": "/nowhere"})      # no fork of the server: its own start
+    ran = subprocess.run(
+        [PITPLAN, "--help"],
+        cwd=tmp_path,
+        capture_output=True,
+        text=True,
+        env={**os.environ, "PIT": "/nowhere"},
+    )  # no fork of the server: its own start
     assert ran.returncode == 0 and all(name in ran.stdout for name in ("init", "build", "shells"))
 
 
@@ -127,7 +229,11 @@ except SystemExit:
 def test_a_command_loads_what_it_needs():
     """What help and errors look like, and pandas, wait until somebody asks for them."""
     for word, loaded in (("--version", ""), ("--help", "typer.rich_utils rich.markdown")):
-        ran = subprocess.run(["/usr/bin/python3", "-I", "-c", LOADED.format(str(TOP / "python"), word)], capture_output=True, text=True)
+        ran = subprocess.run(
+            ["/usr/bin/python3", "-I", "-c", LOADED.format(str(TOP / "python"), word)],
+            capture_output=True,
+            text=True,
+        )
         assert ran.stdout.splitlines()[-1] == loaded, ran.stdout + ran.stderr
 
 
@@ -137,6 +243,7 @@ def test_ctrl_c_while_a_module_is_loaded_is_no_other_error(tmp_path, monkeypatch
     monkeypatch.syspath_prepend(str(tmp_path))
     later.lazily("slow_module")
     import slow_module
+
     for _ in range(2):
         with pytest.raises(KeyboardInterrupt):
             try:
@@ -160,7 +267,9 @@ def test_what_a_killed_build_and_bundle_left_is_taken_away(tmp_path):
         (folder / name).mkdir()
     for words in (("build", folder), ("shells", folder), ("bundle", folder / "for me", folder)):
         assert pitplan(*words).returncode == 0
-    assert sorted(path.name for path in folder.iterdir() if path.name.startswith(".")) == [f".model.{host()}.{os.getpid()}.abcdefgh"]
+    assert sorted(path.name for path in folder.iterdir() if path.name.startswith(".")) == [
+        f".model.{host()}.{os.getpid()}.abcdefgh"
+    ]
 
 
 def test_a_missing_pit_is_told(tmp_path):
@@ -175,8 +284,17 @@ def test_markup_in_names_does_no_harm(tmp_path):
     ran = pitplan("build", written_study(tmp_path / "s", f, text))
     assert ran.returncode == 0 and "SUL[/bold]" in ran.stdout, ran.stderr
     folder = written_study(tmp_path / "mine [bold]", f, text)
-    for words in (("build", folder), ("slopes", folder), ("shells", folder), ("plot", folder), ("page", folder), ("phases", "0.6,1.2", folder), ("export", folder, "--to", "csv"),
-                  ("vary", folder, "price=-10"), ("bundle", tmp_path / "b [bold]", folder)):
+    for words in (
+        ("build", folder),
+        ("slopes", folder),
+        ("shells", folder),
+        ("plot", folder),
+        ("page", folder),
+        ("phases", "0.6,1.2", folder),
+        ("export", folder, "--to", "csv"),
+        ("vary", folder, "price=-10"),
+        ("bundle", tmp_path / "b [bold]", folder),
+    ):
         ran = pitplan(*words)
         assert ran.returncode == 0 and " [bold]" in ran.stdout, (words, ran.stdout, ran.stderr)
 
@@ -196,7 +314,12 @@ def test_init_sees_marks_sub_blocks_and_descriptions(tmp_path):
     lines = f.to_csv(index=False).splitlines(keepends=True)
     (tmp_path / "t.csv").write_text(lines[0] + "Variable types:,,,,,,,,,,,\n" + "".join(lines[1:]))
     look = first_look.look_at(tmp_path / "t.csv")
-    assert look.absent == ["-99"] and look.has_sub_blocks and look.size == (20, 20, 15) and look.dialect.skip == 1
+    assert (
+        look.absent == ["-99"]
+        and look.has_sub_blocks
+        and look.size == (20, 20, 15)
+        and look.dialect.skip == 1
+    )
     text = first_look.written(look, "t.csv")
     (tmp_path / "study.toml").write_text(text)
     told = read_study_file(tmp_path)
@@ -215,26 +338,48 @@ def test_init_offers_no_mark_where_a_place_is_none(tmp_path):
     f = table(4, 4, 3, 3).astype({"XC": object})
     f.loc[3, "XC"] = ""
     f.to_csv(tmp_path / "t.csv", index=False)
-    with pytest.raises(PlanError, match="row 5, column XC: the cell is empty\n  try: fill its place in, or take the row out"):
+    with pytest.raises(
+        PlanError,
+        match="row 5, column XC: the cell is empty\n  try: fill its place in, or take the row out",
+    ):
         first_look.look_at(tmp_path / "t.csv")
 
 
-@pytest.mark.parametrize("column, values, wanted", [
-    ("SECTOR", None, ("SECTOR", ["EAST", "WEST"])), ("Dominio geotécnico", None, ("Dominio geotécnico", ["EAST", "WEST"])), ("GEOTECH", [1, 2, None], ("GEOTECH", ["1", "2"])),
-    ("CLASS", None, ("", [])), ("SECTOR", [f"S{n}" for n in range(13)], ("", [])), ("SECTOR", ["all"], ("", []))])
+@pytest.mark.parametrize(
+    "column, values, wanted",
+    [
+        ("SECTOR", None, ("SECTOR", ["EAST", "WEST"])),
+        ("Dominio geotécnico", None, ("Dominio geotécnico", ["EAST", "WEST"])),
+        ("GEOTECH", [1, 2, None], ("GEOTECH", ["1", "2"])),
+        ("CLASS", None, ("", [])),
+        ("SECTOR", [f"S{n}" for n in range(13)], ("", [])),
+        ("SECTOR", ["all"], ("", [])),
+    ],
+)
 def test_init_names_the_column_of_regions(tmp_path, column, values, wanted):
     f = table(6, 5, 4, 3)
-    f = f.rename(columns={"SECTOR": column}).assign(**({column: np.resize(np.array(values, object), len(f))} if values else {}))
+    f = f.rename(columns={"SECTOR": column}).assign(
+        **({column: np.resize(np.array(values, object), len(f))} if values else {})
+    )
     f.to_csv(tmp_path / "t.csv", index=False)
     look = first_look.look_at(tmp_path / "t.csv")
     assert (look.region, look.regions) == wanted
-    if look.region:                          # with the marks of comments taken away it is a study whose slopes go by that column
-        text = first_look.written(look, "t.csv").replace('# by = "', 'by = "').replace("# regions = {", "regions = {")
+    if (
+        look.region
+    ):  # with the marks of comments taken away it is a study whose slopes go by that column
+        text = (
+            first_look.written(look, "t.csv")
+            .replace('# by = "', 'by = "')
+            .replace("# regions = {", "regions = {")
+        )
         (tmp_path / "study.toml").write_text(text)
         slopes = read_study_file(tmp_path).slopes
         assert slopes.by == column and dict(slopes.regions) == dict.fromkeys(look.regions, 45)
         said = pitplan("init", "t.csv", cwd=tmp_path)
-        assert f"regions of slopes, if you want them: {column} ({', '.join(look.regions)})" in said.stdout, said.stderr
+        assert (
+            f"regions of slopes, if you want them: {column} ({', '.join(look.regions)})"
+            in said.stdout
+        ), said.stderr
 
 
 def test_no_cell_of_a_table_ends_a_line_of_study_toml(tmp_path):
@@ -267,6 +412,7 @@ def test_every_key_that_init_writes_is_known_and_explained(tmp_path):
     from dataclasses import fields
     from pitplan.model.economics import Economics, Metal
     from pitplan.model.model import TableKeys
+
     for f in (*fields(TableKeys), *fields(Economics), *fields(Metal)):
         assert f.name in text or f.name in ("decimal", "encoding", "skip"), f.name
 
@@ -277,39 +423,68 @@ def test_commas_beside_marks_and_column_names_of_ones_own(tmp_path):
     f.loc[3, "CU"], f.loc[20, "CU"] = "-", "<0,01"
     f.to_csv(tmp_path / "t.csv", index=False, sep=";", decimal=",")
     lost = pitplan("init", "t.csv", cwd=tmp_path)
-    assert lost.returncode == 3 and "no column is known as x, y" in lost.stderr and "pitplan init t.csv --column x=xx --column y=yy\n" in lost.stderr
+    assert (
+        lost.returncode == 3
+        and "no column is known as x, y" in lost.stderr
+        and "pitplan init t.csv --column x=xx --column y=yy\n" in lost.stderr
+    )
     found = pitplan("init", "t.csv", "--column", "x=xx", "-c", "y=yy", cwd=tmp_path)
     assert found.returncode == 0, found.stderr
     told = read_study_file(tmp_path / "t")
-    assert list(told.keys.absent) == ["-", "<0,01"] and "CU" in [m.grade for m in told.economics.metals]
+    assert list(told.keys.absent) == ["-", "<0,01"] and "CU" in [
+        m.grade for m in told.economics.metals
+    ]
     ran = pitplan("build", "t", cwd=tmp_path)
     assert ran.returncode == 0, ran.stderr
 
 
 def test_spanish_names_are_known_and_the_nearest_is_offered(tmp_path):
-    f = table(6, 5, 4, 3).rename(columns={"XC": "X_CENTRO", "YC": "Y_CENTRO", "ZC": "Z_CENTRO", "ROCK": "ZONA"})
+    f = table(6, 5, 4, 3).rename(
+        columns={"XC": "X_CENTRO", "YC": "Y_CENTRO", "ZC": "Z_CENTRO", "ROCK": "ZONA"}
+    )
     f.to_csv(tmp_path / "t.csv", index=False)
     found = pitplan("init", "t.csv", cwd=tmp_path)
-    assert found.returncode == 0 and "x = X_CENTRO, y = Y_CENTRO, z = Z_CENTRO" in found.stdout and "rock = ZONA" in found.stdout, found.stderr
+    assert (
+        found.returncode == 0
+        and "x = X_CENTRO, y = Y_CENTRO, z = Z_CENTRO" in found.stdout
+        and "rock = ZONA" in found.stdout
+    ), found.stderr
     f = f.rename(columns={"X_CENTRO": "Coord X", "Y_CENTRO": "NORTINGH", "Z_CENTRO": "Q"})
     f.to_csv(tmp_path / "u.csv", index=False)
     lost = pitplan("init", "u.csv", "--column", "rock=ZONA", cwd=tmp_path)
-    assert lost.returncode == 3 and "pitplan init u.csv --column rock=ZONA --column 'x=Coord X' --column y=NORTINGH --column z=NAME\n" in lost.stderr, lost.stderr
+    assert (
+        lost.returncode == 3
+        and "pitplan init u.csv --column rock=ZONA --column 'x=Coord X' --column y=NORTINGH --column z=NAME\n"
+        in lost.stderr
+    ), lost.stderr
 
 
 def test_a_table_as_excel_saves_it_in_peru(tmp_path):
-    f = table(6, 5, 4, 3).rename(columns={"XC": "ESTE", "YC": "NORTE", "ZC": "COTA", "CU": "LEY_ZN", "ROCK": "LITOLOGÍA"})
+    f = table(6, 5, 4, 3).rename(
+        columns={"XC": "ESTE", "YC": "NORTE", "ZC": "COTA", "CU": "LEY_ZN", "ROCK": "LITOLOGÍA"}
+    )
     f["LEY_ZN"] = f.LEY_ZN.astype(object)
     f.loc[3, "LEY_ZN"] = "N/D"
     f.loc[11, "LITOLOGÍA"] = "Óxido"
     f.to_csv(tmp_path / "t.csv", index=False, sep=";", decimal=",", encoding="cp1252")
     lost = pitplan("init", "t.csv", cwd=tmp_path)
-    assert lost.returncode == 3 and "t.csv, row 1: isn't text in UTF-8: the byte 0xcd" in lost.stderr and "--encoding cp1252" in lost.stderr
+    assert (
+        lost.returncode == 3
+        and "t.csv, row 1: isn't text in UTF-8: the byte 0xcd" in lost.stderr
+        and "--encoding cp1252" in lost.stderr
+    )
     assert "no encoding" in pitplan("init", "t.csv", "--encoding", "ansi1252", cwd=tmp_path).stderr
     found = pitplan("init", "t.csv", "--encoding", "cp1252", cwd=tmp_path)
-    assert found.returncode == 0 and 'look: N/D stands for "not estimated" in LEY_ZN, and counts as 0' in found.stderr, found.stderr
+    assert (
+        found.returncode == 0
+        and 'look: N/D stands for "not estimated" in LEY_ZN, and counts as 0' in found.stderr
+    ), found.stderr
     told = read_study_file(tmp_path / "t")
-    assert told.keys.encoding == "cp1252" and list(told.keys.absent) == ["N/D"] and [m.grade for m in told.economics.metals][0] == "LEY_ZN"
+    assert (
+        told.keys.encoding == "cp1252"
+        and list(told.keys.absent) == ["N/D"]
+        and [m.grade for m in told.economics.metals][0] == "LEY_ZN"
+    )
     assert set(told.read_model().blocks.rock) >= {"Óxido"}
 
 
@@ -317,30 +492,49 @@ def test_a_table_as_excel_saves_it_in_peru(tmp_path):
 def test_the_formulas_that_init_shows_name_the_table_s_own_columns(tmp_path, name):
     f = table(5, 4, 3, 1).rename(columns={"ZC": name, "XC": "x " + name})
     f.to_csv(tmp_path / "t.csv", index=False)
-    text = first_look.written(first_look.look_at(tmp_path / "t.csv", {"z": name, "x": "x " + name}), "t.csv")
-    shown = [re.search(pattern, text)[1] for pattern in (r'a formula as ("2\.2 .*? / 10")', r'may not be dug, as \[(".*? > 12000")\]')]
+    text = first_look.written(
+        first_look.look_at(tmp_path / "t.csv", {"z": name, "x": "x " + name}), "t.csv"
+    )
+    shown = [
+        re.search(pattern, text)[1]
+        for pattern in (
+            r'a formula as ("2\.2 .*? / 10")',
+            r'may not be dug, as \[(".*? > 12000")\]',
+        )
+    ]
     told = tomllib.loads("formulas = [" + ", ".join(shown) + "]")["formulas"]
     height, beyond = (worked_out(formula, f, "shown") for formula in told)
-    assert np.allclose(height, 2.2 + 0.02 * (1500 - f[name]) / 10) and (beyond == (f["x " + name] > 12000)).all()
+    assert (
+        np.allclose(height, 2.2 + 0.02 * (1500 - f[name]) / 10)
+        and (beyond == (f["x " + name] > 12000)).all()
+    )
 
 
 def test_a_mark_of_a_decimal_that_is_told_is_that_of_the_shells_too(tmp_path):
     """The first lines have whole numbers alone, so that it can't be found out."""
     f = table(7, 6, 4, 3).sort_values("CU", ignore_index=True)
     f["CU"] = [f"{v:g}".replace(".", ",") for v in f.CU]
-    study = written_study(tmp_path / "s", f, STUDY_TOML.replace("[model]\n", '[model]\ndecimal = ","\n'))
+    study = written_study(
+        tmp_path / "s", f, STUDY_TOML.replace("[model]\n", '[model]\ndecimal = ","\n')
+    )
     f[["XC", "YC", "ZC", "TONNES"]] = f[["XC", "YC", "ZC", "TONNES"]].round().astype(int)
     f.assign(AU=0).to_csv(study / "t.csv", index=False, sep=";")
     assert pitplan("build", study).returncode == 0 and pitplan("shells", study).returncode == 0
     back = pd.read_csv(study / "out/t.csv", sep=";", dtype=str)
-    assert "0,6" in set(back.pit_shell) and not back.pit_shell.dropna().str.contains(".", regex=False).any()
+    assert (
+        "0,6" in set(back.pit_shell)
+        and not back.pit_shell.dropna().str.contains(".", regex=False).any()
+    )
 
 
 def test_a_byte_that_is_no_text_is_told_with_its_row(tmp_path):
     f = table(9, 8, 6, 3)
     f["ROCK"] = f.ROCK.where(f.index != 100, "Óxido")
     f.to_csv(tmp_path / "t.csv", index=False, encoding="cp1252")
-    assert "t.csv, row 102: isn't text in UTF-8: the byte 0xd3" in pitplan("init", "t.csv", cwd=tmp_path).stderr
+    assert (
+        "t.csv, row 102: isn't text in UTF-8: the byte 0xd3"
+        in pitplan("init", "t.csv", cwd=tmp_path).stderr
+    )
 
 
 def test_a_metal_with_unknown_words_among_its_grades_is_told(tmp_path):
@@ -349,13 +543,28 @@ def test_a_metal_with_unknown_words_among_its_grades_is_told(tmp_path):
     f.loc[7, "CU"] = "pendiente"
     f.to_csv(tmp_path / "t.csv", index=False)
     look = first_look.look_at(tmp_path / "t.csv")
-    assert "CU" in look.grades and look.absent == [] and any("column CU, row 9: the cell is no number: it is 'pendiente'" in note for note in look.notes)
+    assert (
+        "CU" in look.grades
+        and look.absent == []
+        and any(
+            "column CU, row 9: the cell is no number: it is 'pendiente'" in note
+            for note in look.notes
+        )
+    )
 
 
 def test_a_mark_that_is_told_is_not_asked_for_again(tmp_path):
     f = table(5, 4, 3, 1)
     f["CU"] = f.CU.astype(object)
     f.loc[1, "CU"], f.loc[7, "CU"] = "-", "<0.01"
-    text = STUDY_TOML.replace("[model]\n", '[model]\nabsent = ["-"]\n') if "absent" not in STUDY_TOML else STUDY_TOML.replace("absent = [", 'absent = ["-", ')
+    text = (
+        STUDY_TOML.replace("[model]\n", '[model]\nabsent = ["-"]\n')
+        if "absent" not in STUDY_TOML
+        else STUDY_TOML.replace("absent = [", 'absent = ["-", ')
+    )
     ran = pitplan("build", written_study(tmp_path / "s", f, text))
-    assert ran.returncode == 3 and "row 9, column CU" in ran.stderr and 'absent = ["<0.01"]' in ran.stderr
+    assert (
+        ran.returncode == 3
+        and "row 9, column CU" in ran.stderr
+        and 'absent = ["<0.01"]' in ran.stderr
+    )

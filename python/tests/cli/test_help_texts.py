@@ -31,19 +31,26 @@ def test_an_old_page_is_told(texts, tmp_path, monkeypatch, capsys):
         (tmp_path / name).write_text(text)
     assert man_page.is_up_to_date(texts)
     (tmp_path / "docs" / "pitplan.1").write_text("older\n")
-    assert not man_page.is_up_to_date(texts) and "docs/pitplan.1 isn't what the help texts of pitplan say" in capsys.readouterr().out
+    assert (
+        not man_page.is_up_to_date(texts)
+        and "docs/pitplan.1 isn't what the help texts of pitplan say" in capsys.readouterr().out
+    )
 
 
 def test_the_page_has_every_command_and_every_status(texts):
     page = (TOP / "docs" / "pitplan.1").read_text()
     from pitplan.cli.main import MACHINE, NO, ORDER, STOPPED, WRONG
+
     assert re.findall(r"^\.SS pitplan (\w+)$", page, re.M) == list(ORDER)
-    assert re.findall(r"^\.TP\n\.B (\d+)$", page, re.M) == [str(number) for number in (0, NO, 2, WRONG, MACHINE, STOPPED)]
+    assert re.findall(r"^\.TP\n\.B (\d+)$", page, re.M) == [
+        str(number) for number in (0, NO, 2, WRONG, MACHINE, STOPPED)
+    ]
 
 
 def test_an_option_without_a_default_says_none_of_one():
     from pitplan.cli import main as cli
     from typer.testing import CliRunner
+
     cli.load_commands()
     for name in cli.ORDER:
         said = CliRunner().invoke(cli.app, [name, "--help"]).output
@@ -51,7 +58,10 @@ def test_an_option_without_a_default_says_none_of_one():
 
 
 def test_words_that_an_option_may_have_are_in_its_help_text():
-    pages = {name: (TOP / "docs" / f"{name}.1").read_text().replace("\\-", "-").split(".TP\n") for name in ("pit", "pitplan")}
+    pages = {
+        name: (TOP / "docs" / f"{name}.1").read_text().replace("\\-", "-").split(".TP\n")
+        for name in ("pit", "pitplan")
+    }
     for (command, option), words in completions.VALUES.items():
         said = [row for row in pages[command] if row.startswith(f".B {option} ")]
         assert said and all(word in row for row in said for word in words.split()), (option, said)

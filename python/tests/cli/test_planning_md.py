@@ -18,7 +18,7 @@ import served
 
 TOP = Path(__file__).resolve().parents[3]
 DOCUMENT = TOP / "docs" / "PLANNING.md"
-OWN = ("study.toml", ".py")                  # files that the walk writes with `cat`
+OWN = ("study.toml", ".py")  # files that the walk writes with `cat`
 
 
 def steps(lines):
@@ -27,7 +27,11 @@ def steps(lines):
     while i < len(lines):
         if lines[i].startswith("    $ "):
             end = i + 1
-            while end < len(lines) and not lines[end].startswith("    $ ") and (lines[end].startswith("    ") or (lines[end] == "" and is_block(lines, end))):
+            while (
+                end < len(lines)
+                and not lines[end].startswith("    $ ")
+                and (lines[end].startswith("    ") or (lines[end] == "" and is_block(lines, end)))
+            ):
                 end += 1
             found.append((i + 1, end, lines[i][6:]))
             i = end
@@ -51,13 +55,24 @@ def played(command, shown, folder):
         path.parent.mkdir(parents=True, exist_ok=True)
         path.write_text("\n".join(shown) + "\n")
     env = {**os.environ, "PYTHONPATH": "python", "COLUMNS": "160"}
-    ran = subprocess.run(["bash", "-c", command], cwd=folder, env=env, stdin=subprocess.DEVNULL, stdout=subprocess.PIPE, stderr=subprocess.STDOUT, text=True)
+    ran = subprocess.run(
+        ["bash", "-c", command],
+        cwd=folder,
+        env=env,
+        stdin=subprocess.DEVNULL,
+        stdout=subprocess.PIPE,
+        stderr=subprocess.STDOUT,
+        text=True,
+    )
     return [line.rstrip() for line in ran.stdout.rstrip("\n").split("\n")], ran.returncode
 
 
 def agrees(shown, said):
     """Whether lines are those that the document shows."""
-    pattern = "".join("(?:.*\n)*?" if line.strip() == ".." else ".*".join(map(re.escape, line.split(".."))) + "\n" for line in shown)
+    pattern = "".join(
+        "(?:.*\n)*?" if line.strip() == ".." else ".*".join(map(re.escape, line.split(".."))) + "\n"
+        for line in shown
+    )
     return re.fullmatch(pattern, "".join(line + "\n" for line in said)) is not None
 
 
@@ -80,14 +95,23 @@ def test_the_walk(tmp_path):
     for start, end, command in found:
         shown = shown_of(lines, start, end)
         said, _ = played(command, shown, folder)
-        assert agrees(shown or [""], said), f"line {start} of PLANNING.md: $ {command}\n" + "\n".join(said)
+        assert agrees(
+            shown or [""], said
+        ), f"line {start} of PLANNING.md: $ {command}\n" + "\n".join(said)
 
 
 def test_figures_of_the_text_are_in_what_was_printed():
     """A figure of the running text, outside of code, is one that some command of the document printed."""
     lines = DOCUMENT.read_text().splitlines()
     printed = "\n".join(line for line in lines if line.startswith("    "))
-    told = [number for line in lines if not line.startswith("    ") for number in re.findall(r"(?<![\w.,-])\d[\d,]*\.?\d+(?![\w%])", re.sub(r"`[^`]*`", "", line))]
+    told = [
+        number
+        for line in lines
+        if not line.startswith("    ")
+        for number in re.findall(
+            r"(?<![\w.,-])\d[\d,]*\.?\d+(?![\w%])", re.sub(r"`[^`]*`", "", line)
+        )
+    ]
     strange = [number for number in told if len(number) > 3 and number not in printed]
     assert not strange, strange
 
@@ -96,9 +120,19 @@ def test_options_of_the_text_are_options_of_a_command():
     from typer.main import get_command
 
     from pitplan.cli import main as cli, console
+
     cli.load_commands()
-    known = {option for command in get_command(console.app).commands.values() for it in command.params for option in it.opts}
-    known |= set(re.findall(r"--[a-z][\w-]*", (DOCUMENT.parent.parent / "completions" / "pit.bash").read_text()))      # those of `pit`
+    known = {
+        option
+        for command in get_command(console.app).commands.values()
+        for it in command.params
+        for option in it.opts
+    }
+    known |= set(
+        re.findall(
+            r"--[a-z][\w-]*", (DOCUMENT.parent.parent / "completions" / "pit.bash").read_text()
+        )
+    )  # those of `pit`
     named = set(re.findall(r"(?<![\w-])--[a-z][\w-]*", DOCUMENT.read_text()))
     assert len(named) > 20 and named - known <= {"--help", "--no-install-recommends"}, named - known
 

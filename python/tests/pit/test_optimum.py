@@ -28,7 +28,13 @@ def worth_of(row, share):
 def places_of(rows):
     """The block index of each row, by its coordinates (an unturned model)."""
     low = [min(float(row[axis]) for row in rows) for axis in ("XC", "YC", "ZC")]
-    return [tuple(round((float(row[axis]) - least) / size) for axis, least, size in zip(("XC", "YC", "ZC"), low, (20, 20, 15))) for row in rows]
+    return [
+        tuple(
+            round((float(row[axis]) - least) / size)
+            for axis, least, size in zip(("XC", "YC", "ZC"), low, (20, 20, 15))
+        )
+        for row in rows
+    ]
 
 
 def best_worth(rows, offsets_of, share, worth_of=worth_of):
@@ -45,33 +51,49 @@ def best_worth(rows, offsets_of, share, worth_of=worth_of):
             if (x + dx, y + dy, z + dz) in at:
                 edges.append((b, at[x + dx, y + dy, z + dz]))
                 capacities.append(1e12)
-    return sum(v for v in worth if v > 0) - igraph.Graph(n + 2, edges, directed=True).maxflow_value(n, n + 1, capacities)
+    return sum(v for v in worth if v > 0) - igraph.Graph(n + 2, edges, directed=True).maxflow_value(
+        n, n + 1, capacities
+    )
 
 
-@given(SIZES, SIZES, st.integers(2, 5), st.integers(0, 10 ** 6), st.sampled_from([0.6, 1.0, 1.35]))
+@given(SIZES, SIZES, st.integers(2, 5), st.integers(0, 10**6), st.sampled_from([0.6, 1.0, 1.35]))
 def test_a_pit_is_worth_what_an_independent_flow_says(tmp_path_factory, nx, ny, nz, seed, share):
     folder = tmp_path_factory.mktemp("s")
     study = study_of(folder, table(nx, ny, nz, seed))
     found = study.pit(share)
     offsets = study.manifest["offsets"]["default"]
-    assert float(found.worth) == pytest.approx(best_worth(rows_of(folder / "t.csv"), lambda row: offsets, share), abs=1e-4)
+    assert float(found.worth) == pytest.approx(
+        best_worth(rows_of(folder / "t.csv"), lambda row: offsets, share), abs=1e-4
+    )
 
 
-@given(SIZES, SIZES, st.integers(2, 4), st.integers(0, 10 ** 6))
+@given(SIZES, SIZES, st.integers(2, 4), st.integers(0, 10**6))
 def test_with_regions_too(tmp_path_factory, nx, ny, nz, seed):
     folder = tmp_path_factory.mktemp("s")
-    study = study_of(folder, table(nx, ny, nz, seed), pp.Slopes(45, by="SECTOR", regions={"EAST": 32}))
+    study = study_of(
+        folder, table(nx, ny, nz, seed), pp.Slopes(45, by="SECTOR", regions={"EAST": 32})
+    )
     found = study.pit(1.0)
     offsets = study.manifest["offsets"]
     assert len(offsets) == 2
-    assert float(found.worth) == pytest.approx(best_worth(rows_of(folder / "t.csv"), lambda row: offsets["EAST" if row["SECTOR"] == "EAST" else "default"], 1.0), abs=1e-4)
+    assert float(found.worth) == pytest.approx(
+        best_worth(
+            rows_of(folder / "t.csv"),
+            lambda row: offsets["EAST" if row["SECTOR"] == "EAST" else "default"],
+            1.0,
+        ),
+        abs=1e-4,
+    )
 
 
 def with_a_penalty(row, share):
     """`worth_of` where each kilogram of arsenic in the concentrate costs 2.50, whatever copper brings."""
     tonnes = float(row["TONNES"])
     revenue = round(tonnes * float(row["CU"]) * 0.01 * 0.85 * 8500)
-    processing = round(tonnes * {"OXI": 7.5, "SUL": 9.0}[row["ROCK"]] + tonnes * float(row["AS"]) / 1000 * 0.9 * 2.5)
+    processing = round(
+        tonnes * {"OXI": 7.5, "SUL": 9.0}[row["ROCK"]]
+        + tonnes * float(row["AS"]) / 1000 * 0.9 * 2.5
+    )
     return max(revenue * share - processing, 0) - round(tonnes * 2.0)
 
 
@@ -79,19 +101,45 @@ def with_a_penalty(row, share):
 def test_a_penalty_element_moves_the_pit(tmp_path, share):
     frame = table(6, 6, 4, 11)
     frame["AS"] = np.random.default_rng(3).integers(0, 9000, len(frame))
-    by_kilogram = {"metals": (pp.Metal("copper", "CU", price=8500, recovery=0.85), pp.Metal("arsenic", "AS", price=0, grade_unit="ppm", price_unit="kg", recovery=0.9, selling=2.5))}
+    by_kilogram = {
+        "metals": (
+            pp.Metal("copper", "CU", price=8500, recovery=0.85),
+            pp.Metal(
+                "arsenic",
+                "AS",
+                price=0,
+                grade_unit="ppm",
+                price_unit="kg",
+                recovery=0.9,
+                selling=2.5,
+            ),
+        )
+    }
     by_formula = {"processing": "where(ROCK == 'OXI', 7.5, 9.0) + 2.5 * 0.9 * AS / 1000"}
     pits = []
-    for name, economics in (("none", costs()), ("metal", costs(**by_kilogram)), ("formula", costs(**by_formula))):
+    for name, economics in (
+        ("none", costs()),
+        ("metal", costs(**by_kilogram)),
+        ("formula", costs(**by_formula)),
+    ):
         (tmp_path / name).mkdir()
         study = study_of(tmp_path / name, frame, economics=economics)
         pits.append(study.pit(share))
         offsets = study.manifest["offsets"]["default"]
-    assert float(pits[1].worth) == pytest.approx(best_worth(rows_of(tmp_path / "metal" / "t.csv"), lambda row: offsets, share, with_a_penalty), abs=1e-4)
-    assert pits[1].worth == pits[2].worth and (pits[1].mask == pits[2].mask).all() and float(pits[1].worth) < float(pits[0].worth)
+    assert float(pits[1].worth) == pytest.approx(
+        best_worth(
+            rows_of(tmp_path / "metal" / "t.csv"), lambda row: offsets, share, with_a_penalty
+        ),
+        abs=1e-4,
+    )
+    assert (
+        pits[1].worth == pits[2].worth
+        and (pits[1].mask == pits[2].mask).all()
+        and float(pits[1].worth) < float(pits[0].worth)
+    )
 
 
-@given(SIZES, SIZES, st.integers(1, 4), st.integers(0, 10 ** 6), st.floats(-180, 180))
+@given(SIZES, SIZES, st.integers(1, 4), st.integers(0, 10**6), st.floats(-180, 180))
 def test_a_turned_model_is_the_same_model(tmp_path_factory, nx, ny, nz, seed, angle):
     a, b = (tmp_path_factory.mktemp(name) for name in "ab")
     plain = study_of(a, table(nx, ny, nz, seed))
@@ -99,14 +147,20 @@ def test_a_turned_model_is_the_same_model(tmp_path_factory, nx, ny, nz, seed, an
     turned = study_of(b, turned_table, rotation=angle)
     assert plain.blocks_file.read_bytes() == turned.blocks_file.read_bytes()
     x, y, z = turned.model.xyz()
-    assert np.allclose(x, turned_table.XC) and np.allclose(y, turned_table.YC) and np.allclose(z, turned_table.ZC)
+    assert (
+        np.allclose(x, turned_table.XC)
+        and np.allclose(y, turned_table.YC)
+        and np.allclose(z, turned_table.ZC)
+    )
 
 
-@given(st.integers(0, 10 ** 6), st.sampled_from([0.01, 0.1, 1.0, 1000.0]))
+@given(st.integers(0, 10**6), st.sampled_from([0.01, 0.1, 1.0, 1000.0]))
 def test_amounts_of_any_rounding_add_up(tmp_path_factory, seed, rounding):
-    study = study_of(tmp_path_factory.mktemp("s"), table(5, 4, 3, seed), economics=costs(rounding=rounding))
+    study = study_of(
+        tmp_path_factory.mktemp("s"), table(5, 4, 3, seed), economics=costs(rounding=rounding)
+    )
     for factor in (333, 1000, 1777):
-        study.run(factor)                    # raises Disagreement where pit's worth isn't the table's
+        study.run(factor)  # raises Disagreement where pit's worth isn't the table's
 
 
 def test_pits_are_nested_and_their_shells_are_the_differences(tmp_path):

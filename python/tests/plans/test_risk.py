@@ -27,7 +27,11 @@ FACTORS = (800, 1000)
 
 def grades_of(frame, count, seed=1):
     r = np.random.default_rng(seed)
-    return np.maximum(0, frame.CU.to_numpy() * r.lognormal(0, 0.6, (count, len(frame))) + r.normal(0, 0.05, (count, len(frame)))).astype(np.float32)
+    return np.maximum(
+        0,
+        frame.CU.to_numpy() * r.lognormal(0, 0.6, (count, len(frame)))
+        + r.normal(0, 0.05, (count, len(frame))),
+    ).astype(np.float32)
 
 
 def prepared(folder, count=6, frame=None, economics=None, factors=FACTORS, **keys):
@@ -52,8 +56,14 @@ def judged(study, mask, folder):
     first = next(i for i, line in enumerate(lines) if line.startswith("GROUP")) + 1
     kept = [line for line in lines[first:] if not line.startswith("PIT ")]
     path = Path(folder) / "judged.cert"
-    path.write_text("\n".join([*lines[:first], *(f"PIT {b}" for b in np.flatnonzero(mask)), *kept]) + "\n")
-    ran = subprocess.run([study.program.program, "check", *map(str, study.files.words()), "--verbose", path], capture_output=True, text=True)
+    path.write_text(
+        "\n".join([*lines[:first], *(f"PIT {b}" for b in np.flatnonzero(mask)), *kept]) + "\n"
+    )
+    ran = subprocess.run(
+        [study.program.program, "check", *map(str, study.files.words()), "--verbose", path],
+        capture_output=True,
+        text=True,
+    )
     return ran.stdout.strip()
 
 
@@ -64,7 +74,9 @@ def test_blocks_of_a_likelihood_are_a_closed_pit_and_nested(tmp_path):
         below = None
         for share in (1.0, *reversed(risk.TENTHS)):
             mask = found.pit(share, factor)
-            assert (mask == (10 * found.hits[found.at(factor)].astype(int) >= round(10 * share) * 8)).all()       # at least so many of the 8
+            assert (
+                mask == (10 * found.hits[found.at(factor)].astype(int) >= round(10 * share) * 8)
+            ).all()  # at least so many of the 8
             said = judged(study, mask, tmp_path)
             assert said.startswith("ACCEPTED") or "NotTight" in said, said
             assert below is None or not (below & ~mask).any()
@@ -113,7 +125,9 @@ def test_realisations_of_a_table_with_lines_that_are_no_blocks(tmp_path):
     study = pp.Study.create(tmp_path / "u", model, costs(), pp.Slopes(45))
     grades = grades_of(frame, 2)
     every = np.insert(np.insert(grades, 7, 0, axis=1), 0, 0, axis=1)
-    (tmp_path / "u.sims.csv").write_text("\n".join(["A,B", *(f"{a},{b}" for a, b in grades.T)]) + "\n")
+    (tmp_path / "u.sims.csv").write_text(
+        "\n".join(["A,B", *(f"{a},{b}" for a, b in grades.T)]) + "\n"
+    )
     np.save(tmp_path / "rows.npy", grades), np.save(tmp_path / "lines.npy", every)
     risk.prepare(plain, costs(), tmp_path / "rows.npy", [1000])
     wanted = done(plain).runs
@@ -121,14 +135,22 @@ def test_realisations_of_a_table_with_lines_that_are_no_blocks(tmp_path):
         risk.prepare(study, costs(), tmp_path / name, [1000])
         assert done(study).runs.equals(wanted), name
     np.save(tmp_path / "short.npy", grades[:, 1:])
-    with pytest.raises(pp.PlanError, match=f"the realisations are 2 x {len(frame) - 1}, and the table has {len(frame)} rows"):
+    with pytest.raises(
+        pp.PlanError,
+        match=f"the realisations are 2 x {len(frame) - 1}, and the table has {len(frame)} rows",
+    ):
         risk.prepare(study, costs(), tmp_path / "short.npy", [1000])
 
 
 def test_the_grades_may_be_those_of_another_metal(tmp_path):
     """The same file, first as grades of copper and then of gold: pits of the one aren't those of the other."""
     frame = table(6, 5, 4, 3)
-    economics = costs(metals=(pp.Metal("copper", "CU", price=8500, recovery=0.85), pp.Metal("gold", "AU", price=60, grade_unit="g/t", price_unit="g", recovery=0.7)))
+    economics = costs(
+        metals=(
+            pp.Metal("copper", "CU", price=8500, recovery=0.85),
+            pp.Metal("gold", "AU", price=60, grade_unit="g/t", price_unit="g", recovery=0.7),
+        )
+    )
     study = prepared(tmp_path, 2, frame, economics, [1000])
     done(study)
     assert risk.prepare(study, economics, tmp_path / "sims.npy", [1000], "gold").column == "AU"
@@ -136,32 +158,52 @@ def test_the_grades_may_be_those_of_another_metal(tmp_path):
     found = done(study)
     for r in range(2):
         (tmp_path / str(r)).mkdir()
-        pit = study_of(tmp_path / str(r), frame.assign(AU=np.load(tmp_path / "sims.npy")[r].astype(float)), economics=economics).pit(1.0)
+        pit = study_of(
+            tmp_path / str(r),
+            frame.assign(AU=np.load(tmp_path / "sims.npy")[r].astype(float)),
+            economics=economics,
+        ).pit(1.0)
         assert found.runs.blocks[r] == pit.count and found.runs.worth[r] == float(pit.worth)
         assert (risk.realisation(study, r).mask(1000) == pit.mask).all()
 
 
-def test_a_certificate_of_a_realisation_is_written_into_scratch_and_not_packed(tmp_path, program, monkeypatch):
+def test_a_certificate_of_a_realisation_is_written_into_scratch_and_not_packed(
+    tmp_path, program, monkeypatch
+):
     study = prepared(tmp_path, 1)
     scratch, pit, places = tmp_path / "scratch", tmp_path / "pit", tmp_path / "places"
     scratch.mkdir()
-    pit.write_text(f"#!/bin/sh\ncase $1 in solve) place=$(readlink /proc/$$/fd/1); echo \"$place\" >> {places};; esac\nexec {program} \"$@\"\n")
+    pit.write_text(
+        f'#!/bin/sh\ncase $1 in solve) place=$(readlink /proc/$$/fd/1); echo "$place" >> {places};; esac\nexec {program} "$@"\n'
+    )
     pit.chmod(0o755)
     monkeypatch.setattr("tempfile.tempdir", str(scratch))
-    monkeypatch.setattr("pitplan.pit.program.packed", None)      # it would be called
+    monkeypatch.setattr("pitplan.pit.program.packed", None)  # it would be called
     Tasks(study.folder, pp.Pit(pit)).do(risk.tasks(study)[0])
     places = [Path(line) for line in places.read_text().splitlines()]
-    assert len(places) == len(FACTORS) and all(path.name == "best.cert" and path.parent.parent == scratch for path in places)
+    assert len(places) == len(FACTORS) and all(
+        path.name == "best.cert" and path.parent.parent == scratch for path in places
+    )
     assert not list(scratch.iterdir())
 
 
 def test_the_lean_model_has_what_pricing_asks_for(tmp_path):
     frame = table(6, 5, 4, 3).rename(columns={"AU": "ley é", "TONNES": "T"})
     frame = frame.assign(**{"it's": 1.5, "spare": 1.0, "CLAY_\u00b5": 0.5})
-    economics = costs(mining="2 + 0.01 * (160 - ZC) + column('ley é') + CLAY_\u03bc", processing={"OXI": 7.5, "SUL": 9.0}, forbid=["SECTOR == 'WEST' and column(\"it's\") > 2"])
+    economics = costs(
+        mining="2 + 0.01 * (160 - ZC) + column('ley é') + CLAY_\u03bc",
+        processing={"OXI": 7.5, "SUL": 9.0},
+        forbid=["SECTOR == 'WEST' and column(\"it's\") > 2"],
+    )
     study = study_of(tmp_path, frame, economics=economics, columns={"tonnes": "T"})
     lean = risk.lean_model(study, dataclasses.asdict(economics))
-    assert {"ZC", "ley é", "SECTOR", "it's", "CU", "rock"} <= set(lean.blocks.columns) and not {"spare", "id", "IJK", "T", "XC"} & set(lean.blocks.columns)
+    assert {"ZC", "ley é", "SECTOR", "it's", "CU", "rock"} <= set(lean.blocks.columns) and not {
+        "spare",
+        "id",
+        "IJK",
+        "T",
+        "XC",
+    } & set(lean.blocks.columns)
     assert lean.blocks.rock.tolist() == study.model.blocks.rock.tolist()
     ours = economics.priced(lean)
     for name in ("revenue", "processing", "mining"):
@@ -173,13 +215,19 @@ def test_pits_of_a_realisation_that_arent_nested_are_never_shown(tmp_path):
     done(study)
     one = risk.realisation(study, 0)
     low, high = (one.mask(factor) for factor in FACTORS)
-    low[np.flatnonzero(~high)[0]] = True      # a block more, with all that is checked of one pit alone
+    low[np.flatnonzero(~high)[0]] = True  # a block more, with all that is checked of one pit alone
     place, bits = one.place(FACTORS[0]), np.packbits(low)
     np.savez_compressed(place / "pit.npz", bits=bits)
     verdict = json.loads((place / "verdict.json").read_text())
-    verdict |= {"bits": hashlib.sha256(bits.tobytes()).hexdigest(), "count": int(low.sum()), "worth": one.priced.worth_of(low, FACTORS[0])}
+    verdict |= {
+        "bits": hashlib.sha256(bits.tobytes()).hexdigest(),
+        "count": int(low.sum()),
+        "worth": one.priced.worth_of(low, FACTORS[0]),
+    }
     (place / "verdict.json").write_text(json.dumps(verdict))
-    with pytest.raises(pp.Disagreement, match="realisation 0: the pit at 0.8 isn't within that at 1"):
+    with pytest.raises(
+        pp.Disagreement, match="realisation 0: the pit at 0.8 isn't within that at 1"
+    ):
         risk.Risk(study)
 
 
@@ -188,18 +236,28 @@ def test_what_risk_says_is_added_up_by_pandas(tmp_path):
     found = done(study)
     for row in found.table().itertuples():
         worths = found.runs[found.runs.factor == row.factor].worth
-        assert (row.worth_least, row.worth_most) == (worths.min(), worths.max()) and row.worth_p50 == worths.median()
+        assert (row.worth_least, row.worth_most) == (
+            worths.min(),
+            worths.max(),
+        ) and row.worth_p50 == worths.median()
         for name in ("blocks", "rock_t", "worth"):
             of = found.runs[found.runs.factor == row.factor][name]
-            told = [getattr(row, f"{name}_{key}") for key in ("least", "p10", "p50", "p90", "most", "mean")]
-            assert told == pytest.approx([*np.percentile(of, [0, 10, 50, 90, 100]), of.mean()]), name
+            told = [
+                getattr(row, f"{name}_{key}")
+                for key in ("least", "p10", "p50", "p90", "most", "mean")
+            ]
+            assert told == pytest.approx(
+                [*np.percentile(of, [0, 10, 50, 90, 100]), of.mean()]
+            ), name
     pits = found.pits(1000)
     assert (pits.worth_mean <= pits.best_mean).all() and pits.blocks.is_monotonic_decreasing
     assert pits.rock_t.iloc[0] == pytest.approx(study.model.blocks.tonnes[found.pit(0.1)].sum())
     best = found.runs[found.runs.factor == 1.0].worth
     assert pits.best_mean.iloc[0] == pytest.approx(best.mean())
     blocks = found.of_blocks()
-    assert (blocks.likelihood_1.to_numpy() == found.likelihood(1000)).all() and list(blocks.columns) == ["id", "row", "likelihood_0.8", "likelihood_1"]
+    assert (blocks.likelihood_1.to_numpy() == found.likelihood(1000)).all() and list(
+        blocks.columns
+    ) == ["id", "row", "likelihood_0.8", "likelihood_1"]
 
 
 @pytest.mark.parametrize("keys", [{"widen": 1}, {"rotation": 30}])
@@ -209,7 +267,9 @@ def test_realisations_go_by_row(tmp_path, keys):
     np.save(tmp_path / "sims.npy", frame.CU.to_numpy(np.float32)[None, :])
     risk.prepare(study, costs(), tmp_path / "sims.npy", [1000])
     one = risk.realisation(study, 0)
-    assert np.abs(one.priced.revenue - study.priced.revenue).max() <= 1        # 32-bit grades: a dollar for a block at most
+    assert (
+        np.abs(one.priced.revenue - study.priced.revenue).max() <= 1
+    )  # 32-bit grades: a dollar for a block at most
     assert (one.priced.mining == study.priced.mining).all()
 
 
@@ -217,9 +277,24 @@ def test_realisations_go_by_row_where_lines_hold_no_blocks(tmp_path):
     """Lines of descriptions and blank lines are rows of the table too, and so of the realisations."""
     frame = table(6, 5, 4, 3)
     lines = frame.to_csv(index=False).splitlines()
-    rows = np.r_[1:6, 7:len(frame) + 2]                       # a line of descriptions, and a blank one behind five blocks
-    (tmp_path / "t.csv").write_text("\n".join([lines[0], "Types:,double,double,double,double,double,double,name,name", *lines[1:6], "", *lines[6:]]) + "\n")
-    study = pp.Study.create(tmp_path / "s", pp.read_table(tmp_path / "t.csv", size=SIZE), costs(), pp.Slopes(45))
+    rows = np.r_[
+        1:6, 7 : len(frame) + 2
+    ]  # a line of descriptions, and a blank one behind five blocks
+    (tmp_path / "t.csv").write_text(
+        "\n".join(
+            [
+                lines[0],
+                "Types:,double,double,double,double,double,double,name,name",
+                *lines[1:6],
+                "",
+                *lines[6:],
+            ]
+        )
+        + "\n"
+    )
+    study = pp.Study.create(
+        tmp_path / "s", pp.read_table(tmp_path / "t.csv", size=SIZE), costs(), pp.Slopes(45)
+    )
     grades = np.full((1, len(frame) + 2), 99, np.float32)
     grades[0, rows] = frame.CU
     np.save(tmp_path / "sims.npy", grades)
@@ -231,15 +306,21 @@ def test_a_csv_is_the_same_as_an_npy(tmp_path):
     frame = table(6, 5, 4, 3)
     study = prepared(tmp_path, 3, frame)
     digests = risk.setup_of(study).digests
-    pd.DataFrame(np.load(tmp_path / "sims.npy").T, columns=["s1", "s2", "s3"]).to_csv(tmp_path / "sims.csv", index=False)
+    pd.DataFrame(np.load(tmp_path / "sims.npy").T, columns=["s1", "s2", "s3"]).to_csv(
+        tmp_path / "sims.csv", index=False
+    )
     assert risk.prepare(study, costs(), tmp_path / "sims.csv", [1000]).digests == digests
 
 
-@pytest.mark.parametrize("copies", [3, 3000])                     # below and above a megabyte
+@pytest.mark.parametrize("copies", [3, 3000])  # below and above a megabyte
 @pytest.mark.parametrize("separator, decimal", [(",", "."), (";", ","), (";", "."), ("\t", ",")])
-def test_a_csv_of_realisations_may_have_semicolons_and_decimal_commas(tmp_path, copies, separator, decimal):
+def test_a_csv_of_realisations_may_have_semicolons_and_decimal_commas(
+    tmp_path, copies, separator, decimal
+):
     grades = np.tile(np.array([[0.5, 1.25], [2.0, 0.125], [0.25, 3.5]], np.float32), (30, copies))
-    pd.DataFrame(grades, columns=[f"s{i}" for i in range(2 * copies)]).to_csv(tmp_path / "sims.csv", index=False, sep=separator, decimal=decimal)
+    pd.DataFrame(grades, columns=[f"s{i}" for i in range(2 * copies)]).to_csv(
+        tmp_path / "sims.csv", index=False, sep=separator, decimal=decimal
+    )
     found, _ = risk.opened(tmp_path / "sims.csv", tmp_path)
     assert (found == grades.T).all()
 
@@ -250,15 +331,26 @@ def test_a_csv_may_name_its_blocks_and_has_to_name_the_tables(tmp_path):
     digests = risk.setup_of(study).digests
     names = study.model.columns
     sims = pd.DataFrame(np.load(tmp_path / "sims.npy").T, columns=["s1", "s2", "s3"])
-    beside = pd.concat([frame[[names[key] for key in ("id", "x", "y", "z")]].reset_index(drop=True), sims], axis=1)
+    beside = pd.concat(
+        [frame[[names[key] for key in ("id", "x", "y", "z")]].reset_index(drop=True), sims], axis=1
+    )
     beside.to_csv(tmp_path / "sims.csv", index=False, sep=";", decimal=",")
     assert risk.prepare(study, costs(), tmp_path / "sims.csv", [1000]).digests == digests
     beside.to_csv(tmp_path / "plain.csv", index=False)
-    blanks = frame.assign(**{names["id"]: frame[names["id"]] + "  "})        # as some packages fill cells up
+    blanks = frame.assign(
+        **{names["id"]: frame[names["id"]] + "  "}
+    )  # as some packages fill cells up
     (tmp_path / "blanks").mkdir()
-    assert risk.prepare(study_of(tmp_path / "blanks", blanks), costs(), tmp_path / "plain.csv", [1000]).digests == digests
+    assert (
+        risk.prepare(
+            study_of(tmp_path / "blanks", blanks), costs(), tmp_path / "plain.csv", [1000]
+        ).digests
+        == digests
+    )
     beside.iloc[[0, 1, 3, 2, *range(4, len(beside))]].to_csv(tmp_path / "sims.csv", index=False)
-    with pytest.raises(pp.PlanError, match=f"row 4, column {names['id']}: .* stands where the table has"):
+    with pytest.raises(
+        pp.PlanError, match=f"row 4, column {names['id']}: .* stands where the table has"
+    ):
         risk.prepare(study, costs(), tmp_path / "sims.csv", [1000])
     beside.drop(columns=["s1", "s2", "s3"]).to_csv(tmp_path / "sims.csv", index=False)
     with pytest.raises(pp.PlanError, match="has no column of a realisation"):
@@ -268,14 +360,22 @@ def test_a_csv_may_name_its_blocks_and_has_to_name_the_tables(tmp_path):
 def test_marks_of_the_table_count_in_realisations_and_others_are_told_by_their_row(tmp_path):
     frame = table(6, 5, 4, 3)
     study = prepared(tmp_path, 3, frame)
-    sims = pd.DataFrame(np.load(tmp_path / "sims.npy").T, columns=["s1", "año 2", "s3"]).astype(object)
+    sims = pd.DataFrame(np.load(tmp_path / "sims.npy").T, columns=["s1", "año 2", "s3"]).astype(
+        object
+    )
     sims.iloc[7, 1] = "N/D"
     sims.to_csv(tmp_path / "sims.csv", index=False, sep=";", decimal=",", encoding="cp1252")
     with pytest.raises(pp.PlanError, match="isn't text in UTF-8"):
         risk.prepare(study, costs(), tmp_path / "sims.csv", [1000])
-    with pytest.raises(pp.PlanError, match="row 9, column año 2: the cell is no number: it is 'N/D'"):
-        risk.prepare(study, costs(), tmp_path / "sims.csv", [1000], keys=TableKeys(encoding="cp1252"))
-    found, _ = risk.opened(tmp_path / "sims.csv", tmp_path, study, TableKeys(encoding="cp1252", absent=["N/D"]))
+    with pytest.raises(
+        pp.PlanError, match="row 9, column año 2: the cell is no number: it is 'N/D'"
+    ):
+        risk.prepare(
+            study, costs(), tmp_path / "sims.csv", [1000], keys=TableKeys(encoding="cp1252")
+        )
+    found, _ = risk.opened(
+        tmp_path / "sims.csv", tmp_path, study, TableKeys(encoding="cp1252", absent=["N/D"])
+    )
     assert found[1, 7] == 0 and (found[0] == np.load(tmp_path / "sims.npy")[0]).all()
 
 
@@ -290,7 +390,9 @@ def test_cells_that_are_no_grades_are_told(tmp_path):
         with pytest.raises(pp.PlanError, match=rf"row 9, column of realisation 1: {words}"):
             risk.prepare(study, costs(), tmp_path / "bad.npy", [1000])
     np.save(tmp_path / "bad.npy", good[:, 1:])
-    with pytest.raises(pp.PlanError, match=f"3 x {len(frame) - 1}, and the table has {len(frame)} rows"):
+    with pytest.raises(
+        pp.PlanError, match=f"3 x {len(frame) - 1}, and the table has {len(frame)} rows"
+    ):
         risk.prepare(study, costs(), tmp_path / "bad.npy", [1000])
     (tmp_path / "bad.csv").write_text("a,b\n1,2\n1,x\n")
     with pytest.raises(pp.PlanError, match="row 3, column b"):
@@ -300,7 +402,7 @@ def test_cells_that_are_no_grades_are_told(tmp_path):
     np.save(tmp_path / "bad.npy", np.array([[{}]], dtype=object), allow_pickle=True)
     with pytest.raises(pp.PlanError, match="can't be read"):
         risk.prepare(study, costs(), tmp_path / "bad.npy", [1000])
-    assert risk.setup_of(study) == kept          # what was asked for before stands
+    assert risk.setup_of(study) == kept  # what was asked for before stands
 
 
 def test_a_realisation_that_has_changed_is_never_shown(tmp_path):
@@ -328,7 +430,14 @@ def test_a_study_built_anew_has_no_realisations(tmp_path):
 def test_words_of_a_task():
     assert task_of(["run", "base", "1000,800"]) == Task("run", "base", (800, 1000))
     assert str(task_of(["realisation", "017", "800"])) == "realisation 17 800"
-    for words in ("run base", "run base x", "walk base 800", "realisation x 800", "run base 20000", "run base 0.8"):
+    for words in (
+        "run base",
+        "run base x",
+        "walk base 800",
+        "realisation x 800",
+        "run base 20000",
+        "run base 0.8",
+    ):
         with pytest.raises(pp.PlanError):
             task_of(words.split())
 
@@ -349,7 +458,9 @@ def test_a_task_does_nothing_where_a_verdict_stands(tmp_path, program):
     assert ran.communicate(timeout=60) and ran.returncode == 4
     note = json.loads((study.folder / "log" / "realisation_0_800.failed.json").read_text())
     assert note["task"] == "realisation 0 800" and "pit solve ended with status 4" in note["words"]
-    assert tasks.do(task_of(["realisation", "0", "800"])) == 1 and not list((study.folder / "log").iterdir())
+    assert tasks.do(task_of(["realisation", "0", "800"])) == 1 and not list(
+        (study.folder / "log").iterdir()
+    )
     assert not list((study.folder / "runs/r0000/f00800").glob("*.cert*"))
 
 
@@ -359,13 +470,24 @@ def test_a_killed_task_leaves_no_pit_and_goes_on(tmp_path, program, how):
     slow, marks = slow_pit(tmp_path, 60, program)
     scratch = tmp_path / "scratch"
     scratch.mkdir()
-    run = command("task", study.folder, "realisation", 1, 1000, env={**os.environ, "PIT": str(slow), "TMPDIR": str(scratch)})
+    run = command(
+        "task",
+        study.folder,
+        "realisation",
+        1,
+        1000,
+        env={**os.environ, "PIT": str(slow), "TMPDIR": str(scratch)},
+    )
     solver = waited_for(marks, 1)[0]
     run.send_signal(how)
     run.communicate(timeout=60)
     assert gone([solver])
     if how == signal.SIGTERM:
-        assert run.returncode == 130 and not list((study.folder / "runs/r0001").iterdir()) and not list(scratch.iterdir())
+        assert (
+            run.returncode == 130
+            and not list((study.folder / "runs/r0001").iterdir())
+            and not list(scratch.iterdir())
+        )
     assert Tasks(study.folder).do(task_of(["realisation", "1", "1000"])) == 1
     assert [p.name for p in (study.folder / "runs/r0001").iterdir()] == ["f01000"]
 
@@ -374,7 +496,9 @@ def test_the_command_goes_on_and_its_tables(tmp_path, program):
     folder = written_study(tmp_path / "s", table(7, 6, 4, 3))
     assert command("build", folder).wait() == 0
     np.save(tmp_path / "sims.npy", grades_of(table(7, 6, 4, 3), 4))
-    run = command("risk", folder, "--realisations", tmp_path / "sims.npy", "--factors", "0.8,1", "--later")
+    run = command(
+        "risk", folder, "--realisations", tmp_path / "sims.npy", "--factors", "0.8,1", "--later"
+    )
     assert "4 realisations at 2 factors" in run.communicate(timeout=60)[0]
     assert command("task", folder, "realisation", 2, "800,1000").wait() == 0
     stamp = (folder / "runs/r0002/f00800/verdict.json").stat().st_mtime_ns
@@ -384,16 +508,38 @@ def test_the_command_goes_on_and_its_tables(tmp_path, program):
     study = pp.Study(folder)
     touching, floor = edges.touching(study), edges.on_floor(study.model)
     pits = [risk.realisation(study, r).mask(800) for r in range(4)]
-    for there, what in ((touching, "touches the side of the model"), (floor, "reaches the model's floor")):
+    for there, what in (
+        (touching, "touches the side of the model"),
+        (floor, "reaches the model's floor"),
+    ):
         counts = [int((pit & there).sum()) for pit in pits]
-        assert any(counts) and f"look: at factor 0.8 the pit of {sum(map(bool, counts))} of 4 realisations {what} (up to {max(counts):,} blocks there)" in faults
-    assert "3 of 3" in faults and "\nthe pits are read and added up again\n" in faults and "realisation 2 " not in faults and (folder / "runs/r0002/f00800/verdict.json").stat().st_mtime_ns == stamp
+        assert (
+            any(counts)
+            and f"look: at factor 0.8 the pit of {sum(map(bool, counts))} of 4 realisations {what} (up to {max(counts):,} blocks there)"
+            in faults
+        )
+    assert (
+        "3 of 3" in faults
+        and "\nthe pits are read and added up again\n" in faults
+        and "realisation 2 " not in faults
+        and (folder / "runs/r0002/f00800/verdict.json").stat().st_mtime_ns == stamp
+    )
     found = risk.Risk(pp.Study(folder))
-    for name, frame in (("risk", found.table()), ("risk_runs", found.runs), ("likelihood_pits", found.pits(1000)), ("likelihood", found.of_blocks())):
-        pd.testing.assert_frame_equal(pd.read_csv(folder / f"out/{name}.csv"), frame, check_dtype=False)
+    for name, frame in (
+        ("risk", found.table()),
+        ("risk_runs", found.runs),
+        ("likelihood_pits", found.pits(1000)),
+        ("likelihood", found.of_blocks()),
+    ):
+        pd.testing.assert_frame_equal(
+            pd.read_csv(folder / f"out/{name}.csv"), frame, check_dtype=False
+        )
     assert f"{found.table().worth_p50.iloc[1] / 1e6:,.2f}" in said
     assert (folder / "out/likelihood.png").read_bytes().startswith(b"\x89PNG")
-    assert "<title>t: likelihood over 4 realisations</title>" in (folder / "out/likelihood.html").read_text()
+    assert (
+        "<title>t: likelihood over 4 realisations</title>"
+        in (folder / "out/likelihood.html").read_text()
+    )
 
 
 def test_to_go_on_takes_no_other_factors_and_no_other_metal(tmp_path, program):
@@ -401,7 +547,9 @@ def test_to_go_on_takes_no_other_factors_and_no_other_metal(tmp_path, program):
     assert command("build", folder).wait() == 0
     np.save(tmp_path / "sims.npy", grades_of(frame, 2))
     asked = ["risk", folder, "--later"]
-    assert command(*asked, "--realisations", tmp_path / "sims.npy", "--factors", "0.8,1").wait() == 0
+    assert (
+        command(*asked, "--realisations", tmp_path / "sims.npy", "--factors", "0.8,1").wait() == 0
+    )
     setup = risk.setup_of(pp.Study(folder))
     for more in ([], ["--factors", "0.8,1"], ["--metal", "copper"]):
         run = command(*asked, *more)
@@ -409,7 +557,11 @@ def test_to_go_on_takes_no_other_factors_and_no_other_metal(tmp_path, program):
     for more in (["--factors", "0.9"], ["--factors", "0.8,1,1.2"], ["--metal", "silver"]):
         run = command(*asked, *more)
         faults = run.communicate(timeout=60)[1]
-        assert run.returncode == 3 and "were given as grades of copper, at --factors 0.8,1" in faults and f"--realisations FILE {' '.join(more)}" in faults, (more, faults)
+        assert (
+            run.returncode == 3
+            and "were given as grades of copper, at --factors 0.8,1" in faults
+            and f"--realisations FILE {' '.join(more)}" in faults
+        ), (more, faults)
     assert risk.setup_of(pp.Study(folder)) == setup
 
 
@@ -418,12 +570,18 @@ def test_ids_that_the_study_doesnt_know_are_named(tmp_path):
     frame = table(6, 5, 4, 3)
     model = study_of(tmp_path, frame.drop(columns="IJK")).model
     assert "id" not in model.columns
-    given = pd.DataFrame({"BLK": [f"B-{i}" for i in range(len(frame))], "ONE": grades_of(frame, 1)[0]})
+    given = pd.DataFrame(
+        {"BLK": [f"B-{i}" for i in range(len(frame))], "ONE": grades_of(frame, 1)[0]}
+    )
     given.to_csv(tmp_path / "sims.csv", index=False)
     with pytest.raises(pp.PlanError, match="column BLK") as error:
         risk.of_table(tmp_path / "sims.csv", model, None)
-    assert 'try: columns = { id = "BLK" }' in str(error.value) and "row 2, column BLK" in str(error.value)
-    given.assign(BLK=1.0, ONE=["x", *given.ONE[1:].astype(str)]).to_csv(tmp_path / "sims.csv", index=False)
+    assert 'try: columns = { id = "BLK" }' in str(error.value) and "row 2, column BLK" in str(
+        error.value
+    )
+    given.assign(BLK=1.0, ONE=["x", *given.ONE[1:].astype(str)]).to_csv(
+        tmp_path / "sims.csv", index=False
+    )
     with pytest.raises(pp.PlanError, match="column ONE") as error:
         risk.of_table(tmp_path / "sims.csv", model, None)
     assert "absent" in error.value.try_this
@@ -448,17 +606,27 @@ def test_a_mean_grade_other_than_the_tables_is_told(tmp_path, scale, said):
 
 def test_a_section_has_the_likelihood_of_its_blocks(tmp_path):
     from pitplan.views.risk_pictures import section
+
     found = done(prepared(tmp_path, 5, economics=costs(forbid=["SECTOR == 'EAST' and ZC < 110"])))
     last = found.study.model.grid.shape[1] - 1
     by_row = np.bincount(found.study.model.blocks.iy, weights=found.likelihood(1000))
     own = section(found, 1000)
-    assert f"northing {9000 + 20 * (1 + int(np.argmax(by_row[1:last]))):,}" in own.axes[0].get_title()
+    assert (
+        f"northing {9000 + 20 * (1 + int(np.argmax(by_row[1:last]))):,}" in own.axes[0].get_title()
+    )
     assert "May not be dug" in [text.get_text() for text in own.legends[0].get_texts()]
     row = 3
     figure = section(found, 1000, row)
     shown = figure.axes[0].collections[0].get_array()
-    light = np.asarray(figure.axes[0].collections[0].cmap(np.linspace(0, 1, 20)))[:, :3] @ [0.2126, 0.7152, 0.0722]
-    assert (np.diff(light) < 0).all() and figure.axes[0].collections[0].get_clim() == (0, 1)      # the likelier, the darker
+    light = np.asarray(figure.axes[0].collections[0].cmap(np.linspace(0, 1, 20)))[:, :3] @ [
+        0.2126,
+        0.7152,
+        0.0722,
+    ]
+    assert (np.diff(light) < 0).all() and figure.axes[0].collections[0].get_clim() == (
+        0,
+        1,
+    )  # the likelier, the darker
     shown = np.ma.filled(shown, np.nan).ravel()
     here = found.likelihood(1000)[found.study.model.blocks.iy.to_numpy() == row]
     assert sorted(shown[~np.isnan(shown)]) == pytest.approx(sorted(here[here > 0]))

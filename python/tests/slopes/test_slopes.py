@@ -16,7 +16,15 @@ from served import pitplan
 from test_offsets import walls
 from test_optimum import places_of, rows_of
 
-ANGLES = st.one_of(st.integers(35, 55), st.lists(st.tuples(st.sampled_from([0, 90, 160, 300]), st.integers(42, 46)), min_size=1, max_size=3, unique_by=lambda pair: pair[0]))
+ANGLES = st.one_of(
+    st.integers(35, 55),
+    st.lists(
+        st.tuples(st.sampled_from([0, 90, 160, 300]), st.integers(42, 46)),
+        min_size=1,
+        max_size=3,
+        unique_by=lambda pair: pair[0],
+    ),
+)
 
 
 def model_of(folder, frame, **keys):
@@ -28,16 +36,25 @@ def model_of(folder, frame, **keys):
 def written(folder, slopes, model):
     """The pairs of the .prec file, as sets of predecessors by block."""
     with open(folder / "m.blocks", "w") as file:
-        file.writelines("%d %d %d %d\n" % (b, *place) for b, place in enumerate(zip(model.blocks.ix, model.blocks.iy, model.blocks.iz)))
+        file.writelines(
+            "%d %d %d %d\n" % (b, *place)
+            for b, place in enumerate(zip(model.blocks.ix, model.blocks.iy, model.blocks.iz))
+        )
     module.write_prec(slopes, model, Pit(), folder / "m.blocks", folder / "m.prec")
     lines = [list(map(int, line.split())) for line in (folder / "m.prec").read_text().splitlines()]
-    assert [line[0] for line in lines] == list(range(len(model))) and all(line[1] == len(line) - 2 for line in lines)
+    assert [line[0] for line in lines] == list(range(len(model))) and all(
+        line[1] == len(line) - 2 for line in lines
+    )
     return [set(line[2:]) for line in lines]
 
 
 @settings(max_examples=8)
-@given(st.integers(2, 6), st.integers(2, 6), st.integers(2, 6), st.integers(0, 10 ** 6), ANGLES, ANGLES)
-def test_each_block_has_the_slopes_of_its_own_region(tmp_path_factory, nx, ny, nz, seed, angles, east):
+@given(
+    st.integers(2, 6), st.integers(2, 6), st.integers(2, 6), st.integers(0, 10**6), ANGLES, ANGLES
+)
+def test_each_block_has_the_slopes_of_its_own_region(
+    tmp_path_factory, nx, ny, nz, seed, angles, east
+):
     folder = tmp_path_factory.mktemp("s")
     slopes = pp.Slopes(angles, by="SECTOR", regions={"EAST": east})
     model = model_of(folder, table(nx, ny, nz, seed))
@@ -45,33 +62,60 @@ def test_each_block_has_the_slopes_of_its_own_region(tmp_path_factory, nx, ny, n
     rows = rows_of(folder / "t.csv")
     at = {place: b for b, place in enumerate(places_of(rows))}
     found = slopes.offsets_by_region(model.grid)
-    wanted = [{at[x + i, y + j, z + k] for i, j, k in found["EAST" if row["SECTOR"] == "EAST" else "default"] if (x + i, y + j, z + k) in at}
-              for (x, y, z), row in zip(at, rows)]
+    wanted = [
+        {
+            at[x + i, y + j, z + k]
+            for i, j, k in found["EAST" if row["SECTOR"] == "EAST" else "default"]
+            if (x + i, y + j, z + k) in at
+        }
+        for (x, y, z), row in zip(at, rows)
+    ]
     assert got == wanted and module.count_pairs(slopes, model) == sum(map(len, wanted))
 
 
 def test_offsets_lead_the_way_that_bearings_say():
     # the east wall is flat: along x, or along y where the y axis points east
     for rotation, flat in ((0, (1, 0)), (90, (0, 1)), (-90, (0, -1)), (180, (-1, 0))):
-        offsets = pp.Slopes([(0, 46), (90, 38), (180, 46), (270, 46)]).offsets_by_region(pp.Grid((0, 0, 0), (10, 10, 10), (1, 1, 1), rotation))["default"]
-        out = {way: max((i * way[0] + j * way[1]) / k for i, j, k in offsets) for way in ((0, 1), (1, 0), (0, -1), (-1, 0))}
-        assert max(out, key=out.get) == flat and out[flat] == pytest.approx(1 / math.tan(math.radians(38)), rel=0.06), rotation
+        offsets = pp.Slopes([(0, 46), (90, 38), (180, 46), (270, 46)]).offsets_by_region(
+            pp.Grid((0, 0, 0), (10, 10, 10), (1, 1, 1), rotation)
+        )["default"]
+        out = {
+            way: max((i * way[0] + j * way[1]) / k for i, j, k in offsets)
+            for way in ((0, 1), (1, 0), (0, -1), (-1, 0))
+        }
+        assert max(out, key=out.get) == flat and out[flat] == pytest.approx(
+            1 / math.tan(math.radians(38)), rel=0.06
+        ), rotation
 
 
 def test_regions_of_numbers_and_of_empty_cells(tmp_path):
     frame = table(6, 5, 3, 3)
     frame["ZONE"] = np.where(frame.SECTOR == "EAST", 2, 1)
     model = model_of(tmp_path, frame)
-    model.blocks["ZONE"] = model.blocks.ZONE.where(model.blocks.iz > 0)          # floats now, and empty at the bottom
+    model.blocks["ZONE"] = model.blocks.ZONE.where(
+        model.blocks.iz > 0
+    )  # floats now, and empty at the bottom
     found = pp.Slopes(45, by="ZONE", regions={"2": 38}).region_of(model)
     assert (found == ((model.blocks.SECTOR == "EAST") & (model.blocks.iz > 0)).to_numpy()).all()
 
 
-@pytest.mark.parametrize("words, said", [
-    (dict(angles=95), "from 5 to 89 degrees"), (dict(angles="45"), "angles is '45', and has to be degrees"), (dict(angles=[[0, 45], [380, 40]]), "a bearing is from 0 to 360"),
-    (dict(angles=[[0, 45, 3]]), "has to be degrees"), (dict(angles=[[0, 45], [0, 38]]), "two slopes"), (dict(angles=True), "has to be degrees"),
-    (dict(regions={"EAST": 38}), 'by = "SECTOR"'), (dict(by="SECTOR"), "regions = { NORTH = 38 }"), (dict(by="SECTOR", regions=[1]), "regions is"),
-    (dict(by="SECTOR", regions={"EAST": 3}), r"regions, EAST: a slope is from 5"), (dict(levels=0), "levels is 0"), (dict(levels=2.5), "levels is 2.5")])
+@pytest.mark.parametrize(
+    "words, said",
+    [
+        (dict(angles=95), "from 5 to 89 degrees"),
+        (dict(angles="45"), "angles is '45', and has to be degrees"),
+        (dict(angles=[[0, 45], [380, 40]]), "a bearing is from 0 to 360"),
+        (dict(angles=[[0, 45, 3]]), "has to be degrees"),
+        (dict(angles=[[0, 45], [0, 38]]), "two slopes"),
+        (dict(angles=True), "has to be degrees"),
+        (dict(regions={"EAST": 38}), 'by = "SECTOR"'),
+        (dict(by="SECTOR"), "regions = { NORTH = 38 }"),
+        (dict(by="SECTOR", regions=[1]), "regions is"),
+        (dict(by="SECTOR", regions={"EAST": 3}), r"regions, EAST: a slope is from 5"),
+        (dict(levels=0), "levels is 0"),
+        (dict(levels=2.5), "levels is 2.5"),
+    ],
+)
 def test_wrong_slopes(words, said):
     with pytest.raises(PlanError, match=said):
         pp.Slopes(**words)
@@ -91,13 +135,20 @@ def test_too_many_pairs_are_told_before_pit_runs(tmp_path, monkeypatch):
     monkeypatch.setattr(search, "PAIRS", most)
     module.check_limits(pp.Slopes(45), model)
     monkeypatch.setattr(search, "PAIRS", most - 1)
-    with pytest.raises(PlanError, match=rf"offsets make {most:,} pairs over {len(model)} blocks, and pit takes {most - 1:,}") as told:
-        module.write_prec(pp.Slopes(45), model, None, tmp_path / "none.blocks", tmp_path / "m.prec")          # no program: nothing is run
+    with pytest.raises(
+        PlanError,
+        match=rf"offsets make {most:,} pairs over {len(model)} blocks, and pit takes {most - 1:,}",
+    ) as told:
+        module.write_prec(
+            pp.Slopes(45), model, None, tmp_path / "none.blocks", tmp_path / "m.prec"
+        )  # no program: nothing is run
     assert not list(tmp_path.glob("m.prec*"))
     levels = int(str(told.value).split("levels = ")[1].split()[0])
     fewer = pp.Slopes(45, levels=levels)
     module.check_limits(fewer, model)
-    assert module.count_pairs(fewer, model) < most and str(fewer.patterns(model.grid)["default"]) in str(told.value)
+    assert module.count_pairs(fewer, model) < most and str(
+        fewer.patterns(model.grid)["default"]
+    ) in str(told.value)
     monkeypatch.setattr(search, "PAIRS", 10)
     with pytest.raises(PlanError, match="even one level up is too much"):
         module.check_limits(pp.Slopes(45), model)
@@ -117,75 +168,167 @@ def test_built_is_what_the_offsets_make():
     found = slopes.built(grid)
     assert found.groupby("region").size().to_dict() == {"default": 24, "N": 24}
     north = found[found.region == "N"].set_index("bearing")
-    assert north.asked[0] == 38 and north.asked[90] == 42 and north.asked[180] == 46 and north.asked[270] == 42
-    assert ((found.built - found.asked) - found.error).abs().max() < 1e-9 and found.error.abs().max() <= 1
+    assert (
+        north.asked[0] == 38
+        and north.asked[90] == 42
+        and north.asked[180] == 46
+        and north.asked[270] == 42
+    )
+    assert (
+        (found.built - found.asked) - found.error
+    ).abs().max() < 1e-9 and found.error.abs().max() <= 1
     safe = pp.Slopes(45, safe=True).built(grid)
     assert safe.error.max() <= 1e-9 and safe.error.min() < 0
 
 
 def test_a_safe_wall_is_built_flatter_or_not_at_all(tmp_path):
-    few = written_study(tmp_path / "few", text=STUDY_TOML.replace("angles = 45", "angles = 44\nsafe = true\nlevels = 1"))
+    few = written_study(
+        tmp_path / "few",
+        text=STUDY_TOML.replace("angles = 45", "angles = 44\nsafe = true\nlevels = 1"),
+    )
     ran = pitplan("build", few)
     offsets = re.findall(r"\[(-?\d), (-?\d), 1\]", (few / "model/slope-0.toml").read_text())
-    assert ran.returncode == 0 and sorted(offsets) == sorted((str(i), str(j)) for i in (-1, 0, 1) for j in (-1, 0, 1)), ran.stderr
-    flattest = math.degrees(math.atan(15 / math.hypot(20, 20)))          # the five would have walls of atan(15 * sqrt 2 / 20) = 46.7 degrees
-    assert f"44.0 degrees are asked for there, {flattest:.1f} are built" in ran.stderr and "too steep" not in ran.stderr and "try: more levels" in ran.stderr
+    assert ran.returncode == 0 and sorted(offsets) == sorted(
+        (str(i), str(j)) for i in (-1, 0, 1) for j in (-1, 0, 1)
+    ), ran.stderr
+    flattest = math.degrees(
+        math.atan(15 / math.hypot(20, 20))
+    )  # the five would have walls of atan(15 * sqrt 2 / 20) = 46.7 degrees
+    assert (
+        f"44.0 degrees are asked for there, {flattest:.1f} are built" in ran.stderr
+        and "too steep" not in ran.stderr
+        and "try: more levels" in ran.stderr
+    )
 
 
-@pytest.mark.parametrize("angles, where", [("angles = 5", "angles"), ('angles = 45\nby = "SECTOR"\nregions = { EAST = 5 }', "regions, EAST")])
+@pytest.mark.parametrize(
+    "angles, where",
+    [
+        ("angles = 5", "angles"),
+        ('angles = 45\nby = "SECTOR"\nregions = { EAST = 5 }', "regions, EAST"),
+    ],
+)
 def test_a_build_refuses_a_safe_wall_that_would_be_too_steep(tmp_path, angles, where):
-    text = STUDY_TOML.replace("angles = 45", angles + "\nsafe = true").replace("size = [20, 20, 15]", "size = [2, 2, 15]")
+    text = STUDY_TOML.replace("angles = 45", angles + "\nsafe = true").replace(
+        "size = [20, 20, 15]", "size = [2, 2, 15]"
+    )
     frame = table(3, 3, 2, 1)
     frame[["XC", "YC"]] /= 10
     study = written_study(tmp_path / "s", frame, text=text)
     for word in ("build", "slopes"):
         ran = pitplan(word, study)
-        assert ran.returncode == 3 and "Traceback" not in ran.stderr and not (study / "model").exists(), ran.stderr
-        assert f"[slopes] {where}, safe = true: a wall that is nowhere steeper than asked can't be built in blocks of 2 x 2 x 15" in ran.stderr
-        assert re.search(r"the nearest is [\d.]+ degrees at bearing \d+, where 5\.0 are asked for\n  study.toml:\d+: safe = true\n  try: lower or wider blocks", ran.stderr)
+        assert (
+            ran.returncode == 3 and "Traceback" not in ran.stderr and not (study / "model").exists()
+        ), ran.stderr
+        assert (
+            f"[slopes] {where}, safe = true: a wall that is nowhere steeper than asked can't be built in blocks of 2 x 2 x 15"
+            in ran.stderr
+        )
+        assert re.search(
+            r"the nearest is [\d.]+ degrees at bearing \d+, where 5\.0 are asked for\n  study.toml:\d+: safe = true\n  try: lower or wider blocks",
+            ran.stderr,
+        )
 
 
 def test_the_command_shows_and_draws(tmp_path):
-    text = STUDY_TOML.replace("angles = 45", 'angles = 45\nby = "SECTOR"\nregions = { EAST = [[0, 38], [180, 46]] }')
+    text = STUDY_TOML.replace(
+        "angles = 45", 'angles = 45\nby = "SECTOR"\nregions = { EAST = [[0, 38], [180, 46]] }'
+    )
     study = written_study(tmp_path / "s", text=text)
-    ran = pitplan("slopes", study)                                       # before a build: it needs the size alone
-    assert ran.returncode == 0 and "EAST:" in ran.stdout and "a deep wall is" in ran.stdout and "42.0" in ran.stdout, ran.stderr
+    ran = pitplan("slopes", study)  # before a build: it needs the size alone
+    assert (
+        ran.returncode == 0
+        and "EAST:" in ran.stdout
+        and "a deep wall is" in ran.stdout
+        and "42.0" in ran.stdout
+    ), ran.stderr
     told = pd.read_csv(study / "out/slopes.csv")
     assert set(told.region) == {"default", "EAST"} and len(told) == 48
     from matplotlib import image
+
     picture = image.imread(study / "out/slopes.png")
     assert len(np.unique(picture.reshape(-1, picture.shape[-1]), axis=0)) > 20
     said = {}
-    for name, angles in (("few", "45\nlevels = 1"), ("dent", "[[0, 35], [45, 55], [90, 35], [180, 45], [270, 55]]")):
-        cannot = written_study(tmp_path / name, text=STUDY_TOML.replace("angles = 45", f"angles = {angles}"))
-        told = [pitplan(word, cannot) for word in ("slopes", "build")]                # the build says it too, and goes on
-        assert "slopes of default, 1 of 1\n" + told[0].stderr == told[1].stderr and [ran.returncode for ran in told] == [0, 0]
+    for name, angles in (
+        ("few", "45\nlevels = 1"),
+        ("dent", "[[0, 35], [45, 55], [90, 35], [180, 45], [270, 55]]"),
+    ):
+        cannot = written_study(
+            tmp_path / name, text=STUDY_TOML.replace("angles = 45", f"angles = {angles}")
+        )
+        told = [
+            pitplan(word, cannot) for word in ("slopes", "build")
+        ]  # the build says it too, and goes on
+        assert "slopes of default, 1 of 1\n" + told[0].stderr == told[1].stderr and [
+            ran.returncode for ran in told
+        ] == [0, 0]
         said[name] = told[0].stderr
-    assert "default: 0.5 degrees on average and 1 at the worst bearing can't be held with blocks of 20 x 20 x 15 and levels = 1;" in said["few"] and "try: more levels" in said["few"]
-    bearing, asked, built = map(float, re.search(r"err most at bearing (\d+): ([\d.]+) degrees are asked for there, ([\d.]+) are built", said["dent"]).groups())
-    assert bearing == 45 and asked == 55 and built < 50 and "try: angles that change less" in said["dent"]             # between two flat walls
-    bearing, asked, built = map(float, re.search(r"too steep by most at bearing (\d+): ([\d.]+) degrees are asked for there, ([\d.]+) are built", said["dent"]).groups())
-    assert built - asked > 1 and asked == pytest.approx(walls.asked("0:35,45:55,90:35,180:45,270:55", bearing), abs=0.5)      # the bearing is told in whole degrees
+    assert (
+        "default: 0.5 degrees on average and 1 at the worst bearing can't be held with blocks of 20 x 20 x 15 and levels = 1;"
+        in said["few"]
+        and "try: more levels" in said["few"]
+    )
+    bearing, asked, built = map(
+        float,
+        re.search(
+            r"err most at bearing (\d+): ([\d.]+) degrees are asked for there, ([\d.]+) are built",
+            said["dent"],
+        ).groups(),
+    )
+    assert (
+        bearing == 45
+        and asked == 55
+        and built < 50
+        and "try: angles that change less" in said["dent"]
+    )  # between two flat walls
+    bearing, asked, built = map(
+        float,
+        re.search(
+            r"too steep by most at bearing (\d+): ([\d.]+) degrees are asked for there, ([\d.]+) are built",
+            said["dent"],
+        ).groups(),
+    )
+    assert built - asked > 1 and asked == pytest.approx(
+        walls.asked("0:35,45:55,90:35,180:45,270:55", bearing), abs=0.5
+    )  # the bearing is told in whole degrees
     wrong = written_study(tmp_path / "u", text=STUDY_TOML.replace("angles = 45", "angles = 450"))
     ran = pitplan("slopes", wrong)
-    assert ran.returncode == 3 and "from 5 to 89 degrees" in ran.stderr and "Traceback" not in ran.stderr
+    assert (
+        ran.returncode == 3
+        and "from 5 to 89 degrees" in ran.stderr
+        and "Traceback" not in ran.stderr
+    )
 
 
 def test_each_region_is_told_as_it_is_begun(tmp_path, monkeypatch):
     model, events, run = model_of(tmp_path, table(4, 4, 3, 2)), [], Pit.slopes
     slopes = pp.Slopes(45, by="SECTOR", regions={"EAST": 38, "WEST": 40})
     slopes.heard = lambda *told: events.append(told)
-    monkeypatch.setattr(Pit, "slopes", lambda self, *words: events.append("pit slopes") or run(self, *words))
+    monkeypatch.setattr(
+        Pit, "slopes", lambda self, *words: events.append("pit slopes") or run(self, *words)
+    )
     written(tmp_path, slopes, model)
-    assert events == [("default", 1, 3), "pit slopes", ("EAST", 2, 3), "pit slopes", ("WEST", 3, 3), "pit slopes"]
+    assert events == [
+        ("default", 1, 3),
+        "pit slopes",
+        ("EAST", 2, 3),
+        "pit slopes",
+        ("WEST", 3, 3),
+        "pit slopes",
+    ]
 
 
 def test_a_build_off_a_terminal_has_a_line_for_each_region(tmp_path):
     text = STUDY_TOML.replace("angles = 45", 'angles = 45\nby = "SECTOR"\nregions = { EAST = 38 }')
     ran = pitplan("build", written_study(tmp_path / "s", text=text))
-    assert ran.returncode == 0 and ran.stderr.splitlines()[:2] == ["slopes of default, 1 of 2", "slopes of EAST, 2 of 2"], ran.stderr
+    assert ran.returncode == 0 and ran.stderr.splitlines()[:2] == [
+        "slopes of default, 1 of 2",
+        "slopes of EAST, 2 of 2",
+    ], ran.stderr
 
 
 def test_a_region_that_is_called_as_the_slopes_of_all_others_is_refused():
-    with pytest.raises(pp.PlanError, match="'default' is what the slopes of all other blocks are called"):
+    with pytest.raises(
+        pp.PlanError, match="'default' is what the slopes of all other blocks are called"
+    ):
         pp.Slopes(45, by="SECTOR", regions={"default": 38})

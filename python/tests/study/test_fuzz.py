@@ -16,13 +16,16 @@ def test_each_damaged_study_is_answered():
 
 def test_a_sample_that_is_not_answered_is_found(monkeypatch):
     """The fuzzer sees a traceback, and a message of another form."""
+
     class Odd(PlanError):
         def __str__(self):
             return "two\nlines"
 
     for error in (KeyError("x"), Odd("x")):
+
         def failing(folder, error=error):
             raise error
+
         monkeypatch.setattr(fuzz_studies, "read_study_file", failing)
         assert len(fuzz_studies.run(1)[1]) == 1
 
@@ -41,9 +44,23 @@ def test_a_first_row_with_more_cells_than_the_header_is_told(tmp_path):
         pp.read_table(tmp_path / "t.csv", size=mines.SIZE)
 
 
-@pytest.mark.parametrize("change, told", [(lambda text: text.replace(",ZC", ",\rZC", 1), "row 1: a carriage return stands within the header line"),
-                                          (lambda text: text.replace("\n", "\r"), "row 1: a carriage return stands within the header line"),
-                                          (lambda text: text.replace("ZC", "ZC," + "Z" * 140_000, 1), "row 1: the header line is none: field larger")])
+@pytest.mark.parametrize(
+    "change, told",
+    [
+        (
+            lambda text: text.replace(",ZC", ",\rZC", 1),
+            "row 1: a carriage return stands within the header line",
+        ),
+        (
+            lambda text: text.replace("\n", "\r"),
+            "row 1: a carriage return stands within the header line",
+        ),
+        (
+            lambda text: text.replace("ZC", "ZC," + "Z" * 140_000, 1),
+            "row 1: the header line is none: field larger",
+        ),
+    ],
+)
 def test_a_header_line_that_is_none_is_told(tmp_path, change, told):
     (tmp_path / "t.csv").write_bytes(change(mines.table(4, 4, 3, 1).to_csv(index=False)).encode())
     with pytest.raises(PlanError, match=told):
@@ -63,7 +80,9 @@ def test_a_size_of_next_to_nothing_is_told(tmp_path, size):
         pp.read_table(tmp_path / "t.csv", size=size)
 
 
-@pytest.mark.parametrize("what, keys", [("widen = 9", {"widen": 9 * 10 ** 18}), ("widen = 100,000", {"widen": 100_000})])
+@pytest.mark.parametrize(
+    "what, keys", [("widen = 9", {"widen": 9 * 10**18}), ("widen = 100,000", {"widen": 100_000})]
+)
 def test_a_model_is_not_widened_without_end(tmp_path, what, keys):
     mines.table(4, 4, 3, 1).to_csv(tmp_path / "t.csv", index=False)
     with pytest.raises(PlanError, match=what):
@@ -75,7 +94,9 @@ def test_an_amount_that_is_no_number_is_refused(tmp_path):
     frame = mines.table(4, 4, 3, 1)
     frame["TONNES"], frame["CU"] = 1e308, 60.0
     frame.to_csv(tmp_path / "t.csv", index=False)
-    costs = mines.costs(mill=["OXI"])        # where the mill takes nothing, more than a float holds times 0 is no number
+    costs = mines.costs(
+        mill=["OXI"]
+    )  # where the mill takes nothing, more than a float holds times 0 is no number
     with pytest.raises(PlanError, match="for one block: is a unit wrong"):
         costs.priced(pp.read_table(tmp_path / "t.csv", size=mines.SIZE))
 
@@ -86,4 +107,7 @@ def test_words_that_a_terminal_would_obey_are_shown_and_not_sent(tmp_path):
     frame.to_csv(tmp_path / "t.csv", index=False)
     with pytest.raises(PlanError) as told:
         mines.costs().priced(pp.read_table(tmp_path / "t.csv", size=mines.SIZE))
-    assert "\\x1b[2J\\x07" in str(told.value) and str(told.value).replace("\n  try: ", "").isprintable()
+    assert (
+        "\\x1b[2J\\x07" in str(told.value)
+        and str(told.value).replace("\n  try: ", "").isprintable()
+    )

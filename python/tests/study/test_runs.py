@@ -26,7 +26,12 @@ from processes import TOP, command, gone, waited_for
 def test_nobody_but_the_check_makes_an_accepted():
     with pytest.raises(TypeError, match="by Pit.check alone"):
         Accepted(1, "5", np.array([0]), 1000, "00", 4)
-    makers = [(path.name, line) for path in (TOP / "python/pitplan").rglob("*.py") for line in path.read_text().splitlines() if re.search(r"(?<!\w)Accepted\(", line) and "class" not in line]
+    makers = [
+        (path.name, line)
+        for path in (TOP / "python/pitplan").rglob("*.py")
+        for line in path.read_text().splitlines()
+        if re.search(r"(?<!\w)Accepted\(", line) and "class" not in line
+    ]
     assert len(makers) == 1 and makers[0][0] == "program.py"
     assert sum("BEGUN" in path.read_text() for path in (TOP / "python/pitplan").rglob("*.py")) == 1
 
@@ -34,13 +39,20 @@ def test_nobody_but_the_check_makes_an_accepted():
 def test_a_pit_of_the_checked_bytes(tmp_path):
     study = study_of(tmp_path, table(6, 5, 4, 3))
     found = study.pit(1.0)
-    assert found.count == found.mask.sum() == len(found.blocks) > 0 and found.factor == 1000 and found.size == len(study.model)
+    assert (
+        found.count == found.mask.sum() == len(found.blocks) > 0
+        and found.factor == 1000
+        and found.size == len(study.model)
+    )
     size, factor, blocks, digest = pit_lines(unpacked(study, 1000, tmp_path).read_bytes())
-    assert (size, factor, digest) == (found.size, 1000, found.certificate) and (blocks == found.blocks).all()
+    assert (size, factor, digest) == (found.size, 1000, found.certificate) and (
+        blocks == found.blocks
+    ).all()
 
 
 def unpacked(study, factor, folder):
     import gzip
+
     path = folder / "plain.cert"
     path.write_bytes(gzip.decompress((study.place(factor) / "best.cert.gz").read_bytes()))
     return path
@@ -62,21 +74,34 @@ HEAD = b"PITCERT 2\nBLOCKS 4000\nPRICE MILL 850\nGROUP PAIR\n"
 def pit_lines(text, piece=1 << 20):
     lines = PitLines()
     for at in range(0, len(text), piece):
-        lines.take(text[at:at + piece])
+        lines.take(text[at : at + piece])
     return (*lines.found(), lines.digest.hexdigest())
 
 
 def test_lines_that_are_no_pit_lines_are_told():
-    for text in (HEAD + b"PIT 1\nPUT 2\nSOURCE 1 0 0\nEND\n", b"PITCERT 1\nBLOCKS 4\nPRICE OBJECTIVE\nGROUP PAIR\nEND\n", b"", b"PITCERT"):
+    for text in (
+        HEAD + b"PIT 1\nPUT 2\nSOURCE 1 0 0\nEND\n",
+        b"PITCERT 1\nBLOCKS 4\nPRICE OBJECTIVE\nGROUP PAIR\nEND\n",
+        b"",
+        b"PITCERT",
+    ):
         with pytest.raises(pp.NotAccepted):
             pit_lines(text)
 
 
 @pytest.mark.parametrize("piece", [1, 7, 60, 1 << 20])
 def test_pit_lines_across_pieces(piece):
-    text = HEAD + "".join(f"PIT {b}\n" for b in range(0, 3000, 3)).encode() + b"SOURCE 1 0 0\nREST 1 2 0 0\nEND\n"
+    text = (
+        HEAD
+        + "".join(f"PIT {b}\n" for b in range(0, 3000, 3)).encode()
+        + b"SOURCE 1 0 0\nREST 1 2 0 0\nEND\n"
+    )
     size, factor, blocks, digest = pit_lines(text, piece)
-    assert (size, factor, digest) == (4000, 850, hashlib.sha256(text).hexdigest()) and blocks.tolist() == list(range(0, 3000, 3))
+    assert (size, factor, digest) == (
+        4000,
+        850,
+        hashlib.sha256(text).hexdigest(),
+    ) and blocks.tolist() == list(range(0, 3000, 3))
     assert pit_lines(HEAD + b"END\n")[2].tolist() == []
 
 
@@ -114,12 +139,21 @@ def test_a_result_that_cannot_be_read_is_told(tmp_path):
     study = shells_of(tmp_path).study
     path = study.place(800) / "pit.npz"
     kept = path.read_bytes()
-    for data in (b"", kept[:len(kept) // 2], None, *(kept[:at] + bytes([kept[at] ^ bit]) + kept[at + 1:] for bit in (1, 128) for at in range(0, len(kept), 3))):
+    for data in (
+        b"",
+        kept[: len(kept) // 2],
+        None,
+        *(
+            kept[:at] + bytes([kept[at] ^ bit]) + kept[at + 1 :]
+            for bit in (1, 128)
+            for at in range(0, len(kept), 3)
+        ),
+    ):
         path.unlink(missing_ok=True)
         if data is not None:
             path.write_bytes(data)
         try:
-            study.mask(800)                  # a byte that nothing reads
+            study.mask(800)  # a byte that nothing reads
         except pp.Disagreement as error:
             assert "isn't what was stated" in str(error) and "take " in str(error)
     path.unlink()
@@ -134,11 +168,16 @@ def test_a_verdict_names_the_pit_that_found_it(tmp_path, program):
     """And not the one that the model was built with."""
     study = study_of(tmp_path, table(7, 6, 4, 3))
     other = tmp_path / "pit"
-    other.write_text(f"#!/bin/sh\n[ \"$1\" = --version ] && echo 'pit 9.9.9' || exec {program} \"$@\"\n")
+    other.write_text(
+        f'#!/bin/sh\n[ "$1" = --version ] && echo \'pit 9.9.9\' || exec {program} "$@"\n'
+    )
     other.chmod(0o755)
     own = study.run(1000)["pit"]
     assert own == study.manifest["pit"] == pp.Pit(program).version()
-    assert pp.Study(study.folder, pp.Pit(other)).run(800)["pit"] == ["pit 9.9.9"] and study.verdict(1000)["pit"] == own
+    assert (
+        pp.Study(study.folder, pp.Pit(other)).run(800)["pit"] == ["pit 9.9.9"]
+        and study.verdict(1000)["pit"] == own
+    )
     again = pp.Study(study.folder, pp.Pit(other))
     again.run_series([600, 700])
     assert [again.verdict(factor)["pit"] for factor in (600, 700)] == [["pit 9.9.9"]] * 2
@@ -147,9 +186,22 @@ def test_a_verdict_names_the_pit_that_found_it(tmp_path, program):
 def test_a_verdict_or_a_manifest_that_was_damaged_is_none(tmp_path):
     """A byte that is no text, another JSON, a key with a byte that is another: nothing of Python's own comes out."""
     study = shells_of(tmp_path).study
-    for path, found in ((study.place(800) / "verdict.json", lambda: pp.Study(study.folder).verdict(800)), (study.where / "manifest.json", lambda: pp.Study(study.folder).key)):
+    for path, found in (
+        (study.place(800) / "verdict.json", lambda: pp.Study(study.folder).verdict(800)),
+        (study.where / "manifest.json", lambda: pp.Study(study.folder).key),
+    ):
         kept = path.read_bytes()
-        for data in (b"", b"[]", b"{}", b"7", *(kept[:at] + bytes([kept[at] ^ bit]) + kept[at + 1:] for bit in (2, 128) for at in range(0, min(len(kept), 900), 7))):
+        for data in (
+            b"",
+            b"[]",
+            b"{}",
+            b"7",
+            *(
+                kept[:at] + bytes([kept[at] ^ bit]) + kept[at + 1 :]
+                for bit in (2, 128)
+                for at in range(0, min(len(kept), 900), 7)
+            ),
+        ):
             path.write_bytes(data)
             try:
                 found()
@@ -158,7 +210,9 @@ def test_a_verdict_or_a_manifest_that_was_damaged_is_none(tmp_path):
         path.write_bytes(kept)
         assert found()
     verdict = json.loads((study.place(800) / "verdict.json").read_text())
-    (study.place(800) / "verdict.json").write_text(json.dumps(verdict).replace('"count"', '"counu"'))
+    (study.place(800) / "verdict.json").write_text(
+        json.dumps(verdict).replace('"count"', '"counu"')
+    )
     with pytest.raises(pp.PlanError, match="f00800/verdict.json is damaged: it has no count"):
         study.mask(800)
 
@@ -178,10 +232,17 @@ def test_pits_that_arent_nested_are_never_shown(tmp_path):
     a, b = study.place(600), study.place(1200)
     verdicts = [json.loads((place / "verdict.json").read_text()) for place in (a, b)]
     masks = [study.mask(factor) for factor in (600, 1200)]
-    for place, verdict, mask, factor in ((a, verdicts[0], masks[1], 600), (b, verdicts[1], masks[0], 1200)):
+    for place, verdict, mask, factor in (
+        (a, verdicts[0], masks[1], 600),
+        (b, verdicts[1], masks[0], 1200),
+    ):
         bits = np.packbits(mask)
         np.savez_compressed(place / "pit.npz", bits=bits)
-        verdict |= {"bits": hashlib.sha256(bits.tobytes()).hexdigest(), "count": int(mask.sum()), "worth": study.priced.worth_of(mask, factor)}
+        verdict |= {
+            "bits": hashlib.sha256(bits.tobytes()).hexdigest(),
+            "count": int(mask.sum()),
+            "worth": study.priced.worth_of(mask, factor),
+        }
         (place / "verdict.json").write_text(json.dumps(verdict))
     with pytest.raises(pp.Disagreement, match="isn't within"):
         pp.Shells(study, [600, 1200])
@@ -221,14 +282,19 @@ def test_a_build_that_fails_leaves_the_study_as_it_was(tmp_path):
     old = shells_of(tmp_path).study
     with pytest.raises(pp.PlanError):
         study_of(tmp_path, table(9, 8, 5, 5), economics=costs(mill=["NONE"]))
-    assert pp.Shells(pp.Study(old.folder), [600, 800]).verdicts == [old.verdict(600), old.verdict(800)]
+    assert pp.Shells(pp.Study(old.folder), [600, 800]).verdicts == [
+        old.verdict(600),
+        old.verdict(800),
+    ]
     (tmp_path / "empty").mkdir()
     with pytest.raises(pp.PlanError, match="never built"):
         pp.Study(tmp_path / "empty")
 
 
 @pytest.mark.parametrize("is_stopped", [False, True])
-def test_a_folder_is_put_in_its_place_beside_another_process_or_a_ctrl_c(tmp_path, monkeypatch, is_stopped):
+def test_a_folder_is_put_in_its_place_beside_another_process_or_a_ctrl_c(
+    tmp_path, monkeypatch, is_stopped
+):
     """Another process puts its own there, or ctrl-C comes, when the folder before is out of the way."""
     place, rename, met = tmp_path / "model", os.rename, []
 
@@ -239,19 +305,30 @@ def test_a_folder_is_put_in_its_place_beside_another_process_or_a_ctrl_c(tmp_pat
                 raise KeyboardInterrupt
             (place / "theirs").mkdir(parents=True)
         rename(source, target)
+
     place.mkdir()
     (place / "before").touch()
     monkeypatch.setattr(os, "rename", late)
-    with pytest.raises(KeyboardInterrupt) if is_stopped else nullcontext(), made_whole(place) as work:
+    with pytest.raises(KeyboardInterrupt) if is_stopped else nullcontext(), made_whole(
+        place
+    ) as work:
         (work / "ours").touch()
-    assert met and [path.name for path in place.iterdir()] == ["before" if is_stopped else "ours"] and list(tmp_path.iterdir()) == [place]
+    assert (
+        met
+        and [path.name for path in place.iterdir()] == ["before" if is_stopped else "ours"]
+        and list(tmp_path.iterdir()) == [place]
+    )
 
 
 def test_a_series_goes_on_where_it_was(tmp_path, monkeypatch):
     study = study_of(tmp_path, table(9, 8, 5, 5))
     ran = []
     best = Pit.best
-    monkeypatch.setattr(Pit, "best", lambda self, files, factor, *rest: ran.append(factor) or best(self, files, factor, *rest))
+    monkeypatch.setattr(
+        Pit,
+        "best",
+        lambda self, files, factor, *rest: ran.append(factor) or best(self, files, factor, *rest),
+    )
     study.shells([600, 1000], certificates=True)
     half = study.folder / "runs/base/.f00800.elsewhere.1.xyz"
     dead = study.folder / f"runs/base/.f00800.{os.uname().nodename.replace('.', '_')}.999999999.xyz"
@@ -259,7 +336,7 @@ def test_a_series_goes_on_where_it_was(tmp_path, monkeypatch):
         folder.mkdir()
     study.shells([600, 800, 1000, 1200], certificates=True)
     assert sorted(ran) == [600, 800, 1000, 1200]
-    assert half.exists() and not dead.exists()      # another machine may still be at work on the first
+    assert half.exists() and not dead.exists()  # another machine may still be at work on the first
 
 
 SLOW = """#!/bin/sh
@@ -281,7 +358,9 @@ def test_a_run_that_was_stopped_leaves_no_solver_and_goes_on(tmp_path, program, 
     folder = written_study(tmp_path / "s")
     assert command("build", folder).wait() == 0
     slow, marks = slow_pit(tmp_path, 30, program)
-    run = command("shells", folder, "--certificates", "--workers", 2, env={**os.environ, "PIT": str(slow)})
+    run = command(
+        "shells", folder, "--certificates", "--workers", 2, env={**os.environ, "PIT": str(slow)}
+    )
     solvers = waited_for(marks, 2)
     run.send_signal(how)
     said = run.communicate(timeout=60)[1]
@@ -292,17 +371,36 @@ def test_a_run_that_was_stopped_leaves_no_solver_and_goes_on(tmp_path, program, 
     assert how == signal.SIGKILL or not left
     again = command("shells", folder, env={**os.environ, "PIT": program})
     assert again.communicate(timeout=120) and again.returncode == 0
-    assert sorted(path.name for path in (folder / "runs/base").iterdir()) == ["f00600", "f01000", "f01200"]
+    assert sorted(path.name for path in (folder / "runs/base").iterdir()) == [
+        "f00600",
+        "f01000",
+        "f01200",
+    ]
 
 
 def test_a_killed_solver_is_started_once_more(tmp_path, program):
-    study = study_of(tmp_path, table(6, 5, 4, 3), )
-    text = "#!/bin/sh\ncase \"$*\" in *solve*1000*) if [ ! -e {0} ]; then touch {0}; kill -9 $$; fi;; esac\nexec {1} \"$@\"\n".format(tmp_path / "killed", program)
+    study = study_of(
+        tmp_path,
+        table(6, 5, 4, 3),
+    )
+    text = '#!/bin/sh\ncase "$*" in *solve*1000*) if [ ! -e {0} ]; then touch {0}; kill -9 $$; fi;; esac\nexec {1} "$@"\n'.format(
+        tmp_path / "killed", program
+    )
     (tmp_path / "pit").write_text(text)
     (tmp_path / "pit").chmod(0o755)
     study = pp.Study(study.folder, Pit(tmp_path / "pit"))
     told = []
-    assert len(study.shells([600, 1000], 2, lambda factor, what, share: told.append((factor, what)), certificates=True).verdicts) == 2
+    assert (
+        len(
+            study.shells(
+                [600, 1000],
+                2,
+                lambda factor, what, share: told.append((factor, what)),
+                certificates=True,
+            ).verdicts
+        )
+        == 2
+    )
     assert (1000, "killed") in told and (1000, "done") in told
     (tmp_path / "pit").write_text("#!/bin/sh\nkill -9 $$\n")
     with pytest.raises(pp.MachineError, match="SIGKILL"):
@@ -340,29 +438,91 @@ def test_a_table_stays_whole_on_a_full_disk_which_is_told_by_the_file(tmp_path, 
 
 TWO = "0::/system.slice/slurmstepd.scope/job_7/step_0\n"
 ONE = "11:memory:/slurm/uid_0/job_7\n5:cpu,cpuacct:/slurm/uid_0/job_7\n0::/init.scope\n"
-JOB, STEP, OLD = "system.slice/slurmstepd.scope/job_7", "system.slice/slurmstepd.scope/job_7/step_0", "slurm/uid_0/job_7"
-LIMITS = [("", {}, 8, 64), (TWO, {"cpu.max": "max 100000", "memory.max": "max"}, 8, 64), (TWO, {"cpu.max": "250000 100000", "memory.max": "9"}, 2, 9), (TWO, {f"{STEP}/cpu.max": "50000 100000"}, 1, 64),
-          (TWO, {f"{JOB}/memory.max": "16", f"{JOB}/memory.stat": "anon 3\nfile 12\nshmem 1", f"{JOB}/cpu.max": "300000 100000", f"{STEP}/memory.max": "max"}, 3, 12),      # a job within a node
-          (TWO, {f"{JOB}/memory.max": "max", f"{STEP}/memory.high": "20", f"{STEP}/memory.current": "20"}, 8, 20),       # what is taken are pages of files
-          (TWO, {"system.slice/other/memory.max": "1", "system.slice/other/cpu.max": "100000 100000"}, 8, 64),
-          (ONE, {f"memory/{OLD}/memory.limit_in_bytes": "10", f"memory/{OLD}/memory.stat": "cache 9\ntotal_cache 9\ntotal_rss 4", f"cpu/{OLD}/cpu.cfs_quota_us": "400000", f"cpu/{OLD}/cpu.cfs_period_us": "100000"}, 4, 6),
-          (ONE, {"memory/slurm/memory.limit_in_bytes": "30", f"memory/{OLD}/memory.limit_in_bytes": "50", "cpu/cpu.cfs_quota_us": "-1", "cpu/cpu.cfs_period_us": "100000"}, 8, 30),
-          (ONE, {"unified/init.scope/memory.max": "7"}, 8, 7), ("4:memory:/docker/ab\n", {"memory/memory.limit_in_bytes": "5"}, 8, 5)]
+JOB, STEP, OLD = (
+    "system.slice/slurmstepd.scope/job_7",
+    "system.slice/slurmstepd.scope/job_7/step_0",
+    "slurm/uid_0/job_7",
+)
+LIMITS = [
+    ("", {}, 8, 64),
+    (TWO, {"cpu.max": "max 100000", "memory.max": "max"}, 8, 64),
+    (TWO, {"cpu.max": "250000 100000", "memory.max": "9"}, 2, 9),
+    (TWO, {f"{STEP}/cpu.max": "50000 100000"}, 1, 64),
+    (
+        TWO,
+        {
+            f"{JOB}/memory.max": "16",
+            f"{JOB}/memory.stat": "anon 3\nfile 12\nshmem 1",
+            f"{JOB}/cpu.max": "300000 100000",
+            f"{STEP}/memory.max": "max",
+        },
+        3,
+        12,
+    ),  # a job within a node
+    (
+        TWO,
+        {f"{JOB}/memory.max": "max", f"{STEP}/memory.high": "20", f"{STEP}/memory.current": "20"},
+        8,
+        20,
+    ),  # what is taken are pages of files
+    (
+        TWO,
+        {"system.slice/other/memory.max": "1", "system.slice/other/cpu.max": "100000 100000"},
+        8,
+        64,
+    ),
+    (
+        ONE,
+        {
+            f"memory/{OLD}/memory.limit_in_bytes": "10",
+            f"memory/{OLD}/memory.stat": "cache 9\ntotal_cache 9\ntotal_rss 4",
+            f"cpu/{OLD}/cpu.cfs_quota_us": "400000",
+            f"cpu/{OLD}/cpu.cfs_period_us": "100000",
+        },
+        4,
+        6,
+    ),
+    (
+        ONE,
+        {
+            "memory/slurm/memory.limit_in_bytes": "30",
+            f"memory/{OLD}/memory.limit_in_bytes": "50",
+            "cpu/cpu.cfs_quota_us": "-1",
+            "cpu/cpu.cfs_period_us": "100000",
+        },
+        8,
+        30,
+    ),
+    (ONE, {"unified/init.scope/memory.max": "7"}, 8, 7),
+    ("4:memory:/docker/ab\n", {"memory/memory.limit_in_bytes": "5"}, 8, 5),
+]
 
 
 @pytest.mark.parametrize("own, files, count, free", LIMITS)
-def test_processors_and_memory_are_those_of_the_process(tmp_path, monkeypatch, own, files, count, free):
+def test_processors_and_memory_are_those_of_the_process(
+    tmp_path, monkeypatch, own, files, count, free
+):
     """By its own control group and those above it, of either version; amounts in gigabytes, of which the machine has 64."""
     groups = tmp_path / "groups"
     for name, text in files.items():
         (groups / name).parent.mkdir(parents=True, exist_ok=True)
-        (groups / name).write_text((text if "cpu." in name else re.sub(r"\d+$", lambda found: found[0] + "0" * 9, text, flags=re.M)) + "\n")
+        (groups / name).write_text(
+            (
+                text
+                if "cpu." in name
+                else re.sub(r"\d+$", lambda found: found[0] + "0" * 9, text, flags=re.M)
+            )
+            + "\n"
+        )
     (tmp_path / "own").write_text(own)
     (tmp_path / "meminfo").write_text("MemTotal: 99 kB\nMemAvailable:   62500000 kB\n")
     monkeypatch.setattr(os, "sched_getaffinity", lambda process: set(range(8)))
     assert machine.processors(groups, tmp_path / "own") == count
-    assert machine.free_memory(groups, tmp_path / "own", tmp_path / "meminfo") == free * 10 ** 9
-    assert machine.free_memory(groups / "none", tmp_path / "none", tmp_path / "none") == machine.UNKNOWN
+    assert machine.free_memory(groups, tmp_path / "own", tmp_path / "meminfo") == free * 10**9
+    assert (
+        machine.free_memory(groups / "none", tmp_path / "none", tmp_path / "none")
+        == machine.UNKNOWN
+    )
 
 
 def test_workers_go_by_free_memory(tmp_path, monkeypatch):
@@ -372,17 +532,23 @@ def test_workers_go_by_free_memory(tmp_path, monkeypatch):
     for free, wanted, most in ((need * 10, 3, 3), (need * 10, 64, 8), (need, 3, 1), (0, 3, 1)):
         monkeypatch.setattr(workers, "free_memory", lambda free=free: free)
         assert workers.workers_for(study, wanted) == most
-    assert workers.guess_of(study).pairs == sum(int(line.split()[1]) for line in study.prec_file.read_text().splitlines())
+    assert workers.guess_of(study).pairs == sum(
+        int(line.split()[1]) for line in study.prec_file.read_text().splitlines()
+    )
 
 
 def test_forbidden_blocks_stay(tmp_path):
     f = table(9, 8, 5, 5)
     free = study_of(tmp_path, f).pit(1.35).mask
-    study = study_of(tmp_path, f, economics=costs(forbid=["XC > 5100", "ROCK == 'OXI' and ZC < 110"]))
+    study = study_of(
+        tmp_path, f, economics=costs(forbid=["XC > 5100", "ROCK == 'OXI' and ZC < 110"])
+    )
     fence = ((f.XC > 5100) | ((f.ROCK == "OXI") & (f.ZC < 110))).to_numpy()
     for share in (1.35, 10.0):
         assert not (study.pit(share).mask & fence).any()
-    assert (pp.Study(study.folder).priced.forbidden == fence).all()         # as it comes back from its file
+    assert (
+        pp.Study(study.folder).priced.forbidden == fence
+    ).all()  # as it comes back from its file
     assert (free & fence).any() and study.pit(1.35).count > 0
 
 
@@ -398,10 +564,20 @@ def test_a_pit_that_digs_what_is_forbidden_is_never_shown(tmp_path):
     """The most that `pit` reads for a block is 10^12: less than this mine brings at ten times the price."""
     f = table(1, 1, 3, 1).sort_values("ZC", ignore_index=True)
     f = f.assign(CU=np.where(f.ZC == f.ZC.min(), 80.0, 0.0))
-    study = study_of(tmp_path, f, economics=costs(metals=(pp.Metal("copper", "CU", price=8500 * 3000, recovery=0.85),), forbid=["ZC > 110"]))
+    study = study_of(
+        tmp_path,
+        f,
+        economics=costs(
+            metals=(pp.Metal("copper", "CU", price=8500 * 3000, recovery=0.85),),
+            forbid=["ZC > 110"],
+        ),
+    )
     assert 1e11 < study.priced.revenue.sum() < 5e11 and study.pit(1.0).count == 0
     for found in (lambda: study.run(10_000), lambda: study.shells([1000, 10_000])):
-        with pytest.raises(pp.PlanError, match="forbid: at factor 10 the mine brings so much that blocks are dug that may not be"):
+        with pytest.raises(
+            pp.PlanError,
+            match="forbid: at factor 10 the mine brings so much that blocks are dug that may not be",
+        ):
             found()
     assert study.verdict(10_000) is None
 
@@ -411,7 +587,11 @@ def test_a_model_comes_back_from_its_file(tmp_path):
     path = tmp_path / "t.csv"
     model = pp.read_table(path, size=SIZE, rotation=30, widen=1)
     again = study.model
-    assert again.grid == model.grid and again.columns == model.columns and (again.row_block == model.row_block).all()
+    assert (
+        again.grid == model.grid
+        and again.columns == model.columns
+        and (again.row_block == model.row_block).all()
+    )
     pd.testing.assert_frame_equal(again.blocks, model.blocks)
 
 
@@ -421,8 +601,12 @@ def test_an_empty_cell_among_words_comes_back_as_one(tmp_path):
     frame["LEASE"] = np.where(frame.XC < 5040, "", "OTHERS")
     frame.to_csv(tmp_path / "t.csv", index=False)
     economics = costs(forbid=["LEASE != ''"])
-    study = pp.Study.create(tmp_path / "s", pp.read_table(tmp_path / "t.csv", size=SIZE), economics, pp.Slopes(45))
-    assert (economics.priced(study.model).forbidden == (frame.LEASE == "OTHERS")).all() and (study.priced.forbidden == (frame.LEASE == "OTHERS")).all()
+    study = pp.Study.create(
+        tmp_path / "s", pp.read_table(tmp_path / "t.csv", size=SIZE), economics, pp.Slopes(45)
+    )
+    assert (economics.priced(study.model).forbidden == (frame.LEASE == "OTHERS")).all() and (
+        study.priced.forbidden == (frame.LEASE == "OTHERS")
+    ).all()
 
 
 def test_a_store_takes_no_pickles(tmp_path):

@@ -10,15 +10,26 @@ import time
 from selenium import webdriver
 from selenium.webdriver.chrome.service import Service
 
-SOFTWARE = ("--use-gl=angle", "--use-angle=swiftshader", "--enable-unsafe-swiftshader", "--ignore-gpu-blocklist")
-PATIENCE = 180           # seconds, on a busy machine
+SOFTWARE = (
+    "--use-gl=angle",
+    "--use-angle=swiftshader",
+    "--enable-unsafe-swiftshader",
+    "--ignore-gpu-blocklist",
+)
+PATIENCE = 180  # seconds, on a busy machine
 
 
 def chromium(*words, size="1300,900"):
     """A Chromium that draws WebGL by software, and keeps what its console says."""
     options = webdriver.ChromeOptions()
     options.binary_location = "/usr/bin/chromium"
-    for word in ("--headless=new", "--no-sandbox", "--disable-dev-shm-usage", f"--window-size={size}", *(words or SOFTWARE)):
+    for word in (
+        "--headless=new",
+        "--no-sandbox",
+        "--disable-dev-shm-usage",
+        f"--window-size={size}",
+        *(words or SOFTWARE),
+    ):
         options.add_argument(word)
     options.set_capability("goog:loggingPrefs", {"browser": "ALL"})
     driver = webdriver.Chrome(service=Service("/usr/bin/chromedriver"), options=options)
@@ -50,9 +61,27 @@ class Firefox:
             free.bind(("127.0.0.1", 0))
             port = free.getsockname()[1]
         with open(f"{self.folder}/user.js", "w") as settings:
-            settings.write(f'user_pref("marionette.port", {port});\nuser_pref("webgl.force-enabled", true);\n')
-        words = ["xvfb-run", "-a", "-s", "-screen 0 1300x900x24", "firefox-esr", "--marionette", "--no-remote", "--profile", self.folder]
-        self.process = subprocess.Popen(words, stdout=subprocess.DEVNULL, stderr=subprocess.DEVNULL, start_new_session=True, env={**os.environ, "HOME": self.folder})
+            settings.write(
+                f'user_pref("marionette.port", {port});\nuser_pref("webgl.force-enabled", true);\n'
+            )
+        words = [
+            "xvfb-run",
+            "-a",
+            "-s",
+            "-screen 0 1300x900x24",
+            "firefox-esr",
+            "--marionette",
+            "--no-remote",
+            "--profile",
+            self.folder,
+        ]
+        self.process = subprocess.Popen(
+            words,
+            stdout=subprocess.DEVNULL,
+            stderr=subprocess.DEVNULL,
+            start_new_session=True,
+            env={**os.environ, "HOME": self.folder},
+        )
         end = time.time() + PATIENCE
         while True:
             try:
@@ -64,7 +93,7 @@ class Firefox:
                     raise
                 time.sleep(0.1)
         self.count = 0
-        self.answer()                            # its greeting
+        self.answer()  # its greeting
         self.call("WebDriver:NewSession", {})
 
     def answer(self):
@@ -92,13 +121,18 @@ class Firefox:
         return self.call("WebDriver:ExecuteScript", {"script": code, "args": []})["value"]
 
     def press(self, selector, keys):
-        found = self.call("WebDriver:FindElement", {"using": "css selector", "value": selector})["value"]
+        found = self.call("WebDriver:FindElement", {"using": "css selector", "value": selector})[
+            "value"
+        ]
         self.call("WebDriver:ElementSendKeys", {"id": next(iter(found.values())), "text": keys})
 
     def close(self):
         import signal
+
         try:
-            os.killpg(self.process.pid, signal.SIGTERM)      # xvfb-run, its screen and the browser: a session of their own
+            os.killpg(
+                self.process.pid, signal.SIGTERM
+            )  # xvfb-run, its screen and the browser: a session of their own
             self.process.wait(20)
         except (ProcessLookupError, subprocess.TimeoutExpired):
             pass

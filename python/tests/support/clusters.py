@@ -46,7 +46,9 @@ def why_not():
     if os.geteuid() != 0:
         return "a Slurm of one's own is started by root alone"
     lacking = [name for name in NEEDED if shutil.which(name, path=PATH) is None]
-    assert not lacking, f"not installed: {', '.join(lacking)}; python/packages has what these tests need"
+    assert (
+        not lacking
+    ), f"not installed: {', '.join(lacking)}; python/packages has what these tests need"
     return None
 
 
@@ -73,15 +75,34 @@ class Slurm:
         (self.folder / "munge.key").write_bytes(os.urandom(1024))
         (self.folder / "munge.key").chmod(0o400)
         self.conf = self.folder / "slurm.conf"
-        self.conf.write_text(CONF.format(host=HOST, folder=self.folder, port1=free_port(), port2=free_port(), at_once=at_once))
-        self.env = {**os.environ, "SLURM_CONF": str(self.conf), "PATH": PATH, "TMPDIR": str(self.folder / "tmp")}
+        self.conf.write_text(
+            CONF.format(
+                host=HOST, folder=self.folder, port1=free_port(), port2=free_port(), at_once=at_once
+            )
+        )
+        self.env = {
+            **os.environ,
+            "SLURM_CONF": str(self.conf),
+            "PATH": PATH,
+            "TMPDIR": str(self.folder / "tmp"),
+        }
         self.keeper = Keeper(self.folder)
         f = self.folder
         try:
-            self.run("munged", f"--key-file={f}/munge.key", f"--socket={f}/munge.socket", f"--pid-file={f}/munged.pid", f"--log-file={f}/munged.log", f"--seed-file={f}/munge.seed", "--force")
+            self.run(
+                "munged",
+                f"--key-file={f}/munge.key",
+                f"--socket={f}/munge.socket",
+                f"--pid-file={f}/munged.pid",
+                f"--log-file={f}/munged.log",
+                f"--seed-file={f}/munge.seed",
+                "--force",
+            )
             self.run("slurmctld", "-f", self.conf)
             self.start_node()
-            self.until(lambda: "idle" in self.said("sinfo", "-h", "-o", "%T"), "the node never came up")
+            self.until(
+                lambda: "idle" in self.said("sinfo", "-h", "-o", "%T"), "the node never came up"
+            )
         except BaseException:
             self.stop()
             raise
@@ -100,11 +121,19 @@ class Slurm:
             if is_so():
                 return
             time.sleep(0.25)
-        raise AssertionError(words + "\n" + self.said("squeue") + self.said("sinfo") + (self.folder / "slurmctld.log").read_text()[-3000:])
+        raise AssertionError(
+            words
+            + "\n"
+            + self.said("squeue")
+            + self.said("sinfo")
+            + (self.folder / "slurmctld.log").read_text()[-3000:]
+        )
 
     def is_empty(self):
         """Whether no job is left; those that wait because they were requeued are started now, which Slurm lets wait for two minutes."""
-        for index in self.said("squeue", "-h", "-r", "-t", "PENDING", "-o", "%F_%K %r").splitlines():
+        for index in self.said(
+            "squeue", "-h", "-r", "-t", "PENDING", "-o", "%F_%K %r"
+        ).splitlines():
             if index.split()[-1] == "BeginTime":
                 self.said("scontrol", "update", f"JobId={index.split()[0]}", "StartTime=now")
         status, out, _ = self.keeper.said("squeue", "-h", env=self.env)

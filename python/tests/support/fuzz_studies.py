@@ -62,19 +62,98 @@ mining_rate = 1e6
 mill_rate = 5e5
 discount = 0.08
 """
-VALUES = ["0", "-1", "1e400", "-1e400", "nan", "inf", "-inf", "1e-320", "true", "false", '""', '"x"', '"-"', "[]", "[1]", "[[]]", "[[0, 45]]", "[[0, 45], [0, 50]]", "[[0, 40], [90, 45]]", "[[0, nan]]", "{}", "{ a = 1 }",
-          "9223372036854775807", "-9223372036854775808", "1979-05-27", "07:32:00", '"1+"', '"CU"', '"ROCK"', '"CU > 1"', '"sqrt(-1)"', '"1/0"', '"ZC.x"', "0.5", "100", "1e12", "[0.5, 1.0]", "[1, 1]",
-          '["a", 1]', "{ from = 1 }", "{ from = 0, to = 1e9, step = 1e-9 }", '"\\u0000"', '"[red]"', "[1e5, 1e5, 1e5]", "[1e-5, 1, 1]", "[nan, 1, 1]", "[true, 1, 1]", '["a", "b", "c"]', "89.999", "1e-9", "90"]
-CELLS = ["", "-99", "-", "x", "nan", "inf", "-inf", "1e400", "1,5", '"', '"a\nb"', "1e5", "-5", "0", "1_000", "0x10", " 5 ", "=1+1", "5%", "\u0663", "1e-320", "99999999999999999999", "true", "\x00", "\x1b[2J", "None"]
+VALUES = [
+    "0",
+    "-1",
+    "1e400",
+    "-1e400",
+    "nan",
+    "inf",
+    "-inf",
+    "1e-320",
+    "true",
+    "false",
+    '""',
+    '"x"',
+    '"-"',
+    "[]",
+    "[1]",
+    "[[]]",
+    "[[0, 45]]",
+    "[[0, 45], [0, 50]]",
+    "[[0, 40], [90, 45]]",
+    "[[0, nan]]",
+    "{}",
+    "{ a = 1 }",
+    "9223372036854775807",
+    "-9223372036854775808",
+    "1979-05-27",
+    "07:32:00",
+    '"1+"',
+    '"CU"',
+    '"ROCK"',
+    '"CU > 1"',
+    '"sqrt(-1)"',
+    '"1/0"',
+    '"ZC.x"',
+    "0.5",
+    "100",
+    "1e12",
+    "[0.5, 1.0]",
+    "[1, 1]",
+    '["a", 1]',
+    "{ from = 1 }",
+    "{ from = 0, to = 1e9, step = 1e-9 }",
+    '"\\u0000"',
+    '"[red]"',
+    "[1e5, 1e5, 1e5]",
+    "[1e-5, 1, 1]",
+    "[nan, 1, 1]",
+    "[true, 1, 1]",
+    '["a", "b", "c"]',
+    "89.999",
+    "1e-9",
+    "90",
+]
+CELLS = [
+    "",
+    "-99",
+    "-",
+    "x",
+    "nan",
+    "inf",
+    "-inf",
+    "1e400",
+    "1,5",
+    '"',
+    '"a\nb"',
+    "1e5",
+    "-5",
+    "0",
+    "1_000",
+    "0x10",
+    " 5 ",
+    "=1+1",
+    "5%",
+    "\u0663",
+    "1e-320",
+    "99999999999999999999",
+    "true",
+    "\x00",
+    "\x1b[2J",
+    "None",
+]
 BYTES = [b"\xff", b"\x00", b"\xef\xbb\xbf", b"\r", b"\n", b'"', b",", b";", b"\t", b"\xc3\x28"]
-SEARCHED = 100                                # one sample of so many has its slopes searched for, which takes seconds where angles are strange
+SEARCHED = 100  # one sample of so many has its slopes searched for, which takes seconds where angles are strange
 
 
 def changed_study(text, r):
     """A study.toml with a change."""
     lines = text.split("\n")
     at = r.choice([i for i, line in enumerate(lines) if line.strip()] or [0])
-    kind = r.choice(["value"] * 5 + ["inner"] * 3 + ["gone", "doubled", "key", "section", "byte", "moved"])
+    kind = r.choice(
+        ["value"] * 5 + ["inner"] * 3 + ["gone", "doubled", "key", "section", "byte", "moved"]
+    )
     if kind == "value" and "=" in lines[at]:
         lines[at] = lines[at].split("=")[0] + "= " + r.choice(VALUES)
     elif kind == "inner":
@@ -83,16 +162,27 @@ def changed_study(text, r):
             parts[r.randrange(1, len(parts), 2)] = r.choice(VALUES)
         lines[at] = "".join(parts)
     elif kind == "key" and "=" in lines[at]:
-        lines[at] = r.choice(["x", "table", "size", "angles", "mining", '"a b"', "z"]) + " =" + lines[at].split("=", 1)[1]
+        lines[at] = (
+            r.choice(["x", "table", "size", "angles", "mining", '"a b"', "z"])
+            + " ="
+            + lines[at].split("=", 1)[1]
+        )
     elif kind == "section":
-        lines.insert(at, r.choice(["[model]", "[x]", "[economics.metals]", "[[shells]]", "[slopes]", "x = 1"]))
+        lines.insert(
+            at,
+            r.choice(["[model]", "[x]", "[economics.metals]", "[[shells]]", "[slopes]", "x = 1"]),
+        )
     elif kind == "doubled":
         lines.insert(at, lines[at])
     elif kind == "moved":
         lines.insert(r.randrange(len(lines)), lines.pop(at))
     elif kind == "byte":
         place = r.randrange(len(text) + 1)
-        return text[:place] + r.choice(['"', "[", "]", "{", "}", "=", "\x00", "\n", "#", "é", ","]) + text[place + r.randrange(3):]
+        return (
+            text[:place]
+            + r.choice(['"', "[", "]", "{", "}", "=", "\x00", "\n", "#", "é", ","])
+            + text[place + r.randrange(3) :]
+        )
     else:
         del lines[at]
     return "\n".join(lines)
@@ -103,16 +193,25 @@ def changed_table(data, r):
     lines = data.split(b"\n")
     at = r.randrange(len(lines))
     cells = lines[at].split(b",")
-    kind = r.choice(["cell"] * 5 + ["column"] * 2 + ["gone", "doubled", "short", "long", "header", "byte", "cut", "separator"])
+    kind = r.choice(
+        ["cell"] * 5
+        + ["column"] * 2
+        + ["gone", "doubled", "short", "long", "header", "byte", "cut", "separator"]
+    )
     if kind == "cell":
         cells[r.randrange(len(cells))] = r.choice(CELLS).encode()
         lines[at] = b",".join(cells)
     elif kind == "column":
         column, cell = r.randrange(9), r.choice(CELLS).encode()
-        lines = [b",".join(cell if i == column else c for i, c in enumerate(line.split(b","))) for line in lines]
+        lines = [
+            b",".join(cell if i == column else c for i, c in enumerate(line.split(b",")))
+            for line in lines
+        ]
     elif kind == "header":
         names = lines[0].split(b",")
-        names[r.randrange(len(names))] = r.choice([b"", b"XC", b"row", b"id", b"ix", b"tonnes", b"rock", b"x y", b"=A", b"CU"])
+        names[r.randrange(len(names))] = r.choice(
+            [b"", b"XC", b"row", b"id", b"ix", b"tonnes", b"rock", b"x y", b"=A", b"CU"]
+        )
         lines[0] = b",".join(names)
     elif kind == "short":
         lines[at] = b",".join(cells[:-1])
@@ -124,7 +223,7 @@ def changed_table(data, r):
         place = r.randrange(len(data) + 1)
         return data[:place] + r.choice(BYTES) + data[place:]
     elif kind == "cut":
-        return data[:r.randrange(len(data) + 1)]
+        return data[: r.randrange(len(data) + 1)]
     elif kind == "separator":
         return data.replace(b",", r.choice([b";", b"\t", b" ", b",,"]))
     else:
@@ -171,7 +270,7 @@ def fuzzed(words):
     first, step, samples, until, seed = words
     found = Counter()
     with tempfile.TemporaryDirectory() as room, warnings.catch_warnings():
-        warnings.simplefilter("error")       # a planner would see them beside the message
+        warnings.simplefilter("error")  # a planner would see them beside the message
         for number in itertools.count(first, step):
             if number >= samples or time.time() > until:
                 return found, None
@@ -179,11 +278,14 @@ def fuzzed(words):
             try:
                 found[answer(Path(room), text, table, number % SEARCHED == 0)] += 1
             except Exception:
-                return found, f"sample {number} of seed {seed}:\n{text}\n----\n{table!r}\n----\n{traceback.format_exc()}"
+                return (
+                    found,
+                    f"sample {number} of seed {seed}:\n{text}\n----\n{table!r}\n----\n{traceback.format_exc()}",
+                )
     return found, None
 
 
-def run(samples, seconds=10 ** 6, seed=1, workers=1):
+def run(samples, seconds=10**6, seed=1, workers=1):
     """Counts of the answers, and the first samples that weren't answered, one of each process."""
     words = [(first, workers, samples, time.time() + seconds, seed) for first in range(workers)]
     if workers == 1:
@@ -195,10 +297,13 @@ def run(samples, seconds=10 ** 6, seed=1, workers=1):
 
 
 def main():
-    words = [float(word) for word in sys.argv[1:]] + [2000, 10 ** 6, 1][len(sys.argv) - 1:]
+    words = [float(word) for word in sys.argv[1:]] + [2000, 10**6, 1][len(sys.argv) - 1 :]
     began = time.time()
     found, bad = run(int(words[0]), words[1], int(words[2]), 2)
-    print(f"{found.total()} samples in {time.time() - began:.0f} s: " + ", ".join(f"{count} {what}" for what, count in found.most_common()))
+    print(
+        f"{found.total()} samples in {time.time() - began:.0f} s: "
+        + ", ".join(f"{count} {what}" for what, count in found.most_common())
+    )
     print("\n".join(bad) or "each was answered")
     return 1 if bad else 0
 

@@ -15,7 +15,7 @@ from pathlib import Path
 
 from processes import kill_all
 
-SUBREAPER = 36                               # prctl's PR_SET_CHILD_SUBREAPER
+SUBREAPER = 36  # prctl's PR_SET_CHILD_SUBREAPER
 
 
 class Keeper:
@@ -31,9 +31,17 @@ class Keeper:
     def __init__(self, folder):
         self.folder = Path(folder)
         self.folder.mkdir(parents=True, exist_ok=True)
-        self.mounts = subprocess.run(["unshare", "--mount", "true"], capture_output=True).returncode == 0
+        self.mounts = (
+            subprocess.run(["unshare", "--mount", "true"], capture_output=True).returncode == 0
+        )
         apart = ["unshare", "--mount", "--propagation", "private"] if self.mounts else []
-        self.process = subprocess.Popen([*apart, sys.executable, __file__, str(folder)], stdin=subprocess.PIPE, stdout=subprocess.PIPE, text=True, start_new_session=True)
+        self.process = subprocess.Popen(
+            [*apart, sys.executable, __file__, str(folder)],
+            stdin=subprocess.PIPE,
+            stdout=subprocess.PIPE,
+            text=True,
+            start_new_session=True,
+        )
         self.pid = self.process.pid
 
     def said(self, *words, env=None):
@@ -80,17 +88,26 @@ def serve(folder):
     try:
         for line in sys.stdin:
             words, env = json.loads(line)
-            with tempfile.TemporaryFile() as out, tempfile.TemporaryFile() as errors:      # files: a daemon may keep them open
-                status = subprocess.run(words, env=env, cwd=folder, stdin=subprocess.DEVNULL, stdout=out, stderr=errors).returncode
-                texts = [(file.seek(0), file.read().decode(errors="replace"))[1] for file in (out, errors)]
+            with tempfile.TemporaryFile() as out, tempfile.TemporaryFile() as errors:  # files: a daemon may keep them open
+                status = subprocess.run(
+                    words, env=env, cwd=folder, stdin=subprocess.DEVNULL, stdout=out, stderr=errors
+                ).returncode
+                texts = [
+                    (file.seek(0), file.read().decode(errors="replace"))[1]
+                    for file in (out, errors)
+                ]
             print(json.dumps([status, *texts]), flush=True)
             reap()
     finally:
         kill_all(os.getpid())
         reap()
         os.chdir("/")
-        for place in [line.split()[1] for line in Path("/proc/mounts").read_text().splitlines() if line.split()[1].startswith(f"{folder}/")]:
-            subprocess.run(["umount", "--lazy", place])      # else its folder can't be taken away
+        for place in [
+            line.split()[1]
+            for line in Path("/proc/mounts").read_text().splitlines()
+            if line.split()[1].startswith(f"{folder}/")
+        ]:
+            subprocess.run(["umount", "--lazy", place])  # else its folder can't be taken away
         shutil.rmtree(folder, ignore_errors=True)
 
 

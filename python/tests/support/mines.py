@@ -14,23 +14,41 @@ COPPER = pp.Metal("copper", "CU", price=8500, recovery=0.85)
 def table(nx, ny, nz, seed, rotation=0.0, size=SIZE):
     """A model with a hill, in the names of Datamine, its rows shuffled."""
     r = np.random.default_rng(seed)
-    i, j, k = (v.ravel() for v in np.meshgrid(np.arange(nx), np.arange(ny), np.arange(nz), indexing="ij"))
+    i, j, k = (
+        v.ravel() for v in np.meshgrid(np.arange(nx), np.arange(ny), np.arange(nz), indexing="ij")
+    )
     t = math.radians(rotation)
     u, v = i * size[0], j * size[1]
-    f = pd.DataFrame({"IJK": [f"b{n:03d}" for n in range(len(i))], "XC": 5000 + u * math.cos(t) + v * math.sin(t), "YC": 9000 - u * math.sin(t) + v * math.cos(t),
-                      "ZC": 100.0 + k * size[2], "TONNES": np.round(r.uniform(12000, 18000, len(i)), 1),
-                      "CU": np.round(np.maximum(0, r.normal(0.1, 0.5, len(i))), 3), "AU": np.round(np.maximum(0, r.normal(0, 0.2, len(i))), 3),
-                      "ROCK": r.choice(["OXI", "SUL"], len(i)), "SECTOR": np.where(i < nx // 2, "WEST", "EAST")})
+    f = pd.DataFrame(
+        {
+            "IJK": [f"b{n:03d}" for n in range(len(i))],
+            "XC": 5000 + u * math.cos(t) + v * math.sin(t),
+            "YC": 9000 - u * math.sin(t) + v * math.cos(t),
+            "ZC": 100.0 + k * size[2],
+            "TONNES": np.round(r.uniform(12000, 18000, len(i)), 1),
+            "CU": np.round(np.maximum(0, r.normal(0.1, 0.5, len(i))), 3),
+            "AU": np.round(np.maximum(0, r.normal(0, 0.2, len(i))), 3),
+            "ROCK": r.choice(["OXI", "SUL"], len(i)),
+            "SECTOR": np.where(i < nx // 2, "WEST", "EAST"),
+        }
+    )
     top = r.integers(max(1, nz - 2), nz + 1, (nx, ny))
     return f[k < top[i, j]].sample(frac=1, random_state=seed).reset_index(drop=True)
 
 
 def costs(**more):
-    return pp.Economics(**{**dict(metals=(COPPER,), mining=2.0, processing={"OXI": 7.5, "SUL": 9.0}), **more})
+    return pp.Economics(
+        **{**dict(metals=(COPPER,), mining=2.0, processing={"OXI": 7.5, "SUL": 9.0}), **more}
+    )
 
 
 CUBE = (10, 10, 10)
-WASTE = costs(metals=(pp.Metal("copper", "CU", price=8500, recovery=0.85),), mining=2.0, processing=9.0, mill=["SUL"])
+WASTE = costs(
+    metals=(pp.Metal("copper", "CU", price=8500, recovery=0.85),),
+    mining=2.0,
+    processing=9.0,
+    mill=["SUL"],
+)
 
 
 def below(cliff, seed=1, shape=(16, 7, 12), low=3):
@@ -39,8 +57,18 @@ def below(cliff, seed=1, shape=(16, 7, 12), low=3):
     i, j, k = (v.ravel() for v in np.meshgrid(*map(np.arange, shape), indexing="ij"))
     is_rock = k < np.where(i >= 9, low + cliff, low)
     ore = is_rock & (i < 7) & (k < low - 1) & (r.random(len(i)) < 0.5)
-    return pd.DataFrame({"IJK": [f"b{n:04d}" for n in range(len(i))], "XC": 10.0 * i, "YC": 10.0 * j, "ZC": 5.0 + 10 * k, "TONNES": np.where(is_rock, 2500.0, 0.0),
-                         "CU": np.where(ore, np.round(r.uniform(1, 4, len(i)), 2), 0.0), "ROCK": np.where(is_rock, "SUL", "AIRE"), "SECTOR": np.where(j < 4, "LEFT", "RIGHT")})
+    return pd.DataFrame(
+        {
+            "IJK": [f"b{n:04d}" for n in range(len(i))],
+            "XC": 10.0 * i,
+            "YC": 10.0 * j,
+            "ZC": 5.0 + 10 * k,
+            "TONNES": np.where(is_rock, 2500.0, 0.0),
+            "CU": np.where(ore, np.round(r.uniform(1, 4, len(i)), 2), 0.0),
+            "ROCK": np.where(is_rock, "SUL", "AIRE"),
+            "SECTOR": np.where(j < 4, "LEFT", "RIGHT"),
+        }
+    )
 
 
 def study_of(folder, frame, slopes=None, economics=None, **keys):

@@ -19,12 +19,22 @@ sys.path.insert(0, {tests!r})
 from served import ask
 sys.exit(ask({path!r}, [sys.argv[0], *sys.argv[1:]], os.getcwd(), os.environ, [0, 1, 2]))
 """
-_server = {}                                 # of these tests: its process, and the path of its socket
+_server = {}  # of these tests: its process, and the path of its socket
 
 
 def ask(path, words, folder, environment, files):
     """Has the server run words, and gives the exit status."""
-    told = NONE.join(map(os.fsencode, [str(len(words)), *words, folder, *(f"{key}={value}" for key, value in environment.items())]))
+    told = NONE.join(
+        map(
+            os.fsencode,
+            [
+                str(len(words)),
+                *words,
+                folder,
+                *(f"{key}={value}" for key, value in environment.items()),
+            ],
+        )
+    )
     with socket.socket(socket.AF_UNIX) as asked:
         asked.connect(path)
         socket.send_fds(asked, [len(told).to_bytes(8, "little")], files)
@@ -43,11 +53,12 @@ def answer(asked):
     for target, file in enumerate(files):
         os.dup2(file, target)
         os.close(file)
-    sys.argv = parts[:int(count)]
+    sys.argv = parts[: int(count)]
     os.chdir(parts[int(count)])
     os.environ.clear()
-    os.environ.update(part.split("=", 1) for part in parts[int(count) + 1:])
+    os.environ.update(part.split("=", 1) for part in parts[int(count) + 1 :])
     from pitplan.cli.main import main
+
     status = 70
     try:
         main()
@@ -55,6 +66,7 @@ def answer(asked):
         status = ended.code if isinstance(ended.code, int) else 1 if ended.code else 0
     except BaseException:
         import traceback
+
         traceback.print_exc()
     sys.stdout.flush()
     sys.stderr.flush()
@@ -65,24 +77,28 @@ def answer(asked):
 def serve(path):
     """Serves until its standard input ends, which is when the tests do."""
     import select
+
     sys.path[:0] = [os.path.join(TOP, "python"), HERE]
     import pkgutil
     import importlib
     import pitplan
+
     for module in pkgutil.walk_packages(pitplan.__path__, "pitplan."):
         if not module.name.endswith((".__main__", ".recheck", ".plainly")):
             importlib.import_module(module.name)
     import matplotlib
+
     matplotlib.use("Agg")
     import matplotlib.pyplot  # noqa: F401
     from mines import SIZE
     from pitplan.slopes.offsets import wall
     from pitplan.slopes.slopes import searched
-    searched(wall(SIZE, 45), False, None)                  # that of nearly all tests
+
+    searched(wall(SIZE, 45), False, None)  # that of nearly all tests
     with socket.socket(socket.AF_UNIX) as door:
         door.bind(path + ".part")
         door.listen(64)
-        os.rename(path + ".part", path)      # who sees the door finds it open
+        os.rename(path + ".part", path)  # who sees the door finds it open
         while door in select.select([door, sys.stdin], [], [])[0]:
             asked, _ = door.accept()
             if os.fork() == 0:
@@ -108,12 +124,20 @@ def server():
     import subprocess
     import tempfile
     import time
+
     if not _server or _server["run"].poll() is not None:
         room = tempfile.mkdtemp(prefix="pitplan-tests.")
         atexit.register(shutil.rmtree, room, ignore_errors=True)
         path = os.path.join(room, "door")
-        environment = {key: value for key, value in os.environ.items() if key not in ("COLUMNS", "LINES")}
-        _server["run"] = subprocess.Popen([PYTHON, "-I", os.path.abspath(__file__), path], stdin=subprocess.PIPE, stdout=subprocess.DEVNULL, env=environment)
+        environment = {
+            key: value for key, value in os.environ.items() if key not in ("COLUMNS", "LINES")
+        }
+        _server["run"] = subprocess.Popen(
+            [PYTHON, "-I", os.path.abspath(__file__), path],
+            stdin=subprocess.PIPE,
+            stdout=subprocess.DEVNULL,
+            env=environment,
+        )
         _server["path"] = path
         while not os.path.exists(path):
             assert _server["run"].poll() is None, "the server of pitplan's command line ended"
@@ -125,8 +149,17 @@ def pitplan(*words, cwd=None, **environment):
     """Runs pitplan as a planner does: what it said, and its status."""
     import tempfile
     from types import SimpleNamespace
-    with tempfile.TemporaryFile() as out, tempfile.TemporaryFile() as err, open(os.devnull) as nothing:
-        status = ask(server(), [PITPLAN, *map(str, words)], str(cwd or os.getcwd()), {**os.environ, **environment}, [nothing.fileno(), out.fileno(), err.fileno()])
+
+    with tempfile.TemporaryFile() as out, tempfile.TemporaryFile() as err, open(
+        os.devnull
+    ) as nothing:
+        status = ask(
+            server(),
+            [PITPLAN, *map(str, words)],
+            str(cwd or os.getcwd()),
+            {**os.environ, **environment},
+            [nothing.fileno(), out.fileno(), err.fileno()],
+        )
         texts = []
         for file in (out, err):
             file.seek(0)
@@ -138,7 +171,9 @@ def linked(folder):
     """A folder with a command pitplan that asks the server."""
     folder.mkdir(parents=True, exist_ok=True)
     path = folder / "pitplan"
-    path.write_text(ASK.format(python=PYTHON, tests=os.path.dirname(os.path.abspath(__file__)), path=server()))
+    path.write_text(
+        ASK.format(python=PYTHON, tests=os.path.dirname(os.path.abspath(__file__)), path=server())
+    )
     path.chmod(0o755)
     return folder
 

@@ -22,7 +22,14 @@ print(keeper.pid, daemon, flush=True)
 
 
 @pytest.mark.skipif(os.geteuid() != 0, reason="a keeper mounts, which only root may")
-@pytest.mark.parametrize("end, status", [("os.kill(os.getpid(), signal.SIGKILL)", -signal.SIGKILL), ("keeper.end()", 0), ("raise KeyboardInterrupt", -signal.SIGINT)])
+@pytest.mark.parametrize(
+    "end, status",
+    [
+        ("os.kill(os.getpid(), signal.SIGKILL)", -signal.SIGKILL),
+        ("keeper.end()", 0),
+        ("raise KeyboardInterrupt", -signal.SIGINT),
+    ],
+)
 def test_nothing_is_left(tmp_path, end, status):
     folder = tmp_path / "kept"
     text = WORK.format(tests=str(Path(__file__).parent), folder=str(folder), end=end)

@@ -27,17 +27,26 @@ def refusal(folder, frame, **keys):
     return str(error.value)
 
 
-@given(st.integers(0, 10 ** 6), st.integers(0, 40), st.sampled_from(["CU", "TONNES", "XC", "ZC"]), st.sampled_from(["<0.01", "1,234", "", "n/a", "0.5%", "nan", "1e999"]))
+@given(
+    st.integers(0, 10**6),
+    st.integers(0, 40),
+    st.sampled_from(["CU", "TONNES", "XC", "ZC"]),
+    st.sampled_from(["<0.01", "1,234", "", "n/a", "0.5%", "nan", "1e999"]),
+)
 def test_a_bad_cell_is_told_by_row_and_column(tmp_path_factory, seed, row, column, cell):
     f = table(4, 4, 3, seed)
     row %= len(f)
     f[column] = f[column].astype(object)
     f.loc[row, column] = cell
     said = refusal(tmp_path_factory.mktemp("s"), f)
-    assert f"row {row + 2}, column {column}" in said and (cell == "" or cell == "1e999" or repr(cell) in said)
+    assert f"row {row + 2}, column {column}" in said and (
+        cell == "" or cell == "1e999" or repr(cell) in said
+    )
 
 
-@pytest.mark.parametrize("separator, decimal", [(",", "."), (";", "."), (";", ","), ("\t", "."), ("\t", ",")])
+@pytest.mark.parametrize(
+    "separator, decimal", [(",", "."), (";", "."), (";", ","), ("\t", "."), ("\t", ",")]
+)
 @pytest.mark.parametrize("mark", [b"", b"\xef\xbb\xbf"])
 @pytest.mark.parametrize("end", ["\n", "\r\n"])
 def test_every_way_to_write_a_table_is_read_alike(tmp_path, separator, decimal, mark, end):
@@ -46,27 +55,53 @@ def test_every_way_to_write_a_table_is_read_alike(tmp_path, separator, decimal, 
     plain = read(tmp_path, f)
     found = read(tmp_path, f, "other.csv", text)
     packed = read(tmp_path, f, "other.csv.gz", gzip.compress(text))
-    assert found.blocks.equals(plain.blocks) and packed.blocks.equals(plain.blocks) and packed.name == "other"
+    assert (
+        found.blocks.equals(plain.blocks)
+        and packed.blocks.equals(plain.blocks)
+        and packed.name == "other"
+    )
 
 
-PACKAGES = {"Datamine": dict(IJK="IJK", XC="XC", YC="YC", ZC="ZC", TONNES="TONNES", ROCK="ROCK"),
-            "Vulcan": dict(IJK="ijk", XC="centroid_x", YC="centroid_y", ZC="centroid_z", TONNES="tonnes", ROCK="rocktype"),
-            "Surpac": dict(IJK="id", XC="x", YC="y", ZC="z", TONNES="tonnes", ROCK="rock_type"),
-            "Micromine": dict(IJK="INDEX", XC="EAST", YC="NORTH", ZC="RL", TONNES="TONNES", ROCK="LITH"),
-            "MineSight": dict(IJK="BLOCK", XC="EASTING", YC="NORTHING", ZC="ELEV", TONNES="TONS", ROCK="ROCK"),
-            "Portuguese": dict(IJK="bloco", XC="leste", YC="norte", ZC="cota", TONNES="toneladas", ROCK="rocha"),
-            "French": dict(IJK="bloc", XC="est", YC="nord", ZC="cote", TONNES="tonnage", ROCK="roche")}
+PACKAGES = {
+    "Datamine": dict(IJK="IJK", XC="XC", YC="YC", ZC="ZC", TONNES="TONNES", ROCK="ROCK"),
+    "Vulcan": dict(
+        IJK="ijk",
+        XC="centroid_x",
+        YC="centroid_y",
+        ZC="centroid_z",
+        TONNES="tonnes",
+        ROCK="rocktype",
+    ),
+    "Surpac": dict(IJK="id", XC="x", YC="y", ZC="z", TONNES="tonnes", ROCK="rock_type"),
+    "Micromine": dict(IJK="INDEX", XC="EAST", YC="NORTH", ZC="RL", TONNES="TONNES", ROCK="LITH"),
+    "MineSight": dict(
+        IJK="BLOCK", XC="EASTING", YC="NORTHING", ZC="ELEV", TONNES="TONS", ROCK="ROCK"
+    ),
+    "Portuguese": dict(
+        IJK="bloco", XC="leste", YC="norte", ZC="cota", TONNES="toneladas", ROCK="rocha"
+    ),
+    "French": dict(IJK="bloc", XC="est", YC="nord", ZC="cote", TONNES="tonnage", ROCK="roche"),
+}
 
 
 @pytest.mark.parametrize("package", PACKAGES)
 def test_the_usual_names_of_columns_are_known(tmp_path, package):
     f = table(4, 3, 3, 1)
-    plain, found = read(tmp_path, f), read(tmp_path, f.rename(columns=PACKAGES[package]), package + ".csv")
+    plain, found = read(tmp_path, f), read(
+        tmp_path, f.rename(columns=PACKAGES[package]), package + ".csv"
+    )
     for column in ("id", "ix", "iy", "iz", "tonnes", "rock", "row"):
         assert (plain.blocks[column] == found.blocks[column]).all()
 
 
-@pytest.mark.parametrize("change", [lambda text: text.split("\n", 1)[1], lambda text: "My mine\n" + text, lambda text: text.replace(",", "|")])
+@pytest.mark.parametrize(
+    "change",
+    [
+        lambda text: text.split("\n", 1)[1],
+        lambda text: "My mine\n" + text,
+        lambda text: text.replace(",", "|"),
+    ],
+)
 def test_a_first_line_that_is_no_header_is_told(tmp_path, change):
     said = refusal(tmp_path, None, text=change(table(4, 3, 3, 1).to_csv(index=False)).encode())
     assert "the first line isn't the header line" in said and "NAME" not in said
@@ -75,8 +110,15 @@ def test_a_first_line_that_is_no_header_is_told(tmp_path, change):
 def test_names_of_ones_own(tmp_path):
     f = table(4, 3, 3, 1).rename(columns={"XC": "Ostwert", "TONNES": "Masse", "IJK": "Nr"})
     assert "no column is known as x" in refusal(tmp_path, f)
-    assert read(tmp_path, f, columns={"x": "Ostwert", "tonnes": "Masse", "id": "Nr"}).blocks["id"].str.startswith("b").all()
-    assert "is 'Ostwert' meant?" in refusal(tmp_path, f, columns={"x": "Ostwerte", "tonnes": "Masse"})
+    assert (
+        read(tmp_path, f, columns={"x": "Ostwert", "tonnes": "Masse", "id": "Nr"})
+        .blocks["id"]
+        .str.startswith("b")
+        .all()
+    )
+    assert "is 'Ostwert' meant?" in refusal(
+        tmp_path, f, columns={"x": "Ostwerte", "tonnes": "Masse"}
+    )
     assert "is 'tonnes' meant?" in refusal(tmp_path, f, columns={"tons": "Masse"})
 
 
@@ -91,11 +133,23 @@ def test_ids_and_rock_codes_are_words(tmp_path):
 def test_lines_between_header_and_blocks_and_blank_lines_keep_the_rows_right(tmp_path):
     f = table(4, 3, 3, 1)
     lines = f.to_csv(index=False).splitlines(keepends=True)
-    text = "".join([lines[0], "Variable descriptions:,,,,,,,,\n", "Variable types:,double,double,double,double,double,double,name,name\n", *lines[1:5], "\n", *lines[5:], "\n\n"])
+    text = "".join(
+        [
+            lines[0],
+            "Variable descriptions:,,,,,,,,\n",
+            "Variable types:,double,double,double,double,double,double,name,name\n",
+            *lines[1:5],
+            "\n",
+            *lines[5:],
+            "\n\n",
+        ]
+    )
     model = read(tmp_path, f, text=text.encode())
     assert len(model) == len(f) and model.blocks["row"].tolist()[:5] == [2, 3, 4, 5, 7]
     bad = text.replace(lines[5], lines[5].replace(f"{f.TONNES[4]}", "many", 1))
-    assert "row 9, column TONNES: the cell is no number: it is 'many'" in refusal(tmp_path, f, text=bad.encode())
+    assert "row 9, column TONNES: the cell is no number: it is 'many'" in refusal(
+        tmp_path, f, text=bad.encode()
+    )
     assert model.row_block[7] == 4 and model.row_block[6] == -1
 
 
@@ -103,7 +157,9 @@ def test_lines_between_header_and_blocks_and_blank_lines_keep_the_rows_right(tmp
 def test_a_row_with_a_cell_too_many_is_told(tmp_path, row):
     lines = table(4, 3, 3, 1).to_csv(index=False).splitlines()
     lines[row + 1] += ",1"
-    assert f"row {row + 2}: has 10 cells, and the header line 9" in refusal(tmp_path, None, text="\n".join(lines).encode())
+    assert f"row {row + 2}: has 10 cells, and the header line 9" in refusal(
+        tmp_path, None, text="\n".join(lines).encode()
+    )
 
 
 def test_separators_at_the_ends_of_lines_do_no_harm(tmp_path):
@@ -112,34 +168,63 @@ def test_separators_at_the_ends_of_lines_do_no_harm(tmp_path):
     assert read(tmp_path, f, text=text).blocks.equals(read(tmp_path, f).blocks)
 
 
-@pytest.mark.parametrize("sep, decimal, tonnes, said", [(";", ",", "14.100", "column TONNES: the cell is '14.100', with a point"), ("\t", ",", "14.100", "column TONNES: the cell is '14.100', with a point"),
-                                                        (";", ".", "14,100", "column TONNES: 18 cells are no numbers, the first is '14,100'"), ("\t", ".", "1,014,100", "take the thousands separators out"), (";", ",", "14.100,5", "take the thousands separators out"),
-                                                        (",", ".", "14'100", "take the thousands separators out"), (",", ".", "14\u00a0100", "take the thousands separators out"),
-                                                        (",", ".", "0,000", 'try: decimal = ","'), (";", ".", "", "try: its tonnes or density in that cell")])
+@pytest.mark.parametrize(
+    "sep, decimal, tonnes, said",
+    [
+        (";", ",", "14.100", "column TONNES: the cell is '14.100', with a point"),
+        ("\t", ",", "14.100", "column TONNES: the cell is '14.100', with a point"),
+        (";", ".", "14,100", "column TONNES: 18 cells are no numbers, the first is '14,100'"),
+        ("\t", ".", "1,014,100", "take the thousands separators out"),
+        (";", ",", "14.100,5", "take the thousands separators out"),
+        (",", ".", "14'100", "take the thousands separators out"),
+        (",", ".", "14\u00a0100", "take the thousands separators out"),
+        (",", ".", "0,000", 'try: decimal = ","'),
+        (";", ".", "", "try: its tonnes or density in that cell"),
+    ],
+)
 def test_a_thousands_separator_is_no_decimal(tmp_path, sep, decimal, tonnes, said):
     f = table(4, 3, 3, 1)
     f["TONNES"] = tonnes
-    assert said in refusal(tmp_path, f, text=f.to_csv(index=False, sep=sep, decimal=decimal).encode())
+    assert said in refusal(
+        tmp_path, f, text=f.to_csv(index=False, sep=sep, decimal=decimal).encode()
+    )
 
 
 def test_points_that_must_be_decimals_are_read_beside_commas(tmp_path):
     f = table(4, 3, 3, 1)
-    lines = f.assign(CU=f.CU.round(3).astype(object), AU="0,450").to_csv(index=False, sep=";", decimal=",")
+    lines = f.assign(CU=f.CU.round(3).astype(object), AU="0,450").to_csv(
+        index=False, sep=";", decimal=","
+    )
     assert ";0.236;" in lines
     found = read(tmp_path, None, text=lines.encode())
-    assert np.allclose(costs().priced(found).grade["copper"], f.CU) and (found.numbers("AU", "") == 0.45).all()
+    assert (
+        np.allclose(costs().priced(found).grade["copper"], f.CU)
+        and (found.numbers("AU", "") == 0.45).all()
+    )
 
 
 def test_words_with_a_point_stay_in_a_table_with_decimal_commas(tmp_path):
     f = table(4, 3, 3, 1)
     f["DATE"], f["LABEL"] = "31.12.2025", np.where(np.arange(len(f)) % 3, "upper", "1.2")
-    assert set(read(tmp_path, None, text=f.to_csv(index=False, sep=";", decimal=",").encode()).blocks.LABEL) == {"upper", "1.2"}
+    assert set(
+        read(tmp_path, None, text=f.to_csv(index=False, sep=";", decimal=",").encode()).blocks.LABEL
+    ) == {"upper", "1.2"}
 
 
 def test_a_code_is_one_code_in_all_pieces_of_a_large_table(tmp_path):
     """pandas reads some 65,536 rows at a time: in the first of these pieces are numbers alone."""
     n = 70_000
-    f = pd.DataFrame({"XC": 10 * (np.arange(n) % 280), "YC": 10 * (np.arange(n) // 280), "ZC": 0, "SG": 2.5, "CU": 0.5, "ROCK": "SUL", "ZONE": np.where(np.arange(n) % 2, "01", "02")})
+    f = pd.DataFrame(
+        {
+            "XC": 10 * (np.arange(n) % 280),
+            "YC": 10 * (np.arange(n) // 280),
+            "ZC": 0,
+            "SG": 2.5,
+            "CU": 0.5,
+            "ROCK": "SUL",
+            "ZONE": np.where(np.arange(n) % 2, "01", "02"),
+        }
+    )
     f["NOTE"], f["AS"], f["END"] = "", 1, 1
     for _ in range(8):
         f[f"C{_}"] = 0
@@ -154,10 +239,16 @@ def test_a_code_is_one_code_in_all_pieces_of_a_large_table(tmp_path):
 def test_true_and_false_are_the_words_that_they_are_in_the_table(tmp_path, more):
     """As in Excel's spelling; beside empty cells too, of which each is a word of no letter."""
     f = table(4, 3, 3, 1)
-    f["MINED"] = (["TRUE", "FALSE", *more] * len(f))[:len(f)]
+    f["MINED"] = (["TRUE", "FALSE", *more] * len(f))[: len(f)]
     model = read(tmp_path, f)
-    assert formula.worked_out("MINED == 'TRUE'", model.blocks, "forbid").tolist() == (f.MINED == "TRUE").tolist()
-    assert pp.Slopes(45, by="MINED", regions={"TRUE": 38}).region_of(model).tolist() == (f.MINED == "TRUE").astype(int).tolist()
+    assert (
+        formula.worked_out("MINED == 'TRUE'", model.blocks, "forbid").tolist()
+        == (f.MINED == "TRUE").tolist()
+    )
+    assert (
+        pp.Slopes(45, by="MINED", regions={"TRUE": 38}).region_of(model).tolist()
+        == (f.MINED == "TRUE").astype(int).tolist()
+    )
 
 
 def test_a_point_in_place_of_a_comma_is_a_number_to_formulas_too(tmp_path):
@@ -189,7 +280,12 @@ def test_a_row_with_a_cell_too_many_is_told_below_lines_that_hold_no_blocks(tmp_
 
 def test_lines_that_were_passed_over_are_told(tmp_path):
     lines = table(4, 3, 3, 1).to_csv(index=False).splitlines(keepends=True)
-    assert "1 lines below the header hold no blocks" in read(tmp_path, None, text="".join([lines[0], "-,m,m,m,t,%,g/t,-,-\n", *lines[1:]]).encode()).notes
+    assert (
+        "1 lines below the header hold no blocks"
+        in read(
+            tmp_path, None, text="".join([lines[0], "-,m,m,m,t,%,g/t,-,-\n", *lines[1:]]).encode()
+        ).notes
+    )
 
 
 @pytest.mark.parametrize("cell", ["", "-"])
@@ -201,9 +297,19 @@ def test_a_block_without_a_place_is_not_absent(tmp_path, cell):
     assert "row 5, column XC" in said and "absent" not in said and "take the row out" in said
 
 
-@pytest.mark.parametrize("text, said", [(b"", "no header line"), ("XC,YC,ZC,TONNES\n1,2,3,4\n".encode("utf-16-le"), "UTF-16, or no text"), (b'XC,YC,ZC,"TON\nNES"\n1,2,3,4\n', "goes on in the next line"), (b"XC,YC,ZC,TONNES\n", "no rows"), ("XC,YC,ZC,TONNES\n1,2,3,4\n".encode("utf-16"), "UTF-16"),
-                                        (b"PK\x03\x04rest", "spreadsheet"), (b"XC,YC,ZC,CU,CU\n1,2,3,4,5\n", "two columns are called CU"),
-                                        (b"XC,YC,ZC,Gr\xf6\xdfe\n1,2,3,4\n", 'encoding = "cp1252"')])
+@pytest.mark.parametrize(
+    "text, said",
+    [
+        (b"", "no header line"),
+        ("XC,YC,ZC,TONNES\n1,2,3,4\n".encode("utf-16-le"), "UTF-16, or no text"),
+        (b'XC,YC,ZC,"TON\nNES"\n1,2,3,4\n', "goes on in the next line"),
+        (b"XC,YC,ZC,TONNES\n", "no rows"),
+        ("XC,YC,ZC,TONNES\n1,2,3,4\n".encode("utf-16"), "UTF-16"),
+        (b"PK\x03\x04rest", "spreadsheet"),
+        (b"XC,YC,ZC,CU,CU\n1,2,3,4,5\n", "two columns are called CU"),
+        (b"XC,YC,ZC,Gr\xf6\xdfe\n1,2,3,4\n", 'encoding = "cp1252"'),
+    ],
+)
 def test_what_is_no_table(tmp_path, text, said):
     assert said in refusal(tmp_path, None, text=text)
 
@@ -211,7 +317,9 @@ def test_what_is_no_table(tmp_path, text, said):
 def test_a_table_that_isnt_there(tmp_path):
     with pytest.raises(pp.PlanError, match="no such file"):
         pp.read_table(tmp_path / "none.csv", size=SIZE)
-    (tmp_path / "cut.csv.gz").write_bytes(gzip.compress(table(5, 5, 5, 1).to_csv(index=False).encode())[:-200])
+    (tmp_path / "cut.csv.gz").write_bytes(
+        gzip.compress(table(5, 5, 5, 1).to_csv(index=False).encode())[:-200]
+    )
     with pytest.raises(pp.PlanError, match="can't be read"):
         pp.read_table(tmp_path / "cut.csv.gz", size=SIZE)
 
@@ -240,7 +348,9 @@ def test_a_mark_may_have_a_decimal_comma_as_its_table_has(tmp_path):
     for mark in ("-9,5", "-9.5"):
         model = pp.read_table(tmp_path / "t.csv", size=SIZE, absent=[mark])
         assert costs().priced(model).grade["copper"][3] == 0
-        assert model.blocks.CU[3] == 0 and costs(mining="2 + CU").priced(model).mining[3] == round(2 * f.TONNES[3])       # formulas count it as 0 too
+        assert model.blocks.CU[3] == 0 and costs(mining="2 + CU").priced(model).mining[3] == round(
+            2 * f.TONNES[3]
+        )  # formulas count it as 0 too
 
 
 def test_rows_that_weigh_nothing_are_told(tmp_path):
@@ -248,16 +358,26 @@ def test_rows_that_weigh_nothing_are_told(tmp_path):
     f = table(4, 4, 3, 2)
     assert not any("weigh nothing" in note for note in read(tmp_path, f).notes)
     f.loc[[3, 5, 7], "TONNES"], f.loc[[3, 5], "ROCK"], f.loc[7, "ROCK"] = -99, "SUL", "OXI"
-    assert "3 rows weigh nothing, and count as air: SUL 2, OXI 1" in read(tmp_path, f, absent=["-99"]).notes
+    assert (
+        "3 rows weigh nothing, and count as air: SUL 2, OXI 1"
+        in read(tmp_path, f, absent=["-99"]).notes
+    )
     f.loc[[3, 5, 7], "TONNES"], f.loc[3, "ROCK"] = [-99, 5, 5], ""
-    assert "1 row weighs nothing, and counts as air: without a rock 1" in read(tmp_path, f, absent=["-99"]).notes
+    assert (
+        "1 row weighs nothing, and counts as air: without a rock 1"
+        in read(tmp_path, f, absent=["-99"]).notes
+    )
 
 
 def test_several_grades_below_0_are_no_mark(tmp_path):
     f = table(4, 4, 3, 2)
     f.loc[3, "CU"], f.loc[5, "CU"] = -0.004, -0.003
     said = refusal(tmp_path, f)
-    assert "row 5, column CU: -0.004 is below 0; 2 cells are so" in said and "absent" not in said and "0 in their place" in said
+    assert (
+        "row 5, column CU: -0.004 is below 0; 2 cells are so" in said
+        and "absent" not in said
+        and "0 in their place" in said
+    )
 
 
 def test_depths_count_downward(tmp_path):
@@ -273,11 +393,13 @@ def split(frame, seed, part=0.5):
     """Some of the blocks cut in two along x."""
     whole = frame.assign(XINC=20.0, YINC=20.0, ZINC=15.0)
     cut = whole.sample(frac=part, random_state=seed)
-    halves = [cut.assign(XC=cut.XC + side * 5, XINC=10.0, TONNES=cut.TONNES / 2) for side in (-1, 1)]
+    halves = [
+        cut.assign(XC=cut.XC + side * 5, XINC=10.0, TONNES=cut.TONNES / 2) for side in (-1, 1)
+    ]
     return pd.concat([whole.drop(cut.index), *halves], ignore_index=True)
 
 
-@given(st.integers(0, 10 ** 6), st.sampled_from([0.3, 1.0]))
+@given(st.integers(0, 10**6), st.sampled_from([0.3, 1.0]))
 def test_sub_blocks_are_refused_or_add_up(tmp_path_factory, seed, part):
     f = table(3, 3, 2, seed)
     g = split(f, seed, part)
@@ -291,43 +413,103 @@ def test_sub_blocks_are_refused_or_add_up(tmp_path_factory, seed, part):
     a_sorted, b_sorted = (m.blocks.sort_values(order).reset_index(drop=True) for m in (a, b))
     for column in ("tonnes", "CU", "AU"):
         assert np.allclose(a_sorted[column], b_sorted[column])
-    assert (a_sorted[order] == b_sorted[order]).all(axis=None) and (a_sorted.rock == b_sorted.rock).all() and a.grid == b.grid
+    assert (
+        (a_sorted[order] == b_sorted[order]).all(axis=None)
+        and (a_sorted.rock == b_sorted.rock).all()
+        and a.grid == b.grid
+    )
     # each sub-block's row knows its whole block
     assert (a.blocks.ix.to_numpy()[a.row_block] == np.rint((g.XC - f.XC.min()) / 20 - 1e-9)).all()
 
 
 def test_sub_blocks_weigh_by_density_and_size(tmp_path):
-    f = pd.DataFrame({"XC": [10, 10, 30.], "YC": 10., "ZC": [2.5, 7.5, 5.], "XINC": 20., "YINC": 20., "ZINC": [5, 5, 10.], "DENSITY": [2.0, 3.0, 2.5], "CU": [1.0, 0.0, 0.5], "ROCK": ["A", "B", "A"]})
+    f = pd.DataFrame(
+        {
+            "XC": [10, 10, 30.0],
+            "YC": 10.0,
+            "ZC": [2.5, 7.5, 5.0],
+            "XINC": 20.0,
+            "YINC": 20.0,
+            "ZINC": [5, 5, 10.0],
+            "DENSITY": [2.0, 3.0, 2.5],
+            "CU": [1.0, 0.0, 0.5],
+            "ROCK": ["A", "B", "A"],
+        }
+    )
     model = read(tmp_path, f.assign(ID=["a", "b", "c"]), size=(20, 20, 10), regularise=True)
-    assert model.blocks["id"].tolist() == ["a", "c"] and model.blocks["row"].tolist() == [0, 2]      # both of the first row, whichever is the heaviest
-    assert model.blocks.tonnes.tolist() == [10000, 10000] and model.blocks.CU.round(6).tolist() == [0.4, 0.5] and model.blocks.rock.tolist() == ["B", "A"]
+    assert model.blocks["id"].tolist() == ["a", "c"] and model.blocks["row"].tolist() == [
+        0,
+        2,
+    ]  # both of the first row, whichever is the heaviest
+    assert (
+        model.blocks.tonnes.tolist() == [10000, 10000]
+        and model.blocks.CU.round(6).tolist() == [0.4, 0.5]
+        and model.blocks.rock.tolist() == ["B", "A"]
+    )
 
 
-CODED = pd.DataFrame({"XC": [10, 30, 30, 50, 50, 50.], "YC": 10., "ZC": [5, 2.5, 7.5, 2, 5.5, 8.5], "XINC": 20., "YINC": 20., "ZINC": [10, 5, 5, 4, 3, 3.], "DENSITY": 1.9,
-                      "CU": [1, 0.5, 0.5, 0, 1, 1.], "SECTOR": [3, 3, 3, 1, 2, 2], "LAKE": [0, 0, 0, 1, 0, 0], "ROCK": ["A", "A", "A", "B", "A", "A "]})
+CODED = pd.DataFrame(
+    {
+        "XC": [10, 30, 30, 50, 50, 50.0],
+        "YC": 10.0,
+        "ZC": [5, 2.5, 7.5, 2, 5.5, 8.5],
+        "XINC": 20.0,
+        "YINC": 20.0,
+        "ZINC": [10, 5, 5, 4, 3, 3.0],
+        "DENSITY": 1.9,
+        "CU": [1, 0.5, 0.5, 0, 1, 1.0],
+        "SECTOR": [3, 3, 3, 1, 2, 2],
+        "LAKE": [0, 0, 0, 1, 0, 0],
+        "ROCK": ["A", "A", "A", "B", "A", "A "],
+    }
+)
 
 
 def test_codes_of_sub_blocks_stay_codes(tmp_path):
     """1.9 times 3 by 1.9 is 2.9999999999999996; the third block has 4 m of sector 1 under the lake, and twice 3 m of sector 2."""
     model = read(tmp_path, CODED, size=(20, 20, 10), regularise=True, widen=1)
-    assert model.blocks.SECTOR[:2].tolist() == [3, 3] and model.blocks.rock[:3].tolist() == ["A", "A", "A"] and model.blocks.CU[2].round(9) == 0.6
-    by, told = pp.Slopes(45, by="SECTOR", regions={"3": 40, "2": 42}), costs(mining="where(SECTOR == 3, 1, where(SECTOR == 2, 2, 9))", processing="where(CU > 0.7, 5, 6)", forbid=["LAKE == 1"])
+    assert (
+        model.blocks.SECTOR[:2].tolist() == [3, 3]
+        and model.blocks.rock[:3].tolist() == ["A", "A", "A"]
+        and model.blocks.CU[2].round(9) == 0.6
+    )
+    by, told = pp.Slopes(45, by="SECTOR", regions={"3": 40, "2": 42}), costs(
+        mining="where(SECTOR == 3, 1, where(SECTOR == 2, 2, 9))",
+        processing="where(CU > 0.7, 5, 6)",
+        forbid=["LAKE == 1"],
+    )
     for now in (model, pp.Study.create(tmp_path / "s", model, told, by).model):
         priced = told.priced(now)
-        assert by.region_of(now).tolist() == [1, 1, 2] + [1] * 7 + [2] * 5          # a copy beside the model has its block's
-        assert priced.forbidden.tolist() == [False, False, True] + [False] * 12 and priced.mining[:2].tolist() == [7600, 7600]
-        assert priced.processing[:3].tolist() == [38000, 45600, 45600] and now.blocks.SECTOR[2] == (1.6 if now is model else 2)          # by the mean grade, 0.6
+        assert (
+            by.region_of(now).tolist() == [1, 1, 2] + [1] * 7 + [2] * 5
+        )  # a copy beside the model has its block's
+        assert priced.forbidden.tolist() == [False, False, True] + [False] * 12 and priced.mining[
+            :2
+        ].tolist() == [7600, 7600]
+        assert priced.processing[:3].tolist() == [38000, 45600, 45600] and now.blocks.SECTOR[2] == (
+            1.6 if now is model else 2
+        )  # by the mean grade, 0.6
     assert told.partly_forbidden(model)[:3].tolist() == [False, False, True]
     assert any("SECTOR is taken as a code: of 1 blocks" in note for note in now.notes)
 
 
 def test_build_says_which_codes_are_mixed_and_what_forbid_keeps_in_part(tmp_path, capsys):
-    text = STUDY_TOML.replace("size = [20, 20, 15]", "size = [20, 20, 10]\nregularise = true").replace("mining = 2.0", "mining = 2.0\nforbid = ['LAKE == 1', 'XC < 20']")
-    text = text.replace("angles = 45", "angles = 45\nby = 'SECTOR'\nregions = { 3 = 40 }").replace("processing = { OXI = 7.5, SUL = 9.0 }", "processing = 9")
+    text = STUDY_TOML.replace(
+        "size = [20, 20, 15]", "size = [20, 20, 10]\nregularise = true"
+    ).replace("mining = 2.0", "mining = 2.0\nforbid = ['LAKE == 1', 'XC < 20']")
+    text = text.replace("angles = 45", "angles = 45\nby = 'SECTOR'\nregions = { 3 = 40 }").replace(
+        "processing = { OXI = 7.5, SUL = 9.0 }", "processing = 9"
+    )
     commands_build.build(written_study(tmp_path / "s", CODED, text))
     said = capsys.readouterr().out
-    assert "SECTOR is taken as a code: of 1 blocks with several values each has that of the most tonnes" in said
-    assert "2 of 3 blocks may not be dug, by forbid; of 1 of them it holds for some sub-blocks alone" in said
+    assert (
+        "SECTOR is taken as a code: of 1 blocks with several values each has that of the most tonnes"
+        in said
+    )
+    assert (
+        "2 of 3 blocks may not be dug, by forbid; of 1 of them it holds for some sub-blocks alone"
+        in said
+    )
 
 
 @pytest.mark.parametrize("rotation", [0, 33])
@@ -336,16 +518,34 @@ def test_coordinates_of_sub_blocks_may_be_rounded(tmp_path, rotation):
     size, t = (12.5, 12.5, 6), math.radians(rotation)
     f = table(9, 8, 3, 4, rotation, size).assign(XINC=12.5, YINC=12.5, ZINC=6.0)
     cut = f.sample(frac=0.4, random_state=1)
-    parts = [cut.assign(XC=cut.XC + off * math.cos(t), YC=cut.YC - off * math.sin(t), XINC=long, TONNES=cut.TONNES * long / 12.5) for off, long in ((-1.5625, 9.375), (4.6875, 3.125))]
+    parts = [
+        cut.assign(
+            XC=cut.XC + off * math.cos(t),
+            YC=cut.YC - off * math.sin(t),
+            XINC=long,
+            TONNES=cut.TONNES * long / 12.5,
+        )
+        for off, long in ((-1.5625, 9.375), (4.6875, 3.125))
+    ]
     g = pd.concat([f.drop(cut.index), *parts]).round({"XC": 3, "YC": 3, "XINC": 3})
-    found, whole = read(tmp_path, g, size=size, rotation=rotation, regularise=True).blocks, read(tmp_path, f, size=size, rotation=rotation).blocks
+    found, whole = (
+        read(tmp_path, g, size=size, rotation=rotation, regularise=True).blocks,
+        read(tmp_path, f, size=size, rotation=rotation).blocks,
+    )
     order = ["ix", "iy", "iz"]
     found, whole = found.sort_values(order), whole.sort_values(order)
-    assert (found[order].to_numpy() == whole[order].to_numpy()).all() and np.allclose(found.tonnes, whole.tonnes)
+    assert (found[order].to_numpy() == whole[order].to_numpy()).all() and np.allclose(
+        found.tonnes, whole.tonnes
+    )
     g.to_csv(tmp_path / "u.csv", index=False)
     assert look_at(tmp_path / "u.csv").rotation == rotation
-    off = g.assign(XC=g.XC.where(g.XINC > 4, g.XC + 0.2 * math.cos(t)), YC=g.YC.where(g.XINC > 4, g.YC - 0.2 * math.sin(t)))
-    assert "the sub-block lies over a side of a whole block" in refusal(tmp_path, off, size=size, rotation=rotation, regularise=True)
+    off = g.assign(
+        XC=g.XC.where(g.XINC > 4, g.XC + 0.2 * math.cos(t)),
+        YC=g.YC.where(g.XINC > 4, g.YC - 0.2 * math.sin(t)),
+    )
+    assert "the sub-block lies over a side of a whole block" in refusal(
+        tmp_path, off, size=size, rotation=rotation, regularise=True
+    )
 
 
 def test_a_bad_cell_among_sub_blocks_isnt_lost(tmp_path):
@@ -370,7 +570,7 @@ def test_a_centre_off_the_grid_is_told_by_its_row(tmp_path):
     assert "rotation" in refusal(tmp_path, table(5, 5, 3, 1, rotation=20))
     assert "no two blocks are neighbours" in refusal(tmp_path, table(5, 5, 3, 1), size=(10, 20, 15))
     far = table(5, 5, 3, 1)
-    far.loc[9, "XC"] += 20 * 10 ** 6
+    far.loc[9, "XC"] += 20 * 10**6
     assert "row 11, column XC" in refusal(tmp_path, far)
 
 
@@ -393,12 +593,21 @@ def test_missing_rows_are_told_apart(tmp_path):
     inside = f.index[(f.XC == 5040) & (f.YC == 9040)]
     assert "the whole column at (5040, 9040) is missing" in refusal(tmp_path, f.drop(inside))
     air = read(tmp_path, f.drop(hole), missing="air")
-    assert len(air) == len(f) and air.blocks.tonnes.iloc[-1] == 0 and air.blocks.rock.iloc[-1] == "air"
+    assert (
+        len(air) == len(f) and air.blocks.tonnes.iloc[-1] == 0 and air.blocks.rock.iloc[-1] == "air"
+    )
     assert "fill" in refusal(tmp_path, f.drop(hole), missing="rock")
     rock = read(tmp_path, f.drop(hole), missing="rock", fill={"tonnes": 15000.0, "rock": "SUL"})
     last = rock.blocks.iloc[-1]
-    assert (last.tonnes, last.rock, last["row"], last.XC, last.YC, last.ZC) == (15000, "SUL", -1, at.XC, at.YC, at.ZC)
-    assert costs().priced(rock).revenue[-1] == 0      # what was filled in is never ore
+    assert (last.tonnes, last.rock, last["row"], last.XC, last.YC, last.ZC) == (
+        15000,
+        "SUL",
+        -1,
+        at.XC,
+        at.YC,
+        at.ZC,
+    )
+    assert costs().priced(rock).revenue[-1] == 0  # what was filled in is never ore
     assert len(read(tmp_path, f.drop(inside), missing="air")) == len(f) - len(inside)
 
 
@@ -408,8 +617,14 @@ def test_what_fills_a_hole_has_the_columns_of_the_block_above(tmp_path):
     at = f.loc[hole[0]]
     column = f[(f.XC == at.XC) & (f.YC == at.YC)].set_index("ZC")
     above, below = (column.loc[at.ZC + step] for step in (15, -15))
-    last = read(tmp_path, f.drop(hole), missing="rock", fill={"tonnes": 15000.0, "rock": "SUL"}).blocks.iloc[-1]
-    assert (last.CU, last.AU, last.SECTOR) == (above.CU, above.AU, above.SECTOR) and last.CU != below.CU
+    last = read(
+        tmp_path, f.drop(hole), missing="rock", fill={"tonnes": 15000.0, "rock": "SUL"}
+    ).blocks.iloc[-1]
+    assert (last.CU, last.AU, last.SECTOR) == (
+        above.CU,
+        above.AU,
+        above.SECTOR,
+    ) and last.CU != below.CU
     assert last.CU == above.CU and last.TONNES == above.TONNES != last.tonnes == 15000
 
 
@@ -417,11 +632,18 @@ def test_blocks_that_are_added_to_a_table_of_depths_have_depths_there(tmp_path):
     """Else a cost by depth, as a formula has it, would be that of another level."""
     f = table(5, 5, 4, 8)
     deep = f.assign(ZC=500 - f.ZC).drop(hole_in(f))
-    model = read(tmp_path, deep, z="depth", missing="rock", fill={"tonnes": 15000.0, "rock": "SUL"}, widen=1)
+    model = read(
+        tmp_path, deep, z="depth", missing="rock", fill={"tonnes": 15000.0, "rock": "SUL"}, widen=1
+    )
     added = model.blocks["row"] < 0
-    assert added.sum() > 20 and (model.blocks.ZC == 400 - 15 * model.blocks.iz).all()        # the lowest centre is 100 up: 400 down
+    assert (
+        added.sum() > 20 and (model.blocks.ZC == 400 - 15 * model.blocks.iz).all()
+    )  # the lowest centre is 100 up: 400 down
     mining = costs(mining="1 + 0.01 * ZC").priced(model).mining
-    assert np.abs(mining - model.blocks.tonnes * (1 + 0.01 * (400 - 15 * model.blocks.iz))).max() <= 0.501
+    assert (
+        np.abs(mining - model.blocks.tonnes * (1 + 0.01 * (400 - 15 * model.blocks.iz))).max()
+        <= 0.501
+    )
 
 
 def test_added_columns_are_those_of_the_nearest_column(tmp_path):
@@ -429,12 +651,19 @@ def test_added_columns_are_those_of_the_nearest_column(tmp_path):
     model = read(tmp_path, f, widen=2)
     added = model.blocks[model.blocks["row"] < 0]
     source = f.assign(place=list(zip(f.XC, f.YC, f.ZC))).set_index("place")
-    near = list(zip(added.XC.clip(f.XC.min(), f.XC.max()), added.YC.clip(f.YC.min(), f.YC.max()), added.ZC))
+    near = list(
+        zip(added.XC.clip(f.XC.min(), f.XC.max()), added.YC.clip(f.YC.min(), f.YC.max()), added.ZC)
+    )
     for column, own in (("TONNES", "tonnes"), ("ROCK", "rock"), ("SECTOR", "SECTOR")):
         assert source[column][near].tolist() == added[own].tolist()
     high = f.groupby(["XC", "YC"]).size()
-    around = [(x, y) for x in 5000 + 20.0 * np.arange(-2, 8) for y in 9000 + 20.0 * np.arange(-2, 7)]
-    assert len(added) == sum(high[float(np.clip(x, f.XC.min(), f.XC.max())), float(np.clip(y, f.YC.min(), f.YC.max()))] for x, y in around) - len(f)
+    around = [
+        (x, y) for x in 5000 + 20.0 * np.arange(-2, 8) for y in 9000 + 20.0 * np.arange(-2, 7)
+    ]
+    assert len(added) == sum(
+        high[float(np.clip(x, f.XC.min(), f.XC.max())), float(np.clip(y, f.YC.min(), f.YC.max()))]
+        for x, y in around
+    ) - len(f)
 
 
 def test_widened(tmp_path):
@@ -444,18 +673,30 @@ def test_widened(tmp_path):
     added = model.blocks[model.blocks["row"] < 0]
     x, y, z = model.xyz()
     assert np.allclose(x, model.blocks.XC) and np.allclose(y, model.blocks.YC)
-    assert np.allclose(x[:len(f)], f.XC) and len(added) == len(model) - len(f) > 0
-    assert (costs().priced(model).revenue[len(f):] == 0).all()
-    assert set(zip(added.ix, added.iy)) == {(i, j) for i in range(12) for j in range(11)} - {(i, j) for i in range(3, 9) for j in range(3, 8)}
+    assert np.allclose(x[: len(f)], f.XC) and len(added) == len(model) - len(f) > 0
+    assert (costs().priced(model).revenue[len(f) :] == 0).all()
+    assert set(zip(added.ix, added.iy)) == {(i, j) for i in range(12) for j in range(11)} - {
+        (i, j) for i in range(3, 9) for j in range(3, 8)
+    }
 
 
 def test_unknown_keys_name_the_nearest(tmp_path):
     assert "is 'rotation' meant?" in refusal(tmp_path, table(3, 3, 2, 1), rotatoin=3)
-    assert 'z is \'up\', and has to be "elevation" or "depth"' in refusal(tmp_path, table(3, 3, 2, 1), z="up")
+    assert 'z is \'up\', and has to be "elevation" or "depth"' in refusal(
+        tmp_path, table(3, 3, 2, 1), z="up"
+    )
     assert "three numbers above 0" in refusal(tmp_path, table(3, 3, 2, 1), size=(1, 2))
 
 
 def test_the_usual_spanish_names_of_ids_and_rocks():
     from pitplan.table.column_names import which_columns
+
     found = which_columns(["CODIGO", "ESTE", "NORTE", "COTA", "DENS", "LITO"], {}, "t.csv")
-    assert found == {"id": "CODIGO", "x": "ESTE", "y": "NORTE", "z": "COTA", "density": "DENS", "rock": "LITO"}
+    assert found == {
+        "id": "CODIGO",
+        "x": "ESTE",
+        "y": "NORTE",
+        "z": "COTA",
+        "density": "DENS",
+        "rock": "LITO",
+    }

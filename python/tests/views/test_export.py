@@ -18,7 +18,12 @@ from vtkmodules.vtkIOXML import vtkXMLUnstructuredGridReader
 import pitplan as pp
 from mines import SIZE, costs, study_of, table, written_study
 from pitplan.table import spreadsheets
-from pitplan.views.export import csv as export_csv, dxf as export_dxf, gpkg as export_gpkg, vtu as export_vtu
+from pitplan.views.export import (
+    csv as export_csv,
+    dxf as export_dxf,
+    gpkg as export_gpkg,
+    vtu as export_vtu,
+)
 from pitplan.model import outlines
 from pitplan.base.whole_file import whole_file
 from served import pitplan
@@ -31,7 +36,12 @@ def turned(request, tmp_path_factory):
     """The shells of a mine, straight and turned, and the planner's own table."""
     frame = table(9, 8, 5, 5, rotation=request.param)
     frame["SEEN"] = np.arange(len(frame)) % 2 == 0
-    return study_of(tmp_path_factory.mktemp("m"), frame, rotation=request.param).shells([600, 800, 1000, 1200]), frame
+    return (
+        study_of(tmp_path_factory.mktemp("m"), frame, rotation=request.param).shells(
+            [600, 800, 1000, 1200]
+        ),
+        frame,
+    )
 
 
 planes = arrays(bool, st.tuples(st.integers(1, 9), st.integers(1, 9)))
@@ -46,12 +56,16 @@ def test_an_outline_has_the_cells_and_no_more(plane):
     _, pieces = ndimage.label(plane)
     assert len(found.geoms) == pieces
     _, gaps = ndimage.label(~np.pad(plane, 1), np.ones((3, 3)))
-    assert sum(len(p.interiors) for p in found.geoms) >= gaps - 1      # a gap that is cut off by a corner alone is a hole too
+    assert (
+        sum(len(p.interiors) for p in found.geoms) >= gaps - 1
+    )  # a gap that is cut off by a corner alone is a hole too
     for points, is_hole in outlines.rings(found):
         ring = Polygon(points)
         assert ring.exterior.is_ccw != is_hole
         ways = np.roll(points, -1, axis=0) - points
-        assert ((ways != 0).sum(axis=1) == 1).all() and (ways[:, 0] * np.roll(ways, -1, axis=0)[:, 0] == 0).all()      # each corner turns
+        assert ((ways != 0).sum(axis=1) == 1).all() and (
+            ways[:, 0] * np.roll(ways, -1, axis=0)[:, 0] == 0
+        ).all()  # each corner turns
 
 
 def test_corners_are_cut_to_a_straight_line():
@@ -62,7 +76,7 @@ def test_corners_are_cut_to_a_straight_line():
     upper = [p for p in slanting if p[1] > 0]
     assert upper and all(abs(p[1] - p[0] - 0.0) <= 0.5 for p in upper)
     square = outlines.cut(outlines.outline(np.ones((3, 3), bool)))
-    assert square.area == 9 - 4 / 8                         # four corners point out
+    assert square.area == 9 - 4 / 8  # four corners point out
     ring = np.ones((3, 3), bool)
     ring[1, 1] = False
     assert outlines.cut(outlines.outline(ring)).area == 8 - 4 / 8 + 4 / 8
@@ -74,7 +88,9 @@ def polylines(path, layer):
     assert not document.audit().has_errors and not document.audit().fixes
     for line in document.modelspace().query(f'LWPOLYLINE[layer=="{layer}"]'):
         assert line.closed
-        yield line.dxf.elevation, Polygon([(x, y) for x, y in line.get_points("xy")]), line.get_xdata("PITPLAN")[-1].value
+        yield line.dxf.elevation, Polygon(
+            [(x, y) for x, y in line.get_points("xy")]
+        ), line.get_xdata("PITPLAN")[-1].value
 
 
 def test_dxf_outlines_hold_the_blocks_of_the_table(tmp_path, turned):
@@ -91,7 +107,11 @@ def test_dxf_outlines_hold_the_blocks_of_the_table(tmp_path, turned):
             assert area * SIZE[2] == pytest.approx(len(inside) * BLOCK)
             assert {round(z, 6) for z, _, _ in found} == {round(z + shift, 6) for z in inside.ZC}
             for block in inside.itertuples():
-                around = [what for z, p, what in found if math.isclose(z, block.ZC + shift) and p.contains(Point(block.XC, block.YC))]
+                around = [
+                    what
+                    for z, p, what in found
+                    if math.isclose(z, block.ZC + shift) and p.contains(Point(block.XC, block.YC))
+                ]
                 assert around.count("outline") - around.count("hole") == 1
 
 
@@ -101,19 +121,36 @@ def test_dxf_of_some_pits_with_corners_cut(tmp_path, turned):
     layers = {line.dxf.layer for line in ezdxf.readfile(tmp_path / "x.dxf").modelspace()}
     assert layers == {"SHELL_1000_TOE", "SHELL_1000_CREST"}
     found = list(polylines(tmp_path / "x.dxf", "SHELL_1000_TOE"))
-    assert not any(p.exterior.length < 1 for _, p, _ in found) and all(p.is_valid for _, p, _ in found)
+    assert not any(p.exterior.length < 1 for _, p, _ in found) and all(
+        p.is_valid for _, p, _ in found
+    )
 
 
 def test_dxf_of_holes(tmp_path):
     """A ring of rich blocks on one bench, with waste within that nothing rests on: a hole."""
-    i, j, k = (v.ravel() for v in np.meshgrid(np.arange(5), np.arange(5), np.arange(1), indexing="ij"))
-    ring = (np.maximum(abs(i - 2), abs(j - 2)) == 1)
-    frame = pd.DataFrame({"XC": 20.0 * i, "YC": 20.0 * j, "ZC": 15.0 * k, "TONNES": 15000.0, "CU": np.where(ring, 5.0, 0.0), "ROCK": "SUL"})
+    i, j, k = (
+        v.ravel() for v in np.meshgrid(np.arange(5), np.arange(5), np.arange(1), indexing="ij")
+    )
+    ring = np.maximum(abs(i - 2), abs(j - 2)) == 1
+    frame = pd.DataFrame(
+        {
+            "XC": 20.0 * i,
+            "YC": 20.0 * j,
+            "ZC": 15.0 * k,
+            "TONNES": 15000.0,
+            "CU": np.where(ring, 5.0, 0.0),
+            "ROCK": "SUL",
+        }
+    )
     shells = study_of(tmp_path, frame).shells([1000])
     assert shells.holds(0).sum() == 8
     export_dxf.write(shells, tmp_path / "x.dxf")
     found = {what: p for _, p, what in polylines(tmp_path / "x.dxf", "SHELL_1000_TOE")}
-    assert found["hole"].area == pytest.approx(400) and found["outline"].area == pytest.approx(9 * 400) and found["hole"].centroid.coords[0] == pytest.approx((40, 40))
+    assert (
+        found["hole"].area == pytest.approx(400)
+        and found["outline"].area == pytest.approx(9 * 400)
+        and found["hole"].centroid.coords[0] == pytest.approx((40, 40))
+    )
 
 
 def read_vtu(path):
@@ -122,7 +159,10 @@ def read_vtu(path):
     reader.Update()
     grid = reader.GetOutput()
     cells = grid.GetCellData()
-    return grid, {cells.GetArrayName(n): vtk_to_numpy(cells.GetArray(n)) for n in range(cells.GetNumberOfArrays())}
+    return grid, {
+        cells.GetArrayName(n): vtk_to_numpy(cells.GetArray(n))
+        for n in range(cells.GetNumberOfArrays())
+    }
 
 
 @pytest.mark.parametrize("is_whole", [False, True])
@@ -131,16 +171,22 @@ def test_vtu_blocks_are_those_of_the_table(tmp_path, turned, is_whole):
     words = export_vtu.write(shells, tmp_path / "x.vtu", is_whole=is_whole)
     grid, data = read_vtu(tmp_path / "x.vtu")
     wanted = f if is_whole else f[shells.shell < 4]
-    assert grid.GetNumberOfCells() == len(wanted) > 0 and {grid.GetCellType(n) for n in range(len(wanted))} == {12}       # VTK_HEXAHEDRON
+    assert grid.GetNumberOfCells() == len(wanted) > 0 and {
+        grid.GetCellType(n) for n in range(len(wanted))
+    } == {
+        12
+    }  # VTK_HEXAHEDRON
     sizes = vtkCellSizeFilter()
     sizes.SetInputData(grid)
     sizes.Update()
     volumes = vtk_to_numpy(sizes.GetOutput().GetCellData().GetArray("Volume"))
-    assert np.allclose(volumes, BLOCK)                       # and none is inside out: it would be negative
+    assert np.allclose(volumes, BLOCK)  # and none is inside out: it would be negative
     centres = vtkCellCenters()
     centres.SetInputData(grid)
     centres.Update()
-    assert np.allclose(vtk_to_numpy(centres.GetOutput().GetPoints().GetData()), wanted[["XC", "YC", "ZC"]])
+    assert np.allclose(
+        vtk_to_numpy(centres.GetOutput().GetPoints().GetData()), wanted[["XC", "YC", "ZC"]]
+    )
     for name in ("CU", "AU", "TONNES"):
         assert np.array_equal(data[name], wanted[name])
     assert np.array_equal(data["block"], wanted.index) and np.array_equal(data["SEEN"], wanted.SEEN)
@@ -149,10 +195,14 @@ def test_vtu_blocks_are_those_of_the_table(tmp_path, turned, is_whole):
     assert pd.read_csv(tmp_path / "x.vtu.words.csv").equals(words)
     shares = np.array([0.6, 0.8, 1.0, 1.2, np.nan])[shells.shell[wanted.index]]
     assert np.array_equal(data["shell"], shares, equal_nan=True)
-    worth = np.maximum(np.rint(wanted.TONNES * wanted.CU * 0.01 * 0.85 * 8500) - np.rint(wanted.TONNES * wanted.ROCK.map({"OXI": 7.5, "SUL": 9.0})), 0) - np.rint(wanted.TONNES * 2)
+    worth = np.maximum(
+        np.rint(wanted.TONNES * wanted.CU * 0.01 * 0.85 * 8500)
+        - np.rint(wanted.TONNES * wanted.ROCK.map({"OXI": 7.5, "SUL": 9.0})),
+        0,
+    ) - np.rint(wanted.TONNES * 2)
     assert np.allclose(data["worth"], worth, atol=1e-6, rtol=0)
     corners = vtk_to_numpy(grid.GetPoints().GetData())
-    assert len(np.unique(np.round(corners, 3), axis=0)) == len(corners)      # neighbours share theirs
+    assert len(np.unique(np.round(corners, 3), axis=0)) == len(corners)  # neighbours share theirs
 
 
 def test_vtu_columns(tmp_path):
@@ -160,7 +210,10 @@ def test_vtu_columns(tmp_path):
     shells = study_of(tmp_path, f).shells([1200])
     export_vtu.write(shells, tmp_path / "x.vtu", ["shell", "NOTE"], is_whole=True)
     _, data = read_vtu(tmp_path / "x.vtu")
-    assert set(data) == {"block", "shell", "worth", "shell of the table", "NOTE"} and (data["shell of the table"] == 7).all()
+    assert (
+        set(data) == {"block", "shell", "worth", "shell of the table", "NOTE"}
+        and (data["shell of the table"] == 7).all()
+    )
     with pytest.raises(pp.PlanError, match="no column 'CUU'; is 'CU' meant"):
         export_vtu.write(shells, tmp_path / "y.vtu", ["CUU"])
     assert not (tmp_path / "y.vtu").exists()
@@ -170,49 +223,85 @@ def test_geopackage_polygons(tmp_path, turned):
     shells, f = turned
     count = export_gpkg.write(shells, tmp_path / "x.gpkg", crs="EPSG:32719")
     assert set(fiona.listlayers(tmp_path / "x.gpkg")) == {"benches", "rims"}
-    ore = np.rint(f.TONNES * f.CU * 0.01 * 0.85 * 8500) > np.rint(f.TONNES * f.ROCK.map({"OXI": 7.5, "SUL": 9.0}))
+    ore = np.rint(f.TONNES * f.CU * 0.01 * 0.85 * 8500) > np.rint(
+        f.TONNES * f.ROCK.map({"OXI": 7.5, "SUL": 9.0})
+    )
     with fiona.open(tmp_path / "x.gpkg", layer="benches") as layer:
         assert layer.crs["init"] == "epsg:32719" and layer.schema["geometry"] == "MultiPolygon"
         benches = [(dict(row["properties"]), shape(row["geometry"])) for row in layer]
     for i, factor in enumerate(shells.factors):
         inside = f[shells.holds(i)]
         mine = [(told, polygon) for told, polygon in benches if told["factor"] == factor / 1000]
-        assert len(mine) == inside.ZC.nunique() and sum(told["volume"] for told, _ in mine) == pytest.approx(len(inside) * BLOCK)
+        assert len(mine) == inside.ZC.nunique() and sum(
+            told["volume"] for told, _ in mine
+        ) == pytest.approx(len(inside) * BLOCK)
         for told, polygon in mine:
             here = inside[np.isclose(inside.ZC, (told["toe"] + told["crest"]) / 2)]
-            assert polygon.is_valid and polygon.area == pytest.approx(told["area"]) == pytest.approx(len(here) * SIZE[0] * SIZE[1]) and told["blocks"] == len(here)
+            assert (
+                polygon.is_valid
+                and polygon.area
+                == pytest.approx(told["area"])
+                == pytest.approx(len(here) * SIZE[0] * SIZE[1])
+                and told["blocks"] == len(here)
+            )
             assert all(polygon.contains(Point(x, y)) for x, y in zip(here.XC, here.YC))
-            assert told["rock_t"] == pytest.approx(here.TONNES.sum()) and told["ore_t"] == pytest.approx(here.TONNES[ore].sum())
+            assert told["rock_t"] == pytest.approx(here.TONNES.sum()) and told[
+                "ore_t"
+            ] == pytest.approx(here.TONNES[ore].sum())
     with fiona.open(tmp_path / "x.gpkg", layer="rims") as layer:
         rims = [(dict(row["properties"]), shape(row["geometry"])) for row in layer]
     assert len(rims) == len(shells.factors) and count == len(benches) + len(rims)
     for i, (told, polygon) in enumerate(rims):
         inside = f[shells.holds(i)]
         columns = len(inside[["XC", "YC"]].round(3).drop_duplicates())
-        assert polygon.area == pytest.approx(columns * SIZE[0] * SIZE[1]) and told["blocks"] == len(inside) and told["worth"] == shells.verdicts[i]["worth"]
+        assert (
+            polygon.area == pytest.approx(columns * SIZE[0] * SIZE[1])
+            and told["blocks"] == len(inside)
+            and told["worth"] == shells.verdicts[i]["worth"]
+        )
 
 
 def test_geopackage_without_a_system_and_of_an_empty_pit(tmp_path):
     shells = study_of(tmp_path, table(4, 4, 3, 1)).shells([0])
     assert not shells.holds(0).any() and export_gpkg.write(shells, tmp_path / "x.gpkg") == 0
     with fiona.open(tmp_path / "x.gpkg", layer="benches") as layer:
-        assert len(layer) == 0 and layer.crs.wkt.startswith('LOCAL_CS["Undefined Cartesian SRS"')       # and not degrees
+        assert len(layer) == 0 and layer.crs.wkt.startswith(
+            'LOCAL_CS["Undefined Cartesian SRS"'
+        )  # and not degrees
     for crs, said in (("EPSG:1", "no coordinate system"), ("EPSG:4326", "in degrees")):
         with pytest.raises(pp.PlanError, match=said):
             export_gpkg.write(shells, tmp_path / "y.gpkg", crs=crs)
-    assert export_dxf.write(shells, tmp_path / "x.dxf") == 0 and not ezdxf.readfile(tmp_path / "x.dxf").audit().has_errors
+    assert (
+        export_dxf.write(shells, tmp_path / "x.dxf") == 0
+        and not ezdxf.readfile(tmp_path / "x.dxf").audit().has_errors
+    )
 
 
 def test_csv_of_blocks(tmp_path, turned):
     shells, f = turned
     assert export_csv.write(shells, tmp_path / "x.csv", ["CU"], is_whole=True) == len(f)
     found = pd.read_csv(tmp_path / "x.csv")
-    assert found.id.tolist() == f.IJK.tolist() and (found.row == f.index + 2).all() and np.allclose(found[["x", "y", "z"]], f[["XC", "YC", "ZC"]]) and np.array_equal(found.CU, f.CU)
-    assert (found["shell"].notna() == (shells.shell < 4)).all() and (found["to"] == "mill").sum() == shells.study.priced.milled(1000).sum()
-    assert found.worth[shells.holds(2)].sum() == float(shells.study.mask(1000).dot(shells.study.priced.worth(1000))) == float(shells.verdicts[2]["worth"])
+    assert (
+        found.id.tolist() == f.IJK.tolist()
+        and (found.row == f.index + 2).all()
+        and np.allclose(found[["x", "y", "z"]], f[["XC", "YC", "ZC"]])
+        and np.array_equal(found.CU, f.CU)
+    )
+    assert (found["shell"].notna() == (shells.shell < 4)).all() and (
+        found["to"] == "mill"
+    ).sum() == shells.study.priced.milled(1000).sum()
+    assert (
+        found.worth[shells.holds(2)].sum()
+        == float(shells.study.mask(1000).dot(shells.study.priced.worth(1000)))
+        == float(shells.verdicts[2]["worth"])
+    )
     assert export_csv.write(shells, tmp_path / "y.csv") == shells.holds(3).sum()
-    plain = spreadsheets.safe(export_csv.table_of(shells, ["CU"], is_whole=True)).to_csv(index=False)
-    assert (tmp_path / "x.csv").read_text() == plain                      # numbers that are spelled once are spelled as pandas does
+    plain = spreadsheets.safe(export_csv.table_of(shells, ["CU"], is_whole=True)).to_csv(
+        index=False
+    )
+    assert (
+        tmp_path / "x.csv"
+    ).read_text() == plain  # numbers that are spelled once are spelled as pandas does
 
 
 def test_worths_and_ways_of_blocks_are_the_table_s_in_cents_too(tmp_path):
@@ -220,26 +309,55 @@ def test_worths_and_ways_of_blocks_are_the_table_s_in_cents_too(tmp_path):
     shells = study_of(tmp_path, f, economics=costs(rounding=0.01)).shells([1000])
     export_csv.write(shells, tmp_path / "x.csv", is_whole=True)
     found = pd.read_csv(tmp_path / "x.csv")
-    revenue, processing = (np.rint(100 * v) for v in (f.TONNES * f.CU * 0.01 * 0.85 * 8500, f.TONNES * f.ROCK.map({"OXI": 7.5, "SUL": 9.0})))
-    assert np.abs(100 * found.worth - (np.maximum(revenue - processing, 0) - np.rint(200 * f.TONNES))).max() < 1e-3
-    assert (found["to"] == np.where(revenue > processing, "mill", "waste")).all() and (found.worth % 1 != 0).any()
+    revenue, processing = (
+        np.rint(100 * v)
+        for v in (
+            f.TONNES * f.CU * 0.01 * 0.85 * 8500,
+            f.TONNES * f.ROCK.map({"OXI": 7.5, "SUL": 9.0}),
+        )
+    )
+    assert (
+        np.abs(
+            100 * found.worth - (np.maximum(revenue - processing, 0) - np.rint(200 * f.TONNES))
+        ).max()
+        < 1e-3
+    )
+    assert (found["to"] == np.where(revenue > processing, "mill", "waste")).all() and (
+        found.worth % 1 != 0
+    ).any()
 
 
 def test_words_that_a_spreadsheet_would_run_arent_written_as_formulas(tmp_path):
     bad = ["=1+1", "+B1", "-A2", "@SUM(A1)", "=cmd|' /C calc'!A0"]
     fine = ["-5", "+3.5", "B-1", "", "'x", "1=1"]
     f = table(4, 4, 3, 1)
-    f["IJK"] = [word + f"#{n}" if (word := (bad + ["b"])[n % 6]) != "b" else f"b{n}" for n in range(len(f))]
+    f["IJK"] = [
+        word + f"#{n}" if (word := (bad + ["b"])[n % 6]) != "b" else f"b{n}" for n in range(len(f))
+    ]
     f["ROCK"] = "=SUL"
-    shells = study_of(tmp_path, f, economics=pp.Economics(metals=(pp.Metal("copper", "CU", price=8500),), mining=2.0, processing=9.0)).shells([1200])
+    shells = study_of(
+        tmp_path,
+        f,
+        economics=pp.Economics(
+            metals=(pp.Metal("copper", "CU", price=8500),), mining=2.0, processing=9.0
+        ),
+    ).shells([1200])
     export_csv.write(shells, tmp_path / "x.csv", is_whole=True)
     import csv
+
     with open(tmp_path / "x.csv", newline="") as file:
         rows = list(csv.reader(file))[1:]
-    risky = [cell for row in rows for cell in row if cell[:1] in "=+-@" and cell and not cell[1:].replace(".", "").isdigit()]
+    risky = [
+        cell
+        for row in rows
+        for cell in row
+        if cell[:1] in "=+-@" and cell and not cell[1:].replace(".", "").isdigit()
+    ]
     assert len(rows) == len(f) and not risky
     assert [spreadsheets.as_written(row[0]) for row in rows] == f.IJK.tolist()
-    assert spreadsheets.harmless(fine).tolist() == fine and spreadsheets.harmless(bad).tolist() == ["'" + word for word in bad]
+    assert spreadsheets.harmless(fine).tolist() == fine and spreadsheets.harmless(bad).tolist() == [
+        "'" + word for word in bad
+    ]
 
 
 def test_a_file_that_fails_leaves_the_older_one(tmp_path):
@@ -256,15 +374,33 @@ def test_the_command(tmp_path):
     assert pitplan("export", study).returncode == 3
     assert pitplan("build", study).returncode == 0
     early = pitplan("export", study)
-    assert early.returncode == 3 and "haven't been run" in early.stderr and "pitplan shells " in early.stderr
+    assert (
+        early.returncode == 3
+        and "haven't been run" in early.stderr
+        and "pitplan shells " in early.stderr
+    )
     assert pitplan("shells", study).returncode == 0
     ran = pitplan("export", study, "--to", "dxf,vtu,csv,gpkg", "--columns", "CU,ROCK")
     assert ran.returncode == 0, ran.stderr
-    assert all((study / "out" / f"shells.{kind}").stat().st_size > 500 for kind in ("dxf", "vtu", "csv", "gpkg"))
-    assert {line.dxf.layer for line in ezdxf.readfile(study / "out/shells.dxf").modelspace()} == {f"SHELL_{k:04d}_{edge}" for k in (600, 1000, 1200) for edge in ("TOE", "CREST")}
+    assert all(
+        (study / "out" / f"shells.{kind}").stat().st_size > 500
+        for kind in ("dxf", "vtu", "csv", "gpkg")
+    )
+    assert {line.dxf.layer for line in ezdxf.readfile(study / "out/shells.dxf").modelspace()} == {
+        f"SHELL_{k:04d}_{edge}" for k in (600, 1000, 1200) for edge in ("TOE", "CREST")
+    }
     one = pitplan("export", study, "--to", "dxf", "--factors", "1.0")
-    assert one.returncode == 0 and {line.dxf.layer for line in ezdxf.readfile(study / "out/shells.dxf").modelspace()} == {"SHELL_1000_TOE", "SHELL_1000_CREST"}
-    for words, said in ((("--to", "dxg"), "is 'dxf' meant"), (("--columns", "CUU"), "is 'CU' meant"), (("--factors", "0.7"), "the nearest that have are 0.6, 1"),
-                        (("--factors", "1,a"), "'a' is no factor"), (("--to", "gpkg", "--crs", "here"), "no coordinate system")):
+    assert one.returncode == 0 and {
+        line.dxf.layer for line in ezdxf.readfile(study / "out/shells.dxf").modelspace()
+    } == {"SHELL_1000_TOE", "SHELL_1000_CREST"}
+    for words, said in (
+        (("--to", "dxg"), "is 'dxf' meant"),
+        (("--columns", "CUU"), "is 'CU' meant"),
+        (("--factors", "0.7"), "the nearest that have are 0.6, 1"),
+        (("--factors", "1,a"), "'a' is no factor"),
+        (("--to", "gpkg", "--crs", "here"), "no coordinate system"),
+    ):
         wrong = pitplan("export", study, *words)
-        assert wrong.returncode == 3 and said in wrong.stderr and "Traceback" not in wrong.stderr, wrong.stderr
+        assert (
+            wrong.returncode == 3 and said in wrong.stderr and "Traceback" not in wrong.stderr
+        ), wrong.stderr

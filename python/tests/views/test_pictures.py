@@ -18,7 +18,6 @@ from pitplan.views.pictures import Style
 from served import pitplan
 
 
-
 @pytest.fixture(scope="module")
 def shells(tmp_path_factory):
     return shells_of(tmp_path_factory.mktemp("mine"))
@@ -41,9 +40,20 @@ def models(draw):
     shape = tuple(draw(st.integers(1, 5)) for _ in range(3))
     size = tuple(draw(st.sampled_from([5.0, 10.0, 12.5])) for _ in range(3))
     frame = table(*shape, draw(st.integers(0, 99)), size=size)
-    step = [np.rint((frame[c] - o) / s).astype(int) for c, o, s in (("XC", 5000, size[0]), ("YC", 9000, size[1]), ("ZC", 100, size[2]))]
-    blocks = frame.assign(ix=step[0], iy=step[1], iz=step[2], row=range(len(frame)), tonnes=frame.TONNES)
-    return Model(blocks, Grid((5000.0, 9000.0, 100.0), size, shape, draw(st.sampled_from([0.0, 30.0, -72.5, 190.0]))), "mine")
+    step = [
+        np.rint((frame[c] - o) / s).astype(int)
+        for c, o, s in (("XC", 5000, size[0]), ("YC", 9000, size[1]), ("ZC", 100, size[2]))
+    ]
+    blocks = frame.assign(
+        ix=step[0], iy=step[1], iz=step[2], row=range(len(frame)), tonnes=frame.TONNES
+    )
+    return Model(
+        blocks,
+        Grid(
+            (5000.0, 9000.0, 100.0), size, shape, draw(st.sampled_from([0.0, 30.0, -72.5, 190.0]))
+        ),
+        "mine",
+    )
 
 
 def centres(cut):
@@ -59,7 +69,9 @@ def test_each_block_is_drawn_where_it_is(model):
         cut = plane.bench(model, level)
         there = cut.number >= 0
         x, y = centres(cut)
-        assert np.allclose(x[there], east[cut.number[there]]) and np.allclose(y[there], north[cut.number[there]])
+        assert np.allclose(x[there], east[cut.number[there]]) and np.allclose(
+            y[there], north[cut.number[there]]
+        )
         seen += cut.number[there].tolist()
     assert sorted(seen) == list(range(len(model)))
 
@@ -77,14 +89,14 @@ def test_sections_have_every_block_at_its_distance_and_elevation(model):
             assert np.allclose(y[there], up[blocks])
             if model.grid.rotation == 0:
                 assert np.allclose(x[there], (east if axis == "y" else north)[blocks])
-            elif len(blocks):                                # a distance along the section: that between places
+            elif len(blocks):  # a distance along the section: that between places
                 gone = np.hypot(east[blocks] - east[blocks[0]], north[blocks] - north[blocks[0]])
                 assert np.allclose(np.abs(x[there] - x[there][0]), gone)
             seen += blocks.tolist()
         assert sorted(seen) == list(range(len(model)))
 
 
-@given(st.integers(0, 10 ** 6), st.sampled_from([0.0, 40.0]))
+@given(st.integers(0, 10**6), st.sampled_from([0.0, 40.0]))
 def test_borders_are_those_that_shapely_finds(seed, rotation):
     r = np.random.default_rng(seed)
     g = Grid((0.0, 0.0, 0.0), (10.0, 5.0, 2.0), (5, 4, 1), rotation)
@@ -93,12 +105,23 @@ def test_borders_are_those_that_shapely_finds(seed, rotation):
     inside = r.random((4, 5)) < 0.5
     x, y = plane.borders(inside, cut)
     drawn = np.nansum(np.hypot(np.diff(x), np.diff(y)))
-    cells = [Polygon([(cut.across[c], cut.up[c]) for c in ((j, i), (j, i + 1), (j + 1, i + 1), (j + 1, i))]) for j, i in zip(*np.nonzero(inside))]
-    assert abs(drawn - (unary_union([c.buffer(1e-7, join_style=2) for c in cells]).length if cells else 0)) < 1e-4
+    cells = [
+        Polygon(
+            [(cut.across[c], cut.up[c]) for c in ((j, i), (j, i + 1), (j + 1, i + 1), (j + 1, i))]
+        )
+        for j, i in zip(*np.nonzero(inside))
+    ]
+    assert (
+        abs(
+            drawn
+            - (unary_union([c.buffer(1e-7, join_style=2) for c in cells]).length if cells else 0)
+        )
+        < 1e-4
+    )
 
 
 def test_a_bench_has_its_toe_and_not_its_crest(shells):
-    model = shells.study.model                               # its lowest centre is at 100, its benches are 15 high
+    model = shells.study.model  # its lowest centre is at 100, its benches are 15 high
     assert [plane.bench_at(model, z) for z in (92.5, 100, 107.49, 107.5)] == [0, 0, 0, 1]
     assert "bench 107.5 (toe) to 122.5 m (crest)" in title(pictures.plan(shells, 110))
     for z in (92.4, 92.5 + 15 * model.grid.shape[2], 1e9):
@@ -122,17 +145,25 @@ def test_a_plan_shows_the_first_pit_of_each_block(shells):
     cells = drawn(pictures.plan(shells, 110))
     for b in model.blocks[model.blocks["iz"] == 1].itertuples():
         first = shells.shell[b.Index]
-        assert cells[b.iy, b.ix] == first if first < len(shells.factors) else np.isnan(cells[b.iy, b.ix])
+        assert (
+            cells[b.iy, b.ix] == first
+            if first < len(shells.factors)
+            else np.isnan(cells[b.iy, b.ix])
+        )
 
 
 def test_a_section_shows_a_column_of_the_table(shells):
     model = shells.study.model
     cells = drawn(pictures.section(shells, north=9000 + 3 * 20 + 9, style=Style("CU")))
     row = model.blocks[model.blocks["iy"] == 3]
-    assert np.allclose(cells[row["iz"], row["ix"]], row["CU"]) and np.isfinite(cells).sum() == len(row)
+    assert np.allclose(cells[row["iz"], row["ix"]], row["CU"]) and np.isfinite(cells).sum() == len(
+        row
+    )
     worth = drawn(pictures.section(shells, column=2, style=Style("value")))
     there = model.blocks[model.blocks["ix"] == 2]
-    assert np.allclose(worth[there["iz"], there["iy"]], shells.study.priced.worth(1000)[there.index])
+    assert np.allclose(
+        worth[there["iz"], there["iy"]], shells.study.priced.worth(1000)[there.index]
+    )
 
 
 def test_words_have_a_colour_each(shells):
@@ -146,15 +177,23 @@ def test_many_words_are_drawn_as_others(shells):
     other.study = copy.copy(shells.study)
     model = copy.copy(shells.study.model)
     n = len(model)
-    model.blocks = model.blocks.assign(KIND=[f"k{i % 20:02d}" if i >= n // 2 else "most" for i in range(n)])
+    model.blocks = model.blocks.assign(
+        KIND=[f"k{i % 20:02d}" if i >= n // 2 else "most" for i in range(n)]
+    )
     other.study.__dict__["model"] = model
     found = pictures.paint(other, "KIND")
-    assert len(found.ticks) == pictures.MANY_WORDS + 1 and found.ticks[-1][1] == "others" and "most" in dict(found.ticks).values()
+    assert (
+        len(found.ticks) == pictures.MANY_WORDS + 1
+        and found.ticks[-1][1] == "others"
+        and "most" in dict(found.ticks).values()
+    )
 
 
 def test_a_turned_model_names_its_axis_and_no_false_east(turned):
     along = pictures.section(turned, row=2)
-    assert along.axes[0].get_xlabel() == "Distance along the model's x axis (m), towards bearing 120°"
+    assert (
+        along.axes[0].get_xlabel() == "Distance along the model's x axis (m), towards bearing 120°"
+    )
     assert "looking towards bearing 030°" in title(along) and " E, " in title(along)
     assert "towards bearing 030°" in pictures.section(turned, column=2).axes[0].get_xlabel()
     assert pictures.plan(turned, 100).axes[0].get_xlabel() == "Easting (m)"
@@ -174,24 +213,39 @@ def test_elevations_of_a_flat_section_dont_overlap(tmp_path):
 
 def test_the_row_of_a_section_has_most_of_the_pit_and_isnt_the_models_last(shells):
     assert pictures.fullest_row(np.array([9, 1, 4, 2, 9])) == 2
-    assert pictures.fullest_row(np.array([3, 0, 0, 7])) == 3 and pictures.fullest_row(np.array([1, 2])) == 1
+    assert (
+        pictures.fullest_row(np.array([3, 0, 0, 7])) == 3
+        and pictures.fullest_row(np.array([1, 2])) == 1
+    )
     here, last = copy.copy(shells), shells.study.model.grid.shape[1] - 1
     rows = shells.study.model.blocks["iy"].to_numpy()
-    here.shell = np.where((rows == last) | ((rows == 2) & (shells.study.model.blocks["ix"] > 2)), 0, len(shells.factors))
-    assert (here.shell[rows == last] == 0).sum() > (here.shell[rows == 2] == 0).sum() > 0 and pictures.middle_of(here)[1] == 2
+    here.shell = np.where(
+        (rows == last) | ((rows == 2) & (shells.study.model.blocks["ix"] > 2)),
+        0,
+        len(shells.factors),
+    )
+    assert (here.shell[rows == last] == 0).sum() > (
+        here.shell[rows == 2] == 0
+    ).sum() > 0 and pictures.middle_of(here)[1] == 2
 
 
 @pytest.mark.parametrize("nx, told", [(5, 1), (6, 1), (7, 2), (25, 7), (400, 20)])
 def test_a_flat_section_is_drawn_higher_and_says_so(tmp_path, nx, told):
     """Blocks of 20 x 20 x 15: a section of one level and six columns is 120 by 15, an eighth; a fifth is aimed at."""
     frame = table(nx, 3, 1, 1)
-    figure = pictures.section(study_of(tmp_path, frame, economics=costs(mining=0.01)).shells([1000]), row=1)
-    assert figure.axes[0].get_aspect() == told and title(figure).endswith(f"\nvertical exaggeration {told}") == (told > 1)
+    figure = pictures.section(
+        study_of(tmp_path, frame, economics=costs(mining=0.01)).shells([1000]), row=1
+    )
+    assert figure.axes[0].get_aspect() == told and title(figure).endswith(
+        f"\nvertical exaggeration {told}"
+    ) == (told > 1)
 
 
 def test_what_may_not_be_dug_has_a_pattern_of_its_own(tmp_path):
     frame = table(9, 8, 5, 5)
-    shells = study_of(tmp_path, frame, economics=costs(forbid=["SECTOR == 'EAST' and ZC < 110"])).shells([600, 1000])
+    shells = study_of(
+        tmp_path, frame, economics=costs(forbid=["SECTOR == 'EAST' and ZC < 110"])
+    ).shells([600, 1000])
     blocks = shells.study.model.blocks
     fence = ((blocks.SECTOR == "EAST") & (blocks.ZC < 110)).to_numpy()
     assert (shells.study.priced.forbidden == fence).all()
@@ -199,28 +253,49 @@ def test_what_may_not_be_dug_has_a_pattern_of_its_own(tmp_path):
         figure = pictures.section(shells, row=3, style=Style(colour))
         assert "May not be dug" in [t.get_text() for t in figure.legends[0].get_texts()]
         crosses = [p for p in figure.axes[0].patches if p.get_hatch() == pictures.FENCE_HATCH]
-        assert len(crosses) == 1 and crosses[0].get_zorder() > figure.axes[0].collections[0].get_zorder()
+        assert (
+            len(crosses) == 1
+            and crosses[0].get_zorder() > figure.axes[0].collections[0].get_zorder()
+        )
         cells = {(x, y) for x, y in np.round(crosses[0].get_path().vertices, 6).tolist()}
         here = blocks[fence & (blocks.iy == 3)]
         runs = np.flatnonzero(np.diff(np.pad(np.isin(np.arange(9), here.ix), 1).astype(int)))
-        assert len(here) and cells == {(5000 + 20 * i - 10.0, 92.5 + 15 * up) for i in runs for up in (0, 1)}
+        assert len(here) and cells == {
+            (5000 + 20 * i - 10.0, 92.5 + 15 * up) for i in runs for up in (0, 1)
+        }
     above = pictures.plan(shells, 120)
     assert "May not be dug" not in [t.get_text() for t in above.legends[0].get_texts()]
-    assert pictures.paint(shells, "value").norm.vmin > -1e7              # the price of a fence would make all else pale
+    assert (
+        pictures.paint(shells, "value").norm.vmin > -1e7
+    )  # the price of a fence would make all else pale
 
 
 def test_sections_say_where_they_look(shells):
     north, east = pictures.section(shells, north=9040.0), pictures.section(shells, east=5040.0)
-    assert "northing 9,040, looking north" in title(north) and north.axes[0].get_xlabel() == "Easting (m)"
-    assert "easting 5,040, looking west" in title(east) and east.axes[0].get_xlabel() == "Northing (m)"
-    assert "vertical exaggeration 3" in title(pictures.section(shells, row=1, style=Style(exaggeration=3.0)))
+    assert (
+        "northing 9,040, looking north" in title(north)
+        and north.axes[0].get_xlabel() == "Easting (m)"
+    )
+    assert (
+        "easting 5,040, looking west" in title(east) and east.axes[0].get_xlabel() == "Northing (m)"
+    )
+    assert "vertical exaggeration 3" in title(
+        pictures.section(shells, row=1, style=Style(exaggeration=3.0))
+    )
     assert pictures.section(shells, row=1, style=Style(exaggeration=3.0)).axes[0].get_aspect() == 3
     assert pictures.plan(shells, 100).axes[0].get_aspect() == 1
-    assert all((t - 92.5) % 15 == 0 for t in north.axes[0].get_yticks())          # toes of benches
+    assert all((t - 92.5) % 15 == 0 for t in north.axes[0].get_yticks())  # toes of benches
 
 
 def test_a_place_beside_the_model_is_told(shells):
-    for words in ({"north": 8989.0}, {"east": 1e9}, {"row": -1}, {"column": 99}, {}, {"row": 1, "east": 5000.0}):
+    for words in (
+        {"north": 8989.0},
+        {"east": 1e9},
+        {"row": -1},
+        {"column": 99},
+        {},
+        {"row": 1, "east": 5000.0},
+    ):
         with pytest.raises(pp.PlanError):
             pictures.section(shells, **words)
 
@@ -241,8 +316,9 @@ def test_colours_go_from_dark_to_light(count):
     class Series:
         factors = list(range(count))
         shell = np.arange(count + 1)
+
     colours = pictures.paint_shells(Series()).colours(np.arange(count))
-    assert (np.diff(luminance(colours)) > 0).all() and luminance(colours)[-1] < 0.85      # paper is 1
+    assert (np.diff(luminance(colours)) > 0).all() and luminance(colours)[-1] < 0.85  # paper is 1
     scale = pictures.paint_numbers(np.arange(100.0), "x").colours(np.linspace(0, 1, 50))
     assert (np.diff(luminance(scale)) < 0.005).all()
 
@@ -261,7 +337,10 @@ def test_outlines_differ_by_their_strokes(shells):
     assert len({line.get_linestyle() for line in keys}) == len(keys) >= 2
     texts = [t.get_text() for t in figure.legends[0].get_texts()]
     assert texts[0] == "Pit at factor 1.00" and "Rock in no pit" in texts
-    assert pictures.plan(shells, 130, Style(pit=0.8)).legends[0].get_texts()[0].get_text() == "Pit at factor 0.80"
+    assert (
+        pictures.plan(shells, 130, Style(pit=0.8)).legends[0].get_texts()[0].get_text()
+        == "Pit at factor 0.80"
+    )
 
 
 def test_the_scale_bar_is_as_long_as_it_says(shells):
@@ -269,7 +348,10 @@ def test_the_scale_bar_is_as_long_as_it_says(shells):
     low, high = figure.axes[0].get_xlim()
     bar = next(a for a in figure.axes[0].artists if type(a).__name__ == "AnchoredSizeBar")
     length = float(bar.txt_label.get_text().replace(",", "").split()[0])
-    assert bar.size_bar.get_children()[0].get_width() == length and 0.05 * (high - low) < length <= (high - low) / 5
+    assert (
+        bar.size_bar.get_children()[0].get_width() == length
+        and 0.05 * (high - low) < length <= (high - low) / 5
+    )
 
 
 def test_pit_by_pit_has_the_tonnes_and_rings_the_greatest(shells):
@@ -280,10 +362,14 @@ def test_pit_by_pit_has_the_tonnes_and_rings_the_greatest(shells):
     assert np.allclose(bars[0], found["ore_t"] / 1e3) or np.allclose(bars[0], found["ore_t"] / 1e6)
     unit = found["ore_t"].sum() / sum(bars[0])
     assert np.allclose(bars[1], found["waste_t"] / unit)
-    assert {1e3: "(kt)", 1e6: "(Mt)"}[round(unit)] in left.get_ylabel() and "€" in right.get_ylabel()
+    assert {1e3: "(kt)", 1e6: "(Mt)"}[
+        round(unit)
+    ] in left.get_ylabel() and "€" in right.get_ylabel()
     assert left.get_ylim()[0] == 0
     rings = [line for line in right.lines if line.get_markersize() > 8]
-    assert [int(line.get_xdata()[0]) for line in rings] == [int(found[c].argmax()) for c in ("worth_at_base", "npv_best", "npv_worst")]
+    assert [int(line.get_xdata()[0]) for line in rings] == [
+        int(found[c].argmax()) for c in ("worth_at_base", "npv_best", "npv_worst")
+    ]
     strokes = [line.get_linestyle() for line in right.lines if line not in rings]
     assert len(set(strokes)) == 3
     assert [t.get_text() for t in left.get_xticklabels()] == ["0.60", "0.80", "1.00", "1.20"]
@@ -292,7 +378,9 @@ def test_pit_by_pit_has_the_tonnes_and_rings_the_greatest(shells):
 def test_save_writes_whole_or_nothing(shells, tmp_path, monkeypatch):
     figure = pictures.plan(shells, 100)
     path = pictures.save(figure, tmp_path / "new" / "plan.png")
-    assert matplotlib.image.imread(path).shape[0] > 300 and [p.name for p in path.parent.iterdir()] == ["plan.png"]
+    assert matplotlib.image.imread(path).shape[0] > 300 and [
+        p.name for p in path.parent.iterdir()
+    ] == ["plan.png"]
     before = path.read_bytes()
 
     def torn(where, **_):
@@ -309,7 +397,10 @@ def test_pits_that_dont_pay_are_drawn_as_none(shells):
     poor = copy.copy(shells)
     poor.shell = np.full_like(shells.shell, len(shells.factors))
     figure = pictures.plan(poor, 100)
-    assert figure.legends[0].get_texts()[0].get_text() == "Pit at factor 1.00: not here" and np.isnan(drawn(figure)).all()
+    assert (
+        figure.legends[0].get_texts()[0].get_text() == "Pit at factor 1.00: not here"
+        and np.isnan(drawn(figure)).all()
+    )
 
 
 def test_plot_and_page_write_what_they_name(tmp_path):
@@ -318,11 +409,40 @@ def test_plot_and_page_write_what_they_name(tmp_path):
     told = pitplan("plot", folder)
     names = sorted(line.rsplit("/", 1)[1] for line in told.stdout.splitlines())
     assert told.returncode == 0 and len(names) == 3
-    assert names[0] == "pit-by-pit.png" and names[1].startswith("plan-") and names[2].startswith("section-row-")
-    told = pitplan("plot", folder, "--bench", "100", "--bench", "115", "--north", "9020", "--east", "5020", "--column", "2", "--colour", "CU", "--pit", "0.6")
+    assert (
+        names[0] == "pit-by-pit.png"
+        and names[1].startswith("plan-")
+        and names[2].startswith("section-row-")
+    )
+    told = pitplan(
+        "plot",
+        folder,
+        "--bench",
+        "100",
+        "--bench",
+        "115",
+        "--north",
+        "9020",
+        "--east",
+        "5020",
+        "--column",
+        "2",
+        "--colour",
+        "CU",
+        "--pit",
+        "0.6",
+    )
     paths = told.stdout.splitlines()
-    assert told.returncode == 0 and len(paths) == 5 and all(p.endswith("-CU.png") and Path(p).is_file() for p in paths)
+    assert (
+        told.returncode == 0
+        and len(paths) == 5
+        and all(p.endswith("-CU.png") and Path(p).is_file() for p in paths)
+    )
     assert pitplan("page", folder, "--title", "North pit").returncode == 0
     assert "<title>North pit: nested pits</title>" in (folder / "out/pits.html").read_text()
     refused = pitplan("plot", folder, "--bench", "5000")
-    assert refused.returncode == 3 and "no bench at elevation 5,000" in refused.stderr and not list((folder / "out").glob("*5000*"))
+    assert (
+        refused.returncode == 3
+        and "no bench at elevation 5,000" in refused.stderr
+        and not list((folder / "out").glob("*5000*"))
+    )

@@ -16,7 +16,9 @@ if TYPE_CHECKING:
     from ...study.shells import Shells
 
 
-def table_of(shells: Shells, columns: Sequence[str] | None = None, is_whole: bool = False) -> pd.DataFrame:
+def table_of(
+    shells: Shells, columns: Sequence[str] | None = None, is_whole: bool = False
+) -> pd.DataFrame:
     """A row for each block, in the order of `pit`'s numbers.
 
     Parameters
@@ -34,14 +36,26 @@ def table_of(shells: Shells, columns: Sequence[str] | None = None, is_whole: boo
         price), ``worth`` (at factor 1) and ``to`` (``mill`` or ``waste``, at factor 1).
     """
     from .vtu import columns_of, free
+
     study, count = shells.study, len(shells.factors)
     kept = np.arange(len(study.model)) if is_whole else np.flatnonzero(shells.dug < count)
     b = study.model.blocks.iloc[kept]
     x, y, z = (np.round(values[kept], 6) for values in study.model.xyz())
     shares = np.array([*(factor / THOUSAND for factor in shells.factors), np.nan])
-    found = pd.DataFrame({"id": b["id"].to_numpy(), "row": study.model.table_row[kept], "x": x, "y": y, "z": z, "rock": b["rock"].to_numpy(), "tonnes": b["tonnes"].to_numpy(),
-                          "shell": shares[shells.shell[kept]], "worth": np.round(study.priced.worth(THOUSAND)[kept], 6),
-                          "to": np.where(study.priced.milled(THOUSAND)[kept], "mill", "waste")})
+    found = pd.DataFrame(
+        {
+            "id": b["id"].to_numpy(),
+            "row": study.model.table_row[kept],
+            "x": x,
+            "y": y,
+            "z": z,
+            "rock": b["rock"].to_numpy(),
+            "tonnes": b["tonnes"].to_numpy(),
+            "shell": shares[shells.shell[kept]],
+            "worth": np.round(study.priced.worth(THOUSAND)[kept], 6),
+            "to": np.where(study.priced.milled(THOUSAND)[kept], "mill", "waste"),
+        }
+    )
     for name in columns_of(study.model, columns or ()):
         found[free(name) if name not in found else f"{name} of the table"] = b[name].to_numpy()
     return found
@@ -52,11 +66,18 @@ def spelled_once(values: npt.NDArray[np.float64]) -> npt.NDArray[Any]:
     few, which = np.unique(values, return_inverse=True)
     if 4 * len(few) > len(values):
         return values
-    found: npt.NDArray[Any] = np.array(["" if value != value else repr(value) for value in few.tolist()], dtype=object)[which]
+    found: npt.NDArray[Any] = np.array(
+        ["" if value != value else repr(value) for value in few.tolist()], dtype=object
+    )[which]
     return found
 
 
-def write(shells: Shells, path: str | os.PathLike[str], columns: Sequence[str] | None = None, is_whole: bool = False) -> int:
+def write(
+    shells: Shells,
+    path: str | os.PathLike[str],
+    columns: Sequence[str] | None = None,
+    is_whole: bool = False,
+) -> int:
     """Writes `table_of` as CSV; words that a spreadsheet would run as formulas are `harmless`.
 
     Returns

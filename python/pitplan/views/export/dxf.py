@@ -16,9 +16,17 @@ from ...model import outlines
 if TYPE_CHECKING:
     from ...study.shells import Shells
 
-APP = "PITPLAN"                              # of the extended data of each polyline
-METRES = 6                                   # of $INSUNITS
-COLOURS = (1, 30, 2, 3, 4, 5, 6)             # of AutoCAD's index: red, orange, yellow, green, cyan, blue, magenta
+APP = "PITPLAN"  # of the extended data of each polyline
+METRES = 6  # of $INSUNITS
+COLOURS = (
+    1,
+    30,
+    2,
+    3,
+    4,
+    5,
+    6,
+)  # of AutoCAD's index: red, orange, yellow, green, cyan, blue, magenta
 
 
 def layer_of(factor: int, edge: str) -> str:
@@ -30,7 +38,12 @@ def layer_of(factor: int, edge: str) -> str:
     return f"SHELL_{factor:04d}_{edge}"
 
 
-def write(shells: Shells, path: str | os.PathLike[str], pits: Sequence[int] | None = None, cuts_corners: bool = False) -> int:
+def write(
+    shells: Shells,
+    path: str | os.PathLike[str],
+    pits: Sequence[int] | None = None,
+    cuts_corners: bool = False,
+) -> int:
     """Writes the outlines of pits, bench by bench.
 
     Each bench of a pit has its outline twice: in layer ``SHELL_<factor>_TOE`` at the elevation of the bench's lower face, and
@@ -60,6 +73,7 @@ def write(shells: Shells, path: str | os.PathLike[str], pits: Sequence[int] | No
         Where the file can't be written. What was there stays then.
     """
     from ezdxf.filemanagement import new
+
     doc = new("R2010")
     doc.units = METRES
     doc.appids.new(APP)
@@ -69,7 +83,9 @@ def write(shells: Shells, path: str | os.PathLike[str], pits: Sequence[int] | No
         for edge in ("TOE", "CREST"):
             doc.layers.add(layer_of(shells.factors[i], edge), color=COLOURS[i % len(COLOURS)])
         for level, shape in outlines.by_bench(cube <= i):
-            count += draw(doc.modelspace(), shells, i, level, outlines.cut(shape) if cuts_corners else shape)
+            count += draw(
+                doc.modelspace(), shells, i, level, outlines.cut(shape) if cuts_corners else shape
+            )
     with whole_file(path) as part:
         doc.saveas(Path(part))
     return count
@@ -83,11 +99,20 @@ def draw(space: Any, shells: Shells, i: int, level: int, shape: Any) -> int:
     count = 0
     for points, is_hole in outlines.rings(shape):
         east, north, _ = grid.world(points[:, 0], points[:, 1], 0)
-        values = np.zeros((len(points), 5))          # as ezdxf keeps them: x, y, two widths, bulge
+        values = np.zeros((len(points), 5))  # as ezdxf keeps them: x, y, two widths, bulge
         values[:, 0], values[:, 1] = np.round(east, 6), np.round(north, 6)
         for edge, height in (("TOE", toe), ("CREST", crest)):
-            line = space.add_lwpolyline([], close=True, dxfattribs={"layer": layer_of(factor, edge), "elevation": height})
+            line = space.add_lwpolyline(
+                [], close=True, dxfattribs={"layer": layer_of(factor, edge), "elevation": height}
+            )
             line.lwpoints.values = array("d", values.tobytes())
-            line.set_xdata(APP, [(1040, factor / THOUSAND), (1040, centre), (1000, "hole" if is_hole else "outline")])
+            line.set_xdata(
+                APP,
+                [
+                    (1040, factor / THOUSAND),
+                    (1040, centre),
+                    (1000, "hole" if is_hole else "outline"),
+                ],
+            )
             count += 1
     return count

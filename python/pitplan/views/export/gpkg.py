@@ -19,10 +19,18 @@ if TYPE_CHECKING:
 
 # What a GeoPackage calls coordinates of no known system. Without a word it would say degrees of latitude and longitude.
 UNKNOWN = 'LOCAL_CS["Undefined Cartesian SRS",UNIT["metre",1],AXIS["Easting",EAST],AXIS["Northing",NORTH]]'
-FIELDS = {"benches": ("factor", "toe", "crest", "blocks", "area", "volume", "rock_t", "ore_t"), "rims": ("factor", "blocks", "area", "worth")}
+FIELDS = {
+    "benches": ("factor", "toe", "crest", "blocks", "area", "volume", "rock_t", "ore_t"),
+    "rims": ("factor", "blocks", "area", "worth"),
+}
 
 
-def write(shells: Shells, path: str | os.PathLike[str], pits: Sequence[int] | None = None, crs: str | None = None) -> int:
+def write(
+    shells: Shells,
+    path: str | os.PathLike[str],
+    pits: Sequence[int] | None = None,
+    crs: str | None = None,
+) -> int:
     """Writes two layers of polygons in true coordinates, also of a turned model.
 
     ``benches`` has a feature for each pit and bench: ``factor`` (a share of the price), ``toe``, ``crest`` (elevations of the
@@ -52,14 +60,19 @@ def write(shells: Shells, path: str | os.PathLike[str], pits: Sequence[int] | No
         Where the file can't be written. What was there stays then.
     """
     import geopandas
+
     system = system_of(crs)
     chosen = list(range(len(shells.factors))) if pits is None else list(pits)
     benches, rims = features(shells, chosen)
     with whole_file(path) as part:
         for layer, rows in (("benches", benches), ("rims", rims)):
-            frame = geopandas.GeoDataFrame({name: [row[name] for row in rows] for name in FIELDS[layer]}, geometry=[row["geometry"] for row in rows], crs=system)
+            frame = geopandas.GeoDataFrame(
+                {name: [row[name] for row in rows] for name in FIELDS[layer]},
+                geometry=[row["geometry"] for row in rows],
+                crs=system,
+            )
             with warnings.catch_warnings():
-                warnings.simplefilter("ignore")          # of layers without features: no pit has a block
+                warnings.simplefilter("ignore")  # of layers without features: no pit has a block
                 frame.to_file(part, layer=layer, driver="GPKG", index=False)
     return len(benches) + len(rims)
 
@@ -67,37 +80,69 @@ def write(shells: Shells, path: str | os.PathLike[str], pits: Sequence[int] | No
 def system_of(crs: str | None) -> Any:
     """The coordinate system of a name."""
     import pyproj
+
     if crs is None:
         return pyproj.CRS.from_wkt(UNKNOWN)
     try:
-        if not re.fullmatch(r"[A-Za-z]+:\w+", crs):       # a name would be taken for the system whose name is most like it
+        if not re.fullmatch(
+            r"[A-Za-z]+:\w+", crs
+        ):  # a name would be taken for the system whose name is most like it
             raise pyproj.exceptions.CRSError(crs)
         found = pyproj.CRS.from_user_input(crs)
     except pyproj.exceptions.CRSError:
-        raise PlanError(f"--crs {crs!r} is no coordinate system that is known", try_this="a number of EPSG, as EPSG:32719") from None
+        raise PlanError(
+            f"--crs {crs!r} is no coordinate system that is known",
+            try_this="a number of EPSG, as EPSG:32719",
+        ) from None
     if found.is_geographic:
-        raise PlanError(f"--crs {crs!r} is in degrees, and the model's coordinates are lengths", try_this="the grid of the mine's zone, as EPSG:32719")
+        raise PlanError(
+            f"--crs {crs!r} is in degrees, and the model's coordinates are lengths",
+            try_this="the grid of the mine's zone, as EPSG:32719",
+        )
     return found
 
 
-def features(shells: Shells, chosen: Sequence[int]) -> tuple[list[dict[str, Any]], list[dict[str, Any]]]:
+def features(
+    shells: Shells, chosen: Sequence[int]
+) -> tuple[list[dict[str, Any]], list[dict[str, Any]]]:
     """The features of the two layers."""
     model, priced = shells.study.model, shells.study.priced
     grid, count = model.grid, len(shells.factors)
     cube = outlines.cube_of(model, shells.dug, count)
     tonnes = model.blocks.tonnes.to_numpy(float)
     cell = model.blocks.iz.to_numpy().astype(np.int64) * (count + 1) + shells.shell
-    rock, ore = (np.bincount(cell, weight, grid.shape[2] * (count + 1)).reshape(-1, count + 1).cumsum(axis=1) for weight in (tonnes, tonnes * priced.milled(THOUSAND)))
+    rock, ore = (
+        np.bincount(cell, weight, grid.shape[2] * (count + 1)).reshape(-1, count + 1).cumsum(axis=1)
+        for weight in (tonnes, tonnes * priced.milled(THOUSAND))
+    )
     benches, rims = [], []
     for i in chosen:
         share, held = shells.factors[i] / THOUSAND, cube <= i
         for level, shape in outlines.by_bench(held):
             toe, crest = grid.world(0, 0, [level - 0.5, level + 0.5])[2].tolist()
             area = float(shape.area) * grid.size[0] * grid.size[1]
-            benches.append({"factor": share, "toe": toe, "crest": crest, "blocks": int(held[:, :, level].sum()), "area": area, "volume": area * grid.size[2],
-                            "rock_t": float(rock[level, i]), "ore_t": float(ore[level, i]), "geometry": outlines.placed(shape, grid)})
+            benches.append(
+                {
+                    "factor": share,
+                    "toe": toe,
+                    "crest": crest,
+                    "blocks": int(held[:, :, level].sum()),
+                    "area": area,
+                    "volume": area * grid.size[2],
+                    "rock_t": float(rock[level, i]),
+                    "ore_t": float(ore[level, i]),
+                    "geometry": outlines.placed(shape, grid),
+                }
+            )
         rim = outlines.footprint(held)
         if not rim.is_empty:
-            rims.append({"factor": share, "blocks": int(held.sum()), "area": float(rim.area) * grid.size[0] * grid.size[1], "worth": shells.verdicts[i]["worth"],
-                         "geometry": outlines.placed(rim, grid)})
+            rims.append(
+                {
+                    "factor": share,
+                    "blocks": int(held.sum()),
+                    "area": float(rim.area) * grid.size[0] * grid.size[1],
+                    "worth": shells.verdicts[i]["worth"],
+                    "geometry": outlines.placed(rim, grid),
+                }
+            )
     return benches, rims

@@ -22,15 +22,17 @@ if TYPE_CHECKING:
 
 Ints = npt.NDArray[np.int64]
 COLUMN = "pit_shell"
-BLANKS = b" \t\n\r\x0b\x0c"                # what `bytes.strip` takes away
-PIECE = 1 << 22                              # bytes of a table that are written at a time
+BLANKS = b" \t\n\r\x0b\x0c"  # what `bytes.strip` takes away
+PIECE = 1 << 22  # bytes of a table that are written at a time
 
 
 def pieces(table: IO[bytes]) -> Iterator[bytes]:
     """Some megabytes of whole records at a time."""
     while text := table.read(PIECE) + table.readline():
-        more, is_open = [text], text.count(b'"') % 2 if b'"' in text else 0        # to count takes fifty times as long as to look
-        while is_open and (line := table.readline()):        # a cell in quotes goes on
+        more, is_open = [text], text.count(
+            b'"'
+        ) % 2 if b'"' in text else 0  # to count takes fifty times as long as to look
+        while is_open and (line := table.readline()):  # a cell in quotes goes on
             more.append(line)
             is_open ^= line.count(b'"') % 2
         yield b"".join(more)
@@ -56,7 +58,10 @@ def plain_ends(text: bytes) -> tuple[bytes, Ints] | None:
     each = np.frombuffer(text, np.uint8)
     places: Ints = np.flatnonzero(each == ord("\n")) + 1
     end = b"\r\n" if b"\r" in text else b"\n"
-    if end == b"\r\n" and not (np.count_nonzero(each == ord("\r")) == len(places) and (each[np.maximum(places - 2, 0)] == ord("\r")).all()):
+    if end == b"\r\n" and not (
+        np.count_nonzero(each == ord("\r")) == len(places)
+        and (each[np.maximum(places - 2, 0)] == ord("\r")).all()
+    ):
         return None
     return None if has_blank_line(text, places) else (end, places)
 
@@ -65,13 +70,16 @@ def has_blank_line(text: bytes, places: Ints) -> bool:
     """Whether one of the lines of a text is blank; such a line begins with a blank or with its end."""
     starts = np.append(0, places[:-1])
     is_blank = np.isin(np.frombuffer(text, np.uint8)[starts], np.frombuffer(BLANKS, np.uint8))
-    return any(not text[start:stop].strip() for start, stop in zip(starts[is_blank].tolist(), places[is_blank].tolist()))
+    return any(
+        not text[start:stop].strip()
+        for start, stop in zip(starts[is_blank].tolist(), places[is_blank].tolist())
+    )
 
 
 def with_column(record: bytes, more: bytes) -> bytes:
     """A record with a cell more, its line end as it was."""
     body = record.rstrip(b"\r\n")
-    return body + more + record[len(body):]
+    return body + more + record[len(body) :]
 
 
 def write(shells: Shells, target: Path, decimal: str | None = None) -> int:
@@ -102,11 +110,19 @@ def write(shells: Shells, target: Path, decimal: str | None = None) -> int:
     if path is None:
         raise PlanError("the study was made of no file", try_this="shells.of_blocks()")
     if not path.is_file() or sha256_unless_known(path) != study.manifest["source"]["sha256"]:
-        raise PlanError("isn't the table that the study was built from" if path.is_file() else "the study's table is gone", table=path, try_this=command("build", study.named))
+        raise PlanError(
+            "isn't the table that the study was built from"
+            if path.is_file()
+            else "the study's table is gone",
+            table=path,
+            try_this=command("build", study.named),
+        )
     header = head_of(path, "latin-1", 1)[0]
     mark = separator_of(header)
     name = free_name(names_of(header, mark))
-    decimal = decimal or dialect_of(path, "latin-1").decimal          # where 0,5 is a number, 0.5 is a word, and 1.1 a day of January
+    decimal = (
+        decimal or dialect_of(path, "latin-1").decimal
+    )  # where 0,5 is a number, 0.5 is a word, and 1.1 a day of January
     shares = [f"{factor / THOUSAND:g}".replace(".", decimal) for factor in shells.factors] + [""]
     cells = [(mark + share).encode() for share in shares]
     block = study.model.row_block
@@ -117,12 +133,18 @@ def write(shells: Shells, target: Path, decimal: str | None = None) -> int:
 
 def free_name(names: list[str]) -> str:
     """`pit_shell`, or with a number where the table has such a column."""
-    return next(name for name in (COLUMN, *(f"{COLUMN}_{n}" for n in range(2, 1000))) if name not in names)
+    return next(
+        name for name in (COLUMN, *(f"{COLUMN}_{n}" for n in range(2, 1000))) if name not in names
+    )
 
 
-def rewrite(path: Path, target: Path, head: bytes, cells: list[bytes], shell: npt.NDArray[Any]) -> None:
+def rewrite(
+    path: Path, target: Path, head: bytes, cells: list[bytes], shell: npt.NDArray[Any]
+) -> None:
     """The table with a cell more in each record, written beside `target` and renamed."""
-    with whole_file(target) as part, opened(path) as old, cast(IO[bytes], gzip.open(part, "wb", 1) if target.suffix == ".gz" else open(part, "wb")) as new:
+    with whole_file(target) as part, opened(path) as old, cast(
+        IO[bytes], gzip.open(part, "wb", 1) if target.suffix == ".gz" else open(part, "wb")
+    ) as new:
         new.write(with_column(next(records(old)), head))
         row = 0
         for text in pieces(old):
@@ -132,7 +154,7 @@ def rewrite(path: Path, target: Path, head: bytes, cells: list[bytes], shell: np
 def write_piece(new: IO[bytes], text: bytes, cells: list[bytes], shell: npt.NDArray[Any]) -> int:
     """Writes the records of a piece, each with the cell that `shell` says, the last one where it has no more; returns how many they are."""
     plain = plain_ends(text)
-    if plain:                                # nearly all of a large table
+    if plain:  # nearly all of a large table
         new.write(b"".join(with_cells(text, plain, cells, shell)))
         return len(plain[1])
     count = 0
@@ -142,11 +164,15 @@ def write_piece(new: IO[bytes], text: bytes, cells: list[bytes], shell: npt.NDAr
     return count
 
 
-def with_cells(text: bytes, plain: tuple[bytes, Ints], cells: list[bytes], shell: npt.NDArray[Any]) -> Iterator[bytes]:
+def with_cells(
+    text: bytes, plain: tuple[bytes, Ints], cells: list[bytes], shell: npt.NDArray[Any]
+) -> Iterator[bytes]:
     """The lines of a plain piece, each with its cell: those that have the same one and stand below each other go at once."""
     end, places = plain
-    kinds = np.append(shell[:len(places)], np.full(max(len(places) - len(shell), 0), len(cells) - 1))
-    last = np.append(np.flatnonzero(np.diff(kinds)), len(places) - 1)          # of each run of lines
+    kinds = np.append(
+        shell[: len(places)], np.full(max(len(places) - len(shell), 0), len(cells) - 1)
+    )
+    last = np.append(np.flatnonzero(np.diff(kinds)), len(places) - 1)  # of each run of lines
     ends, start = [cell + end for cell in cells], 0
     for stop, kind in zip(places[last].tolist(), kinds[last].tolist()):
         yield text[start:stop].replace(end, ends[kind])

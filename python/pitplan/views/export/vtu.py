@@ -24,10 +24,15 @@ Ints = npt.NDArray[np.int64]
 # The corners of a hexahedron in the order of VTK_HEXAHEDRON: the lower face counterclockwise, then the upper one.
 CORNERS = ((0, 0, 0), (1, 0, 0), (1, 1, 0), (0, 1, 0), (0, 0, 1), (1, 0, 1), (1, 1, 1), (0, 1, 1))
 OWN = ("block", "shell", "worth")
-MOST_WORDS = 10_000                          # different words of a column that are numbered
+MOST_WORDS = 10_000  # different words of a column that are numbered
 
 
-def write(shells: Shells, path: str | os.PathLike[str], columns: Sequence[str] | None = None, is_whole: bool = False) -> pd.DataFrame:
+def write(
+    shells: Shells,
+    path: str | os.PathLike[str],
+    columns: Sequence[str] | None = None,
+    is_whole: bool = False,
+) -> pd.DataFrame:
     """Writes blocks as hexahedra in true coordinates, also of a turned model.
 
     Each cell has ``shell`` (the factor of the first pit that has it, as a share of the price; not a number where none has),
@@ -64,25 +69,36 @@ def write(shells: Shells, path: str | os.PathLike[str], columns: Sequence[str] |
     return words
 
 
-def mesh_of(shells: Shells, columns: Sequence[str] | None = None, is_whole: bool = False) -> tuple[Any, pd.DataFrame]:
+def mesh_of(
+    shells: Shells, columns: Sequence[str] | None = None, is_whole: bool = False
+) -> tuple[Any, pd.DataFrame]:
     """The blocks as a `meshio.Mesh`, as PyVista and others take it, and what numbers stand for; see `write`."""
     import meshio
+
     model, count = shells.study.model, len(shells.factors)
     kept = np.arange(len(model)) if is_whole else np.flatnonzero(shells.dug < count)
     points, cells = hexahedra(model, kept)
     shares = np.array([*(factor / THOUSAND for factor in shells.factors), np.nan])
-    data: dict[str, npt.NDArray[Any]] = {"shell": shares[shells.shell[kept]], "worth": shells.study.priced.worth(THOUSAND)[kept], "block": kept.astype(np.int32)}
+    data: dict[str, npt.NDArray[Any]] = {
+        "shell": shares[shells.shell[kept]],
+        "worth": shells.study.priced.worth(THOUSAND)[kept],
+        "block": kept.astype(np.int32),
+    }
     legend = []
     for name in columns_of(model, columns):
         values = model.blocks[name].iloc[kept]
         if values.dtype.kind in "iufb":
-            data[free(name)] = values.to_numpy().astype(np.int32 if values.dtype.kind == "b" else values.dtype)
+            data[free(name)] = values.to_numpy().astype(
+                np.int32 if values.dtype.kind == "b" else values.dtype
+            )
             continue
         truths = yes_or_no(values)
         codes, found = (truths, []) if truths is not None else numbered(values, name, model.name)
         data[free(name)] = codes
         legend += [(name, i, word) for i, word in enumerate(found)]
-    mesh = meshio.Mesh(points, [("hexahedron", cells)], cell_data={name: [values] for name, values in data.items()})
+    mesh = meshio.Mesh(
+        points, [("hexahedron", cells)], cell_data={name: [values] for name, values in data.items()}
+    )
     return mesh, pd.DataFrame(legend, columns=["column", "number", "word"])
 
 
@@ -108,8 +124,16 @@ def columns_of(model: Model, wanted: Sequence[str] | None) -> list[str]:
     there = [str(name) for name in model.blocks.columns]
     if wanted is None:
         kinds = model.blocks.dtypes
-        return [name for name in there if name == "rock" or name == "tonnes"
-                or (name not in OURS and (kinds[name].kind in "iufb" or yes_or_no(model.blocks[name]) is not None))]
+        return [
+            name
+            for name in there
+            if name == "rock"
+            or name == "tonnes"
+            or (
+                name not in OURS
+                and (kinds[name].kind in "iufb" or yes_or_no(model.blocks[name]) is not None)
+            )
+        ]
     for name in wanted:
         if name not in there:
             raise PlanError(f"the table has no column {name!r}{meant(name, there)}")
@@ -127,7 +151,9 @@ def yes_or_no(values: pd.Series) -> npt.NDArray[np.int32] | None:
     words = [str(kind).strip().upper() for kind in kinds]
     if not {"TRUE", "FALSE"} & set(words) or not set(words) <= {"TRUE", "FALSE", ""}:
         return None
-    found: npt.NDArray[np.int32] = np.array([*(word == "TRUE" for word in words), False], np.int32)[code]
+    found: npt.NDArray[np.int32] = np.array([*(word == "TRUE" for word in words), False], np.int32)[
+        code
+    ]
     return found
 
 
@@ -136,5 +162,10 @@ def numbered(values: pd.Series, name: str, table: str) -> tuple[npt.NDArray[np.i
     words = values.fillna("").astype(str)
     codes, found = pd.factorize(words, sort=True)
     if len(found) > MOST_WORDS:
-        raise PlanError(f"has {len(found):,} different words, and they are numbered in a file for ParaView", table=table, column=name, try_this="leave that column out")
+        raise PlanError(
+            f"has {len(found):,} different words, and they are numbered in a file for ParaView",
+            table=table,
+            column=name,
+            try_this="leave that column out",
+        )
     return codes.astype(np.int32), [str(word) for word in found]
