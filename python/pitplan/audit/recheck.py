@@ -122,6 +122,7 @@ def is_rounding(value: Any) -> bool:
 
 
 def one_of(*words: str) -> Kind:
+    """One of these words."""
     return Kind(
         f"one of {', '.join(words)}",
         lambda value: value in words if isinstance(value, str) else False,
@@ -1696,6 +1697,19 @@ def read_table(name: str) -> list[Line]:
         raise Bad(f"{path} is no table in UTF-8: {error}") from None
 
 
+def bench_sums(
+    blocks: Blocks, facts: dict[str, Any], shell: list[int], worked: list[Worked | None] | None
+) -> dict[tuple[float, int], Sum]:
+    """What each shell has on each bench, by the bench's elevation and the shell's factor."""
+    found = dict[tuple[float, int], Sum]()
+    lowest, height = facts["grid"]["origin"][2], facts["grid"]["size"][2]
+    for b, factor in enumerate(shell):
+        if factor:
+            key = (round(lowest + blocks.places[b][2] * height, 3), factor)
+            found.setdefault(key, Sum()).add(blocks, b, worked[b] if worked else None)
+    return found
+
+
 def check_tables(
     told: Told,
     blocks: Blocks,
@@ -1712,17 +1726,8 @@ def check_tables(
         "tables/blocks.csv has the number and the shell of each block"
         + (f": not so in line {bad[0]}" if bad else ""),
     )
-    verdicts, benches = verdicts_of(), dict[tuple[float, int], Sum]()
+    verdicts, benches = verdicts_of(), bench_sums(blocks, facts, shell, worked)
     pits = {verdict["factor"]: Sum() for verdict in verdicts}
-    for b, factor in enumerate(shell):
-        if factor:
-            bench = (
-                round(
-                    facts["grid"]["origin"][2] + blocks.places[b][2] * facts["grid"]["size"][2], 3
-                ),
-                factor,
-            )
-            benches.setdefault(bench, Sum()).add(blocks, b, worked[b] if worked else None)
     for (_, factor), part in benches.items():
         for larger, found in pits.items():
             if larger >= factor:

@@ -52,31 +52,24 @@ def plot(
     """Draw the pit-by-pit graph, a plan and a section; or the plans and sections that are asked for: bench, north, east, row and column may be given several times."""
     from ..views import pictures
 
-    shells, rates = shells_of(folder)
-    style = pictures.Style(colour, pit, exaggerate)
-    asked: list[tuple[str, Figure]] = [
-        (f"plan-{at:.10g}", pictures.plan(shells, at, style)) for at in bench
-    ]
-    asked += [
-        (f"section-north-{at:.10g}", pictures.section(shells, north=at, style=style))
-        for at in north
-    ]
-    asked += [
-        (f"section-east-{at:.10g}", pictures.section(shells, east=at, style=style)) for at in east
-    ]
-    asked += [(f"section-row-{at}", pictures.section(shells, row=at, style=style)) for at in row]
-    asked += [
-        (f"section-column-{at}", pictures.section(shells, column=at, style=style)) for at in column
-    ]
+    (shells, rates), style = shells_of(folder), pictures.Style(colour, pit, exaggerate)
+    asked: list[tuple[str, Figure]] = []
+    for at in bench:
+        asked.append((f"plan-{at:.10g}", pictures.plan(shells, at, style)))
+    for at in north:
+        asked.append((f"section-north-{at:.10g}", pictures.section(shells, north=at, style=style)))
+    for at in east:
+        asked.append((f"section-east-{at:.10g}", pictures.section(shells, east=at, style=style)))
+    for index in row:
+        asked.append((f"section-row-{index}", pictures.section(shells, row=index, style=style)))
+    for index in column:
+        name = f"section-column-{index}"
+        asked.append((name, pictures.section(shells, column=index, style=style)))
     if not asked:
         level, middle = pictures.middle_of(shells, style)
+        table, study = shells.table(1000, **rates), shells.study
         asked = [
-            (
-                "pit-by-pit",
-                pictures.pit_by_pit(
-                    shells.table(1000, **rates), shells.study.currency, shells.study.model.name
-                ),
-            ),
+            ("pit-by-pit", pictures.pit_by_pit(table, study.currency, study.model.name)),
             (f"plan-{level:.10g}", pictures.plan(shells, level, style)),
             (f"section-row-{middle}", pictures.section(shells, row=middle, style=style)),
         ]
@@ -135,17 +128,11 @@ def page(
     cut = Phases(pits_at(folder, shares_of(phases))) if phases else None
     if design and column:
         raise PlanError("a design is given by one of --design FILE and --column NAME")
-    found = (
-        beside(
-            shells.study,
-            design_of(
-                shells.study.model, design, (column, value), layer, described(folder).keys.encoding
-            ),
-            factor,
-        )
-        if design or column
-        else None
-    )
+    found = None
+    if design or column:
+        encoding = described(folder).keys.encoding
+        made = design_of(shells.study.model, design, (column, value), layer, encoding)
+        found = beside(shells.study, made, factor)
     path = pages.write(
         shells, results(shells.study) / "pits.html", shells.table(1000, **rates), title, cut, found
     )

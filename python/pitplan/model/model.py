@@ -176,6 +176,7 @@ class TableKeys:
         refuse_wrong("model", vars(self))
 
     def dialect(self, path: Path) -> Dialect:
+        """How a table is written: as these keys say, and where they say nothing as it looks."""
         found = dialect_of(path, self.encoding or "utf-8-sig")
         return Dialect(
             found.separator,

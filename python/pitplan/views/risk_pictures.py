@@ -68,19 +68,12 @@ def section(found: Risk, factor: int = THOUSAND, row: int | None = None) -> Figu
     axes.plot(*borders(there, cut), color="#555555", linewidth=0.6)
     handles = []
     for share, stroke in LINES:
-        axes.plot(
-            *borders(there & found.pit(share, factor)[cut.number], cut),
-            color="black",
-            linewidth=1.4,
-            linestyle=stroke,
-            path_effects=CASING,
-        )
-        handles.append(
-            Line2D([], [], color="black", linestyle=stroke, label=f"Blocks of at least {share:.0%}")
-        )
-    handles.append(
-        Patch(facecolor="white", edgecolor=ROCK_EDGE, hatch=ROCK_HATCH, label="Rock in no pit")
-    )
+        pen = {"color": "black", "linestyle": stroke}
+        line = borders(there & found.pit(share, factor)[cut.number], cut)
+        axes.plot(*line, linewidth=1.4, path_effects=CASING, **pen)
+        handles.append(Line2D([], [], label=f"Blocks of at least {share:.0%}", **pen))
+    rock = {"facecolor": "white", "edgecolor": ROCK_EDGE, "hatch": ROCK_HATCH}
+    handles.append(Patch(label="Rock in no pit", **rock))
     handles += add_fence(axes, shut, cut)
     figure.colorbar(image, cax=beside, label=f"Likelihood over {found.count} realisations")
     axes.set_aspect(exaggeration)
@@ -90,7 +83,6 @@ def section(found: Risk, factor: int = THOUSAND, row: int | None = None) -> Figu
     )
     for each in (axes.xaxis, axes.yaxis):
         each.set_major_formatter(SEPARATED)
-    axes.set_xlabel(cut.labels[0])
-    axes.set_ylabel(cut.labels[1])
+    axes.set(xlabel=cut.labels[0], ylabel=cut.labels[1])
     figure.legend(handles=handles, loc="lower center", ncol=4, frameon=False)
     return figure
