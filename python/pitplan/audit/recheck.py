@@ -932,6 +932,7 @@ class AddedUp(Table):
         ]  # max gives the first of several
 
     def word(self, row: int, column: str) -> str:
+        """The cell of a row; of a block in parts the one that most of its tonnes have."""
         return (
             self.most(row, column)
             if row in self.of and len(self.of[row]) > 1

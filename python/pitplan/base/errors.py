@@ -92,6 +92,7 @@ class PlanError(Exception):
 
     @property
     def said(self) -> str:
+        """What is wrong and where, in a line."""
         place = ", ".join(
             part
             for part in (

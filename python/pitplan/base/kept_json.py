@@ -87,6 +87,7 @@ def is_count(value: Any) -> bool:
 
 
 def is_number(value: Any) -> bool:
+    """Whether this is a number, and none that is too large to be meant."""
     return (
         isinstance(value, (int, float))
         and not isinstance(value, bool)
@@ -113,6 +114,7 @@ def is_list(holds: Holds) -> Holds:
 
 
 def is_table(holds: Holds, names: Holds = is_word) -> Holds:
+    """Whether this is a table with such names and such values."""
     return (
         lambda value: isinstance(value, dict)
         and all(map(names, value))
