@@ -1,0 +1,21 @@
+-- The keys of periods, as they are written.
+use Rattle.std.specs.Prelude.{ℕ, ◌&&◌, ◌||◌, Bool, true, List, codes, bytes_eq}
+use Rattle.toml.specs.Data.{Members, no_members, member}
+use Rattle.periods_file.specs.declared.keys.PeriodKey.{PeriodKey}
+use Rattle.periods_file.specs.declared.keys.PeriodKey.TheVariants.{Weights, Resources, Capacities, Multipliers}
+
+-- A key as it is written.
+abbrev pub key_name : PeriodKey → List ℕ
+key_name Weights = codes "weights"
+key_name Resources = codes "resources"
+key_name Capacities = codes "capacities"
+key_name Multipliers = codes "multipliers"
+
+-- Whether a name is a key.
+abbrev pub is_known : List ℕ → Bool
+is_known name = bytes_eq name (key_name Weights) || bytes_eq name (key_name Resources) || bytes_eq name (key_name Capacities) || bytes_eq name (key_name Multipliers)
+
+-- Whether every name of a table is a key.
+abbrev pub all_known : Members → Bool
+all_known no_members = true
+all_known (member name d ms) = is_known name && all_known ms

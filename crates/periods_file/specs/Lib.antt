@@ -1,0 +1,6 @@
+-- what a text says as periods, by its keys and their values; and how faults print
+pub mod Periods
+pub mod Keys
+pub mod Values
+-- the names of all of them
+pub mod Prelude

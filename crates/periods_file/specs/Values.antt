@@ -1,0 +1,74 @@
+-- What one value of a TOML document reads as.
+use Rattle.std.specs.Bool.{nat_le}
+use Rattle.std.specs.Prelude.{ℕ, ◌*◌, ◌&&◌, ◌==◌, Bool, true, cond, ℤ, pos, List, [], ◌∷◌, ◌++◌, length, Option, Some, None}
+use Rattle.toml.specs.Data.{Data, Items, no_items, item, as_integer, as_array}
+
+-- A whole number from 0 to the most, and nothing else.
+abbrev pub whole_upto : ℕ → Option ℤ → Option ℕ
+whole_upto most (Some (pos n)) = cond (nat_le n most) (Some n) None
+whole_upto most _ = None
+
+-- What a value reads as that has to be a whole number from 0 to the most.
+abbrev pub whole_value_within : ℕ → Data → Option ℕ
+whole_value_within most d = whole_upto most (as_integer d)
+
+-- What each item reads as, in order, and nothing where one doesn't read.
+abbrev pub put_before : {V : Type 0} → Option (List V) → Option (List V) → Option (List V)
+put_before (Some vs) (Some ws) = Some (vs ++ ws)
+put_before _ _ = None
+
+unfoldable pub all_rows : {V : Type 0} → (Data → Option (List V)) → Items → Option (List V)
+all_rows reads no_items = Some []
+all_rows reads (item d ds) = put_before (reads d) (all_rows reads ds)
+
+-- one number as a row of its own
+abbrev pub alone : Option ℕ → Option (List ℕ)
+alone (Some n) = Some (n ∷ [])
+alone None = None
+
+abbrev pub number_row : ℕ → Data → Option (List ℕ)
+number_row most d = alone (whole_value_within most d)
+
+-- An array of whole numbers from 0 to the most.
+abbrev pub numbers_of_items : ℕ → Option Items → Option (List ℕ)
+numbers_of_items most (Some ds) = all_rows (number_row most) ds
+numbers_of_items most None = None
+
+abbrev pub numbers_of : ℕ → Data → Option (List ℕ)
+numbers_of most d = numbers_of_items most (as_array d)
+
+-- The list of which a test holds, and nothing else.
+abbrev pub if_holds : {V : Type 0} → (List V → Bool) → Option (List V) → Option (List V)
+if_holds test (Some vs) = cond (test vs) (Some vs) None
+if_holds test None = None
+
+-- No number is above the one before it.
+abbrev pub is_above_first : ℕ → List ℕ → Bool
+is_above_first n [] = true
+is_above_first n (m ∷ ms) = nat_le m n
+
+unfoldable pub are_falling : List ℕ → Bool
+are_falling [] = true
+are_falling (n ∷ ns) = is_above_first n ns && are_falling ns
+
+-- Weights: 1 to 1,000 whole numbers of millionths from 0 to 1,000,000, none above the one before it.
+abbrev pub are_weights : List ℕ → Bool
+are_weights ns = (nat_le 1 (length ns) && nat_le (length ns) 1000) && are_falling ns
+
+abbrev pub weights_of : Data → Option (List ℕ)
+weights_of d = if_holds are_weights (numbers_of 1000000 d)
+
+-- Resources: at most 8 columns.
+abbrev pub resources_of : Data → Option (List ℕ)
+resources_of d = if_holds (λ ns. nat_le (length ns) 8) (numbers_of 65535 d)
+
+-- A row of so many numbers, and so many rows one after another.
+abbrev pub row_of : (most width : ℕ) → Data → Option (List ℕ)
+row_of most width d = if_holds (λ ns. length ns == width) (numbers_of most d)
+
+abbrev pub rows_of_items : (most width : ℕ) → Option Items → Option (List ℕ)
+rows_of_items most width (Some ds) = all_rows (row_of most width) ds
+rows_of_items most width None = None
+
+abbrev pub rows_of : (most rows width : ℕ) → Data → Option (List ℕ)
+rows_of most rows width d = if_holds (λ ns. length ns == rows * width) (rows_of_items most width (as_array d))

@@ -1,0 +1,3 @@
+pub mod PairByPair
+pub mod Feasible
+pub mod Sums

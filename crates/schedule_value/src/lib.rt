@@ -1,0 +1,17 @@
+//! Judges a schedule: how many blocks it digs, what they are worth in their periods, which pairs it breaks, and where it uses
+//! more of a resource than there is.
+//!
+//! Stands on `production_figures` for the figures of a production, on `schedules` for what a schedule is, and on `prec_file`,
+//! `design_value`, `ordered_group` and `fixed_worth`. Promises upward: all of that is exactly the schedule's, and it is
+//! feasible exactly where no pair is broken and nowhere is more used than there is. No sum leaves 128 bits.
+#![tactic(auto)]
+
+mod broken;
+mod digging;
+mod judging;
+mod usage;
+mod worth;
+
+pub use broken::BrokenPairs;
+pub use judging::{Judged, judge_schedule};
+pub use usage::Over;
