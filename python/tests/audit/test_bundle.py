@@ -293,8 +293,8 @@ size = [20, 20, 15]
 regularise = true
 
 [economics]
-mining = "where(ZONE == 3, 2.0, 2.5)"
-processing = { OXI = 7.5, SUL = 9.0 }
+mining = 2.0
+processing = "where(ZONE == 3, 8.0, 9.0) + where(ROCK == 'OXI', 1, 2)"
 forbid = ["LAKE == 1"]
 metals = [ { name = "copper", grade = "CU", price = 8500, recovery = 0.85 } ]
 

@@ -520,14 +520,14 @@ def test_coordinates_of_sub_blocks_may_be_rounded(tmp_path, rotation):
     cut = f.sample(frac=0.4, random_state=1)
     parts = [
         cut.assign(
-            XC=cut.XC + off * math.cos(t),
-            YC=cut.YC - off * math.sin(t),
-            XINC=long,
+            XC=cut.XC + off * math.sin(t),
+            YC=cut.YC + off * math.cos(t),
+            YINC=long,
             TONNES=cut.TONNES * long / 12.5,
         )
         for off, long in ((-1.5625, 9.375), (4.6875, 3.125))
     ]
-    g = pd.concat([f.drop(cut.index), *parts]).round({"XC": 3, "YC": 3, "XINC": 3})
+    g = pd.concat([f.drop(cut.index), *parts]).round({"XC": 3, "YC": 3})
     found, whole = (
         read(tmp_path, g, size=size, rotation=rotation, regularise=True).blocks,
         read(tmp_path, f, size=size, rotation=rotation).blocks,
@@ -540,8 +540,8 @@ def test_coordinates_of_sub_blocks_may_be_rounded(tmp_path, rotation):
     g.to_csv(tmp_path / "u.csv", index=False)
     assert look_at(tmp_path / "u.csv").rotation == rotation
     off = g.assign(
-        XC=g.XC.where(g.XINC > 4, g.XC + 0.2 * math.cos(t)),
-        YC=g.YC.where(g.XINC > 4, g.YC - 0.2 * math.sin(t)),
+        XC=g.XC.where(g.YINC > 4, g.XC + 0.2 * math.sin(t)),
+        YC=g.YC.where(g.YINC > 4, g.YC + 0.2 * math.cos(t)),
     )
     assert "the sub-block lies over a side of a whole block" in refusal(
         tmp_path, off, size=size, rotation=rotation, regularise=True
