@@ -31,7 +31,6 @@ Ints = npt.NDArray[np.int64]
 OFF = 0.05  # of a block: how far a centre may be off the grid
 MOST_STEPS = 10**9  # blocks along an axis, so that their numbers are whole and fit
 SAMPLE = 50_000  # centres, by which the grid that most are on is found
-NO_WEIGHT = 'fill it in, or take the row out; absent = [".."] in [model] counts it as 0, and a block of 0 tonnes is air'  # what to try where a weight is no number
 OURS = ("id", "ix", "iy", "iz", "tonnes", "rock", "row")
 
 
