@@ -766,6 +766,29 @@ def an_unknown_word_is_refused(tree):
     )
 
 
+def help_says_what_each_script_takes(tree):
+    """And nothing is done; install takes no option for a folder."""
+    takes = {
+        "build": "--anew",
+        "install": "[FOLDER]",
+        "release": "--check",
+        "run-example": "--quick",
+        "tests/run": "--scripts",
+    }
+    answers = [
+        (name, tree.ran(name, word), part)
+        for name, part in takes.items()
+        for word in ("--help", "-h")
+    ]
+    status, said = tree.ran("install", "--all")
+    well = all(
+        status == 0 and part in said and "set -" not in said for _, (status, said), part in answers
+    )
+    return well and status == 1 and "[FOLDER]" in said and not tree.log(), repr(
+        (answers, status, said)
+    )
+
+
 def install_copies_the_program(tree):
     status, said = tree.ran("install", str(tree.room / "bin"))
     other, more = tree.ran("install", str(tree.room / "elsewhere"))
@@ -1142,6 +1165,7 @@ def the_manual_page_follows_the_help_texts(tree):
 
 
 CASES = [
+    help_says_what_each_script_takes,
     the_program_stays_where_the_gate_leaves_it,
     a_change_is_proved,
     the_room_is_in_the_tree,

@@ -12,46 +12,51 @@ worth, added up again from the planner's own table, is `pit`'s to the last digit
 """
 from __future__ import annotations
 
-import importlib
-from typing import Any
+from typing import TYPE_CHECKING
+
+from .base.door import door
 
 __version__ = "0.1.0"
-# Where each name is: they are imported when they are asked for, so that `pitplan --help` needs no pandas.
-WHERE = {
-    "Economics": "model.economics",
-    "Metal": "model.economics",
-    "PlanError": "base.errors",
-    "NotAccepted": "base.errors",
-    "Disagreement": "base.errors",
-    "MachineError": "base.errors",
-    "Grid": "model.grid",
-    "Model": "model.model",
-    "read_table": "model.model",
-    "Accepted": "pit.program",
-    "Stated": "pit.program",
-    "Pit": "pit.program",
-    "Shells": "study.shells",
-    "factors": "study.shells",
-    "Slopes": "slopes.slopes",
-    "Study": "study.study",
-    "Phases": "plans.phases",
-    "Design": "plans.design",
-    "Comparison": "plans.compare",
-    "Risk": "plans.risk",
-    "Task": "plans.task_line",
-    "Tasks": "tasks.task",
-    "run_dask": "tasks.engines",
-    "run_local": "tasks.local",
-}
-MODULES = {"plot": "views.pictures"}
-__all__ = [*WHERE, *MODULES, "page"]
 
-
-def __getattr__(name: str) -> Any:
-    if name in WHERE:
-        return getattr(importlib.import_module(f".{WHERE[name]}", __name__), name)
-    if name in MODULES:
-        return importlib.import_module(f".{MODULES[name]}", __name__)
-    if name == "page":
-        return importlib.import_module(".views.page", __name__)
-    raise AttributeError(f"module {__name__!r} has no attribute {name!r}")
+if TYPE_CHECKING:
+    from .base import (
+        Disagreement as Disagreement,
+        MachineError as MachineError,
+        NotAccepted as NotAccepted,
+        PlanError as PlanError,
+    )
+    from .model import (
+        Economics as Economics,
+        Grid as Grid,
+        Metal as Metal,
+        Model as Model,
+        read_table as read_table,
+    )
+    from .pit import Accepted as Accepted, Pit as Pit, Stated as Stated
+    from .plans import (
+        Comparison as Comparison,
+        Design as Design,
+        Phases as Phases,
+        Risk as Risk,
+        Task as Task,
+    )
+    from .slopes import Slopes as Slopes
+    from .study import Shells as Shells, Study as Study, factors as factors
+    from .tasks import Tasks as Tasks, run_dask as run_dask, run_local as run_local
+    from .views import page as page
+    from .views import pictures as plot
+else:
+    __getattr__, __dir__, __all__ = door(
+        __name__,
+        {
+            "base": "Disagreement MachineError NotAccepted PlanError",
+            "model": "Economics Grid Metal Model read_table",
+            "pit": "Accepted Pit Stated",
+            "plans": "Comparison Design Phases Risk Task",
+            "slopes": "Slopes",
+            "study": "Shells Study factors",
+            "tasks": "Tasks run_dask run_local",
+            "views": "page",
+        },
+        {"plot": "views.pictures"},
+    )

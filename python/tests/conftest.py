@@ -9,10 +9,7 @@ from hypothesis import HealthCheck, settings
 
 HERE = Path(__file__).resolve().parent
 sys.path.insert(0, str(HERE.parent))
-# helpers are in support; some files of tests use what others have
-sys.path[:0] = [
-    str(folder) for folder in (HERE / "support", *sorted(HERE.iterdir())) if folder.is_dir()
-]
+sys.path.insert(0, str(HERE / "support"))
 
 # Begun in the background of a script, tests ignore ctrl-C, and so would each process that they start and stop by it.
 signal.signal(signal.SIGINT, signal.default_int_handler)

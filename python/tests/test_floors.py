@@ -41,3 +41,13 @@ def test_a_module_imports_from_its_own_floor_and_from_those_below():
 def test_every_module_has_a_floor():
     here = {path.name for path in PACKAGE.iterdir()} - {"__pycache__"}
     assert here == {"__init__.py", "__main__.py", "py.typed", *FLOORS}
+
+
+def test_no_test_imports_another():
+    wrong = [
+        (path.name, line)
+        for path in sorted((PACKAGE.parent / "tests").rglob("*.py"))
+        for line in path.read_text().splitlines()
+        if line.startswith(("from test_", "import test_"))
+    ]
+    assert not wrong, wrong

@@ -1,1 +1,31 @@
 """What is asked of proved pits: pushbacks, widths, designs, what-ifs, realisations."""
+from __future__ import annotations
+
+from typing import TYPE_CHECKING
+
+from ..base.door import door
+
+if TYPE_CHECKING:
+    from .compare import Comparison as Comparison
+    from .design import (
+        Design as Design,
+        by_column as by_column,
+        by_file as by_file,
+        by_ids as by_ids,
+    )
+    from .phases import Phases as Phases
+    from .risk import Risk as Risk
+    from .task_line import Task as Task, task_of as task_of
+    from .vary import Change as Change
+else:
+    __getattr__, __dir__, __all__ = door(
+        __name__,
+        {
+            "compare": "Comparison",
+            "design": "Design by_column by_file by_ids",
+            "phases": "Phases",
+            "risk": "Risk",
+            "task_line": "Task task_of",
+            "vary": "Change",
+        },
+    )

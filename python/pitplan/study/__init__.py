@@ -1,1 +1,27 @@
 """A study's folder: its files, its verdicts, its pits and their tables."""
+from __future__ import annotations
+
+from typing import TYPE_CHECKING
+
+from ..base.door import door
+
+if TYPE_CHECKING:
+    from .pit_by_pit import Rates as Rates
+    from .shells import (
+        Shells as Shells,
+        factors as factors,
+        series_of as series_of,
+        thousandths as thousandths,
+    )
+    from .study import Study as Study, Verdict as Verdict
+    from .study_file import StudyFile as StudyFile, read_study_file as read_study_file
+else:
+    __getattr__, __dir__, __all__ = door(
+        __name__,
+        {
+            "pit_by_pit": "Rates",
+            "shells": "Shells factors series_of thousandths",
+            "study": "Study Verdict",
+            "study_file": "StudyFile read_study_file",
+        },
+    )

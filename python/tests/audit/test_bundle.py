@@ -18,6 +18,7 @@ import pandas as pd
 import pytest
 
 import mines
+from bundles import bundled
 from pitplan.audit import bundle, recheck
 from pitplan.model import economics
 from pitplan.slopes import offsets
@@ -50,22 +51,6 @@ regions = { WEST = 38 }
 [shells]
 factors = [0.6, 1.0, 1.2]
 """
-
-
-def bundled(folder, text=mines.STUDY_TOML, frame=None):
-    """The bundle of a small study."""
-    told = read_study_file(mines.written_study(folder, frame, text))
-    study = Study.create(
-        told.path.parent, told.read_model(), told.economics, told.slopes, keys=told.digest
-    )
-    bundle.write(
-        study.shells(told.factors),
-        folder / "for the auditor",
-        told.path,
-        told.keys.dialect(told.table),
-        told.rates,
-    )
-    return folder / "for the auditor"
 
 
 @pytest.fixture(scope="module")

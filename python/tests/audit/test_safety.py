@@ -36,7 +36,7 @@ from pitplan.study.study_file import read_study_file
 from pitplan.plans.task_line import Task
 from pitplan.tasks.task import Tasks, wanted
 from pitplan.table.spreadsheets import write_table
-from test_bundle import bundled
+from bundles import bundled
 
 TOP = Path(__file__).resolve().parents[3]
 PACKAGE = TOP / "python" / "pitplan"

@@ -1,5 +1,4 @@
 """The pits of random small mines against igraph's maximum flow, over a network that is made here from the CSV alone."""
-import csv
 
 import igraph
 import numpy as np
@@ -7,14 +6,9 @@ import pytest
 from hypothesis import given, strategies as st
 
 import pitplan as pp
-from mines import costs, study_of, table
+from mines import places_of, rows_of, costs, study_of, table
 
 SIZES = st.integers(2, 6)
-
-
-def rows_of(path):
-    with open(path, newline="") as file:
-        return list(csv.DictReader(file))
 
 
 def worth_of(row, share):
@@ -23,18 +17,6 @@ def worth_of(row, share):
     revenue = round(tonnes * float(row["CU"]) * 0.01 * 0.85 * 8500)
     processing = round(tonnes * {"OXI": 7.5, "SUL": 9.0}[row["ROCK"]])
     return max(revenue * share - processing, 0) - round(tonnes * 2.0)
-
-
-def places_of(rows):
-    """The block index of each row, by its coordinates (an unturned model)."""
-    low = [min(float(row[axis]) for row in rows) for axis in ("XC", "YC", "ZC")]
-    return [
-        tuple(
-            round((float(row[axis]) - least) / size)
-            for axis, least, size in zip(("XC", "YC", "ZC"), low, (20, 20, 15))
-        )
-        for row in rows
-    ]
 
 
 def best_worth(rows, offsets_of, share, worth_of=worth_of):

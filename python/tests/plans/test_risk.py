@@ -20,33 +20,8 @@ from pitplan.model.model import TableKeys
 from pitplan.plans.task_line import Task, task_of
 from pitplan.tasks.task import Tasks
 from processes import command, gone, waited_for
-from test_runs import slow_pit
-
-FACTORS = (800, 1000)
-
-
-def grades_of(frame, count, seed=1):
-    r = np.random.default_rng(seed)
-    return np.maximum(
-        0,
-        frame.CU.to_numpy() * r.lognormal(0, 0.6, (count, len(frame)))
-        + r.normal(0, 0.05, (count, len(frame))),
-    ).astype(np.float32)
-
-
-def prepared(folder, count=6, frame=None, economics=None, factors=FACTORS, **keys):
-    frame = table(8, 7, 5, 5) if frame is None else frame
-    study = study_of(folder, frame, economics=economics, **keys)
-    np.save(Path(folder) / "sims.npy", grades_of(frame, count))
-    risk.prepare(study, economics or costs(), Path(folder) / "sims.npy", factors)
-    return study
-
-
-def done(study):
-    tasks = Tasks(study.folder, study.program)
-    for task in risk.tasks(study):
-        tasks.do(task)
-    return risk.Risk(study)
+from realisations import FACTORS, done, grades_of, prepared
+from processes import slow_pit
 
 
 def judged(study, mask, folder):

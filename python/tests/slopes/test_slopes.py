@@ -1,6 +1,8 @@
 """Slopes by region: the pairs against a plain search, limits before `pit` runs, what a planner is told."""
 import math
 import re
+import sys
+from pathlib import Path
 
 import numpy as np
 import pandas as pd
@@ -8,13 +10,14 @@ import pytest
 from hypothesis import given, settings, strategies as st
 
 import pitplan as pp
-from mines import STUDY_TOML, table, written_study
+from mines import STUDY_TOML, places_of, rows_of, table, written_study
 from pitplan.slopes import offsets as search, slopes as module
 from pitplan.base.errors import PlanError
 from pitplan.pit.program import Pit
 from served import pitplan
-from test_offsets import walls
-from test_optimum import places_of, rows_of
+
+sys.path.insert(0, str(Path(__file__).resolve().parents[3] / "tests"))
+import walls  # noqa: E402  (tests/walls.py, which knows nothing of the search)
 
 ANGLES = st.one_of(
     st.integers(35, 55),

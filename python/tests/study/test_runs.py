@@ -20,7 +20,7 @@ from pitplan.model import store
 from pitplan.study import workers
 from pitplan.pit.program import Accepted, Pit, PitLines
 from pitplan.study.study import made_whole
-from processes import TOP, command, gone, waited_for
+from processes import TOP, command, gone, waited_for, slow_pit
 
 
 def test_nobody_but_the_check_makes_an_accepted():
@@ -337,20 +337,6 @@ def test_a_series_goes_on_where_it_was(tmp_path, monkeypatch):
     study.shells([600, 800, 1000, 1200], certificates=True)
     assert sorted(ran) == [600, 800, 1000, 1200]
     assert half.exists() and not dead.exists()  # another machine may still be at work on the first
-
-
-SLOW = """#!/bin/sh
-# pit, but a solve waits for a while before it begins
-case "$1" in solve) echo $$ >> {marks}; sleep {wait};; esac
-exec {pit} "$@"
-"""
-
-
-def slow_pit(folder, wait, pit):
-    path, marks = folder / "slow-pit", folder / "marks"
-    path.write_text(SLOW.format(marks=marks, wait=wait, pit=pit))
-    path.chmod(0o755)
-    return path, marks
 
 
 @pytest.mark.parametrize("how", [signal.SIGINT, signal.SIGKILL])

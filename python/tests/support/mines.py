@@ -1,4 +1,5 @@
 """Small made-up mines for the tests."""
+import csv
 import math
 from pathlib import Path
 
@@ -109,3 +110,21 @@ def written_study(folder, frame=None, text=STUDY_TOML):
     (table(7, 6, 4, 3) if frame is None else frame).to_csv(folder / "t.csv", index=False)
     (folder / "study.toml").write_text(text)
     return folder
+
+
+def rows_of(path):
+    """The rows of a table as text."""
+    with open(path, newline="") as file:
+        return list(csv.DictReader(file))
+
+
+def places_of(rows):
+    """The block index of each row, by its coordinates (an unturned model)."""
+    low = [min(float(row[axis]) for row in rows) for axis in ("XC", "YC", "ZC")]
+    return [
+        tuple(
+            round((float(row[axis]) - least) / size)
+            for axis, least, size in zip(("XC", "YC", "ZC"), low, (20, 20, 15))
+        )
+        for row in rows
+    ]

@@ -102,3 +102,18 @@ def kill_all(top, but=(), seconds=60):
             except ProcessLookupError:
                 pass
         time.sleep(0.02)
+
+
+SLOW = """#!/bin/sh
+# pit, but a solve waits for a while before it begins
+case "$1" in solve) echo $$ >> {marks}; sleep {wait};; esac
+exec {pit} "$@"
+"""
+
+
+def slow_pit(folder, wait, pit):
+    """A `pit` whose solves wait, and the file in which each leaves its number first."""
+    path, marks = folder / "slow-pit", folder / "marks"
+    path.write_text(SLOW.format(marks=marks, wait=wait, pit=pit))
+    path.chmod(0o755)
+    return path, marks

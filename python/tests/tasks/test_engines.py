@@ -18,7 +18,7 @@ from pitplan.plans import risk
 from pitplan.plans.task_line import Task
 from pitplan.tasks.task import Tasks, told, wanted
 from processes import TOP, command, gone, parent, runs, said, started, waited_for
-from test_risk import grades_of, prepared
+from realisations import grades_of, prepared
 
 # pit, but a solve leaves a line of its process, and waits while a file is there, unless it is among as many as that file says
 HELD = r"""#!/bin/sh

@@ -20,7 +20,7 @@ from pitplan.views import levels, page, page_views
 from pitplan.cli.pictures import page as page_command
 from pitplan.plans.phases import Phases
 from pitplan.plans.risk import Realisation
-from test_risk import done, prepared
+from realisations import done, prepared
 
 MARKUP = '</script></title><img src=x onerror="window.broken=1"><script>window.broken=1</script>{{data}}&amp;'
 PITS, PHASES, DESIGN = range(3)
