@@ -1,0 +1,16 @@
+-- who precedes whom, whoever holds it
+pub mod Ways
+-- the list of pairs that this denotes
+pub mod Implied
+-- numbers of cells in a padded box
+pub mod Grids
+-- the cells of places and offsets
+pub mod Boxes
+-- who rests on whom by places and offsets
+pub mod Placed
+-- the region of each block
+pub mod Regions
+-- a list or a grid, whichever a mine has
+pub mod Holders
+-- the names of all of them
+pub mod Prelude
