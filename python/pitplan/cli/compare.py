@@ -90,7 +90,7 @@ def design_of(
 
 def write(study: Study, found: Comparison, elevations: list[float]) -> Path:
     """Writes all that was found into a folder of its own."""
-    from ..base.whole_file import whole_file
+    from ..base.files import whole_file
     from ..table.spreadsheets import write_table
     from ..views.compare_plan import plan, widest_bench
     from ..views.pictures import save

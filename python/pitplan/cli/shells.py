@@ -28,7 +28,7 @@ if TYPE_CHECKING:
     import pandas as pd
 
     from ..study.shells import Shells
-    from ..study.study import Told
+    from ..study.runs import Told
 
 
 @app.command()

@@ -12,7 +12,8 @@ import numpy as np
 
 from ..base.errors import STOPPED
 from ..plans.task_line import Task
-from ..study.study import Study, host
+from ..study.study import Study
+from ..base.files import host
 from .engines import Handed, in_slurm
 from .task import DONE_WORDS, Tasks
 

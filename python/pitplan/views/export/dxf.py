@@ -10,7 +10,7 @@ from typing import TYPE_CHECKING, Any
 import numpy as np
 
 from ...base.amounts import THOUSAND
-from ...base.whole_file import whole_file
+from ...base.files import whole_file
 from ...model import outlines
 
 if TYPE_CHECKING:

@@ -11,7 +11,7 @@ import numpy as np
 
 from ...base.amounts import THOUSAND
 from ...base.errors import PlanError
-from ...base.whole_file import whole_file
+from ...base.files import whole_file
 from ...model import outlines
 
 if TYPE_CHECKING:

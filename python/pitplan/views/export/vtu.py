@@ -11,7 +11,7 @@ import pandas as pd
 
 from ...base.amounts import THOUSAND
 from ...base.errors import PlanError, meant
-from ...base.whole_file import whole_file
+from ...base.files import whole_file
 from ...model.model import OURS
 from ...table.spreadsheets import write_table
 
