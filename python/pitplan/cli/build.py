@@ -30,7 +30,7 @@ def init(
     folder: Optional[Path] = typer.Option(
         None,
         "--study",
-        help="The folder of the new study; the table's name without its ending unless told.",
+        help="The folder of the new study. Default: the table's name without its ending.",
     ),
     column: list[str] = typer.Option(
         [],

@@ -35,7 +35,7 @@ if TYPE_CHECKING:
 def shells(
     folder: Path = STUDY,
     workers: Optional[int] = typer.Option(
-        None, min=1, help="Pits at a time; as many as processors and free memory allow unless told."
+        None, min=1, help="Pits at a time. Default: as many as processors and free memory allow."
     ),
     certificates: bool = typer.Option(
         False,

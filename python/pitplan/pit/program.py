@@ -172,7 +172,7 @@ class Pit:
     Parameters
     ----------
     program : str or Path, optional
-        Where it is; found as `found_program` says unless told.
+        Where it is. Default: found as `found_program` says.
     """
 
     def __init__(self, program: str | Path | None = None) -> None:

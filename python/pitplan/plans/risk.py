@@ -168,7 +168,7 @@ def prepare(
     factors : sequence of int
         In thousandths.
     metal : str, optional
-        Whose grades these are; the first metal unless told.
+        Whose grades these are. Default: the first metal.
     keys : TableKeys, optional
         How the table of blocks was read: a CSV may have its encoding, and its marks for "not estimated".
 

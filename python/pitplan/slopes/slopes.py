@@ -52,7 +52,7 @@ class Slopes:
         Whether no wall may be steeper than asked, at any bearing; it is flatter on average then, and with few `levels`
         much flatter. Where no offsets make such a wall `patterns` raises, and so nothing is built.
     levels : int, optional
-        How many levels up the offsets may lead; as many as it takes, unless told.
+        How many levels up the offsets may lead. Default: as many as it takes.
 
     Raises
     ------

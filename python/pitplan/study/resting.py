@@ -71,7 +71,7 @@ class Resting:
         ----------
         held : bool array of shape (blocks,)
         only : bool array of shape (blocks,), optional
-            What may be added; all blocks unless told, and the set isn't closed then where others are missing.
+            What may be added. Default: all blocks, and the set isn't closed then where others are missing.
         """
         out = held.copy()
         level = self.place[:, 2]

@@ -29,7 +29,7 @@ class Runs(Verdicts):
     began: float | None = None
 
     def room(self, work: Path) -> Path:
-        """The folder in which a certificate is written while it is checked: beside the result, unless told otherwise."""
+        """The folder in which a certificate is written while it is checked: beside the result, unless a class says otherwise."""
         return work
 
     def run(

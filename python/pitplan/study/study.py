@@ -109,9 +109,9 @@ class Study(Runs):
         Parameters
         ----------
         series : sequence of int, optional
-            Factors in thousandths, as `shells.factors` makes them; 0.30 to 1.20 by 0.05 unless told.
+            Factors in thousandths, as `shells.factors` makes them. Default: 0.30 to 1.20 by 0.05.
         workers : int, optional
-            How many pits are found at a time; as many as processors and free memory allow unless told.
+            How many pits are found at a time. Default: as many as processors and free memory allow.
         told : function, optional
             Is told how far each factor is.
         certificates : bool

@@ -51,7 +51,7 @@ def states(
     Parameters
     ----------
     in_hand : mapping, optional
-        What Slurm has, as `engines.in_slurm` says, which is asked unless told.
+        What Slurm has, as `engines.in_slurm` says. Default: it is asked.
 
     Raises
     ------

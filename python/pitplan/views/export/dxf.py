@@ -57,7 +57,7 @@ def write(
     path : str or path
         DXF of AutoCAD 2010.
     pits : sequence of int, optional
-        Indices into ``shells.factors``; all unless told.
+        Indices into ``shells.factors``. Default: all.
     cuts_corners : bool
         Whether corners are cut by half a block, so that a staircase becomes a straight line. Areas are then about those of
         the blocks, and not the same.

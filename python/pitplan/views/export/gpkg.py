@@ -43,9 +43,9 @@ def write(
     shells : Shells
     path : str or path
     pits : sequence of int, optional
-        Indices into ``shells.factors``; all unless told.
+        Indices into ``shells.factors``. Default: all.
     crs : str, optional
-        The coordinate system by its register and number, as ``"EPSG:32719"``; none unless told.
+        The coordinate system by its register and number, as ``"EPSG:32719"``. Default: none.
 
     Returns
     -------

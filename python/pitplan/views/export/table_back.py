@@ -93,7 +93,7 @@ def write(shells: Shells, target: Path, decimal: str | None = None) -> int:
     target : Path
         Packed where its name ends in ``.gz``.
     decimal : str, optional
-        The table's mark of a decimal; found out by its first lines unless told.
+        The table's mark of a decimal. Default: found out by its first lines.
 
     Returns
     -------

@@ -44,7 +44,7 @@ def write(
     shells : Shells
     path : str or path
     columns : sequence of str, optional
-        Of the table; all columns of numbers, of TRUE and FALSE, and the rock unless told.
+        Of the table. Default: all columns of numbers, of TRUE and FALSE, and the rock.
     is_whole : bool
         Whether all blocks are written, or the rock of the largest pit alone.
 
