@@ -14,7 +14,9 @@ from .. import __version__
 from ..base.digests import sha256
 from ..base.errors import PlanError
 from ..base.next_command import command
-from ..study.study import COLUMNS, READ, made_whole, sweep
+from ..study.building import COLUMNS
+from ..study.folder import READ
+from ..base.files import made_whole, sweep
 from ..table.csv_text import Dialect
 from ..table.spreadsheets import write_table
 

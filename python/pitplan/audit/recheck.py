@@ -3,7 +3,7 @@
 
     python3 recheck.py [--plainly] [PIT]
 
-PIT is the program; `pit` on the path unless told. With --plainly each certificate is checked by plainly.py too, which shares
+PIT is the program. Default: `pit` on the path. With --plainly each certificate is checked by plainly.py too, which shares
 nothing with pit and is slow. A line begins with ok, WRONG, or look (what wasn't looked at, and you should); the last line is
 the verdict. Exit status: 0 all that was looked at holds, 1 something is WRONG.
 """

@@ -58,7 +58,7 @@ class Priced:
     feed : float
         Tonnes that the mill gets for each tonne of ore in place.
     forbidden : bool array of shape (blocks,)
-        Which blocks may not be dug: `mining` has a price for them that keeps them from every pit. None unless told.
+        Which blocks may not be dug: `mining` has a price for them that keeps them from every pit. Default: none.
     """
 
     revenue: Whole

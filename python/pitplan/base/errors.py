@@ -150,6 +150,10 @@ class MachineError(PlanError):
     """Memory, a disk or a process failed, and no file is to blame."""
 
 
+class Killed(MachineError):
+    """A `pit` that somebody ended, as the system does where memory is short."""
+
+
 class Several(PlanError):
     """Errors that don't hang on each other, told at a time."""
 

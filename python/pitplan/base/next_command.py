@@ -26,7 +26,7 @@ def command(name: str, study: str | os.PathLike[str] = ".", *more: str) -> str:
     name : str
         Of the command.
     study : path
-        As the user named it; this folder unless told, which needs no word.
+        As the user named it. Default: this folder, which needs no word.
     *more : str
         Further words.
 

@@ -19,7 +19,7 @@ if TYPE_CHECKING:
     from rich.status import Status
 
     from ..model.model import Model
-    from ..slopes.slopes import Heard
+    from ..slopes.slopes import Begun
     from ..study.study import Study
     from ..study.study_file import StudyFile
 
@@ -30,7 +30,7 @@ def init(
     folder: Optional[Path] = typer.Option(
         None,
         "--study",
-        help="The folder of the new study; the table's name without its ending unless told.",
+        help="The folder of the new study. Default: the table's name without its ending.",
     ),
     column: list[str] = typer.Option(
         [],
@@ -45,9 +45,9 @@ def init(
     is_forced: bool = typer.Option(False, "--force", help="Write over a study.toml that is there."),
 ) -> None:
     """Look at a table of blocks, and write a study.toml for it."""
-    from ..base.whole_file import whole_file
+    from ..base.files import whole_file
     from ..study.first_look import look_at, written
-    from ..study.study import near
+    from ..study.building import near
 
     look = look_at(table, dict(map(named, column)), encoding)
     folder = folder or Path(table.name.removesuffix(".gz").removesuffix(".csv"))
@@ -93,6 +93,7 @@ def named(said: str) -> tuple[str, str]:
 @app.command()
 def build(folder: Path = STUDY) -> None:
     """Read the table, work out what each block brings and costs, and make the slopes."""
+    from ..study.building import Building
     from ..study.study import Study
     from .slopes import key_of, print_patterns
 
@@ -105,9 +106,15 @@ def build(folder: Path = STUDY) -> None:
     for note in model.notes:
         say("  " + note)
     with err.status("prices and slopes") as status:
-        told.slopes.heard = of_region(status)
-        study = Study.create(told.path.parent, model, told.economics, told.slopes, keys=told.digest)
-        study.named = folder
+        Building(
+            told.path.parent,
+            model,
+            told.economics,
+            told.slopes,
+            keys=told.digest,
+            begun=of_region(status),
+        ).write()
+        study = Study(told.path.parent, named=folder)
         study.priced.check_room(max(told.factors, default=THOUSAND))
     for note in study.model.notes[len(model.notes) :]:
         say("  " + note)
@@ -118,7 +125,7 @@ def build(folder: Path = STUDY) -> None:
     print_size(study, told)
 
 
-def of_region(status: Status) -> Heard:
+def of_region(status: Status) -> Begun:
     """Says which region's slopes are begun: on a terminal in place of the line before, else a line for each, for logs."""
 
     def heard(name: str, at: int, count: int) -> None:

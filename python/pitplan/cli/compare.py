@@ -31,13 +31,13 @@ def compare(
     value: Optional[str] = typer.Option(
         None,
         "--value",
-        help="With --column: the cell of the rows that it takes; any number above 0, or yes, unless told.",
+        help="With --column: the cell of the rows that it takes. Default: any number above 0, or yes.",
     ),
     surface: Optional[Path] = typer.Option(
         None, "--surface", help="A DXF with faces, or a CSV of points x, y, z: the blocks above it."
     ),
     layer: List[str] = typer.Option(
-        [], "--layer", help="With --surface: a layer of the DXF; all unless told."
+        [], "--layer", help="With --surface: a layer of the DXF. Default: all."
     ),
     factor: float = typer.Option(
         1.0, "--factor", help="The pit to compare with, by its factor of the price."
@@ -45,7 +45,7 @@ def compare(
     bench: List[float] = typer.Option(
         [],
         "--bench",
-        help="Draw the plan of the bench at this elevation; where the two differ most unless told.",
+        help="Draw the plan of the bench at this elevation. Default: where the two differ most.",
     ),
 ) -> None:
     """Put a designed pit beside the proved best one: does it keep the slopes, what is it worth, how far from the bound. Status 1 where it breaks the slopes."""
@@ -90,7 +90,7 @@ def design_of(
 
 def write(study: Study, found: Comparison, elevations: list[float]) -> Path:
     """Writes all that was found into a folder of its own."""
-    from ..base.whole_file import whole_file
+    from ..base.files import whole_file
     from ..table.spreadsheets import write_table
     from ..views.compare_plan import plan, widest_bench
     from ..views.pictures import save

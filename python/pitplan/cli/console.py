@@ -32,6 +32,14 @@ class InOrder(TyperGroup):
     def list_commands(self, ctx: click.Context) -> list[str]:
         return list(self.commands)
 
+    def get_params(self, ctx: click.Context) -> list[click.Parameter]:
+        """The options of the application; those that have no default say none."""
+        found = super().get_params(ctx)
+        for it in found:  # typer says "[default: None]" of its own, for completions
+            if isinstance(it, click.Option) and it.default is None:
+                it.show_default = False
+        return found
+
 
 app = typer.Typer(
     cls=InOrder,

@@ -21,7 +21,7 @@ def export(
     factors: Optional[str] = typer.Option(
         None,
         "--factors",
-        help="The pits to export, as 0.5,0.75,1.0; all of study.toml unless told.",
+        help="The pits to export, as 0.5,0.75,1.0. Default: all of study.toml.",
     ),
     columns: Optional[str] = typer.Option(
         None, "--columns", help="Columns of the table for vtu and csv, with commas."
@@ -29,7 +29,7 @@ def export(
     is_whole: bool = typer.Option(
         False,
         "--whole",
-        help="All blocks of the model in vtu and csv; those of the largest pit alone unless told.",
+        help="All blocks of the model in vtu and csv. Default: those of the largest pit alone.",
     ),
     cuts_corners: bool = typer.Option(
         False,

@@ -39,14 +39,14 @@ def plot(
     pit: Optional[float] = typer.Option(
         None,
         show_default=False,
-        help="The factor of the pit that is outlined: 1 unless told, or the largest.",
+        help="The factor of the pit that is outlined. Default: 1, or the largest.",
     ),
     exaggerate: Optional[float] = typer.Option(
         None,
         min=0.1,
         max=20.0,
         show_default=False,
-        help="Draw heights so many times longer, in sections; 1 unless told, or more in a flat model.",
+        help="Draw heights so many times longer, in sections. Default: 1, or more in a flat model.",
     ),
 ) -> None:
     """Draw the pit-by-pit graph, a plan and a section; or the plans and sections that are asked for: bench, north, east, row and column may be given several times."""
@@ -96,7 +96,7 @@ def page(
         help="Show a designed pit beside the best one too: a DXF with faces, a CSV of points x, y, z, or ids in a table or a text.",
     ),
     layer: List[str] = typer.Option(
-        [], "--layer", help="With --design: a layer of the DXF; all unless told."
+        [], "--layer", help="With --design: a layer of the DXF. Default: all."
     ),
     column: Optional[str] = typer.Option(
         None,
@@ -108,7 +108,7 @@ def page(
         None,
         "--value",
         show_default=False,
-        help="With --column: the cell of the rows that it takes; any number above 0, or yes, unless told.",
+        help="With --column: the cell of the rows that it takes. Default: any number above 0, or yes.",
     ),
     factor: float = typer.Option(
         1.0,
@@ -116,7 +116,7 @@ def page(
         help="The pit that the design is compared with, by its factor of the price.",
     ),
     title: Optional[str] = typer.Option(
-        None, show_default=False, help="The heading; the table's name unless told."
+        None, show_default=False, help="The heading. Default: the table's name."
     ),
 ) -> None:
     """Write one HTML file with pits in three dimensions, sections, plans and tables: pits by factor, pushbacks, a design beside the best pit. It needs no network."""

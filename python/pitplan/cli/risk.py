@@ -36,7 +36,7 @@ def risk(
     ),
     factors: str = typer.Option(ALONE, help="Shares of the price, as 0.8,1,1.2."),
     metal: Optional[str] = typer.Option(
-        None, help="Whose grades these are; the first metal unless told."
+        None, help="Whose grades these are. Default: the first metal."
     ),
     later: bool = typer.Option(
         False,
@@ -46,7 +46,7 @@ def risk(
     workers: Optional[int] = typer.Option(
         None,
         min=1,
-        help="Realisations at a time; as many as processors and free memory allow unless told.",
+        help="Realisations at a time. Default: as many as processors and free memory allow.",
     ),
 ) -> None:
     """Find the proved pit of each realisation of the grades, and how likely each block is. Goes on where it was stopped."""

@@ -28,14 +28,14 @@ if TYPE_CHECKING:
     import pandas as pd
 
     from ..study.shells import Shells
-    from ..study.study import Told
+    from ..study.runs import Told
 
 
 @app.command()
 def shells(
     folder: Path = STUDY,
     workers: Optional[int] = typer.Option(
-        None, min=1, help="Pits at a time; as many as processors and free memory allow unless told."
+        None, min=1, help="Pits at a time. Default: as many as processors and free memory allow."
     ),
     certificates: bool = typer.Option(
         False,

@@ -7,7 +7,7 @@ from typing import TYPE_CHECKING, Any
 
 import typer
 from ..base.errors import PlanError
-from ..base.whole_file import whole_file
+from ..base.files import whole_file
 from ..study import older
 from ..table.spreadsheets import write_table
 from .console import STUDY, app, described, err, print_columns, say, warn

@@ -73,7 +73,7 @@ def submit(
 
 def to_hand_in(study: Study, factors: list[int], again: bool) -> list[Task]:
     """The tasks that are neither done nor running nor waiting; with `again` also those that seem to run on other machines."""
-    from ..study.study import host
+    from ..base.files import host
     from ..tasks.status import FAILED, RUNNING, TO_DO, states
     from ..tasks.task import wanted
 

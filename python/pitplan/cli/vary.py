@@ -17,7 +17,7 @@ if TYPE_CHECKING:
 WORDS: Any = typer.Argument(
     None,
     metavar="[STUDY] [CHANGES]...",
-    help="The folder of the study, this one unless told; and changes, as price=-20..20 recovery=-5..5 mining=-10..10 processing=-10..10 (percent of themselves) slope=-3..3 (degrees). Without changes those of before.",
+    help="The folder of the study (default: this one), and changes, as price=-20..20 recovery=-5..5 mining=-10..10 processing=-10..10 (percent of themselves) slope=-3..3 (degrees). Default: the changes of the last run.",
 )
 
 
@@ -29,7 +29,7 @@ def vary(
         False, "--later", help="Build what is needed and find no pit yet: pitplan submit does."
     ),
     workers: Optional[int] = typer.Option(
-        None, min=1, help="Pits at a time; as many as processors and free memory allow unless told."
+        None, min=1, help="Pits at a time. Default: as many as processors and free memory allow."
     ),
 ) -> None:
     """Find the proved pit with one thing changed at a time, and which of them moves the worth most."""

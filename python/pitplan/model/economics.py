@@ -102,7 +102,7 @@ class Economics:
     processing : the same
         What treating a tonne of the mill's feed costs.
     mill : sequence of str, optional
-        The rocks that the mill takes; all but air unless told.
+        The rocks that the mill takes. Default: all but air.
     dilution : float
         Tonnes of waste, at no grade, that come to the mill with each tonne of ore, from 0 to 1.
     mining_recovery : float

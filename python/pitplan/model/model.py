@@ -155,7 +155,7 @@ class TableKeys:
     widen : int
         How many columns of barren rock are added on each side.
     decimal, encoding, skip :
-        As `csv_text.Dialect`; found out unless told.
+        As `csv_text.Dialect`. Default: found out.
     """
 
     columns: Mapping[str, str] = field(default_factory=dict)

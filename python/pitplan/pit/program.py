@@ -20,7 +20,8 @@ from typing import Union
 import numpy as np
 import numpy.typing as npt
 
-from ..base.errors import Disagreement, MachineError, NotAccepted, PlanError
+from ..base.errors import Disagreement, Killed, MachineError, NotAccepted, PlanError
+from ..base.files import ROOM
 from .valued import Valued
 
 Progress = Callable[[int, int], None]
@@ -34,7 +35,6 @@ BUILT = (
 PIECE = 1 << 20
 HEAD = 4  # lines before the PIT lines of a certificate
 BEHIND = (b"SOURCE ", b"REST ", b"SINK ", b"END")
-ROOM = "make room on the disk, and start the same command again: what is done is kept"
 HINTS = {
     "No space left on device": ROOM,
     "Disk quota exceeded": ROOM,
@@ -172,7 +172,7 @@ class Pit:
     Parameters
     ----------
     program : str or Path, optional
-        Where it is; found as `found_program` says unless told.
+        Where it is. Default: found as `found_program` says.
     """
 
     def __init__(self, program: str | Path | None = None) -> None:
@@ -454,6 +454,11 @@ class Pit:
             for run in self.running:
                 ended_now(run)
 
+    def restart(self) -> None:
+        """Lets runs be started again after `stop`."""
+        with self.lock:
+            self.is_stopped = False
+
     def ended(self, command: str, status: int, fault: str) -> PlanError:
         """The error of a run that ended with another status than 0 or 1."""
         if self.is_stopped:
@@ -463,13 +468,12 @@ class Pit:
             if status < 0
             else f"ended with status {status}"
         )
-        hint = (
-            "fewer --workers: memory was short, or somebody ended it"
-            if status == -signal.SIGKILL
-            else hint_of(fault)
-        )
+        said = f"pit {command} {how}" + (f": {fault}" if fault else "")
+        if status == -signal.SIGKILL:
+            hint = "fewer --workers: memory was short, or somebody ended it"
+            return Killed(said, try_this=hint)
         kind = MachineError if status < 0 or status == 4 else PlanError
-        return kind(f"pit {command} {how}" + (f": {fault}" if fault else ""), try_this=hint)
+        return kind(said, try_this=hint_of(fault))
 
 
 @contextmanager

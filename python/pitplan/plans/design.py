@@ -262,7 +262,7 @@ def by_surface(
         ``.dxf`` with 3D faces, meshes or polyface meshes; or a table of points x, y and z, which are joined to triangles in
         plan (Delaunay). z is an elevation. Where a surface lies over itself, the lowest counts; beside it nothing is dug.
     layers : sequence of str
-        Of the DXF that count; all unless told.
+        Of the DXF that count. Default: all.
     encoding : str, optional
         Of the table of blocks, which a CSV may share.
 

@@ -20,6 +20,7 @@ from dataclasses import asdict, dataclass
 from functools import cached_property
 from pathlib import Path
 from typing import TYPE_CHECKING, Any
+from weakref import WeakKeyDictionary
 
 import numpy as np
 import numpy.typing as npt
@@ -34,7 +35,11 @@ from ..model.economics import Economics
 from ..model.grid import Grid
 from ..model.model import Model, TableKeys
 from ..study import edges
-from ..study.study import FULL, Study, Told, Verdict, made_whole, mark, sweep, write_blocks
+from ..base.files import FULL, made_whole, mark, sweep
+from ..study.study import Study
+from ..study.runs import Told
+from ..study.verdicts import Verdict
+from ..study.building import write_blocks
 from ..study.study_file import economics_of, refuse_digits
 from ..table.column_names import PLACES
 from ..table.csv_text import dialect_beside, number_column, read_frame
@@ -55,6 +60,8 @@ ASKED = (
     "tonnes",
     "rock",
 )  # columns that pricing and `.blocks` ask for, beside those that [economics] names
+# of each study, and of the economics as text: what all realisations of a process share
+LEAN_MODELS: WeakKeyDictionary[Study, dict[str, Model]] = WeakKeyDictionary()
 SCRATCH = "pitplan."  # folders of `.blocks` and certificates, in TMPDIR
 ROOM = "TMPDIR=/a/larger/disk: a realisation's blocks and certificate are written there"
 
@@ -161,7 +168,7 @@ def prepare(
     factors : sequence of int
         In thousandths.
     metal : str, optional
-        Whose grades these are; the first metal unless told.
+        Whose grades these are. Default: the first metal.
     keys : TableKeys, optional
         How the table of blocks was read: a CSV may have its encoding, and its marks for "not estimated".
 
@@ -418,12 +425,16 @@ class Realisation(Study):
     def model(self) -> Model:
         """The study's model, without the words that pricing doesn't ask for; read once for all realisations of a process."""
         if self.shared is None:
-            shared = self.base.__dict__.setdefault("lean_models", {})
+            shared = LEAN_MODELS.setdefault(self.base, {})
             key = json.dumps(self.setup.economics, sort_keys=True)
             if key not in shared:
                 shared[key] = lean_model(self.base, self.setup.economics)
             self.shared = shared[key]
         return self.shared
+
+    def forget(self) -> None:
+        """Lets go of the prices: the next realisation has others."""
+        self.__dict__.pop("priced", None)
 
     @cached_property
     def priced(self) -> Priced:

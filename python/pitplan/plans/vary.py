@@ -18,7 +18,7 @@ from ..base import kept_json
 from ..base.amounts import THOUSAND
 from ..base.errors import PlanError, meant
 from ..base.next_command import command
-from ..base.whole_file import whole_file
+from ..base.files import whole_file
 from ..model.economics import Amount, Economics
 from ..model.model import Model
 from ..slopes.slopes import Slopes

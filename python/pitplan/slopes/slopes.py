@@ -29,7 +29,7 @@ from .offsets import Angles, Offset, Pattern
 DEFAULT = "default"
 STEP = 15  # degrees of bearing between two rows of the table of asked and built angles
 Ints = npt.NDArray[np.int64]
-Heard = Callable[
+Begun = Callable[
     [str, int, int], None
 ]  # a region whose predecessors are begun, which it is of how many
 
@@ -52,12 +52,7 @@ class Slopes:
         Whether no wall may be steeper than asked, at any bearing; it is flatter on average then, and with few `levels`
         much flatter. Where no offsets make such a wall `patterns` raises, and so nothing is built.
     levels : int, optional
-        How many levels up the offsets may lead; as many as it takes, unless told.
-
-    Attributes
-    ----------
-    heard : function, optional
-        Is told each region as `write_prec` begins it: over a large model each takes seconds.
+        How many levels up the offsets may lead. Default: as many as it takes.
 
     Raises
     ------
@@ -70,7 +65,6 @@ class Slopes:
     regions: Mapping[str, Angles] | None = None
     safe: bool = False
     levels: int | None = None
-    heard: Heard | None = field(default=None, init=False, repr=False, compare=False)
     _found: dict[tuple[Any, ...], dict[str, Pattern]] = field(
         default_factory=dict, init=False, repr=False, compare=False
     )
@@ -282,7 +276,12 @@ def _over(model: Model, pattern: Pattern) -> int:
 
 
 def write_prec(
-    slopes: Slopes, model: Model, pit: Pit, blocks_file: Path, out: Path
+    slopes: Slopes,
+    model: Model,
+    pit: Pit,
+    blocks_file: Path,
+    out: Path,
+    begun: Begun | None = None,
 ) -> dict[str, list[Offset]]:
     """Writes the predecessors of each block, by the slopes of the region that the block is in.
 
@@ -295,6 +294,8 @@ def write_prec(
         The `.blocks` file of the model.
     out : Path
         The `.prec` file. Beside it the settings of each region are left, slope-0.toml and so on.
+    begun : function, optional
+        Is told each region as it is begun: over a large model each takes seconds.
 
     Returns
     -------
@@ -310,8 +311,8 @@ def write_prec(
     choice = slopes.region_of(model)
     parts, patterns = [], slopes.patterns(model.grid)
     for i, (name, pattern) in enumerate(patterns.items()):
-        if slopes.heard:
-            slopes.heard(name, i + 1, len(patterns))
+        if begun:
+            begun(name, i + 1, len(patterns))
         settings = out.parent / f"slope-{i}.toml"
         settings.write_text(
             "".join(f"# {line}\n" for line in f"{name}: {pattern}".splitlines())

@@ -13,7 +13,8 @@ if TYPE_CHECKING:
         series_of as series_of,
         thousandths as thousandths,
     )
-    from .study import Study as Study, Verdict as Verdict
+    from .study import Study as Study
+    from .verdicts import Verdict as Verdict
     from .study_file import StudyFile as StudyFile, read_study_file as read_study_file
 else:
     __getattr__, __dir__, __all__ = door(
@@ -21,7 +22,8 @@ else:
         {
             "pit_by_pit": "Rates",
             "shells": "Shells factors series_of thousandths",
-            "study": "Study Verdict",
+            "study": "Study",
+            "verdicts": "Verdict",
             "study_file": "StudyFile read_study_file",
         },
     )

@@ -12,7 +12,7 @@ from ..model.gaps import enclosed
 
 if TYPE_CHECKING:
     from ..model.model import Model
-    from .study import Study
+    from .folder import StudyFolder
 
 Bools = npt.NDArray[np.bool_]
 Ints = npt.NDArray[np.int64]
@@ -55,7 +55,7 @@ def ground(model: Model) -> tuple[Ints, Ints]:
     return top, low
 
 
-def touching(study: Study) -> Bools:
+def touching(study: StudyFolder) -> Bools:
     """Which blocks have a slope that asks for a place that isn't in the model and isn't air: beyond its sides, where the ground goes on as
     high as in the nearest column; in a column that has no row; or below the lowest row of a column. Rows of air, without tonnes, don't
     count: nothing has to hold there.

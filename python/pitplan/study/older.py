@@ -9,7 +9,7 @@ import json
 import os
 from pathlib import Path
 
-from ..base.whole_file import whole_file
+from ..base.files import whole_file
 
 NOTES, OLDER = ".written.json", "older"
 Stamp = tuple[int, int]  # of a file: its bytes, and when it was written, in nanoseconds

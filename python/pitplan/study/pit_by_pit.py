@@ -28,7 +28,7 @@ class Rates:
     Parameters
     ----------
     mining : float, optional
-        Tonnes of rock a year; the largest pit in `YEARS` years unless told.
+        Tonnes of rock a year. Default: the largest pit in `YEARS` years.
     mill : float, optional
         Tonnes of the mill's feed a year; likewise.
     discount : float

@@ -11,7 +11,7 @@ import numpy as np
 import numpy.typing as npt
 
 if TYPE_CHECKING:
-    from .study import Study
+    from .folder import StudyFolder
 
 Bools = npt.NDArray[np.bool_]
 Ints = npt.NDArray[np.int64]
@@ -22,10 +22,10 @@ class Resting:
 
     Parameters
     ----------
-    study : Study
+    study : StudyFolder
     """
 
-    def __init__(self, study: Study) -> None:
+    def __init__(self, study: StudyFolder) -> None:
         b = study.model.blocks
         self.place = np.column_stack([b.ix, b.iy, b.iz]).astype(np.int64)
         self.index, self.region = study.model.index, study.region
@@ -71,7 +71,7 @@ class Resting:
         ----------
         held : bool array of shape (blocks,)
         only : bool array of shape (blocks,), optional
-            What may be added; all blocks unless told, and the set isn't closed then where others are missing.
+            What may be added. Default: all blocks, and the set isn't closed then where others are missing.
         """
         out = held.copy()
         level = self.place[:, 2]

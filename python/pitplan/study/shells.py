@@ -14,7 +14,9 @@ from ..base.errors import Disagreement, PlanError
 from . import edges, pit_by_pit
 
 if TYPE_CHECKING:
-    from .study import Study, Told, Verdict
+    from .runs import Told
+    from .study import Study
+    from .verdicts import Verdict
 
 Bools = npt.NDArray[np.bool_]
 

@@ -4,14 +4,12 @@ from __future__ import annotations
 from collections.abc import Callable, Sequence
 from concurrent.futures import FIRST_COMPLETED, Future, ThreadPoolExecutor, wait
 from dataclasses import dataclass
-from typing import TYPE_CHECKING
 
-from ..base.errors import MachineError
+from ..base.errors import Killed
 from ..base.machine import free_memory, processors
 from ..pit.program import MOST_FACTORS
-
-if TYPE_CHECKING:
-    from .study import Study, Told, Verdict
+from .runs import Runs, Told
+from .verdicts import Verdict
 
 PER_BLOCK, PER_PAIR = (
     350,
@@ -31,7 +29,7 @@ class Guess:
     seconds: float
 
 
-def guess_of(study: Study) -> Guess:
+def guess_of(study: Runs) -> Guess:
     """A first guess by the number of blocks and of pairs; how long a mine takes depends on the mine."""
     blocks, pairs = study.manifest["blocks"], study.manifest["pairs"]
     return Guess(pairs, memory_of(blocks, pairs), blocks * SECONDS_A_BLOCK + pairs * SECONDS_A_PAIR)
@@ -42,14 +40,14 @@ def memory_of(blocks: int, pairs: int) -> int:
     return blocks * (PER_BLOCK + OWN) + pairs * PER_PAIR
 
 
-def workers_for(study: Study, wanted: int | None = None) -> int:
+def workers_for(study: Runs, wanted: int | None = None) -> int:
     """How many pits are found at a time: as asked or as there are processors, and no more than free memory has room for."""
     room = int(SHARE * free_memory() / guess_of(study).memory)
     return max(1, min(wanted or processors(), room))
 
 
 def run_all(
-    study: Study, factors: Sequence[int], workers: int | None = None, told: Told | None = None
+    study: Runs, factors: Sequence[int], workers: int | None = None, told: Told | None = None
 ) -> None:
     """Finds the pits that aren't there yet. A `pit` that somebody ends, as the system does where memory is short, is started
     once more, alone, when the others are done.
@@ -57,11 +55,11 @@ def run_all(
     Raises
     ------
     PlanError
-        As `Study.run`; what runs then is ended, and what is done is kept.
+        As `Runs.run`; what runs then is ended, and what is done is kept.
     KeyboardInterrupt
         The same.
     """
-    study.program.is_stopped = False
+    study.program.restart()
     left = missing(factors, study.certified, told)
     if left:
         with study.verifying() as sure:  # nothing is kept before the files are known to be those of the build
@@ -83,7 +81,7 @@ def missing(
 
 
 def run_series(
-    study: Study, factors: Sequence[int], workers: int | None = None, told: Told | None = None
+    study: Runs, factors: Sequence[int], workers: int | None = None, told: Told | None = None
 ) -> None:
     """Finds the pits that aren't there yet, without certificates: one run of `pit shells` for each `MOST_FACTORS` of them. A run that
     somebody ends, as the system does where memory is short, is started once more, one factor at a time.
@@ -91,11 +89,11 @@ def run_series(
     Raises
     ------
     PlanError
-        As `Study.run_series`; what runs then is ended, and the runs that are done are kept.
+        As `Runs.run_series`; what runs then is ended, and the runs that are done are kept.
     KeyboardInterrupt
         The same.
     """
-    study.program.is_stopped = False
+    study.program.restart()
     left = missing(sorted(factors), study.verdict, told)
     if not left:
         return
@@ -104,16 +102,14 @@ def run_series(
             some = left[at : at + MOST_FACTORS]
             try:
                 series(study, pool, some, min(workers_for(study, workers), len(some)), told, sure)
-            except MachineError as error:
-                if "SIGKILL" not in error.what:
-                    raise
+            except Killed:
                 if told:
                     told(some[-1], "killed", 0.0)
                 series(study, pool, some, 1, told, sure)
 
 
 def series(
-    study: Study,
+    study: Runs,
     pool: ThreadPoolExecutor,
     factors: Sequence[int],
     workers: int,
@@ -127,11 +123,11 @@ def series(
         running.result()
     except BaseException:
         study.program.stop()
-        study.program.is_stopped = False
+        study.program.restart()
         raise
 
 
-def one(study: Study, factor: int, told: Told | None, sure: Callable[[], None]) -> Verdict:
+def one(study: Runs, factor: int, told: Told | None, sure: Callable[[], None]) -> Verdict:
     """Runs one factor, and tells that it is done."""
     done = study.run(factor, told, sure)
     if told:
@@ -140,7 +136,7 @@ def one(study: Study, factor: int, told: Told | None, sure: Callable[[], None]) 
 
 
 def at_once(
-    study: Study, factors: Sequence[int], workers: int, told: Told | None, sure: Callable[[], None]
+    study: Runs, factors: Sequence[int], workers: int, told: Told | None, sure: Callable[[], None]
 ) -> list[int]:
     """Runs all factors, the dearest first, and returns those whose `pit` was killed."""
     killed: list[int] = []
@@ -155,9 +151,7 @@ def at_once(
                     factor = running.pop(future)
                     try:
                         future.result()
-                    except MachineError as error:
-                        if "SIGKILL" not in error.what:
-                            raise
+                    except Killed:
                         killed.append(factor)
                         if told:
                             told(factor, "killed", 0.0)

@@ -7,7 +7,7 @@ from typing import Any
 
 import pandas as pd
 
-from ..base.whole_file import whole_file
+from ..base.files import whole_file
 from .csv_text import PLAIN
 
 FORMULA = re.compile(r"[=+\-@\t\r]")

@@ -71,7 +71,7 @@ class Key:
     instead : str
         What to try where a value is wrong.
     example : str
-        How `init` spells the value; ``$name`` stands for what it finds in a table. The default unless told.
+        How `init` spells the value; ``$name`` stands for what it finds in a table. Default: as the default is.
     note : str
         What `init` says beside it, where `help` is too long for a line.
     before : str

@@ -22,7 +22,8 @@ from ..base import kept_json
 from ..base.errors import STOPPED, MachineError, PlanError, in_a_line
 from ..pit.program import TOP, found_program
 from ..plans.task_line import Task
-from ..study.study import Study, host
+from ..study.study import Study
+from ..base.files import host
 from .task import Tasks, memory_of_task
 
 MOST = 1000  # tasks of an array: Slurm takes 1,001 unless its site says otherwise

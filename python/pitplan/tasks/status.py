@@ -12,7 +12,8 @@ import numpy as np
 
 from ..base.errors import STOPPED
 from ..plans.task_line import Task
-from ..study.study import Study, host
+from ..study.study import Study
+from ..base.files import host
 from .engines import Handed, in_slurm
 from .task import DONE_WORDS, Tasks
 
@@ -50,7 +51,7 @@ def states(
     Parameters
     ----------
     in_hand : mapping, optional
-        What Slurm has, as `engines.in_slurm` says, which is asked unless told.
+        What Slurm has, as `engines.in_slurm` says. Default: it is asked.
 
     Raises
     ------

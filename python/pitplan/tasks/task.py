@@ -19,7 +19,8 @@ from typing import TYPE_CHECKING
 
 from ..base.errors import PlanError
 from ..plans.task_line import BASE, Task
-from ..study.study import Study, host, sweep
+from ..study.study import Study
+from ..base.files import host, sweep
 from ..study.workers import memory_of
 
 if TYPE_CHECKING:
@@ -99,7 +100,7 @@ class Tasks:
                 raise
             finally:
                 if isinstance(study, Realisation):
-                    study.__dict__.pop("priced", None)  # the next one has others
+                    study.forget()
         with suppress(NotADirectoryError):  # where log is a file
             self.note(task).unlink(missing_ok=True)
         return len(missing)

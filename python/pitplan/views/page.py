@@ -15,7 +15,7 @@ from pathlib import Path
 from typing import TYPE_CHECKING, Any
 
 from ..base.errors import PlanError
-from ..base.whole_file import whole_file
+from ..base.files import whole_file
 from . import page_views
 from .levels import packed, packed_marks
 from .page_views import PATTERNS, Table, View

@@ -381,7 +381,7 @@ def hatch(
     pattern: tuple[str, str] = (ROCK_HATCH, ROCK_EDGE),
     face: str = "white",
 ) -> None:
-    """A pattern over a set of cells, dots unless told: one outline for each run of cells in a row."""
+    """A pattern over a set of cells, by default dots: one outline for each run of cells in a row."""
     edge = np.diff(np.pad(cells, ((0, 0), (1, 1))).astype(np.int8), axis=1)
     (rows, first), (_, end) = np.nonzero(edge == 1), np.nonzero(edge == -1)
     if not len(rows):

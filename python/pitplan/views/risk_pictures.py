@@ -25,7 +25,7 @@ def section(found: Risk, factor: int = THOUSAND, row: int | None = None) -> Figu
     factor : int
         In thousandths.
     row : int, optional
-        Of the grid along its y axis; the one with the most likely rock unless told.
+        Of the grid along its y axis. Default: the one with the most likely rock.
     """
     from matplotlib import colormaps
     from matplotlib.lines import Line2D

@@ -328,7 +328,7 @@ def test_all_csv_is_written_by_one_function():
         for path, name, node in calls_and_imports()
         if isinstance(node, ast.Call) and name.endswith(".to_csv")
     }
-    assert found == {"whole_file.py", "study.py"}  # the second writes the numbers of `.blocks`
+    assert found == {"spreadsheets.py", "building.py"}  # the second writes the numbers of `.blocks`
 
 
 def test_a_packed_table_that_unpacks_without_end_is_refused(tmp_path):

@@ -15,7 +15,7 @@ from pitplan.study import first_look
 from pitplan.base import later
 from pitplan.base.errors import PlanError
 from pitplan.table.formula import worked_out
-from pitplan.study.study import host
+from pitplan.base.files import host
 from pitplan.study.study_file import read_study_file
 from processes import TOP
 from served import PITPLAN, linked, pitplan

@@ -52,8 +52,8 @@ def test_an_option_without_a_default_says_none_of_one():
     from typer.testing import CliRunner
 
     cli.load_commands()
-    for name in cli.ORDER:
-        said = CliRunner().invoke(cli.app, [name, "--help"]).output
+    for words in ([], *([name] for name in cli.ORDER)):
+        said = CliRunner().invoke(cli.app, [*words, "--help"]).output
         assert "--help" in said and "default: None" not in said, said
 
 

@@ -36,14 +36,14 @@ def model_of(folder, frame, **keys):
     return pp.read_table(path, **{**dict(size=(20, 20, 15)), **keys})
 
 
-def written(folder, slopes, model):
+def written(folder, slopes, model, begun=None):
     """The pairs of the .prec file, as sets of predecessors by block."""
     with open(folder / "m.blocks", "w") as file:
         file.writelines(
             "%d %d %d %d\n" % (b, *place)
             for b, place in enumerate(zip(model.blocks.ix, model.blocks.iy, model.blocks.iz))
         )
-    module.write_prec(slopes, model, Pit(), folder / "m.blocks", folder / "m.prec")
+    module.write_prec(slopes, model, Pit(), folder / "m.blocks", folder / "m.prec", begun)
     lines = [list(map(int, line.split())) for line in (folder / "m.prec").read_text().splitlines()]
     assert [line[0] for line in lines] == list(range(len(model))) and all(
         line[1] == len(line) - 2 for line in lines
@@ -306,11 +306,10 @@ def test_the_command_shows_and_draws(tmp_path):
 def test_each_region_is_told_as_it_is_begun(tmp_path, monkeypatch):
     model, events, run = model_of(tmp_path, table(4, 4, 3, 2)), [], Pit.slopes
     slopes = pp.Slopes(45, by="SECTOR", regions={"EAST": 38, "WEST": 40})
-    slopes.heard = lambda *told: events.append(told)
     monkeypatch.setattr(
         Pit, "slopes", lambda self, *words: events.append("pit slopes") or run(self, *words)
     )
-    written(tmp_path, slopes, model)
+    written(tmp_path, slopes, model, lambda *told: events.append(told))
     assert events == [
         ("default", 1, 3),
         "pit slopes",

@@ -19,7 +19,7 @@ from pitplan.plans import risk, vary
 from pitplan.model import store
 from pitplan.study import workers
 from pitplan.pit.program import Accepted, Pit, PitLines
-from pitplan.study.study import made_whole
+from pitplan.base.files import made_whole
 from processes import TOP, command, gone, waited_for, slow_pit
 
 

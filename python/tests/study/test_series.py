@@ -20,7 +20,7 @@ from pitplan.views.export import table_back
 from pitplan.views.page_views import CERTIFIED, STATED
 from pitplan.pit.program import Pit, Stated
 from pitplan.tasks.status import RUNNING, states
-from pitplan.study.study import host
+from pitplan.base.files import host
 from pitplan.plans.task_line import Task
 from processes import command, gone, waited_for
 

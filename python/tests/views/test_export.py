@@ -25,7 +25,7 @@ from pitplan.views.export import (
     vtu as export_vtu,
 )
 from pitplan.model import outlines
-from pitplan.base.whole_file import whole_file
+from pitplan.base.files import whole_file
 from served import pitplan
 
 BLOCK = SIZE[0] * SIZE[1] * SIZE[2]

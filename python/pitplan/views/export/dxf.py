@@ -10,7 +10,7 @@ from typing import TYPE_CHECKING, Any
 import numpy as np
 
 from ...base.amounts import THOUSAND
-from ...base.whole_file import whole_file
+from ...base.files import whole_file
 from ...model import outlines
 
 if TYPE_CHECKING:
@@ -57,7 +57,7 @@ def write(
     path : str or path
         DXF of AutoCAD 2010.
     pits : sequence of int, optional
-        Indices into ``shells.factors``; all unless told.
+        Indices into ``shells.factors``. Default: all.
     cuts_corners : bool
         Whether corners are cut by half a block, so that a staircase becomes a straight line. Areas are then about those of
         the blocks, and not the same.

@@ -11,7 +11,7 @@ import numpy as np
 
 from ...base.amounts import THOUSAND
 from ...base.errors import PlanError
-from ...base.whole_file import whole_file
+from ...base.files import whole_file
 from ...model import outlines
 
 if TYPE_CHECKING:
@@ -43,9 +43,9 @@ def write(
     shells : Shells
     path : str or path
     pits : sequence of int, optional
-        Indices into ``shells.factors``; all unless told.
+        Indices into ``shells.factors``. Default: all.
     crs : str, optional
-        The coordinate system by its register and number, as ``"EPSG:32719"``; none unless told.
+        The coordinate system by its register and number, as ``"EPSG:32719"``. Default: none.
 
     Returns
     -------

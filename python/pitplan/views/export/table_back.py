@@ -14,7 +14,7 @@ from ...base.amounts import THOUSAND
 from ...base.digests import sha256_unless_known
 from ...base.errors import PlanError
 from ...base.next_command import command
-from ...base.whole_file import whole_file
+from ...base.files import whole_file
 from ...table.csv_text import dialect_of, head_of, names_of, opened, separator_of
 
 if TYPE_CHECKING:
@@ -93,7 +93,7 @@ def write(shells: Shells, target: Path, decimal: str | None = None) -> int:
     target : Path
         Packed where its name ends in ``.gz``.
     decimal : str, optional
-        The table's mark of a decimal; found out by its first lines unless told.
+        The table's mark of a decimal. Default: found out by its first lines.
 
     Returns
     -------

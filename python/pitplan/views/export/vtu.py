@@ -11,7 +11,7 @@ import pandas as pd
 
 from ...base.amounts import THOUSAND
 from ...base.errors import PlanError, meant
-from ...base.whole_file import whole_file
+from ...base.files import whole_file
 from ...model.model import OURS
 from ...table.spreadsheets import write_table
 
@@ -44,7 +44,7 @@ def write(
     shells : Shells
     path : str or path
     columns : sequence of str, optional
-        Of the table; all columns of numbers, of TRUE and FALSE, and the rock unless told.
+        Of the table. Default: all columns of numbers, of TRUE and FALSE, and the rock.
     is_whole : bool
         Whether all blocks are written, or the rock of the largest pit alone.
 

@@ -1,0 +1,134 @@
+"""A study is built: the files that `pit` reads, made of a model, of economics and of slopes."""
+from __future__ import annotations
+
+import hashlib
+import json
+import os
+from dataclasses import dataclass, field, replace
+from pathlib import Path
+
+import numpy as np
+import pandas as pd
+
+from ..base.amounts import Priced, as_text
+from ..base.digests import sha256
+from ..base.files import made_whole, sweep
+from ..model import store
+from ..model.economics import Economics
+from ..model.model import Model
+from ..model.subblocks import coded
+from ..pit.program import Pit
+from ..slopes.slopes import Begun, Slopes, count_pairs, write_prec
+from ..slopes.steep_ground import with_air
+from .folder import READ
+
+COLUMNS = ("revenue", "processing", "mining", "tonnes")
+
+
+@dataclass(frozen=True)
+class Building:
+    """What a study is built of.
+
+    Attributes
+    ----------
+    folder : Path
+    model : Model
+    economics : Economics
+    slopes : Slopes
+    program : Pit
+    keys : str
+        The digest of the text that all this was read from.
+    begun : function, optional
+        Is told each region of slopes as its predecessors are begun: over a large model each takes seconds.
+    """
+
+    folder: Path
+    model: Model
+    economics: Economics
+    slopes: Slopes
+    program: Pit = field(default_factory=Pit)
+    keys: str = ""
+    begun: Begun | None = None
+
+    def write(self) -> None:
+        """Makes the files that `pit` reads. A model that stands there already is replaced once the new one is whole. Where the
+        ground is steeper than the slopes, blocks of air are added, as `steep_ground.with_air` says.
+
+        Raises
+        ------
+        PlanError
+            Where the model, the economics or the slopes are wrong. The study that was there stays as it was.
+        """
+        model, economics, slopes = self.model, self.economics, self.slopes
+        model = with_air(
+            coded(model, economics.codes() | ({slopes.by} if slopes.by else set())), slopes
+        )
+        priced = economics.priced(model)
+        if model.has_sub_blocks:
+            model = replace(model, fenced=(economics.forbid, priced.forbidden))
+        region = slopes.region_of(model)
+        self.folder.mkdir(parents=True, exist_ok=True)
+        sweep(self.folder, ".model.*")
+        with made_whole(self.folder / "model") as work:
+            write_blocks(work / "mine.blocks", model, priced)
+            (work / "settings.toml").write_text(
+                "".join(f"{name} = {i}\n" for i, name in enumerate(COLUMNS))
+            )
+            offsets = write_prec(
+                slopes, model, self.program, work / "mine.blocks", work / "mine.prec", self.begun
+            )
+            store.save(work / "blocks.npz", model, priced, region)
+            files = {path.name: sha256(path) for path in sorted(work.iterdir())}
+            manifest = {
+                "key": key_of(files),
+                "files": files,
+                "blocks": len(model),
+                "pairs": count_pairs(slopes, model),
+                "pit": self.program.version(),
+                "keys": self.keys,
+                "notes": model.notes,
+                "source": {"table": near(model.source, self.folder), "sha256": sha256(model.source)}
+                if model.source
+                else None,
+                "offsets": {
+                    name: [list(map(int, o)) for o in found] for name, found in offsets.items()
+                },
+                "currency": economics.currency,
+                "metals": {
+                    m.name: {
+                        "grade": m.grade,
+                        "grade_unit": m.grade_unit,
+                        "price_unit": m.price_unit,
+                    }
+                    for m in economics.metals
+                },
+            }
+            (work / "manifest.json").write_text(json.dumps(manifest, indent=1))
+
+
+def near(table: Path, folder: Path) -> str:
+    """How a file in a study's folder names the table: from that folder where it is near, so that the two can be moved together and
+    used from anywhere; else by its whole path."""
+    found = os.path.relpath(table.resolve(), folder.resolve())
+    return found if found.count("..") <= 2 else str(table.resolve())
+
+
+def key_of(files: dict[str, str]) -> str:
+    """What names a model: the digest of the digests of the three files that `pit` reads."""
+    return hashlib.sha256("".join(files[name] for name in READ).encode()).hexdigest()
+
+
+def write_blocks(path: Path, model: Model, priced: Priced) -> None:
+    """`.blocks`: number, place, and the four columns of `COLUMNS`, amounts as exact decimals."""
+    b = model.blocks
+    table = pd.DataFrame(
+        {
+            "b": np.arange(len(b)),
+            "x": b.ix.to_numpy(),
+            "y": b.iy.to_numpy(),
+            "z": b.iz.to_numpy(),
+            **{name: as_text(getattr(priced, name), priced.rounding) for name in COLUMNS[:3]},
+            "tonnes": np.round(b.tonnes.to_numpy(), 3),
+        }
+    )
+    table.to_csv(path, sep=" ", header=False, index=False)

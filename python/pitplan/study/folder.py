@@ -1,0 +1,178 @@
+"""The folder of a study that was built: its paths, its manifest, and the digests of its files."""
+from __future__ import annotations
+
+from collections.abc import Callable, Iterator
+from concurrent.futures import ThreadPoolExecutor
+from contextlib import contextmanager
+from functools import cached_property
+from pathlib import Path
+
+import numpy as np
+import numpy.typing as npt
+
+from ..base import kept_json
+from ..base.amounts import Priced
+from ..base.digests import sha256_unless_known
+from ..base.errors import PlanError
+from ..base.next_command import command
+from ..model import store
+from ..model.model import Model
+from ..pit.program import Files, Pit
+from . import edges
+
+READ = ("mine.blocks", "mine.prec", "settings.toml")
+# What manifest.json and a verdict have at least, and what each may be. A file of the model lies beside the manifest, and nowhere else.
+MANIFEST: dict[str, kept_json.Holds] = {
+    "key": kept_json.is_digest,
+    "files": lambda value: kept_json.is_table(kept_json.is_digest, kept_json.is_file_name)(value)
+    and {*READ, "blocks.npz"} <= set(value),
+    "blocks": kept_json.is_count,
+    "pairs": kept_json.is_count,
+    "offsets": kept_json.is_table(kept_json.is_list(kept_json.is_offset)),
+    "metals": kept_json.is_table(
+        kept_json.is_one(
+            {
+                "grade": kept_json.is_word,
+                "grade_unit": kept_json.is_word,
+                "price_unit": kept_json.is_word,
+            }
+        )
+    ),
+    "currency": kept_json.is_word,
+    "source": kept_json.is_none_or(
+        kept_json.is_one({"table": kept_json.is_path, "sha256": kept_json.is_digest})
+    ),
+    "keys": kept_json.is_word,
+    "pit": kept_json.is_list(kept_json.is_word),
+}
+
+
+class StudyFolder:
+    """The files of a study that was built.
+
+    Parameters
+    ----------
+    folder : str or Path
+    program : Pit, optional
+        Found as `program.found_program` says unless given.
+    named : Path, optional
+        How the user named the study, for the commands that a message names: its folder, or its study.toml.
+
+    Attributes
+    ----------
+    manifest : dict
+        ``key`` (of the three files that `pit` reads), ``files`` (sha256 by name), ``blocks``, ``pairs``, ``offsets`` by region,
+        ``metals``, ``currency``, ``source`` (the table, as `near` has it, and its sha256), ``keys`` (the digest of study.toml), ``pit``.
+
+    Raises
+    ------
+    PlanError
+        Where the folder is no study, or its making was cut off.
+    """
+
+    def __init__(
+        self, folder: str | Path, program: Pit | None = None, named: Path | None = None
+    ) -> None:
+        self.folder, self.named = Path(folder), named or Path(folder)
+        self.where = self.folder / "model"
+        try:
+            self.manifest = kept_json.read(
+                self.where / "manifest.json", MANIFEST, command("build", self.named)
+            )
+        except (FileNotFoundError, NotADirectoryError):
+            raise PlanError(
+                f"{self.folder} is no study, or was never built",
+                try_this=command("build", self.named),
+            ) from None
+        self.key: str = self.manifest["key"]
+        self.given = program
+
+    @cached_property
+    def program(self) -> Pit:
+        return self.given or Pit()
+
+    @cached_property
+    def version(self) -> list[str]:
+        """What the program that finds and checks pits here says of itself; the build may have had another."""
+        return self.program.version()
+
+    @property
+    def table(self) -> Path | None:
+        """The table that the study was built from; None where it was made of no file."""
+        source = self.manifest["source"]
+        return self.folder / source["table"] if source else None
+
+    @property
+    def currency(self) -> str:
+        """Of its amounts, as study.toml calls it."""
+        return str(self.manifest["currency"])
+
+    @property
+    def blocks_file(self) -> Path:
+        return self.where / "mine.blocks"
+
+    @property
+    def prec_file(self) -> Path:
+        return self.where / "mine.prec"
+
+    @property
+    def settings_file(self) -> Path:
+        return self.where / "settings.toml"
+
+    @property
+    def files(self) -> Files:
+        return Files(self.prec_file, self.blocks_file, self.settings_file)
+
+    @cached_property
+    def model(self) -> Model:
+        return store.load_model(self.where / "blocks.npz")
+
+    @cached_property
+    def priced(self) -> Priced:
+        return store.load_priced(self.where / "blocks.npz")
+
+    @cached_property
+    def region(self) -> npt.NDArray[np.int64]:
+        """The region of slopes of each block, of shape (blocks,): an index into ``manifest["offsets"]``."""
+        return store.load_region(self.where / "blocks.npz")
+
+    @cached_property
+    def sides(self) -> list[npt.NDArray[np.int64]]:
+        """For each region of slopes how high up a block of each column asks for a place beside or below the model; see `edges.highest_touching`."""
+        return list(edges.highest_touching(self.model, self.manifest["offsets"].values()))
+
+    def read_ahead(self) -> None:
+        """Reads what the tables of a series will need, while its first pits are looked for."""
+        self.model, self.priced, self.region, self.sides
+
+    def verify(self) -> None:
+        """Takes the digests of the model's files again; of a file that this process has digested and that hasn't been touched since,
+        as `digests` tells it, that digest stands.
+
+        Raises
+        ------
+        PlanError
+            Where a file isn't the one that the build made.
+        """
+        for name, digest in self.manifest["files"].items():
+            path = self.where / name
+            if not path.is_file() or sha256_unless_known(path) != digest:
+                raise PlanError(
+                    f"{path} isn't the file that the build made"
+                    if path.is_file()
+                    else f"{path} is gone",
+                    try_this=command("build", self.named),
+                )
+
+    @contextmanager
+    def verifying(self) -> Iterator[Callable[[], None]]:
+        """Takes the digests beside what is done within. The function that it gives waits for them; what `verify` raises comes in
+        place of any other error, since it explains them."""
+        with ThreadPoolExecutor(1) as pool:
+            digests = pool.submit(self.verify)
+            try:
+                yield digests.result
+            except (PlanError, OSError):
+                digests.result()
+                raise
+            digests.result()
