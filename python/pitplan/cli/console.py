@@ -78,6 +78,16 @@ def warn(text: str, indent: str = "") -> None:
     err.print(f"{indent}[yellow]look:[/yellow] {escape(text)}", soft_wrap=True)
 
 
+def tell(error: PlanError) -> None:
+    """Prints an error, or each of several, with the line of study.toml that it concerns."""
+    from ..base.error_text import lines_of
+
+    for each in error.each():
+        err.print(
+            "[red]error:[/red] " + escape("\n".join(lines_of(each, study_toml))), soft_wrap=True
+        )
+
+
 def warn_of_room(wanted: int | None, count: int) -> None:
     """Says where fewer work at a time than were asked for."""
     if wanted and count < wanted:

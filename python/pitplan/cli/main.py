@@ -21,11 +21,11 @@ from ..base.errors import (
 from ..base.later import lazily
 from ..base.next_command import remember
 from ..study import older
-from . import console
-from .console import app, err
+from .console import app, err, tell
 
 ORDER = (
     "init",
+    "check",
     "build",
     "slopes",
     "shells",
@@ -79,17 +79,6 @@ def remedy(error: OSError) -> str:
         if error.errno in (errno.ENOSPC, errno.EDQUOT)
         else ""
     )
-
-
-def tell(error: PlanError) -> None:
-    """Prints an error, or each of several."""
-    from ..base.error_text import lines_of
-
-    for each in error.each():
-        err.print(
-            "[red]error:[/red] " + escape("\n".join(lines_of(each, console.study_toml))),
-            soft_wrap=True,
-        )
 
 
 def main() -> None:

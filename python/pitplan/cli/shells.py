@@ -11,6 +11,7 @@ from typing import TYPE_CHECKING, Optional
 import typer
 from ..base.errors import PlanError
 from ..base.next_command import command
+from .build import tell_strange
 from .console import (
     STUDY,
     app,
@@ -44,6 +45,7 @@ def shells(
     ),
 ) -> None:
     """Find the proved pit at each factor, and the tables. Goes on where it was stopped."""
+    from ..slopes.looks import of_rates
     from ..study.workers import workers_for
 
     told, study = described(folder), opened(folder)
@@ -54,6 +56,7 @@ def shells(
     table = found.table(**told.rates)
     write_tables(found, table, told.keys.decimal)
     print_table(found, table)
+    tell_strange(list(of_rates(study.model, study.priced, told.rates)))
     warn_of_edges(found)
 
 
