@@ -11,17 +11,21 @@ from pathlib import Path
 import click
 from rich.markup import escape
 
+from ..base import events
 from ..base.errors import (
-    STOPPED as SAYS_STOPPED,
-    Disagreement,
-    MachineError,
-    NotAccepted,
+    ENDED as STOPPED,
+    MACHINE,
+    NO,
+    WRONG,
     PlanError,
+    exit_status,
+    STOPPED as SAYS_STOPPED,
 )
 from ..base.later import lazily
 from ..base.next_command import remember
 from ..study import older
 from .console import app, err, tell
+from .taking_turns import take_turns
 
 ORDER = (
     "init",
@@ -43,8 +47,9 @@ ORDER = (
     "schema",
     "doctor",
 )  # of a working day, for --help
-NO, WRONG, MACHINE, STOPPED = 1, 3, 4, 130
-SHARED = ("main", "console", "chosen")  # modules of this package that have no command
+
+
+__all__ = ["MACHINE", "NO", "STOPPED", "WRONG", "main"]
 
 
 def load_commands() -> None:
@@ -63,13 +68,6 @@ def load_commands() -> None:
     )
 
 
-def status_of(error: PlanError) -> int:
-    """The exit status of an error: 1 no, 3 a file is wrong, 4 the machine."""
-    if isinstance(error, (NotAccepted, Disagreement)):
-        return NO
-    return MACHINE if isinstance(error, MachineError) else WRONG
-
-
 def remedy(error: OSError) -> str:
     """What to try where the system refuses a file."""
     if error.errno in (errno.EACCES, errno.EPERM, errno.EROFS):
@@ -84,9 +82,20 @@ def remedy(error: OSError) -> str:
 def main() -> None:
     """Runs a command. Exit status: 0 done, 1 no, 2 wrong words, 3 a file is wrong, 4 the machine, 130 stopped."""
     try:
+        run()
+    except SystemExit as ended:
+        events.end(exit_status(ended))
+        raise
+
+
+def run() -> None:
+    """Runs a command, and says how it failed. Ends the process by its exit status."""
+    try:
         remember(sys.argv[0])
+        events.begin()
         lazily("pandas")  # the first pits can be looked for while it is loaded
         load_commands()
+        take_turns(app)
         try:
             status = app(prog_name="pitplan", standalone_mode=False)
         finally:
@@ -97,7 +106,7 @@ def main() -> None:
         sys.exit(error.exit_code)
     except PlanError as error:
         tell(error)
-        sys.exit(status_of(error))
+        sys.exit(exit_status(error))
     except (KeyboardInterrupt, click.Abort):
         err.print(SAYS_STOPPED)
         sys.exit(STOPPED)

@@ -11,6 +11,7 @@ from typing import TYPE_CHECKING, Optional
 import typer
 from rich.markup import escape
 
+from ..base import events
 from ..base.errors import PlanError
 from ..base.next_command import command
 from .console import STUDY, app, described, err, opened, out, results, say, warn, warn_of_room
@@ -174,7 +175,7 @@ def do_all(study: Study, tasks: list[Task], workers: Optional[int]) -> None:
     count = processes_for(study, workers)
     warn_of_room(workers, count)
     if not err.is_terminal:
-        deaths = run_local(study, left, count, lines())
+        deaths = run_local(study, left, count, heard(lines()))
     else:
         from rich.progress import (
             BarColumn,
@@ -194,10 +195,20 @@ def do_all(study: Study, tasks: list[Task], workers: Optional[int]) -> None:
         ) as bars:
             bar = bars.add_task(f"tasks, {count} at a time", total=len(left))
             deaths = run_local(
-                study, left, count, lambda task, done, of: bars.update(bar, completed=done)
+                study, left, count, heard(lambda task, done, of: bars.update(bar, completed=done))
             )
     if deaths:
         warn(f"a process was ended {deaths} times, and started again: was memory short?")
+
+
+def heard(listener: Heard) -> Heard:
+    """A listener whose tasks are events, too."""
+
+    def told(task: Task, done: int, of: int) -> None:
+        events.event("task", task=str(task), done=done, of=of)
+        listener(task, done, of)
+
+    return told
 
 
 def lines() -> Heard:
