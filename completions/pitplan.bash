@@ -3,7 +3,7 @@ _pitplan() {
     local word=${COMP_WORDS[COMP_CWORD]} before=${COMP_WORDS[COMP_CWORD-1]} words= files=
     if [ "$COMP_CWORD" = 1 ]; then
         words="init check build slopes shells plot page phases export compare risk vary submit status task bundle schema doctor"
-        case "$word" in -*) words="--version --install-completion --show-completion -h --help" ;; esac
+        case "$word" in -*) words="--version --no-wait --within --install-completion --show-completion -h --help" ;; esac
     else
         case "${COMP_WORDS[1]} $before" in
         "init --study") files=1 ;;

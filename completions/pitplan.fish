@@ -1,6 +1,8 @@
 # Completion of pitplan for fish. Written by tools/man_page.py from the help texts: change those, not this file.
 complete -c pitplan -f
 complete -c pitplan -n __fish_use_subcommand -l version -d 'Print the version'
+complete -c pitplan -n __fish_use_subcommand -l no-wait -d 'End where another command has the study, and don\'t wait for it'
+complete -c pitplan -n __fish_use_subcommand -l within -r -F -d 'Refuse studies, tables, designs and realisations outside this folder'
 complete -c pitplan -n __fish_use_subcommand -l install-completion -x -a 'bash zsh fish powershell pwsh' -d 'Install completion for the specified shell'
 complete -c pitplan -n __fish_use_subcommand -l show-completion -x -a 'bash zsh fish powershell pwsh' -d 'Show completion for the specified shell, to copy it or customize the installation'
 complete -c pitplan -n __fish_use_subcommand -s h -l help -d 'Show this message and exit'

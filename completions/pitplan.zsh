@@ -23,7 +23,7 @@ _pitplan() {
         'doctor:Look whether all that pitplan needs is here, and take a small mine through it'
     )
     if (( CURRENT == 2 )); then
-        [[ $words[2] == -* ]] && _arguments -S '--version[Print the version]' '--install-completion[Install completion for the specified shell]:install-completion:(bash zsh fish powershell pwsh)' '--show-completion[Show completion for the specified shell, to copy it or customize the installation]:show-completion:(bash zsh fish powershell pwsh)' '-h[Show this message and exit]' '--help[Show this message and exit]' || _describe -t commands command commands
+        [[ $words[2] == -* ]] && _arguments -S '--version[Print the version]' '--no-wait[End where another command has the study, and don'\''t wait for it]' '--within[Refuse studies, tables, designs and realisations outside this folder]:within:_files' '--install-completion[Install completion for the specified shell]:install-completion:(bash zsh fish powershell pwsh)' '--show-completion[Show completion for the specified shell, to copy it or customize the installation]:show-completion:(bash zsh fish powershell pwsh)' '-h[Show this message and exit]' '--help[Show this message and exit]' || _describe -t commands command commands
         return
     fi
     local command=$words[2]

@@ -10,6 +10,7 @@ those of the last command that had it. Each line has ``time`` (seconds since 197
     look    what, try
     error   as `errors.PlanError.as_data`, and line, of study.toml
     said    what: a line of the command's answer
+    table   title, names (of its columns), rows (lists of words): a table of the command's answer
     end     status: the exit status
 """
 from __future__ import annotations

@@ -144,6 +144,7 @@ def print_columns(
     from rich.box import SIMPLE_HEAD
     from rich.table import Table
 
+    events.event("table", title=title, names=list(names), rows=[list(row) for row in rows])
     widths = [max((len(row[i]) for row in rows), default=0) for i in range(len(names))]
     is_narrow = sum(max(len(name), width) + 3 for name, width in zip(names, widths)) + 1 > out.width
     shown = Table(
@@ -185,6 +186,8 @@ def opened(folder: Path) -> Study:
 
     told = described(folder)
     study = Study(told.path.parent, named=folder)
+    if study.table is not None:
+        refuse_outside(study.table)
     if study.manifest["keys"] != told.digest:
         raise PlanError(
             f"{told.path} has changed since the study was built", try_this=command("build", folder)

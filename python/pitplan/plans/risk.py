@@ -29,6 +29,7 @@ from ..base import kept_json
 from ..base.amounts import THOUSAND, Priced, spelled
 from ..base.errors import Disagreement, MachineError, PlanError
 from ..base.next_command import command
+from ..base.within import refuse_outside
 from ..model import store
 from ..model.economics import Economics
 from ..model.grid import Grid
@@ -226,6 +227,7 @@ def opened(
     path: Path, work: Path, study: Study | None = None, keys: TableKeys | None = None
 ) -> tuple[Any, str]:
     """The realisations as an array that is read where it is asked, and the file that has them."""
+    refuse_outside(path)
     if path.suffix == ".npy":
         try:
             return np.load(path, mmap_mode="r", allow_pickle=False), str(path.resolve())
@@ -442,13 +444,9 @@ class Realisation(Study):
         try:
             return economics_of(self.setup.economics).priced(model)
         except PlanError as error:  # the economics stand in that file
-            raise type(error)(
-                error.what,
-                table=error.table or folder_of(self.base) / "risk.json",
-                row=error.row,
-                column=error.column,
-                try_this=error.try_this,
-            ) from None
+            for each in error.each():
+                each.table = each.table or folder_of(self.base) / "risk.json"
+            raise
 
     def grades(self) -> Floats:
         """The grades of this realisation, of shape (lines of the table below its header,).
@@ -459,6 +457,7 @@ class Realisation(Study):
             Where they aren't those that `prepare` looked through.
         """
         path = folder_of(self.base) / self.setup.file
+        refuse_outside(path)
         try:
             found: Floats = np.ascontiguousarray(
                 np.load(path, mmap_mode="r", allow_pickle=False)[self.number], np.float32

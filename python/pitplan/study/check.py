@@ -9,8 +9,9 @@ from typing import Any
 import pandas as pd
 
 from ..base.amounts import Priced
-from ..base.errors import Gathered, PlanError
+from ..base.errors import Gathered, PlanError, about
 from ..base.strange import Strange
+from ..base.within import refuse_outside
 from ..model.economics import Economics
 from ..model.model import Model, read_with
 from ..slopes.looks import looks
@@ -59,6 +60,7 @@ def check(study: Path) -> Checked:
     """
     found, path = Gathered(path_of(study).name), path_of(study)
     with found.part():
+        refuse_outside(path)
         parts = parts_of(path, toml_of(study))
     if found.errors:
         return Checked(errors=found.errors)
@@ -82,7 +84,11 @@ def check(study: Path) -> Checked:
 
 def model_of(parts: Parts) -> Model | None:
     """The model that the table holds; None where [model] says nothing of it that can be used."""
-    return read_with(parts.table, parts.keys) if parts.table and parts.keys else None
+    if parts.table is None or parts.keys is None:
+        return None
+    with about("model", "table"):
+        refuse_outside(parts.table)
+    return read_with(parts.table, parts.keys)
 
 
 def priced_of(parts: Parts, model: Model) -> Priced | None:
@@ -96,7 +102,7 @@ def priced_of(parts: Parts, model: Model) -> Priced | None:
     if isinstance(section, Mapping):
         economics = of_right_keys(section, parts.errors.errors)
         if economics:
-            economics.read_of(model)
+            economics.priced(model)
     return None
 
 
@@ -149,6 +155,7 @@ def frame_of(parts: Parts) -> pd.DataFrame | None:
     if parts.table is None or parts.keys is None:
         return None
     try:
+        refuse_outside(parts.table)
         dialect = parts.keys.dialect(parts.table)
         names_of(head_of(parts.table, dialect.encoding, 1)[0], dialect.separator)
         return read_frame(parts.table, dialect, [])
