@@ -140,25 +140,30 @@ def print_columns(
     has_total: bool = False,
 ) -> None:
     """Prints a table of texts; the first `words` columns stand left, and a total below a gap. Where the screen is narrow the headings go over several
-    lines and the gaps shrink, and no figure is cut off."""
+    lines, the gaps shrink, and what has no room stands in a part of its own below, beside the first columns; no figure and no word is cut off.
+    """
     from rich.box import SIMPLE_HEAD
     from rich.table import Table
 
+    from ..base.folding import folded
+
     events.event("table", title=title, names=list(names), rows=[list(row) for row in rows])
-    widths = [max((len(row[i]) for row in rows), default=0) for i in range(len(names))]
-    is_narrow = sum(max(len(name), width) + 3 for name, width in zip(names, widths)) + 1 > out.width
-    shown = Table(
-        title=escape(title),
-        title_justify="left",
-        box=SIMPLE_HEAD,
-        padding=(0, 0) if is_narrow else (0, 1),
-        show_edge=not is_narrow,
-    )
-    for i, (name, width) in enumerate(zip(names, widths)):
-        shown.add_column(escape(name), justify="left" if i < words else "right", min_width=width)
-    for left, row in zip(reversed(range(len(rows))), rows):
-        shown.add_row(*map(escape, row), end_section=has_total and left == 1)
-    out.print(shown, crop=False)
+    fit = folded(names, rows, out.width, max(words, 1))
+    for at, part in enumerate(fit.parts):
+        shown = Table(
+            title=None if at else escape(title),
+            title_justify="left",
+            box=SIMPLE_HEAD,
+            padding=(0, 0) if fit.is_narrow else (0, 1),
+            show_edge=not fit.is_narrow,
+        )
+        for i in part:
+            shown.add_column(
+                escape(names[i]), justify="left" if i < words else "right", min_width=fit.widths[i]
+            )
+        for left, row in zip(reversed(range(len(rows))), rows):
+            shown.add_row(*(escape(row[i]) for i in part), end_section=has_total and left == 1)
+        out.print(shown, crop=False)
 
 
 def described(folder: Path) -> StudyFile:

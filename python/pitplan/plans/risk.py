@@ -46,6 +46,10 @@ if TYPE_CHECKING:
 
 Bools = npt.NDArray[np.bool_]
 Floats = npt.NDArray[np.float32]
+NOT_ALIKE, FEWEST = (
+    0.1,
+    50,
+)  # the correlation below which realisations have nothing to do with the table, and the rows that it takes to tell
 TENTHS = tuple(tenth / 10 for tenth in range(1, 10))
 SPREAD = (0.1, 0.5, 0.9)
 ASKED = (
@@ -713,6 +717,9 @@ class Means:
         The means, over the same rows; nan where there are none.
     rows : int
         How many rows the realisations cover: those for which one of them at least has a grade above 0.
+    apart : tuple of int
+        The realisations that have nothing to do with the table: whose correlation with it, over the rows that have a grade in it, is
+        below `NOT_ALIKE`.
     """
 
     metal: str
@@ -720,6 +727,7 @@ class Means:
     realisations: float
     table: float
     rows: int
+    apart: tuple[int, ...] = ()
 
     @property
     def share(self) -> float:
@@ -741,19 +749,37 @@ def means(study: Study, setup: Setup) -> Means:
     model = lean_model(study, setup.economics)
     rows = model.blocks["row"].to_numpy()
     there = rows >= 0
-    total, rows = np.zeros(int(there.sum())), rows[there]
+    total, rows, planned_grades = (
+        np.zeros(int(there.sum())),
+        rows[there],
+        model.numbers(setup.column, "realisations")[there],
+    )
+    apart = []
     for r in range(len(setup.digests)):
-        total += Realisation(study, setup, r, model).grades()[rows]
+        grades = Realisation(study, setup, r, model).grades()[rows]
+        total += grades
+        if not alike(grades, planned_grades):
+            apart.append(r)
     covered = total > 0
     tonnes = model.blocks.tonnes.to_numpy(float)[there][covered]
-    table = model.numbers(setup.column, "realisations")[there][covered]
+    table = planned_grades[covered]
     metal = next(m for m in setup.economics["metals"] if m["grade"] == setup.column)
     whole = float(tonnes.sum())
     simulated, planned = (
         float((grades * tonnes).sum()) / whole if whole > 0 else np.nan
         for grades in (total[covered] / len(setup.digests), table)
     )
-    return Means(metal["name"], metal["grade_unit"], simulated, planned, int(covered.sum()))
+    return Means(
+        metal["name"], metal["grade_unit"], simulated, planned, int(covered.sum()), tuple(apart)
+    )
+
+
+def alike(grades: npt.NDArray[Any], table: npt.NDArray[Any]) -> bool:
+    """Whether grades have to do with those of the table, row by row: not where rows are in another order. Few rows tell nothing."""
+    there = table > 0
+    if int(there.sum()) < FEWEST or np.ptp(grades[there]) == 0 or np.ptp(table[there]) == 0:
+        return True
+    return bool(np.corrcoef(grades[there], table[there])[0, 1] >= NOT_ALIKE)
 
 
 def spelled_factor(factor: int) -> str:
