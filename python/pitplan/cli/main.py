@@ -47,8 +47,12 @@ ORDER = (
     "schema",
     "doctor",
 )  # of a working day, for --help
-
-
+SHARED = (
+    "main",
+    "console",
+    "chosen",
+    "taking_turns",
+)  # modules of this package that have no command
 __all__ = ["MACHINE", "NO", "STOPPED", "WRONG", "main"]
 
 
