@@ -428,7 +428,7 @@ def test_a_metals_share_of_what_all_bring_is_told_in_percent(frame):
     copper, gold = (frame.TONNES * frame.CU / 100 * 0.85 * 8500).sum(), (
         frame.TONNES * frame.AU / 1e6 * 60
     ).sum()
-    assert strange(model_of(frame), told.priced(model_of(frame)), told)[0].startswith(
+    assert str(strange(model_of(frame), told.priced(model_of(frame)), told)[0]).startswith(
         f"gold brings {100 * gold / (copper + gold):.2g} % of what all metals bring"
     )
 
