@@ -65,8 +65,9 @@ def cells(names, rows=4):
     [(PHASES, 0), (SHELLS, 0), (ROCKS, 1), (RISK, 0), (("bearing", "asked", "built"), 0)],
     ids=["phases", "shells", "rocks", "risk", "slopes"],
 )
-def test_a_table_is_whole(monkeypatch, names, words, width):
-    rows, file = cells(names), io.StringIO()
+@pytest.mark.parametrize("cell", [None, "1.5"], ids=["wide cells", "narrow cells"])
+def test_a_table_is_whole(monkeypatch, names, words, width, cell):
+    rows, file = [[cell] * len(names)] if cell else cells(names), io.StringIO()
     monkeypatch.setattr(console, "out", Console(width=width, file=file, highlight=False))
     console.print_columns("a table", names, rows, words=words, has_total=True)
     lines = file.getvalue().splitlines()
