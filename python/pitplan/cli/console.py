@@ -158,8 +158,9 @@ def print_columns(
             show_edge=not fit.is_narrow,
         )
         for i in part:
+            width = fit.widths[i] if fit.is_narrow else None  # rich would take it from words, too
             shown.add_column(
-                escape(names[i]), justify="left" if i < words else "right", min_width=fit.widths[i]
+                escape(names[i]), justify="left" if i < words else "right", width=width
             )
         for left, row in zip(reversed(range(len(rows))), rows):
             shown.add_row(*(escape(row[i]) for i in part), end_section=has_total and left == 1)
