@@ -254,7 +254,7 @@ ERRORS = [
         "a row without tonnes",
         None,
         cell("TONNES", 7, np.nan),
-        "try: fill it in, or take the row out",
+        "weighs 0, and makes air of rock",
         ("model", "columns", "tonnes"),
     ),
     (
