@@ -2,8 +2,8 @@
 _pitplan() {
     local word=${COMP_WORDS[COMP_CWORD]} before=${COMP_WORDS[COMP_CWORD-1]} words= files=
     if [ "$COMP_CWORD" = 1 ]; then
-        words="init build slopes shells plot page phases export compare risk vary submit status task bundle schema doctor"
-        case "$word" in -*) words="--version --install-completion --show-completion -h --help" ;; esac
+        words="init check build slopes shells plot page phases export compare risk vary submit status task bundle schema doctor"
+        case "$word" in -*) words="--version --no-wait --within --install-completion --show-completion -h --help" ;; esac
     else
         case "${COMP_WORDS[1]} $before" in
         "init --study") files=1 ;;
@@ -51,6 +51,7 @@ _pitplan() {
         *)
             case "${COMP_WORDS[1]}" in
             init) words="--study -c --column --encoding --force -h --help" files=1 ;;
+            check) words="--watch -h --help" files=1 ;;
             build) words="-h --help" files=1 ;;
             slopes) words="--every -h --help" files=1 ;;
             shells) words="--workers --certificates -h --help" files=1 ;;

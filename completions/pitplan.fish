@@ -1,6 +1,8 @@
 # Completion of pitplan for fish. Written by tools/man_page.py from the help texts: change those, not this file.
 complete -c pitplan -f
 complete -c pitplan -n __fish_use_subcommand -l version -d 'Print the version'
+complete -c pitplan -n __fish_use_subcommand -l no-wait -d 'End where another command has the study, and don\'t wait for it'
+complete -c pitplan -n __fish_use_subcommand -l within -r -F -d 'Refuse studies, tables, designs and realisations outside this folder'
 complete -c pitplan -n __fish_use_subcommand -l install-completion -x -a 'bash zsh fish powershell pwsh' -d 'Install completion for the specified shell'
 complete -c pitplan -n __fish_use_subcommand -l show-completion -x -a 'bash zsh fish powershell pwsh' -d 'Show completion for the specified shell, to copy it or customize the installation'
 complete -c pitplan -n __fish_use_subcommand -s h -l help -d 'Show this message and exit'
@@ -11,6 +13,10 @@ complete -c pitplan -n '__fish_seen_subcommand_from init' -s c -l column -x -a '
 complete -c pitplan -n '__fish_seen_subcommand_from init' -l encoding -x -d 'Of the table where it isn\'t UTF-8, as cp1252'
 complete -c pitplan -n '__fish_seen_subcommand_from init' -l force -d 'Write over a study.toml that is there'
 complete -c pitplan -n '__fish_seen_subcommand_from init' -s h -l help -d 'Show this message and exit'
+complete -c pitplan -n __fish_use_subcommand -a check -d 'Say what is wrong with a study, all at a time, and what looks wrong'
+complete -c pitplan -n '__fish_seen_subcommand_from check' -F
+complete -c pitplan -n '__fish_seen_subcommand_from check' -l watch -d 'Do it again whenever study.toml or the table is saved, until stopped'
+complete -c pitplan -n '__fish_seen_subcommand_from check' -s h -l help -d 'Show this message and exit'
 complete -c pitplan -n __fish_use_subcommand -a build -d 'Read the table, work out what each block brings and costs, and make the slopes'
 complete -c pitplan -n '__fish_seen_subcommand_from build' -F
 complete -c pitplan -n '__fish_seen_subcommand_from build' -s h -l help -d 'Show this message and exit'

@@ -4,6 +4,7 @@ _pitplan() {
     local -a commands
     commands=(
         'init:Look at a table of blocks, and write a study.toml for it'
+        'check:Say what is wrong with a study, all at a time, and what looks wrong'
         'build:Read the table, work out what each block brings and costs, and make the slopes'
         'slopes:Show the angles that are asked for and those that are built, by bearing and region, and draw them'
         'shells:Find the proved pit at each factor, and the tables'
@@ -22,7 +23,7 @@ _pitplan() {
         'doctor:Look whether all that pitplan needs is here, and take a small mine through it'
     )
     if (( CURRENT == 2 )); then
-        [[ $words[2] == -* ]] && _arguments -S '--version[Print the version]' '--install-completion[Install completion for the specified shell]:install-completion:(bash zsh fish powershell pwsh)' '--show-completion[Show completion for the specified shell, to copy it or customize the installation]:show-completion:(bash zsh fish powershell pwsh)' '-h[Show this message and exit]' '--help[Show this message and exit]' || _describe -t commands command commands
+        [[ $words[2] == -* ]] && _arguments -S '--version[Print the version]' '--no-wait[End where another command has the study, and don'\''t wait for it]' '--within[Refuse studies, tables, designs and realisations outside this folder]:within:_files' '--install-completion[Install completion for the specified shell]:install-completion:(bash zsh fish powershell pwsh)' '--show-completion[Show completion for the specified shell, to copy it or customize the installation]:show-completion:(bash zsh fish powershell pwsh)' '-h[Show this message and exit]' '--help[Show this message and exit]' || _describe -t commands command commands
         return
     fi
     local command=$words[2]
@@ -33,6 +34,8 @@ _pitplan() {
             '-c[What a column is, as x=este, where its name isn'\''t a usual one]:column:(id x y z dx dy dz tonnes density rock)' '--column[What a column is, as x=este, where its name isn'\''t a usual one]:column:(id x y z dx dy dz tonnes density rock)' \
             '--encoding[Of the table where it isn'\''t UTF-8, as cp1252]:encoding: ' \
             '--force[Write over a study.toml that is there]' \
+            '-h[Show this message and exit]' '--help[Show this message and exit]' '*:file:_files' ;;
+        check) _arguments '--watch[Do it again whenever study.toml or the table is saved, until stopped]' \
             '-h[Show this message and exit]' '--help[Show this message and exit]' '*:file:_files' ;;
         build) _arguments '-h[Show this message and exit]' '--help[Show this message and exit]' '*:file:_files' ;;
         slopes) _arguments '--every[Degrees of bearing between two lines of the table]:every: ' \

@@ -154,6 +154,28 @@ class Killed(MachineError):
     """A `pit` that somebody ended, as the system does where memory is short."""
 
 
+NO, WRONG, MACHINE, ENDED = 1, 3, 4, 130
+
+
+def exit_status(error: BaseException) -> int:
+    """The exit status of a command that ends by an error: 1 no, 3 a file is wrong, 4 the machine, 130 stopped."""
+    if isinstance(error, SystemExit):
+        return error.code if isinstance(error.code, int) else int(error.code is not None)
+    if isinstance(getattr(error, "exit_code", None), int):  # of click's own
+        return int(error.exit_code)  # type: ignore[attr-defined]
+    if isinstance(error, (NotAccepted, Disagreement)):
+        return NO
+    if isinstance(error, (MachineError, OSError, MemoryError)):
+        return MACHINE
+    return (
+        WRONG
+        if isinstance(error, PlanError)
+        else ENDED
+        if isinstance(error, KeyboardInterrupt)
+        else NO
+    )
+
+
 class Several(PlanError):
     """Errors that don't hang on each other, told at a time."""
 

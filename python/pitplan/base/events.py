@@ -6,9 +6,11 @@ those of the last command that had it. Each line has ``time`` (seconds since 197
     begin   command (list of words), pid, host
     step    what, of what is begun
     pit     factor (thousandths), state (solving, proved, done, killed), share (0 to 1), of (how many pits were asked for)
+    task    task (its words), done (how many are), of
     look    what, try
-    error   as `errors.PlanError.as_data`
+    error   as `errors.PlanError.as_data`, and line, of study.toml
     said    what: a line of the command's answer
+    table   title, names (of its columns), rows (lists of words): a table of the command's answer
     end     status: the exit status
 """
 from __future__ import annotations
@@ -17,8 +19,8 @@ import json
 import os
 import sys
 import time
-from collections.abc import Iterator
-from contextlib import suppress
+from collections.abc import Callable, Iterator
+from contextlib import contextmanager, suppress
 from dataclasses import dataclass, field
 from pathlib import Path
 from typing import IO, Any
@@ -34,7 +36,6 @@ class Sinks:
     """The files that are written to, of this process."""
 
     opened: list[IO[str]] = field(default_factory=list)
-    named: bool = False
 
 
 SINKS = Sinks()
@@ -42,10 +43,9 @@ SINKS = Sinks()
 
 def event(kind: str, **data: Any) -> None:
     """Writes a line to each file. What can't be written is left out: nobody's pit depends on it."""
-    if not SINKS.named:
-        SINKS.named = True
-        if os.environ.get(FILE):
-            also(Path(os.environ[FILE]), "a")
+    named = os.environ.pop(FILE, None)  # processes that this one starts don't write there
+    if named:
+        also(Path(named), "a")
     if SINKS.opened:
         line = (
             json.dumps(
@@ -68,9 +68,31 @@ def also(path: Path, mode: str = "w") -> None:
         )
 
 
-def begin(words: list[str]) -> None:
+def begin() -> None:
     """Says which command begins."""
-    event("begin", command=words, pid=os.getpid(), host=os.uname().nodename)
+    event("begin", command=words(), pid=os.getpid(), host=os.uname().nodename)
+
+
+@contextmanager
+def of_study(folder: Path) -> Iterator[Callable[[int, PlanError | None], None]]:
+    """Writes to a study's own file, too, as long as a command has the study. The function that it gives says there how the command ends."""
+    others, SINKS.opened = SINKS.opened, []
+    if (folder / LAST).parent.is_dir():
+        also(folder / LAST)
+    own = list(SINKS.opened)
+    begin()
+    SINKS.opened = [*others, *own]
+
+    def ends(status: int, wrong: PlanError | None = None) -> None:
+        SINKS.opened = own
+        if wrong:
+            error(wrong)
+        end(status)
+
+    try:
+        yield ends
+    finally:
+        SINKS.opened = others
 
 
 def end(status: int) -> None:
@@ -79,7 +101,7 @@ def end(status: int) -> None:
     for sink in SINKS.opened:
         with suppress(OSError):
             sink.close()
-    SINKS.opened, SINKS.named = [], False
+    SINKS.opened = []
 
 
 def look(text: str) -> None:
@@ -88,10 +110,14 @@ def look(text: str) -> None:
     event("look", what=what, **({"try": advice} if advice else {}))
 
 
-def error(found: PlanError) -> None:
-    """Says each error."""
-    for each in found.each():
-        event("error", **each.as_data())
+def error(found: PlanError, study_toml: Path | None = None) -> None:
+    """Says each error, with the number of its line of study.toml, where it has one."""
+    if SINKS.opened:
+        from .error_text import place_of
+
+        for each in found.each():
+            place = place_of(each, study_toml)
+            event("error", **each.as_data(), line=place[0] if place else None)
 
 
 def of_last_run(folder: Path) -> list[dict[str, Any]]:

@@ -2,7 +2,7 @@
 from __future__ import annotations
 
 import sys
-from collections.abc import Sequence
+from collections.abc import Mapping, Sequence
 from pathlib import Path
 from typing import TYPE_CHECKING, Optional
 
@@ -18,6 +18,8 @@ from .console import STUDY, app, described, err, print_columns, say, warn
 if TYPE_CHECKING:
     from rich.status import Status
 
+    from ..base.amounts import Priced
+    from ..base.strange import Strange
     from ..model.model import Model
     from ..slopes.slopes import Begun
     from ..study.study import Study
@@ -93,6 +95,7 @@ def named(said: str) -> tuple[str, str]:
 @app.command()
 def build(folder: Path = STUDY) -> None:
     """Read the table, work out what each block brings and costs, and make the slopes."""
+    from ..slopes.looks import looks
     from ..study.building import Building
     from ..study.study import Study
     from .slopes import key_of, print_patterns
@@ -118,8 +121,14 @@ def build(folder: Path = STUDY) -> None:
         study.priced.check_room(max(told.factors, default=THOUSAND))
     for note in study.model.notes[len(model.notes) :]:
         say("  " + note)
-    print_tonnage(study)
-    tell_strange(study, told, model)
+    print_tonnage(study.model, study.priced, study.manifest["metals"])
+    if told.economics.forbid:
+        part = int(told.economics.partly_forbidden(model).sum())
+        say(
+            f"{int(study.priced.forbidden.sum()):,} of {len(model):,} blocks may not be dug, by forbid"
+            + (f"; of {part:,} of them it holds for some sub-blocks alone" if part else "")
+        )
+    tell_strange(looks(model, study.priced, told))
     print_patterns(told.slopes, study.model.grid)
     set_aside(study, key_of(told.slopes, study.model.grid))
     print_size(study, told)
@@ -152,11 +161,11 @@ def set_aside(study: Study, walls: str) -> None:
         )
 
 
-def print_tonnage(study: Study) -> None:
+def print_tonnage(model: Model, priced: Priced, metals: Mapping[str, Mapping[str, str]]) -> None:
     """The grade-tonnage line of each rock."""
     from ..model.tonnage import by_rock
 
-    lines = by_rock(study.model, study.priced, study.manifest["metals"])
+    lines = by_rock(model, priced, metals)
     columns = [
         list(map(str, lines[lines.columns[0]])),
         *(cells_of(lines[name].tolist()) for name in lines.columns[1:]),
@@ -169,18 +178,10 @@ def print_tonnage(study: Study) -> None:
     )
 
 
-def tell_strange(study: Study, told: StudyFile, model: Model) -> None:
-    """How many blocks may not be dug, and what looks as if a unit were another one."""
-    from ..model.plausible import strange
-
-    if told.economics.forbid:
-        part = int(told.economics.partly_forbidden(model).sum())
-        say(
-            f"{int(study.priced.forbidden.sum()):,} of {len(model):,} blocks may not be dug, by forbid"
-            + (f"; of {part:,} of them it holds for some sub-blocks alone" if part else "")
-        )
-    for what in strange(model, study.priced, told.economics):
-        warn(what)
+def tell_strange(found: Sequence[Strange]) -> None:
+    """What looks wrong."""
+    for what in found:
+        warn(str(what))
 
 
 def cells_of(values: Sequence[int | float]) -> list[str]:

@@ -3,8 +3,9 @@ from __future__ import annotations
 
 import sys
 from collections.abc import Sequence
+from dataclasses import dataclass
 from pathlib import Path
-from typing import TYPE_CHECKING, Any
+from typing import TYPE_CHECKING, Any, Optional
 
 from ..base.later import lazily
 
@@ -12,15 +13,19 @@ lazily("typer.rich_utils")  # typer loads it with itself, and only help and erro
 
 import click
 import typer
-from rich.console import Console
+from rich.console import Console, RenderableType
 from rich.markup import escape
 from typer.core import TyperGroup
 
 from .. import __version__
+from ..base import events
 from ..base.errors import PlanError
 from ..base.next_command import command
+from ..base.within import only_within, refuse_outside
 
 if TYPE_CHECKING:
+    from rich.status import Status
+
     from ..study.shells import Shells
     from ..study.study import Study
     from ..study.study_file import StudyFile
@@ -51,10 +56,28 @@ app = typer.Typer(
     help="From a planner's table of blocks to proved pits, tables and pictures. Every best pit that it shows is proved by `pit`.",
     epilog="Exit status: 0 done; 1 no, where pit check refuses or a check of pitplan fails; 2 wrong words; 3 a file is wrong; 4 the machine (memory, disk); 130 stopped.",
 )
+
+
+class Told(Console):
+    """A console whose steps are events, too."""
+
+    def status(self, status: RenderableType, **more: Any) -> Status:
+        events.event("step", what=str(status))
+        return super().status(status, **more)
+
+
+@dataclass
+class Wants:
+    """What was asked for before the command's name: whether a command waits for its turn."""
+
+    waits: bool = True
+
+
+wants = Wants()
 out = Console(
     width=None if sys.stdout.isatty() else 160, soft_wrap=not sys.stdout.isatty(), highlight=False
 )
-err = Console(stderr=True, highlight=False)
+err = Told(stderr=True, highlight=False)
 study_toml: Path | None = None  # that was read last, whose lines errors show
 STUDY: Any = typer.Argument(
     Path("."), help="The folder of the study, with its study.toml.", show_default="this folder"
@@ -71,19 +94,44 @@ def tell_version(is_asked: bool) -> None:
 def before_any_command(
     version: bool = typer.Option(
         False, "--version", help="Print the version.", is_eager=True, callback=tell_version
-    )
+    ),
+    no_wait: bool = typer.Option(
+        False, "--no-wait", help="End where another command has the study, and don't wait for it."
+    ),
+    within: Optional[Path] = typer.Option(
+        None,
+        "--within",
+        metavar="FOLDER",
+        help="Refuse studies, tables, designs and realisations outside this folder.",
+    ),
 ) -> None:
-    """Options that need no command."""
+    """Options that stand before the command's name."""
+    wants.waits = not no_wait
+    if within is not None:
+        only_within(within)
 
 
 def say(text: str) -> None:
     """Prints a text as it is: names of the planner's may look like rich's marks."""
+    events.event("said", what=text)
     out.print(escape(text), soft_wrap=True)
 
 
 def warn(text: str, indent: str = "") -> None:
     """Says what the planner should look at."""
+    events.look(text)
     err.print(f"{indent}[yellow]look:[/yellow] {escape(text)}", soft_wrap=True)
+
+
+def tell(error: PlanError) -> None:
+    """Prints an error, or each of several, with the line of study.toml that it concerns."""
+    from ..base.error_text import lines_of
+
+    events.error(error, study_toml)
+    for each in error.each():
+        err.print(
+            "[red]error:[/red] " + escape("\n".join(lines_of(each, study_toml))), soft_wrap=True
+        )
 
 
 def warn_of_room(wanted: int | None, count: int) -> None:
@@ -100,24 +148,31 @@ def print_columns(
     has_total: bool = False,
 ) -> None:
     """Prints a table of texts; the first `words` columns stand left, and a total below a gap. Where the screen is narrow the headings go over several
-    lines and the gaps shrink, and no figure is cut off."""
+    lines, the gaps shrink, and what has no room stands in a part of its own below, beside the first columns; no figure and no word is cut off.
+    """
     from rich.box import SIMPLE_HEAD
     from rich.table import Table
 
-    widths = [max((len(row[i]) for row in rows), default=0) for i in range(len(names))]
-    is_narrow = sum(max(len(name), width) + 3 for name, width in zip(names, widths)) + 1 > out.width
-    shown = Table(
-        title=escape(title),
-        title_justify="left",
-        box=SIMPLE_HEAD,
-        padding=(0, 0) if is_narrow else (0, 1),
-        show_edge=not is_narrow,
-    )
-    for i, (name, width) in enumerate(zip(names, widths)):
-        shown.add_column(escape(name), justify="left" if i < words else "right", min_width=width)
-    for left, row in zip(reversed(range(len(rows))), rows):
-        shown.add_row(*map(escape, row), end_section=has_total and left == 1)
-    out.print(shown, crop=False)
+    from ..base.folding import folded
+
+    events.event("table", title=title, names=list(names), rows=[list(row) for row in rows])
+    fit = folded(names, rows, out.width, max(words, 1))
+    for at, part in enumerate(fit.parts):
+        shown = Table(
+            title=None if at else escape(title),
+            title_justify="left",
+            box=SIMPLE_HEAD,
+            padding=(0, 0) if fit.is_narrow else (0, 1),
+            show_edge=not fit.is_narrow,
+        )
+        for i in part:
+            width = fit.widths[i] if fit.is_narrow else None  # rich would take it from words, too
+            shown.add_column(
+                escape(names[i]), justify="left" if i < words else "right", width=width
+            )
+        for left, row in zip(reversed(range(len(rows))), rows):
+            shown.add_row(*(escape(row[i]) for i in part), end_section=has_total and left == 1)
+        out.print(shown, crop=False)
 
 
 def described(folder: Path) -> StudyFile:
@@ -126,7 +181,10 @@ def described(folder: Path) -> StudyFile:
     from ..study.study_file import path_of, read_study_file
 
     study_toml = path_of(folder)
-    return read_study_file(folder)
+    refuse_outside(study_toml)
+    found = read_study_file(folder)
+    refuse_outside(found.table)
+    return found
 
 
 def opened(folder: Path) -> Study:
@@ -142,6 +200,8 @@ def opened(folder: Path) -> Study:
 
     told = described(folder)
     study = Study(told.path.parent, named=folder)
+    if study.table is not None:
+        refuse_outside(study.table)
     if study.manifest["keys"] != told.digest:
         raise PlanError(
             f"{told.path} has changed since the study was built", try_this=command("build", folder)

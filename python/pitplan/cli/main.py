@@ -11,21 +11,25 @@ from pathlib import Path
 import click
 from rich.markup import escape
 
+from ..base import events
 from ..base.errors import (
-    STOPPED as SAYS_STOPPED,
-    Disagreement,
-    MachineError,
-    NotAccepted,
+    ENDED as STOPPED,
+    MACHINE,
+    NO,
+    WRONG,
     PlanError,
+    exit_status,
+    STOPPED as SAYS_STOPPED,
 )
 from ..base.later import lazily
 from ..base.next_command import remember
 from ..study import older
-from . import console
-from .console import app, err
+from .console import app, err, tell
+from .taking_turns import take_turns
 
 ORDER = (
     "init",
+    "check",
     "build",
     "slopes",
     "shells",
@@ -43,8 +47,13 @@ ORDER = (
     "schema",
     "doctor",
 )  # of a working day, for --help
-NO, WRONG, MACHINE, STOPPED = 1, 3, 4, 130
-SHARED = ("main", "console", "chosen")  # modules of this package that have no command
+SHARED = (
+    "main",
+    "console",
+    "chosen",
+    "taking_turns",
+)  # modules of this package that have no command
+__all__ = ["MACHINE", "NO", "STOPPED", "WRONG", "main"]
 
 
 def load_commands() -> None:
@@ -63,13 +72,6 @@ def load_commands() -> None:
     )
 
 
-def status_of(error: PlanError) -> int:
-    """The exit status of an error: 1 no, 3 a file is wrong, 4 the machine."""
-    if isinstance(error, (NotAccepted, Disagreement)):
-        return NO
-    return MACHINE if isinstance(error, MachineError) else WRONG
-
-
 def remedy(error: OSError) -> str:
     """What to try where the system refuses a file."""
     if error.errno in (errno.EACCES, errno.EPERM, errno.EROFS):
@@ -81,23 +83,23 @@ def remedy(error: OSError) -> str:
     )
 
 
-def tell(error: PlanError) -> None:
-    """Prints an error, or each of several."""
-    from ..base.error_text import lines_of
-
-    for each in error.each():
-        err.print(
-            "[red]error:[/red] " + escape("\n".join(lines_of(each, console.study_toml))),
-            soft_wrap=True,
-        )
-
-
 def main() -> None:
     """Runs a command. Exit status: 0 done, 1 no, 2 wrong words, 3 a file is wrong, 4 the machine, 130 stopped."""
     try:
+        run()
+    except SystemExit as ended:
+        events.end(exit_status(ended))
+        raise
+
+
+def run() -> None:
+    """Runs a command, and says how it failed. Ends the process by its exit status."""
+    try:
         remember(sys.argv[0])
+        events.begin()
         lazily("pandas")  # the first pits can be looked for while it is loaded
         load_commands()
+        take_turns(app)
         try:
             status = app(prog_name="pitplan", standalone_mode=False)
         finally:
@@ -108,7 +110,7 @@ def main() -> None:
         sys.exit(error.exit_code)
     except PlanError as error:
         tell(error)
-        sys.exit(status_of(error))
+        sys.exit(exit_status(error))
     except (KeyboardInterrupt, click.Abort):
         err.print(SAYS_STOPPED)
         sys.exit(STOPPED)

@@ -9,11 +9,22 @@ from pathlib import Path
 from typing import TYPE_CHECKING, Optional
 
 import typer
-from rich.markup import escape
 
+from ..base import events
 from ..base.errors import PlanError
 from ..base.next_command import command
-from .console import STUDY, app, described, err, opened, out, results, say, warn, warn_of_room
+from .console import (
+    STUDY,
+    app,
+    described,
+    err,
+    opened,
+    print_columns,
+    results,
+    say,
+    warn,
+    warn_of_room,
+)
 
 if TYPE_CHECKING:
     import pandas as pd
@@ -128,10 +139,15 @@ def refuse_another(setup: Setup, factors: str, metal: Optional[str], folder: Pat
 
 def tell_means(study: Study, setup: Setup) -> None:
     """Says where the realisations aren't true to the table on the mean."""
-    from ..plans.risk import means
+    from ..plans.risk import NOT_ALIKE, means
 
     with err.status("the realisations beside the table"):
         found = means(study, setup)
+    if found.apart:
+        warn(
+            f"realisation {', '.join(map(str, found.apart[:9]))}{', ..' * (len(found.apart) > 9)} of {len(setup.digests)} has nothing to do with the table, row by row (a correlation of less than {NOT_ALIKE:g}); "
+            "a realisation varies around the estimate\n  try: its rows in the order of the table's"
+        )
     if not abs(found.share) > NEAR:
         return
     by = f"{abs(found.share):.1%} " if found.table > 0 else ""
@@ -174,7 +190,7 @@ def do_all(study: Study, tasks: list[Task], workers: Optional[int]) -> None:
     count = processes_for(study, workers)
     warn_of_room(workers, count)
     if not err.is_terminal:
-        deaths = run_local(study, left, count, lines())
+        deaths = run_local(study, left, count, heard(lines()))
     else:
         from rich.progress import (
             BarColumn,
@@ -194,10 +210,20 @@ def do_all(study: Study, tasks: list[Task], workers: Optional[int]) -> None:
         ) as bars:
             bar = bars.add_task(f"tasks, {count} at a time", total=len(left))
             deaths = run_local(
-                study, left, count, lambda task, done, of: bars.update(bar, completed=done)
+                study, left, count, heard(lambda task, done, of: bars.update(bar, completed=done))
             )
     if deaths:
         warn(f"a process was ended {deaths} times, and started again: was memory short?")
+
+
+def heard(listener: Heard) -> Heard:
+    """A listener whose tasks are events, too."""
+
+    def told(task: Task, done: int, of: int) -> None:
+        events.event("task", task=str(task), done=done, of=of)
+        listener(task, done, of)
+
+    return told
 
 
 def lines() -> Heard:
@@ -244,22 +270,11 @@ def warn_of_edges(found: Risk) -> None:
 
 def print_risk(found: Risk, factor: int, pits: pd.DataFrame) -> None:
     """The spread over the realisations on the screen, and the pit of a likelihood that is worth most on the mean."""
-    from rich.box import SIMPLE_HEAD
-    from rich.table import Table
     from ..plans.risk import spelled_factor
 
     currency = found.study.currency
-    shown = Table(
-        title=escape(
-            f"{found.count} realisations, million {currency} and Mt; a tenth of them lies below p10"
-        ),
-        title_justify="left",
-        box=SIMPLE_HEAD,
-    )
-    for name in ("factor", "worth p10", "p50", "p90", "mean", "rock p10", "p50", "p90"):
-        shown.add_column(name, justify="right")
-    for row in found.table().itertuples():
-        shown.add_row(
+    lines = [
+        (
             f"{row.factor:.3f}",
             *(
                 f"{v / 1e6:,.2f}"
@@ -274,7 +289,13 @@ def print_risk(found: Risk, factor: int, pits: pd.DataFrame) -> None:
                 )
             ),
         )
-    out.print(shown)
+        for row in found.table().itertuples()
+    ]
+    print_columns(
+        f"{found.count} realisations, million {currency} and Mt; a tenth of them lies below p10",
+        ("factor", "worth p10", "p50", "p90", "mean", "rock p10", "p50", "p90"),
+        lines,
+    )
     if found.factors != [1000]:
         say("each worth is at its factor's own price")
     most = pits.worth_mean.idxmax()

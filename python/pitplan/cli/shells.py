@@ -9,8 +9,11 @@ from pathlib import Path
 from typing import TYPE_CHECKING, Optional
 
 import typer
+
+from ..base import events
 from ..base.errors import PlanError
 from ..base.next_command import command
+from .build import tell_strange
 from .console import (
     STUDY,
     app,
@@ -44,6 +47,7 @@ def shells(
     ),
 ) -> None:
     """Find the proved pit at each factor, and the tables. Goes on where it was stopped."""
+    from ..slopes.looks import of_rates
     from ..study.workers import workers_for
 
     told, study = described(folder), opened(folder)
@@ -54,6 +58,7 @@ def shells(
     table = found.table(**told.rates)
     write_tables(found, table, told.keys.decimal)
     print_table(found, table)
+    tell_strange(list(of_rates(study.model, study.priced, told.rates)))
     warn_of_edges(found)
 
 
@@ -77,7 +82,7 @@ def shown(factors: list[int], workers: int) -> Iterator[Told]:
     """Shows how far the runs are: on a terminal a bar with the time left and a line for each that runs, else a line for each
     that is done."""
     if not err.is_terminal:
-        yield lines(len(factors))
+        yield heard(lines(len(factors)), len(factors))
         return
     from rich.progress import BarColumn, Progress, TextColumn, TimeRemainingColumn
 
@@ -113,7 +118,21 @@ def shown(factors: list[int], workers: int) -> Iterator[Told]:
             else:
                 bars.update(lanes[factor], completed=share, told=what if share < 1 else "checking")  # type: ignore[arg-type]
 
-        yield listener
+        yield heard(listener, len(factors))
+
+
+def heard(listener: Told, of: int) -> Told:
+    """A listener whose pits are events, too: each hundredth of its way."""
+    last: dict[int, tuple[str, int]] = {}
+
+    def told(factor: int, what: str, share: float) -> None:
+        now = what, int(100 * share)
+        if last.get(factor) != now:
+            last[factor] = now
+            events.event("pit", factor=factor, state=what, share=round(share, 2), of=of)
+        listener(factor, what, share)
+
+    return told
 
 
 def lines(total: int) -> Told:

@@ -115,6 +115,7 @@ def show(study: Study, tasks: list[Task], engine: str, limits: object) -> None:
 @app.command()
 def status(folder: Path = STUDY) -> None:
     """Show what is done, running, waiting and failed, and how long the rest will take."""
+    from ..study.last_run import told
     from ..tasks.engines import in_slurm
     from ..tasks.status import FAILED, RUNNING, STATES, seconds_left, states
     from ..tasks.task import wanted
@@ -151,3 +152,6 @@ def status(folder: Path = STUDY) -> None:
     left = seconds_left(study, found)
     if left:
         say(f"the rest will take about {duration(left)}, by what is done")
+    last = told(study.folder)
+    if last:
+        say(last)

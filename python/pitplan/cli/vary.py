@@ -5,11 +5,10 @@ from pathlib import Path
 from typing import TYPE_CHECKING, Any, List, Optional, Tuple
 
 import typer
-from rich.markup import escape
 
 from ..base.errors import PlanError
 from ..base.next_command import command
-from .console import app, described, err, opened, out, results, say, warn
+from .console import app, described, err, opened, print_columns, results, say, warn
 
 if TYPE_CHECKING:
     import pandas as pd
@@ -70,8 +69,6 @@ def folder_and_changes(words: List[str]) -> Tuple[Path, List[str]]:
 
 def write_what_ifs(study: Any) -> None:
     """The table, the chart, and the table on the screen."""
-    from rich.box import SIMPLE_HEAD
-    from rich.table import Table
     from ..plans.vary import UNITS, table, tornado
     from ..table.spreadsheets import write_table
     from ..views.pictures import save
@@ -80,24 +77,25 @@ def write_what_ifs(study: Any) -> None:
     currency = study.currency
     write_table(found, folder / "vary.csv")
     save(tornado(found, currency), folder / "tornado.png")
-    shown = Table(
-        title=escape(f"a proved pit for each, worths in million {currency}"),
-        title_justify="left",
-        box=SIMPLE_HEAD,
-    )
-    for name in ("what", "by", "blocks", "rock Mt", "worth", "difference"):
-        shown.add_column(name, justify="left" if name == "what" else "right")
+    lines = []
     for row in found.itertuples():
         by = f"{row.by:+g}{UNITS[row.what]}" if row.what in UNITS else ""
-        shown.add_row(
-            row.what if by else "as planned",
-            by,
-            f"{row.blocks:,}",
-            f"{row.rock_t / 1e6:,.2f}",
-            f"{row.worth / 1e6:,.2f}",
-            f"{row.difference / 1e6:+,.2f}" if by else "",
+        lines.append(
+            (
+                row.what if by else "as planned",
+                by,
+                f"{row.blocks:,}",
+                f"{row.rock_t / 1e6:,.2f}",
+                f"{row.worth / 1e6:,.2f}",
+                f"{row.difference / 1e6:+,.2f}" if by else "",
+            )
         )
-    out.print(shown)
+    print_columns(
+        f"a proved pit for each, worths in million {currency}",
+        ("what", "by", "blocks", "rock Mt", "worth", "difference"),
+        lines,
+        words=1,
+    )
     say(f"{folder}: vary.csv, tornado.png")
     warn_of_edges(found)
 

@@ -63,6 +63,8 @@ class Model:
         The sub-blocks that blocks were added up from, as long as the table is at hand.
     fenced : (formulas, bool array of shape (len(self),)) or None
         Of a stored model with sub-blocks the formulas of `forbid`, and the blocks that they keep.
+    unweighed : dict
+        How many rows of a table that was just read have no tonnes or density, as `absent` says, by rock.
     """
 
     blocks: pd.DataFrame
@@ -76,6 +78,7 @@ class Model:
     absent: Sequence[str] = ()
     parts: subblocks.Parts | None = None
     fenced: tuple[Sequence[str], npt.NDArray[np.bool_]] | None = None
+    unweighed: dict[str, int] = field(default_factory=dict)
 
     def __len__(self) -> int:
         return len(self.blocks)
@@ -226,6 +229,7 @@ def read_with(path: Path, keys: TableKeys) -> Model:
     places = places_of(frame, names, keys, table)
     with about("model", "size"):
         size = size_of(frame, names, keys, table, notes)
+    unweighed = without_weight(frame, names, keys.absent)
     estimated(frame, names, keys.absent)
     with about("model", "regularise"):
         whole = subblocks.whole_blocks(
@@ -249,6 +253,7 @@ def read_with(path: Path, keys: TableKeys) -> Model:
         keys.z == "depth",
         path,
         keys.absent,
+        unweighed=unweighed,
     )
     if whole.tonnes is not None:
         i, j, k = (at[whole.parent] for at in index)
@@ -304,6 +309,28 @@ def size_of(
         f"size {x:g} x {y:g} x {z:g} from the columns {', '.join(names[key] for key in SIZES)}"
     )
     return x, y, z
+
+
+def without_weight(
+    frame: pd.DataFrame, names: Mapping[str, str], absent: Sequence[str]
+) -> dict[str, int]:
+    """How many rows of each rock have a cell of `absent` for their tonnes or density."""
+    key = next((key for key in ("tonnes", "density") if key in names), None)
+    if not absent or key is None:
+        return {}
+    values = frame[names[key]]
+    marked = (
+        values.isin(numbers_among(absent))
+        if values.dtype.kind in "iuf"
+        else values.astype(str).str.strip().isin([mark.strip() for mark in absent])
+    )
+    marked |= values.isna() if "" in absent else False
+    rocks = (
+        frame[names["rock"]][marked].fillna("").astype(str).str.strip()
+        if "rock" in names
+        else pd.Series("rock", marked[marked].index)
+    )
+    return {str(rock): int(count) for rock, count in rocks.value_counts().items()}
 
 
 def estimated(frame: pd.DataFrame, names: Mapping[str, str], absent: Sequence[str]) -> None:

@@ -7,6 +7,8 @@ from __future__ import annotations
 import numpy as np
 
 from ..base.amounts import THOUSAND, Priced
+from ..base.strange import Strange
+from ..table.study_keys import METALS
 from .economics import Economics, holds
 from .model import Model
 
@@ -18,36 +20,50 @@ RICHEST = 50  # how many times its costs ore may bring
 LEAST = 0.002  # the share that a metal has of what all bring
 
 
-def strange(model: Model, priced: Priced, economics: Economics) -> list[str]:
-    """What the planner should look at, each with what to try in a line of its own."""
+def strange(model: Model, priced: Priced, economics: Economics) -> list[Strange]:
+    """What the planner should look at."""
     return [*of_tonnes(model), *of_worths(priced, economics), *of_forbid(model, economics)]
 
 
-def of_tonnes(model: Model) -> list[str]:
+def of_tonnes(model: Model) -> list[Strange]:
     """Where rock is lighter or heavier than any is."""
     tonnes = model.blocks.tonnes.to_numpy(float)
     tonnes = tonnes[tonnes > 0]
     if not len(tonnes):
         return [
-            "no block has any tonnes\n  try: another column of tonnes or density in [model] columns"
+            Strange(
+                "no block has any tonnes",
+                "",
+                "another column of tonnes or density in [model] columns",
+                ("model", "columns"),
+            )
         ]
     weight, size = float(tonnes.mean()), " x ".join(f"{side:g}" for side in model.grid.size)
     density = weight / model.grid.volume
     if LIGHTEST <= density <= HEAVIEST:
         return []
     return [
-        f"a block of {size} weighs {weight:,.4g} tonnes on average, {density:,.3g} for each cubic unit; rock has 1.5 to 5 in a cubic metre\n"
-        "  try: is that the column of tonnes or density, in tonnes, and is the size in the unit of the coordinates?"
+        Strange(
+            f"a block of {size} weighs {weight:,.4g} tonnes on average, {density:,.3g} for each cubic unit",
+            "rock has 1.5 to 5 in a cubic metre",
+            "is that the column of tonnes or density, in tonnes, and is the size in the unit of the coordinates?",
+            ("model", "size"),
+        )
     ]
 
 
-def of_worths(priced: Priced, economics: Economics) -> list[str]:
+def of_worths(priced: Priced, economics: Economics) -> list[Strange]:
     """Where no ore pays, where it pays far too well, and where a metal brings next to nothing."""
-    units = "price, price_unit, grade_unit and recovery in [economics]"
+    units, key = "price, price_unit, grade_unit and recovery in [economics]", ("economics", METALS)
     ore = priced.milled(THOUSAND)
     if not ore.any():
         return [
-            f"no block pays for its treatment at the full price, so each pit up to factor 1 is empty\n  try: {units}"
+            Strange(
+                "no block pays for its treatment at the full price, so each pit up to factor 1 is empty",
+                "",
+                units,
+                key,
+            )
         ]
     costs = float(
         priced.processing[ore].sum(dtype=float)
@@ -55,7 +71,14 @@ def of_worths(priced: Priced, economics: Economics) -> list[str]:
     )
     times = float(priced.revenue[ore].sum(dtype=float)) / max(costs, 1.0)
     found = (
-        [f"the ore brings {times:,.0f} times what digging and treating it costs\n  try: {units}"]
+        [
+            Strange(
+                f"the ore brings {times:,.0f} times what digging and treating it costs",
+                "",
+                units,
+                key,
+            )
+        ]
         if times > RICHEST
         else []
     )
@@ -64,16 +87,35 @@ def of_worths(priced: Priced, economics: Economics) -> list[str]:
         for metal in economics.metals
     }
     return found + [
-        f"{metal.name} brings {100 * brings[metal.name] / sum(brings.values()):.2g} % of what all metals bring\n  try: price, price_unit, grade_unit and recovery of {metal.name}"
+        Strange(
+            f"{metal.name} brings {percent(brings[metal.name] / sum(brings.values()))} of what all metals bring",
+            "",
+            f"price, price_unit, grade_unit and recovery of {metal.name}",
+            (*key, metal.name),
+        )
         for metal in economics.metals
         if metal.price > 0 and brings[metal.name] < LEAST * sum(brings.values())
     ]
 
 
-def of_forbid(model: Model, economics: Economics) -> list[str]:
+def of_forbid(model: Model, economics: Economics) -> list[Strange]:
     """The formulas of `forbid` that hold for no block."""
     return [
-        f"[economics] forbid = {formula!r} holds for no block, so it keeps nothing from being dug\n  try: the numbers in it, by the table's own coordinates and units"
+        Strange(
+            f"[economics] forbid = {formula!r} holds for no block, so it keeps nothing from being dug",
+            "",
+            "the numbers in it, by the table's own coordinates and units",
+            ("economics", "forbid"),
+        )
         for formula in economics.forbid
         if not np.any(holds(str(formula), model)[0])
     ]
+
+
+def percent(share: float) -> str:
+    """A share in percent, with two digits that count.
+
+    >>> percent(0.0019), percent(0.0), percent(0.25)
+    ('0.19 %', '0 %', '25 %')
+    """
+    return f"{100 * share:.2g} %"

@@ -30,6 +30,7 @@ from ..base import kept_json
 from ..base.amounts import THOUSAND, Priced, spelled
 from ..base.errors import Disagreement, MachineError, PlanError
 from ..base.next_command import command
+from ..base.within import refuse_outside
 from ..model import store
 from ..model.economics import Economics
 from ..model.grid import Grid
@@ -50,6 +51,10 @@ if TYPE_CHECKING:
 
 Bools = npt.NDArray[np.bool_]
 Floats = npt.NDArray[np.float32]
+NOT_ALIKE, FEWEST = (
+    0.1,
+    50,
+)  # the correlation below which realisations have nothing to do with the table, and the rows that it takes to tell
 TENTHS = tuple(tenth / 10 for tenth in range(1, 10))
 SPREAD = (0.1, 0.5, 0.9)
 ASKED = (
@@ -233,6 +238,7 @@ def opened(
     path: Path, work: Path, study: Study | None = None, keys: TableKeys | None = None
 ) -> tuple[Any, str]:
     """The realisations as an array that is read where it is asked, and the file that has them."""
+    refuse_outside(path)
     if path.suffix == ".npy":
         try:
             return np.load(path, mmap_mode="r", allow_pickle=False), str(path.resolve())
@@ -453,13 +459,9 @@ class Realisation(Study):
         try:
             return economics_of(self.setup.economics).priced(model)
         except PlanError as error:  # the economics stand in that file
-            raise type(error)(
-                error.what,
-                table=error.table or folder_of(self.base) / "risk.json",
-                row=error.row,
-                column=error.column,
-                try_this=error.try_this,
-            ) from None
+            for each in error.each():
+                each.table = each.table or folder_of(self.base) / "risk.json"
+            raise
 
     def grades(self) -> Floats:
         """The grades of this realisation, of shape (lines of the table below its header,).
@@ -470,6 +472,7 @@ class Realisation(Study):
             Where they aren't those that `prepare` looked through.
         """
         path = folder_of(self.base) / self.setup.file
+        refuse_outside(path)
         try:
             found: Floats = np.ascontiguousarray(
                 np.load(path, mmap_mode="r", allow_pickle=False)[self.number], np.float32
@@ -725,6 +728,9 @@ class Means:
         The means, over the same rows; nan where there are none.
     rows : int
         How many rows the realisations cover: those for which one of them at least has a grade above 0.
+    apart : tuple of int
+        The realisations that have nothing to do with the table: whose correlation with it, over the rows that have a grade in it, is
+        below `NOT_ALIKE`.
     """
 
     metal: str
@@ -732,6 +738,7 @@ class Means:
     realisations: float
     table: float
     rows: int
+    apart: tuple[int, ...] = ()
 
     @property
     def share(self) -> float:
@@ -753,19 +760,37 @@ def means(study: Study, setup: Setup) -> Means:
     model = lean_model(study, setup.economics)
     rows = model.blocks["row"].to_numpy()
     there = rows >= 0
-    total, rows = np.zeros(int(there.sum())), rows[there]
+    total, rows, planned_grades = (
+        np.zeros(int(there.sum())),
+        rows[there],
+        model.numbers(setup.column, "realisations")[there],
+    )
+    apart = []
     for r in range(len(setup.digests)):
-        total += Realisation(study, setup, r, model).grades()[rows]
+        grades = Realisation(study, setup, r, model).grades()[rows]
+        total += grades
+        if not alike(grades, planned_grades):
+            apart.append(r)
     covered = total > 0
     tonnes = model.blocks.tonnes.to_numpy(float)[there][covered]
-    table = model.numbers(setup.column, "realisations")[there][covered]
+    table = planned_grades[covered]
     metal = next(m for m in setup.economics["metals"] if m["grade"] == setup.column)
     whole = float(tonnes.sum())
     simulated, planned = (
         float((grades * tonnes).sum()) / whole if whole > 0 else np.nan
         for grades in (total[covered] / len(setup.digests), table)
     )
-    return Means(metal["name"], metal["grade_unit"], simulated, planned, int(covered.sum()))
+    return Means(
+        metal["name"], metal["grade_unit"], simulated, planned, int(covered.sum()), tuple(apart)
+    )
+
+
+def alike(grades: npt.NDArray[Any], table: npt.NDArray[Any]) -> bool:
+    """Whether grades have to do with those of the table, row by row: not where rows are in another order. Few rows tell nothing."""
+    there = table > 0
+    if int(there.sum()) < FEWEST or np.ptp(grades[there]) == 0 or np.ptp(table[there]) == 0:
+        return True
+    return bool(np.corrcoef(grades[there], table[there])[0, 1] >= NOT_ALIKE)
 
 
 def spelled_factor(factor: int) -> str:

@@ -10,6 +10,7 @@ import numpy as np
 import numpy.typing as npt
 
 from ..base.errors import PlanError, meant
+from ..base.within import refuse_outside
 from ..model.grid import Grid
 
 Floats = npt.NDArray[np.float64]
@@ -181,6 +182,7 @@ def document(path: Path) -> Any:
     from ezdxf.filemanagement import readfile
     from ezdxf.lldxf.const import DXFError, DXFStructureError
 
+    refuse_outside(path)
     try:
         try:
             return readfile(path)

@@ -13,6 +13,7 @@ import pandas as pd
 
 from ..base.errors import PlanError
 from ..base.next_command import command
+from ..base.usual_metals import metal_of, unit_of
 from ..model.grid import Floats, Grid
 from ..model.subblocks import OFF
 from ..slopes.slopes import DEFAULT
@@ -70,32 +71,6 @@ MOSTLY = (
 LIMIT = re.compile(r"<\s*\d*[.,]?\d+")  # below the limit of an assay
 MOST_LIMITS = 20
 MOST_REGIONS = 12  # of slopes: a column with more words than that names something else
-# Columns that look like grades, and the units that such a metal usually comes in.
-METALS = {
-    "cu": ("copper", "%", "t", 8500),
-    "au": ("gold", "g/t", "oz", 1900),
-    "ag": ("silver", "g/t", "oz", 23),
-    "mo": ("molybdenum", "ppm", "lb", 15),
-    "zn": ("zinc", "%", "t", 2600),
-    "pb": ("lead", "%", "t", 2100),
-    "ni": ("nickel", "%", "t", 17000),
-    "co": ("cobalt", "%", "t", 33000),
-    "fe": ("iron", "%", "t", 110),
-    "u3o8": ("uranium", "ppm", "lb", 60),
-    "li2o": ("lithia", "%", "t", 15000),
-    "pt": ("platinum", "g/t", "oz", 950),
-}
-# What a column's name says of its unit.
-UNITS = {
-    "ppb": "ppb",
-    "ppm": "ppm",
-    "gpt": "g/t",
-    "gmt": "g/t",
-    "pct": "%",
-    "perc": "%",
-    "percent": "%",
-    "kgt": "kg/t",
-}
 AIRS = re.compile(
     r"air|aire|ar|airblock|void|vacio|vacío|vazio", re.IGNORECASE
 )  # how a rock is called that is none
@@ -298,36 +273,6 @@ def regions_in(frame: pd.DataFrame, look: Look) -> tuple[str, list[str]]:
         ):
             return name, there
     return "", []
-
-
-def metal_of(column: str) -> tuple[str, str, str, float] | None:
-    """The usual metal, units and price of a column's name, as CU_PCT, au_gpt, AUPPB, "Ag (g/t)" or ley_zn."""
-    words = re.split(r"[^a-z0-9]+", column.lower())
-    bare = [
-        word.removesuffix(next((unit for unit in UNITS if word.endswith(unit)), ""))
-        for word in words
-    ]
-    return next((METALS[word] for word in (*words, *bare) if word in METALS), None)
-
-
-def unit_of(column: str) -> str | None:
-    """The unit of a grade that a column's name says; None where it says none.
-
-    >>> unit_of("AU_PPB"), unit_of("CUPCT"), unit_of("Ag (g/t)"), unit_of("CU")
-    ('ppb', '%', 'g/t', None)
-    """
-    name = column.lower()
-    spelt = next((unit for unit in ("kg/t", "g/t", "mg/kg", "%") if unit in name), None)
-    words = re.split(r"[^a-z0-9]+", name)
-    return spelt or next(
-        (
-            UNITS[unit]
-            for word in words
-            for unit in UNITS
-            if word == unit or word.endswith(unit) and word.removesuffix(unit) in METALS
-        ),
-        None,
-    )
 
 
 def airs_among(frame: pd.DataFrame, names: Mapping[str, str], absent: Sequence[str]) -> list[str]:

@@ -200,10 +200,11 @@ def discounted(rock: Floats, feed: Floats, worth: Floats, rates: Rates) -> tuple
     assert rates.mining and rates.mill
     takes = np.maximum(rock / rates.mining, feed / rates.mill)
     ends = np.cumsum(takes)
-    return (
-        float(np.sum(worth / (1 + rates.discount) ** (ends - takes / 2))),
-        float(ends[-1]) if len(ends) else 0.0,
-    )
+    with np.errstate(over="ignore"):  # after some ten thousand years nothing is worth anything
+        return (
+            float(np.sum(worth / (1 + rates.discount) ** (ends - takes / 2))),
+            float(ends[-1]) if len(ends) else 0.0,
+        )
 
 
 def benches(shells: Shells, base: int) -> pd.DataFrame:

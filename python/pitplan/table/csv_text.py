@@ -21,6 +21,7 @@ import pandas as pd
 
 from ..base.errors import MOST_CELLS, Cell, PlanError, Remedy
 from ..base.machine import free_memory
+from ..base.within import refuse_outside
 
 SEPARATORS = ",;\t"
 THOUSANDS = re.compile(r"[+-]?[1-9]\d{0,2}(([,'\s]\d{3})+(\.\d+)?|([.\s]\d{3})+,\d+)")
@@ -102,6 +103,7 @@ def opened(path: Path) -> IO[bytes]:
     PlanError
         Where there is no such file, or it can't be opened.
     """
+    refuse_outside(path)
     try:
         if path.suffix.lower() == ".gz":
             return cast(IO[bytes], io.BufferedReader(Unpacked(path), 1 << 18))

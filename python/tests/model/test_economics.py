@@ -418,7 +418,7 @@ COPPER_T = pp.Metal("copper", "CU", price=8500, recovery=0.85)
 def test_what_looks_like_another_unit_is_told(frame, keys, said):
     found = model_of(frame)
     told = strange(found, costs(**keys).priced(found), costs(**keys))
-    assert len(told) == len(said) and all(part in line for part, line in zip(said, told)), told
+    assert len(told) == len(said) and all(part in str(look) for part, look in zip(said, told)), told
 
 
 def test_a_metals_share_of_what_all_bring_is_told_in_percent(frame):
@@ -428,7 +428,7 @@ def test_a_metals_share_of_what_all_bring_is_told_in_percent(frame):
     copper, gold = (frame.TONNES * frame.CU / 100 * 0.85 * 8500).sum(), (
         frame.TONNES * frame.AU / 1e6 * 60
     ).sum()
-    assert strange(model_of(frame), told.priced(model_of(frame)), told)[0].startswith(
+    assert str(strange(model_of(frame), told.priced(model_of(frame)), told)[0]).startswith(
         f"gold brings {100 * gold / (copper + gold):.2g} % of what all metals bring"
     )
 

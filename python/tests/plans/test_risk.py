@@ -605,3 +605,21 @@ def test_a_section_has_the_likelihood_of_its_blocks(tmp_path):
     shown = np.ma.filled(shown, np.nan).ravel()
     here = found.likelihood(1000)[found.study.model.blocks.iy.to_numpy() == row]
     assert sorted(shown[~np.isnan(shown)]) == pytest.approx(sorted(here[here > 0]))
+
+
+def test_realisations_that_have_nothing_to_do_with_the_table_are_told(tmp_path):
+    """Rows in another order have the same mean, and no correlation."""
+    frame = table(8, 7, 5, 5)
+    study = study_of(tmp_path, frame)
+    grades = grades_of(frame, 4)
+    for at in (1, 3):
+        grades[at] = np.random.default_rng(at).permutation(grades[at])
+    np.save(tmp_path / "sims.npy", grades)
+    setup = risk.prepare(study, costs(), tmp_path / "sims.npy", FACTORS)
+    assert risk.means(study, setup).apart == (1, 3)
+    few = np.arange(40.0)
+    assert (
+        risk.alike(few, few[::-1].copy())
+        and not risk.alike(np.arange(60.0), np.arange(60.0)[::-1].copy() + 1)
+        and risk.alike(np.ones(60), np.arange(60.0))
+    )

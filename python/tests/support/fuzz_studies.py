@@ -22,7 +22,7 @@ from pathlib import Path
 sys.path[:0] = [str(Path(__file__).resolve().parents[2]), str(Path(__file__).resolve().parent)]
 
 import mines  # noqa: E402
-from pitplan.cli.main import status_of  # noqa: E402
+from pitplan.base.errors import exit_status  # noqa: E402
 from pitplan.base.errors import PlanError  # noqa: E402
 from pitplan.slopes.slopes import count_pairs  # noqa: E402
 from pitplan.study.study_file import read_study_file  # noqa: E402
@@ -261,7 +261,7 @@ def answer(folder, text, table, is_searched=True):
     except PlanError as error:
         if not all(MESSAGE.fullmatch(str(each)) for each in error.each()):
             raise AssertionError(f"a message of another form: {str(error)!r}") from error
-        return f"status {status_of(error)}"
+        return f"status {exit_status(error)}"
     return "read"
 
 

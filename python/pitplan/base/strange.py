@@ -1,0 +1,33 @@
+"""What looks wrong and isn't refused, as data and in words."""
+from __future__ import annotations
+
+from dataclasses import dataclass
+
+from .errors import KeyPath
+
+
+@dataclass(frozen=True)
+class Strange:
+    """What looks wrong.
+
+    Attributes
+    ----------
+    seen, expected : str
+        The second is "" where what was seen says it all.
+    try_this : str
+        What to type, or what to look at.
+    key : KeyPath
+        The key of study.toml that it concerns; () where none does.
+    """
+
+    seen: str
+    expected: str
+    try_this: str
+    key: KeyPath = ()
+
+    def __str__(self) -> str:
+        return (
+            self.seen
+            + (f"; {self.expected}" if self.expected else "")
+            + f"\n  try: {self.try_this}"
+        )

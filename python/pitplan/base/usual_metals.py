@@ -1,0 +1,113 @@
+"""What metals are called in tables, in which units they come, and what they cost about."""
+from __future__ import annotations
+
+import re
+
+from .units import PRICES
+
+# Columns that look like grades, and the units that such a metal usually comes in.
+METALS = {
+    "cu": ("copper", "%", "t", 8500),
+    "au": ("gold", "g/t", "oz", 1900),
+    "ag": ("silver", "g/t", "oz", 23),
+    "mo": ("molybdenum", "ppm", "lb", 15),
+    "zn": ("zinc", "%", "t", 2600),
+    "pb": ("lead", "%", "t", 2100),
+    "ni": ("nickel", "%", "t", 17000),
+    "co": ("cobalt", "%", "t", 33000),
+    "fe": ("iron", "%", "t", 110),
+    "u3o8": ("uranium", "ppm", "lb", 60),
+    "li2o": ("lithia", "%", "t", 15000),
+    "pt": ("platinum", "g/t", "oz", 950),
+}
+# What a column's name says of its unit.
+UNITS = {
+    "ppb": "ppb",
+    "ppm": "ppm",
+    "gpt": "g/t",
+    "gmt": "g/t",
+    "pct": "%",
+    "perc": "%",
+    "percent": "%",
+    "kgt": "kg/t",
+}
+NAMES = {
+    "cobre": "copper",
+    "cuivre": "copper",
+    "cu": "copper",
+    "oro": "gold",
+    "ouro": "gold",
+    "au": "gold",
+    "plata": "silver",
+    "prata": "silver",
+    "argent": "silver",
+    "ag": "silver",
+    "molibdeno": "molybdenum",
+    "mo": "molybdenum",
+    "zinco": "zinc",
+    "zn": "zinc",
+    "plomo": "lead",
+    "chumbo": "lead",
+    "plomb": "lead",
+    "pb": "lead",
+    "niquel": "nickel",
+    "ni": "nickel",
+    "cobalto": "cobalt",
+    "co": "cobalt",
+    "platino": "platinum",
+    "pt": "platinum",
+}
+STEADY = (
+    "copper",
+    "gold",
+    "silver",
+    "molybdenum",
+    "zinc",
+    "lead",
+    "nickel",
+    "cobalt",
+    "platinum",
+)  # metals whose price is known about
+
+
+def metal_of(column: str) -> tuple[str, str, str, float] | None:
+    """The usual metal, units and price of a column's name, as CU_PCT, au_gpt, AUPPB, "Ag (g/t)" or ley_zn."""
+    words = re.split(r"[^a-z0-9]+", column.lower())
+    bare = [
+        word.removesuffix(next((unit for unit in UNITS if word.endswith(unit)), ""))
+        for word in words
+    ]
+    return next((METALS[word] for word in (*words, *bare) if word in METALS), None)
+
+
+def unit_of(column: str) -> str | None:
+    """The unit of a grade that a column's name says; None where it says none.
+
+    >>> unit_of("AU_PPB"), unit_of("CUPCT"), unit_of("Ag (g/t)"), unit_of("CU")
+    ('ppb', '%', 'g/t', None)
+    """
+    name = column.lower()
+    spelt = next((unit for unit in ("kg/t", "g/t", "mg/kg", "%") if unit in name), None)
+    words = re.split(r"[^a-z0-9]+", name)
+    return spelt or next(
+        (
+            UNITS[unit]
+            for word in words
+            for unit in UNITS
+            if word == unit or word.endswith(unit) and word.removesuffix(unit) in METALS
+        ),
+        None,
+    )
+
+
+def usual_price(metal: str) -> float | None:
+    """What a gram of a metal usually costs in dollars; None where that isn't known."""
+    name = NAMES.get(metal.lower(), metal.lower())
+    return next(
+        (
+            price / PRICES[unit]
+            for called, _, unit, price in METALS.values()
+            if called == name and name in STEADY
+        ),
+        None,
+    )

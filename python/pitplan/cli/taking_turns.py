@@ -1,0 +1,65 @@
+"""How a command gets a study to itself, and tells what it does."""
+from __future__ import annotations
+
+import functools
+from collections.abc import Callable
+from pathlib import Path
+from typing import Any
+
+import typer
+
+from ..base import events
+from ..base.errors import PlanError, exit_status
+from ..study.turns import turn
+from .console import Wants, err, wants
+
+# The commands that write into a study.
+WRITERS = (
+    "build",
+    "slopes",
+    "shells",
+    "plot",
+    "page",
+    "phases",
+    "export",
+    "compare",
+    "risk",
+    "vary",
+    "submit",
+    "bundle",
+)
+
+
+DONE = 0
+
+
+def take_turns(app: typer.Typer) -> None:
+    """Lets each command that writes into a study have it to itself while it runs."""
+    for command in app.registered_commands:
+        if command.callback is not None and command.callback.__name__ in WRITERS:
+            command.callback = alone(command.callback)
+
+
+def alone(command: Callable[..., Any], given: Wants = wants) -> Callable[..., Any]:
+    """A command that has its study to itself, and leaves in it what it told."""
+
+    @functools.wraps(command)
+    def run(*args: Any, **said: Any) -> Any:
+        from ..study.study_file import path_of
+
+        folder = path_of(Path(said.get("folder", "."))).parent
+        with turn(
+            folder,
+            events.words(),
+            given.waits,
+            lambda who: err.print(f"waiting: {who}", markup=False, soft_wrap=True),
+        ), events.of_study(folder) as ends:
+            try:
+                found = command(*args, **said)
+            except BaseException as wrong:
+                ends(exit_status(wrong), wrong if isinstance(wrong, PlanError) else None)
+                raise
+            ends(found if isinstance(found, int) else DONE, None)
+            return found
+
+    return run
