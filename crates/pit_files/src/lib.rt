@@ -2,7 +2,8 @@
 //! they failed, where that is asked for.
 //!
 //! Uses `engines`, for what a mine is read from, and `settings_file` and `slope`, to say why an input is refused. Of a device
-//! that it opens it promises that no failure is counted yet.
+//! that it opens it promises that no failure is counted yet; and that what stands between the device and an engine gives, takes
+//! and holds the bytes of the device, and hands on each failure.
 #![tactic(auto)]
 
 mod advice;

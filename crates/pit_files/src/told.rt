@@ -13,7 +13,8 @@ use std::io;
 use std::io::{Printer, Read, Write};
 use std::rt::Files;
 
-/// A file, or standard output, under its name. It reports on standard error, where that was asked for: the system's reason for
+/// A file, or standard output, under its name. What it gives, takes and holds is what the device gives, takes and holds: it
+/// hands on each byte and each failure. It reports on standard error, where that was asked for: the system's reason for
 /// each call that fails, whose failure is handed on; a file that begins with the mark of UTF-8; and, for the output of a
 /// command that solves, what to try where the line says that no pit is proved.
 #[derive(Drop)]
@@ -108,6 +109,8 @@ pub fn make_file<'a, R: Files + Eprint + AllocGlobal>(
 }
 
 impl<R: Eprint + AllocGlobal, D: Read> Read for Told<'_, R, D> {
+    ghost remaining = { λ t. D.remaining t.device };
+
     fn read(&mut self, buf: &mut [u8]) -> io::Result<usize> {
         match self.device.read(buf) {
             Ok(count) => {
@@ -129,7 +132,9 @@ impl<R: Eprint + AllocGlobal, D: Read> Read for Told<'_, R, D> {
 
 impl<R: Eprint + AllocGlobal, D> Told<'_, R, D> {
     // Takes in what was read, and tells at its end what there is to tell.
-    fn hear(&mut self, read: &[u8]) {
+    fn hear(&mut self, read: &[u8])
+        ensures { self.new.device ≡ self.old.device }
+    {
         if !read.is_empty() {
             self.heard.hear(read);
         } else {
@@ -139,6 +144,8 @@ impl<R: Eprint + AllocGlobal, D> Told<'_, R, D> {
 }
 
 impl<R: Eprint, D: Write> Write for Told<'_, R, D> {
+    ghost contents = { λ t. D.contents t.device };
+
     fn write(&mut self, buf: &[u8]) -> io::Result<usize> {
         match self.device.write(buf) {
             Ok(count) => {
