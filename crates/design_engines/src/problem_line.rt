@@ -64,6 +64,7 @@ fn push_fault(line: &mut ShortLine, fault: DesignFault)
         DesignFault::Number(n) => push_at(line, b"Number", n),
         DesignFault::UnknownBlock(n) => push_at(line, b"UnknownBlock", n),
         DesignFault::Repeated(n) => push_at(line, b"Repeated", n),
+        DesignFault::Truncated => line.push(b"Truncated"),
         DesignFault::NoMemory => line.push(b"NoMemory"),
     }
 }

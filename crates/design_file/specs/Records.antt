@@ -1,12 +1,12 @@
 -- What a design says, over its list of lines.
-use Rattle.std.specs.Prelude.{◌≡◌, ℕ, ◌<◌, ◌||◌, Bool, true, false, not, cond, List, [], ◌∷◌, ◌++◌, length, codes, nat_lt, nat_le, slice_set, slice_index_or, Option, Some, None}
+use Rattle.std.specs.Prelude.{◌≡◌, ℕ, ◌<◌, ◌||◌, ◌&&◌, Bool, true, false, not, cond, List, [], ◌∷◌, ◌++◌, length, codes, nat_lt, nat_le, slice_set, slice_index_or, Option, Some, None}
 use Rattle.std.specs.Option.{option_or}
 use Rattle.std.specs.List.{flat_map}
 use Rattle.fixed_worth.specs.declared.limits.TheConstants.{LINE_BYTES}
 use Rattle.fixed_worth.specs.Prelude.{fields_of, at_line}
 pub use Rattle.fixed_worth.specs.Record.{Line, lines_in, reads, number_of, is_remark, has}
 use Rattle.design_file.specs.declared.design_fault.DesignFault.{DesignFault}
-use Rattle.design_file.specs.declared.design_fault.DesignFault.TheVariants.{Text, Number, UnknownBlock, Repeated, NoMemory}
+use Rattle.design_file.specs.declared.design_fault.DesignFault.TheVariants.{Text, Number, UnknownBlock, Repeated, Truncated, NoMemory}
 use Rattle.std.specs.Str.{bytes_eq}
 use Rattle.design_file.specs.declared.design_fault.DesignFault.TheVariants as design
 
@@ -57,9 +57,27 @@ blocks_of_fields fields = cond (is_passed fields) [] (block_in (block_word field
 abbrev pub blocks_of : List Line → List ℕ
 blocks_of lines = flat_map (λ l. blocks_of_fields (fields_of l.text)) lines
 
--- The fault of the first faulty line, if any, behind these lines.
+-- The first of these fields is the word.
+abbrev pub begins_with : List ℕ → List (List ℕ) → Bool
+begins_with word [] = false
+begins_with word (field ∷ fields) = bytes_eq field word
+
+-- Whether a certificate is open after a line with these fields: a line `PITCERT` opens one, and a line `END` ends it.
+abbrev pub is_open_after : Bool → List (List ℕ) → Bool
+is_open_after is_open fields = begins_with (codes "PITCERT") fields || (is_open && not (begins_with (codes "END") fields))
+
+-- Whether a certificate is open after these lines, given whether one is before them.
+abbrev pub is_left_open : Bool → List Line → Bool
+is_left_open is_open [] = is_open
+is_left_open is_open (l ∷ lines) = is_left_open (is_open_after is_open (fields_of l.text)) lines
+
+-- The fault of a text that ends after these lines: a certificate that begins in it is cut off.
+abbrev pub end_fault : List Line → Option DesignFault
+end_fault lines = cond (is_left_open false lines) (Some Truncated) None
+
+-- The fault of the first faulty line, if any, after these lines; and where there is none, that of the end.
 abbrev pub first_fault : ℕ → List Line → List Line → Option DesignFault
-first_fault n before [] = None
+first_fault n before [] = end_fault before
 first_fault n before (l ∷ lines) = option_or (line_fault n (has (blocks_of before)) l) (first_fault n (before ++ l ∷ []) lines)
 
 -- The fault of a text for n blocks, if any.
@@ -95,4 +113,5 @@ design_fault_text (design.Text line) = at_line (codes "Text") line
 design_fault_text (design.Number line) = at_line (codes "Number") line
 design_fault_text (design.UnknownBlock line) = at_line (codes "UnknownBlock") line
 design_fault_text (design.Repeated line) = at_line (codes "Repeated") line
+design_fault_text design.Truncated = codes "Truncated"
 design_fault_text design.NoMemory = codes "NoMemory"

@@ -1,4 +1,4 @@
-//! Why the text of a design is refused, with the number of the line, and how each fault is printed.
+//! Why the text of a design is refused, with the number of the line where one is faulty, and how each fault is printed.
 
 ghost use Rattle.std.specs.Prelude.{Some};
 ghost use Rattle.design_file.specs.Records.{design_fault_text};
@@ -16,6 +16,8 @@ pub enum DesignFault {
     UnknownBlock(u64),
     /// The block was named before.
     Repeated(u64),
+    /// A certificate begins in the text, and the text ends before its line `END`.
+    Truncated,
     /// There is no memory for the marks of the blocks.
     NoMemory,
 }
@@ -29,6 +31,7 @@ impl fmt::Display for DesignFault {
             DesignFault::Number(line) => write!(f, "Number({line})"),
             DesignFault::UnknownBlock(line) => write!(f, "UnknownBlock({line})"),
             DesignFault::Repeated(line) => write!(f, "Repeated({line})"),
+            DesignFault::Truncated => write!(f, "Truncated"),
             DesignFault::NoMemory => write!(f, "NoMemory"),
         }
     }

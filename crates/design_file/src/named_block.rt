@@ -32,6 +32,20 @@ pub(crate) fn is_passed(line: &[u8]) -> bool
     }
 }
 
+/// Whether a certificate is open after a line, given whether one was before it: a line `PITCERT` opens one, and a line `END`
+/// ends it.
+pub(crate) fn is_open_after(is_open: bool, line: &[u8]) -> bool
+    requires { length line.now ≤ LINE_BYTES }
+    ensures { result ≡ spec.is_open_after is_open (fields_of line.now) }
+{
+    match Fields::new(line).next() {
+        None => is_open,
+        Some(first) => {
+            first.text == b"PITCERT".as_slice() || is_open && first.text != b"END".as_slice()
+        }
+    }
+}
+
 /// The field that names the block of a line `b` or `PIT b`; none of a line of any other form.
 pub(crate) fn block_word(line: &[u8]) -> Option<&[u8]>
     requires { length line.now ≤ LINE_BYTES }

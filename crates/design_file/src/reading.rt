@@ -6,7 +6,7 @@ ghost use Rattle.fixed_worth.specs.Text.{fields_of};
 ghost use Rattle.design_file.specs.Records.{AreMarks, UnlessMemory, fault_of, marks_after, record_fault};
 
 use crate::DesignFault;
-use crate::named_block::{block_word, is_passed};
+use crate::named_block::{block_word, is_open_after, is_passed};
 use fixed_worth::{LINE_BYTES, Lines, MOST_BLOCKS, whole};
 use std::alloc::Global;
 
@@ -46,11 +46,12 @@ fn read_line(marks: &mut [bool], line: &[u8], n: u32, number: u64) -> Result<(),
 ///
 /// Each line names a block, as `b` or as `PIT b`. Passed over are lines without a field, those whose first field begins
 /// with `%`, and those that a certificate has beside its pit, by their first field: `PITCERT`, `BLOCKS`, `PRICE`, `GROUP`,
-/// `SOURCE`, `REST`, `SINK` and `END`. The lines may come in any order.
+/// `SOURCE`, `REST`, `SINK` and `END`. The lines may come in any order, but after a line `PITCERT` a line `END` must follow.
 ///
 /// # Errors
 /// That of the first faulty line, and of its faults the first in this order: `Text` for more than 65,536 bytes or another
-/// form, `Number`, `UnknownBlock`, `Repeated`. `NoMemory` where memory for the marks is refused.
+/// form, `Number`, `UnknownBlock`, `Repeated`. `Truncated` where no line is faulty and a certificate that begins in the text
+/// has no line `END`. `NoMemory` where memory for the marks is refused.
 pub fn read_design(alloc: Global, text: &[u8], n: u32) -> Result<Vec<bool>, DesignFault>
     requires { n ≤ MOST_BLOCKS }
     ensures { MatchResult result
@@ -59,12 +60,15 @@ pub fn read_design(alloc: Global, text: &[u8], n: u32) -> Result<Vec<bool>, Desi
 {
     let mut marks = vec![in alloc; false; n as usize].map_err(|_| DesignFault::NoMemory)?;
     let mut lines = Lines::new(text);
+    let mut is_open = false;
     loop {
         match lines.next_line() {
             Ok(Some(line)) => {
                 let number = lines.number();
                 read_line(marks.as_mut_slice(), line, n, number)?;
+                is_open = is_open_after(is_open, line);
             }
+            Ok(None) if is_open => return Err(DesignFault::Truncated),
             Ok(None) => return Ok(marks),
             Err(_) => return Err(DesignFault::Text(lines.number() + 1)),
         }
