@@ -46,7 +46,7 @@ const METHOD_HELP: &str =
 const METHODS: &str =
     "Which solver computes the flows: auto (the default), pseudoflow or push-relabel
 
-  auto          chosen by the size of the mine, as by `pit solve`
+  auto          pseudoflow, and up to 10000 blocks push-relabel where that gives no proof. Push-relabel alone where --steps is given
   pseudoflow    highest-label pseudoflow alone, at one factor for each worker at a time; UNSETTLED where it gives up
   push-relabel  push-relabel alone, with one thread for each worker
 

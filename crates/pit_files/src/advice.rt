@@ -17,8 +17,7 @@ const OTHER_METHOD: &str = "try --method pseudoflow, or --steps over 1000000000"
 const OTHER_AMOUNTS: &str =
     "up to 1000 blocks try --method pseudoflow; beyond that --group scaled, or --method push-relabel with --steps 1099511627776";
 
-const MACHINE: &str =
-    "up to 1000 blocks try --method pseudoflow; beyond that --method push-relabel with --steps 1099511627776";
+const MACHINE: &str = "try --method push-relabel with --steps 1099511627776";
 
 // What to try where the method and the steps are these, if they are given; or else the last text.
 fn advice_by(method: Option<&str>, steps: Option<&str>, otherwise: &'static str) -> Advice {

@@ -1,7 +1,9 @@
 -- The net of some blocks alone, what a pit of them is worth, and what parts give.
+use Rattle.std.specs.Prelude.{Result, Ok, Err, MatchResult}
 use Rattle.fixed_worth.proofs.Common.{◌≡◌, ℕ, zero, suc, ◌+ℤ◌, ℤ, pos, ◌<◌, Bool, true, false, All, List, [], ◌∷◌, ◌++◌, nat_lt, cond, length, map, get_or, refl, sym, subst, ap, ◌∙◌, arith, length-map, get_or-map, ltb-true, All-append}
 use Rattle.ordered_group.specs.Prelude.{Amount, zero_amount, worth_in}
-use Rattle.closure_net.specs.Prelude.{NetView, net_view, holds_of, IsAscending, IsBest}
+use Rattle.closure_net.specs.Prelude.{NetView, net_view, holds_of, IsAscending, IsBest, WorthsFaultStands}
+use Rattle.closure_net.specs.declared.net.NetFault.{NetFault}
 use Rattle.shells.specs.Prelude.{PricesView, priced_count, worth_at, mine_at}
 use Rattle.engines.proofs.Counted.{count_in-ascending}
 use Rattle.sub_mines.specs.Prelude.{every_block, number_in, IsPartPairs}
@@ -30,6 +32,17 @@ net_among_is block pairs less prices kept k net is part =
         pairs = λ b p. rw (ap (λ (x : NetView). x.pairs) is) (rests_of_pair less b p, pair_of_rests less b p);
       };
     }
+
+-- what making the net of some blocks gives: it, or why an amount doesn't fit
+pub net_made : (block : ℤ → ℕ → Amount) (pairs less : List (ℕ × ℕ)) (prices : PricesView) (kept : List ℕ) (k n : ℕ) (nanos : List ℤ) (made : Result NetView NetFault) → n ≡ length kept → IsPartPairs kept pairs less → nanos ≡ map (worth_at prices k) kept
+    → MatchResult made (λ net. (net ≡ net_view less (map (λ v. block v n) nanos)) × (n ≡ length nanos)) (WorthsFaultStands block n nanos)
+    → MatchResult made (IsNetAmong block pairs prices kept k) (WorthsFaultStands block (length kept) (map (worth_at prices k) kept))
+net_made block pairs less prices kept k n nanos (Ok net) counted part are h =
+    net_among_is block pairs less prices kept k net
+    (h.0 ∙ ap (λ (m : ℕ). net_view less (map (λ v. block v m) nanos)) counted ∙ ap (λ (vs : List ℤ). net_view less (map (λ v. block v (length kept)) vs)) are)
+    part
+net_made block pairs less prices kept k n nanos (Err e) counted part are h =
+    subst (λ (m : ℕ). WorthsFaultStands block m (map (worth_at prices k) kept) e) counted (subst (λ (vs : List ℤ). WorthsFaultStands block n vs e) are h)
 
 -- the worth of a set, with each other block worth nothing
 worth_folded : (v : ℕ → ℤ) (e : ℕ → Bool) (n : ℕ) → worth_in v e n ≡ worth_in (λ b. cond (e b) (v b) (pos 0)) every_block n

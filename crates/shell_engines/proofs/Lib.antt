@@ -11,3 +11,4 @@ pub mod Proving
 pub mod Parting
 pub mod Merging
 pub mod Among
+pub mod Summing

@@ -1,5 +1,5 @@
 -- A part is parted by the best pit at one of its factors.
-use Rattle.fixed_worth.proofs.Common.{◌≡◌, ℕ, ◌+◌, ◌<◌, ◌≤◌, All, Bool, true, false, ◌&&◌, ◌||◌, not, List, [], length, map, get_or, refl, sym, subst, ap, ◌∙◌, arith, get_or-map, length-map, common_steps}
+use Rattle.fixed_worth.proofs.Common.{◌≡◌, ℕ, ◌+◌, ◌<◌, ◌≤◌, All, Bool, true, false, ◌&&◌, ◌||◌, not, List, [], length, map, get_or, refl, sym, subst, ap, ◌∙◌, arith, get_or-map, length-map, ints, common_steps}
 use Rattle.prec_file.specs.Rests.{has_pair, numbers_passing}
 use Rattle.closure_net.specs.Prelude.{holds_of, IsAscending, IsBest, RestsWithin}
 use Rattle.closure_net.proofs.Holding.{same_tests}
@@ -53,6 +53,10 @@ pub own_list : (n : ℕ) (xs : List ℕ) → IsAscending xs → All (λ i. i < n
 own_list n xs h low = record { ascending = h; below = low; are = λ b l. refl }
 
 -- ---- tests of one block: high, low, and the places' own
+
+beside_none : (t : Bool) → t ≡ (t || false)
+beside_none true = refl
+beside_none false = refl
 
 lower_test : (l t : Bool) → l ≡ false → ((l || t) && not l) ≡ t
 lower_test false true h = refl
@@ -130,14 +134,18 @@ module _ (pairs : List (ℕ × ℕ)) (prices : PricesView) (factors : List ℕ) 
       high = holds_of blocks;
       inside = omega (arith, last, part.inside);
       floor = λ i l m. part.floor i l (omega (arith, m, last));
+      low_ascends = part.low_ascends;
+      low_priced = part.low_priced;
       ceiling = λ i l m.
           let up : get_or factors i 0 < k = h.rising i place m (omega (arith, last, part.inside)) in
           best_is_ceiling (mine_at pairs prices (get_or factors i 0)) (mine_at pairs prices k) (holds_of blocks) (mines_rise (has_pair pairs) prices (get_or factors i 0) k h.known (omega (arith, up))) lifted_best;
       are_kept = subst (λ e. IsKept (difference_of e (holds_of low)) (priced_count prices) inside) same inside_kept;
     }
 
-    pub higher_part : LiesBetweenLists pairs prices factors (place + 1) to blocks outside
-    higher_part = record {
+    pub higher_part : IsAscending blocks → All (λ b. b < priced_count prices) blocks → LiesBetweenLists pairs prices factors (place + 1) to blocks outside
+    higher_part rising low_blocks = record {
+      low_ascends = rising;
+      low_priced = low_blocks;
       high = part.high;
       inside = part.inside;
       floor = λ i l m.
@@ -146,6 +154,28 @@ module _ (pairs : List (ℕ × ℕ)) (prices : PricesView) (factors : List ℕ) 
       ceiling = λ i l m. part.ceiling i (omega (arith, l, first)) m;
       are_kept = subst (λ e. IsKept (difference_of part.high e) (priced_count prices) outside) same outside_kept;
     }
+
+-- no blocks are the best pit of no blocks
+pub none_best : (pairs : List (ℕ × ℕ)) (prices : PricesView) (factor : ℕ) → IsBestAmong pairs prices [] factor []
+none_best pairs prices factor = record {
+  less = [];
+  part = record {
+    known = λ i j h. absurd (omega (arith, h.1));
+    same = λ i j l m. absurd (omega (arith, l));
+  };
+  best = record {
+    is_pit = λ b p r held. r;
+    most = λ other h. omega (arith, ints);
+    fewest = λ other h unlike same. absurd (unlike (λ b l. absurd (omega (arith, l))));
+  };
+}
+
+-- The low blocks of a part without others are the best pit at each of its factors.
+pub low_best : (pairs : List (ℕ × ℕ)) (prices : PricesView) (factors : List ℕ) (from to place : ℕ) (low : List ℕ) → ArePriced pairs prices factors → LiesBetweenLists pairs prices factors from to low [] → from ≤ place → place < to
+    → IsBest (mine_at pairs prices (get_or factors place 0)) (holds_of low)
+low_best pairs prices factors from to place low h part first last =
+    lifted_best pairs prices factors from to place low [] [] h part first last (λ i j l m. absurd (omega (arith, m))) (λ j d l. absurd (omega (arith, l))) (none_best pairs prices (get_or factors place 0))
+    low (λ b. beside_none (holds_of low b))
 
 -- ---- other parts
 
@@ -156,6 +186,8 @@ fewer_factors pairs prices factors from to first last low kept a b h = record {
   inside = omega (arith, b, h.inside);
   floor = λ i l m. h.floor i (omega (arith, l, a)) (omega (arith, m, b));
   ceiling = λ i l m. h.ceiling i (omega (arith, l, a)) (omega (arith, m, b));
+  low_ascends = h.low_ascends;
+  low_priced = h.low_priced;
   are_kept = h.are_kept;
 }
 
@@ -166,6 +198,8 @@ whole_part pairs prices factors = record {
   inside = omega arith;
   floor = λ i l m. none_is_floor (mine_at pairs prices (get_or factors i 0));
   ceiling = λ i l m. all_is_ceiling (mine_at pairs prices (get_or factors i 0));
+  low_ascends = λ i j l m. absurd (omega (arith, m));
+  low_priced = λ j d l. absurd (omega (arith, l));
   are_kept = passing_is_kept every_block (priced_count prices);
 }
 

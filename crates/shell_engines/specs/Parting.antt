@@ -1,11 +1,12 @@
 -- Parts of a mine between two pits, within which the best pits of some factors are looked for.
-use Rattle.std.specs.Prelude.{take, ◌≡◌, ℕ, ℤ, ◌<◌, ◌≤◌, Bool, List, length, slice_index, All, IfSome}
+use Rattle.std.specs.Prelude.{take, ◌≡◌, ℕ, ℤ, ◌<◌, ◌≤◌, ◌⊎◌, Bool, List, length, slice_index, All, IfSome, FitsSigned}
+use Rattle.std.specs.Int.{w128}
 use Rattle.fixed_worth.specs.declared.limits.TheConstants.{MOST_BLOCKS}
-use Rattle.ordered_group.specs.Amount.{Amount}
+use Rattle.ordered_group.specs.Prelude.{Amount, worth_in}
 use Rattle.prec_file.specs.Rests.{IsRests, has_pair}
 use Rattle.closure_net.specs.Prelude.{NetView, holds_of, IsAscending, Mine, IsBest, IsNetOf}
 use Rattle.shells.specs.Prelude.{PricesView, priced_count, worth_at, NoRevenueNegative, mine_at}
-use Rattle.sub_mines.specs.Prelude.{union_of, difference_of, IsFloor, IsCeiling, number_in, IsKept, IsPartPairs}
+use Rattle.sub_mines.specs.Prelude.{union_of, difference_of, every_block, IsFloor, IsCeiling, number_in, IsKept, IsPartPairs}
 use Rattle.shell_engines.specs.declared.mine_parts.Part.{Part}
 use Rattle.shell_engines.specs.declared.mine_parts.Halved.{Halved}
 use Rattle.shell_engines.specs.declared.mine_halves.Level.{Level}
@@ -19,12 +20,14 @@ pub record ArePriced (pairs : List (ℕ × ℕ)) (prices : PricesView) (factors 
   pub rising : IsAscending factors
 
 -- The best pit at each of the factors from one place to another has the blocks of one list, and beside them none but those of
--- another: the one is a floor of it, and both together are a ceiling.
+-- another: the one is a floor of it, and both together are a ceiling. Both lists ascend, and each block of them has a price.
 pub record LiesBetweenLists (pairs : List (ℕ × ℕ)) (prices : PricesView) (factors : List ℕ) (from to : ℕ) (low kept : List ℕ) : Type 0 where
   pub high : ℕ → Bool
   pub inside : to ≤ length factors
   pub floor : (i : ℕ) → from ≤ i → i < to → IsFloor (mine_at pairs prices (slice_index factors i)) (holds_of low)
   pub ceiling : (i : ℕ) → from ≤ i → i < to → IsCeiling (mine_at pairs prices (slice_index factors i)) high
+  pub low_ascends : IsAscending low
+  pub low_priced : All (λ b. b < priced_count prices) low
   pub are_kept : IsKept (difference_of high (holds_of low)) (priced_count prices) kept
 
 -- the best pit at each factor of a part has the part's low blocks, and beside them none except its kept ones
@@ -46,6 +49,20 @@ pub record IsBestAmong (pairs : List (ℕ × ℕ)) (prices : PricesView) (kept :
   pub less : List (ℕ × ℕ)
   pub part : IsPartPairs kept pairs less
   pub best : IsBest (mine_among less prices kept k) (holds_of places)
+
+-- the worths of the first so many blocks of a list have no sum within 128 bits
+pub record SumLeaves (prices : PricesView) (k : ℕ) (blocks : List ℕ) : Type 0 where
+  pub count : ℕ
+  pub within : count ≤ length blocks
+  pub leaves : ¬ (FitsSigned w128 (worth_in (λ i. worth_at prices k (number_in blocks i)) every_block count))
+
+-- why the worths of these blocks aren't summed: one has no price, or a sum leaves 128 bits
+abbrev pub NoSumStands : PricesView → ℕ → List ℕ → Type 0
+NoSumStands prices k blocks = ¬ (All (λ b. b < priced_count prices) blocks) ⊎ SumLeaves prices k blocks
+
+-- why these blocks are no pit with what it has: they don't ascend, or their worths aren't summed
+abbrev pub NoPitStands : PricesView → ℕ → List ℕ → Type 0
+NoPitStands prices k blocks = ¬ (IsAscending blocks) ⊎ NoSumStands prices k blocks
 
 -- what a part gave: the best pit that was found is one, and the parts that are left are parts
 pub record AreHalved (pairs : List (ℕ × ℕ)) (prices : PricesView) (factors : List ℕ) (halves : Halved) : Type 0 where

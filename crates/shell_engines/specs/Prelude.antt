@@ -2,7 +2,7 @@
 pub use Rattle.shell_engines.specs.Answering.{Ends, FailsBy, IsCutShort, WritesBothAtFault}
 pub use Rattle.shell_engines.specs.BlockTables.{BlockTablesAreOne, IsBlockTable, IsTableIfAsked, mine_at_factor}
 pub use Rattle.shell_engines.specs.Devices.{ForSeries, InputsCanCount, NoInputFailed, NoOutputFailed, OutputsCanCount, contents_in, failures_in, input_failures, is_asked, output_failures}
-pub use Rattle.shell_engines.specs.Parting.{AreHalved, AreJoined, ArePriced, IsBestAmong, IsLeft, IsNetAmong, IsPart, IsSearchLevel, LiesBetweenLists, mine_among}
+pub use Rattle.shell_engines.specs.Parting.{AreHalved, AreJoined, ArePriced, IsBestAmong, IsLeft, IsNetAmong, IsPart, IsSearchLevel, LiesBetweenLists, NoPitStands, NoSumStands, SumLeaves, mine_among}
 pub use Rattle.shell_engines.specs.PitsAtFactors.{HasTableIfAsked, IsAdded, IsBestOf, IsFaultOf, IsProved, IsWant, NoNetStands, TellsWhy}
 pub use Rattle.shell_engines.specs.SeriesTexts.{IsSeriesRead, KeysKnown, SeriesMineFails, factors_said, series_keys}
 pub use Rattle.shell_engines.specs.SettledSeries.{IsNetAt, IsSettled, NoSeriesStands, NotSolvedStands}

@@ -1,18 +1,18 @@
 //! Turns a pit of a part of a mine into one of the mine: gives its blocks the mine's numbers, adds the lower pit, and
 //! sums what they are worth.
 
-ghost use Rattle.std.specs.Prelude.{◌≡◌, ℕ, ◌<◌, ◌≤◌, Bool, All, List, IfOk, IfSome, length, map};
+ghost use Rattle.std.specs.Prelude.{◌≡◌, ℕ, ◌<◌, ◌≤◌, Bool, All, List, IfOk, IfSome, IfNone, length, map};
 ghost use Rattle.fixed_worth.specs.declared.limits.TheConstants.{MOST_BLOCKS};
 ghost use Rattle.ordered_group.specs.Sets.{worth_in};
 ghost use Rattle.prec_file.specs.Rests.{numbers_passing};
-ghost use Rattle.closure_net.specs.Network.{holds_of};
+ghost use Rattle.closure_net.specs.Network.{IsAscending, holds_of};
 ghost use Rattle.closure_net.specs.Mine.{IsBest};
 ghost use Rattle.shells.specs.Prices.{priced_count, worth_at};
 ghost use Rattle.shells.specs.Series.{mine_at};
 ghost use Rattle.sub_mines.specs.Parts.{union_of, difference_of, every_block};
 ghost use Rattle.sub_mines.specs.Renumbered.{number_in};
 ghost use Rattle.shell_engines.specs.PitsAtFactors.{IsProved};
-ghost use Rattle.shell_engines.specs.Parting.{AreJoined};
+ghost use Rattle.shell_engines.specs.Parting.{AreJoined, NoPitStands, NoSumStands};
 
 use crate::best_pits::BestPit;
 use crate::shell_rows::ShellRow;
@@ -20,7 +20,7 @@ use closure_net::Pit;
 use shells::{Factor, Prices};
 use std::alloc::{AllocError, Global};
 
-/// The blocks at these places of the list: none where there is no such place.
+/// The blocks at these places of the list: none exactly where there is no such place.
 ///
 /// # Errors
 /// Memory was refused.
@@ -29,8 +29,11 @@ pub fn at_places(
     kept: &[u32],
     places: &[u32],
 ) -> Result<Option<Vec<u32>>, AllocError>
-    ensures { IfOk result (λ o. IfSome o (λ v. (v.items ≡ map (number_in kept.now) places.now)
+    ensures found { IfOk result (λ o. IfSome o (λ v.
+        (v.items ≡ map (number_in kept.now) places.now)
         × All (λ i. i < length kept.now) places.now)) }
+    ensures none { IfOk result
+        (λ o. IfNone o (¬ (All (λ i. i < length kept.now) places.now))) }
 {
     let mut found = Vec::with_capacity(alloc, places.len())?;
     for i in places {
@@ -102,11 +105,12 @@ pub fn merged(alloc: Global, first: &[u32], second: &[u32]) -> Result<Vec<u32>, 
     Ok(found)
 }
 
-// What these blocks are worth together at a factor: none where one of them has no price, or a sum doesn't fit.
+// What these blocks are worth together at a factor: none exactly where one of them has no price, or a sum doesn't fit.
 fn worth_of(prices: &Prices, blocks: &[u32], factor: Factor) -> Option<i128>
-    ensures { IfSome result (λ w. (w ≡ worth_in
+    ensures sum { IfSome result (λ w. (w ≡ worth_in
         (λ i. worth_at prices.now factor (number_in blocks.now i)) every_block (length blocks.now))
         × All (λ b. b < priced_count prices.now) blocks.now) }
+    ensures none { IfNone result (NoSumStands prices.now factor blocks.now) }
 {
     let mut sum: i128 = 0;
     for b in blocks {
@@ -118,12 +122,15 @@ fn worth_of(prices: &Prices, blocks: &[u32], factor: Factor) -> Option<i128>
     Some(sum)
 }
 
-/// The pit of these blocks at a factor, with what it has: none where they don't ascend, one of them has no price, or a sum of
-/// their worths doesn't fit.
+/// The pit of these blocks at a factor, with what it has: none exactly where they don't ascend, one of them has no price, or a
+/// sum of their worths doesn't fit.
 pub fn best_with(prices: &Prices, blocks: Vec<u32>, factor: Factor) -> Option<BestPit>
-    ensures { IfSome result (λ best. (pairs : List (ℕ × ℕ))
+    ensures best { IfSome result (λ best. (pairs : List (ℕ × ℕ))
         → IsBest (mine_at pairs prices.now factor) (holds_of blocks.items)
         → IsProved pairs prices.now best) }
+    ensures list { IfSome result (λ _. IsAscending blocks.items
+        × All (λ b. b < priced_count prices.now) blocks.items) }
+    ensures none { IfNone result (NoPitStands prices.now factor blocks.items) }
 {
     // proof: a table has at most so many blocks
     let _ = prices.len();

@@ -1,15 +1,16 @@
 //! Solves a part of a mine between two nested pits at one factor: gives the best pit there, and the two parts in
 //! which those of lower and of higher factors lie.
 
-ghost use Rattle.std.specs.Prelude.{◌≡◌, ℕ, ◌<◌, ◌≤◌, All, List, [], IfOk, IfSome, length, map, slice_index};
+ghost use Rattle.std.specs.Prelude.{◌≡◌, ℕ, ◌<◌, ◌≤◌, All, List, [], IfOk, IfSome, IfNone, MatchResult, length, map, slice_index};
 ghost use Rattle.fixed_worth.specs.declared.limits.TheConstants.{MOST_BLOCKS};
 ghost use Rattle.ordered_group.specs.Block.{scaled_block};
 ghost use Rattle.prec_file.specs.Rests.{numbers_passing};
 ghost use Rattle.closure_net.specs.Network.{IsAscending};
-ghost use Rattle.shells.specs.Prices.{PricesView, worth_at};
+ghost use Rattle.closure_net.specs.Faults.{WorthsFaultStands};
+ghost use Rattle.shells.specs.Prices.{PricesView, priced_count, worth_at};
 ghost use Rattle.sub_mines.specs.Parts.{every_block};
 ghost use Rattle.shell_engines.specs.PitsAtFactors.{IsBestOf};
-ghost use Rattle.shell_engines.specs.Parting.{ArePriced, IsPart, IsNetAmong, IsBestAmong, AreHalved};
+ghost use Rattle.shell_engines.specs.Parting.{ArePriced, IsPart, IsNetAmong, IsBestAmong, AreHalved, SumLeaves};
 
 use crate::best_pits::{BestPit, best_of};
 use crate::lifted_pits::{at_others, at_places, best_with, merged};
@@ -67,49 +68,49 @@ pub fn whole(alloc: Global, blocks: u32, factors: usize) -> Result<Part, AllocEr
     })
 }
 
-// What these blocks are worth at a factor, in their order: none where one has no price.
+// What these blocks are worth at a factor, in their order.
 fn worths_among(
     alloc: Global,
     prices: &Prices,
     kept: &[u32],
     factor: Factor,
-) -> Result<Option<Vec<i128>>, AllocError>
-    ensures { IfOk result
-        (λ o. IfSome o (λ v. v.items ≡ map (worth_at prices.now factor) kept.now)) }
+) -> Result<Vec<i128>, AllocError>
+    requires { All (λ b. b < priced_count prices.now) kept.now }
+    ensures { IfOk result (λ v. v.items ≡ map (worth_at prices.now factor) kept.now) }
 {
     let mut worths = Vec::with_capacity(alloc, kept.len())?;
     for b in kept {
-        if *b >= prices.len() {
-            return Ok(None);
-        }
         worths.push(prices.worth(*b, factor))?;
     }
-    Ok(Some(worths))
+    Ok(worths)
 }
 
-// The net of these blocks alone, by their places in the list: none where an amount doesn't fit.
+// The net of these blocks alone, by their places in the list.
+//
+// `TooLarge` exactly where an amount doesn't fit, `NoMemory` where memory is refused, and no other fault.
 fn net_among(
     alloc: Global,
     prices: &Prices,
     predecessors: &Predecessors,
     kept: &[u32],
     factor: Factor,
-) -> Result<Option<Net<Scaled>>, AllocError>
+) -> Result<Net<Scaled>, NetFault>
     requires ascending { IsAscending kept.now }
     requires below { All (λ b. b < predecessors.now.blocks) kept.now }
     requires size { length kept.now ≤ predecessors.now.blocks }
-    ensures { IfOk result (λ o. IfSome o
-        (IsNetAmong scaled_block predecessors.now.pairs prices.now kept.now factor)) }
+    requires priced { All (λ b. b < priced_count prices.now) kept.now }
+    ensures { MatchResult result
+        (IsNetAmong scaled_block predecessors.now.pairs prices.now kept.now factor)
+        (WorthsFaultStands scaled_block (length kept.now)
+        (map (worth_at prices.now factor) kept.now)) }
 {
-    let small = rests_among(alloc, predecessors, kept)?;
-    let Some(worths) = worths_among(alloc, prices, kept, factor)? else {
-        return Ok(None);
+    let Ok(small) = rests_among(alloc, predecessors, kept) else {
+        return Err(NetFault::NoMemory);
     };
-    match Net::<Scaled>::of_worths(alloc, small, worths.as_slice()) {
-        Ok(net) => Ok(Some(net)),
-        Err(NetFault::NoMemory) => Err(AllocError),
-        Err(_) => Ok(None),
-    }
+    let Ok(worths) = worths_among(alloc, prices, kept, factor) else {
+        return Err(NetFault::NoMemory);
+    };
+    Net::<Scaled>::of_worths(alloc, small, worths.as_slice())
 }
 
 // The best pit at a factor of the part, and the parts of the others: those of lower factors lie within it, and those of higher
@@ -206,7 +207,38 @@ impl Part {
     }
 }
 
-/// Solves the part of a mine at the factor at this place.
+// What a part without further blocks gives: its low blocks are the best pit at each of its factors.
+fn without_blocks(
+    alloc: Global,
+    mine: &SeriesMine,
+    part: &Part,
+    place: usize,
+) -> Result<Halved, AllocError>
+    requires priced { ArePriced mine.now.predecessors.pairs mine.now.prices mine.now.factors.items }
+    requires part { IsPart mine.now.predecessors.pairs mine.now.prices mine.now.factors.items
+        part.now }
+    requires first { part.now.from ≤ place }
+    requires last { place < part.now.to }
+    requires none { part.now.kept.items ≡ [] }
+    ensures halved { IfOk result
+        (AreHalved mine.now.predecessors.pairs mine.now.prices mine.now.factors.items) }
+    ensures solved { IfOk result (λ halves. IfNone halves.best (SumLeaves mine.now.prices
+        (slice_index mine.now.factors.items place) part.now.low.items)) }
+{
+    let blocks = Vec::from_slice(alloc, part.low.as_slice())?;
+    let best = best_with(&mine.prices, blocks, mine.factors[place]);
+    let lower = part.narrowed(alloc, part.from, place)?;
+    let higher = part.narrowed(alloc, place + 1, part.to)?;
+    Ok(Halved {
+        best,
+        lower,
+        higher,
+    })
+}
+
+/// Solves the part of a mine at the factor at this place. A part without further blocks is always solved, unless the worths of
+/// its low blocks have no sum within 128 bits; another one where the amounts of its net fit, pseudoflow finds a flow that a
+/// check accepts, and the worths of its pit have a sum.
 ///
 /// # Errors
 /// Memory was refused.
@@ -222,14 +254,22 @@ pub fn solved_part(
         part.now }
     requires first { part.now.from ≤ place }
     requires last { place < part.now.to }
-    ensures { IfOk result
+    ensures halved { IfOk result
         (AreHalved mine.now.predecessors.pairs mine.now.prices mine.now.factors.items) }
+    ensures empty { part.now.kept.items ≡ [] → IfOk result
+        (λ halves. IfNone halves.best (SumLeaves mine.now.prices
+        (slice_index mine.now.factors.items place) part.now.low.items)) }
 {
+    if part.kept.is_empty() {
+        return without_blocks(alloc, mine, part, place);
+    }
     let factor = mine.factors[place];
     let next = place + 1;
     let kept = part.kept.as_slice();
-    let Some(net) = net_among(alloc, &mine.prices, &mine.predecessors, kept, factor)? else {
-        return part.unsolved(alloc, place, next);
+    let net = match net_among(alloc, &mine.prices, &mine.predecessors, kept, factor) {
+        Ok(net) => net,
+        Err(NetFault::NoMemory) => return Err(AllocError),
+        Err(_) => return part.unsolved(alloc, place, next),
     };
     let Some(small) = quick_best(alloc, &net, factor, turns)? else {
         return part.unsolved(alloc, place, next);

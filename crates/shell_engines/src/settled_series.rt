@@ -15,8 +15,8 @@ use crate::series_inputs::SeriesMine;
 use crate::series_progress::SeriesProgress;
 use crate::shell_rows::ShellRow;
 use crate::solver_at::solution_at;
-use engines::Effort;
 use engines::solvers::Unsolved;
+use engines::{Effort, Method};
 use fixed_worth::MOST_FACTORS;
 use pseudoflow::Progress;
 use shells::{Factor, Series, SeriesFault};
@@ -121,8 +121,8 @@ impl Shells {
     }
 }
 
-// What pseudoflow finds at the factors, by as many threads as the effort has workers. Nothing where the method doesn't begin
-// with it.
+// What pseudoflow finds at the factors, by as many threads as the effort has workers: unless the machine alone was asked for,
+// it is tried first on a mine of any size, since a series asks for many pits, of which each takes the machine seconds.
 fn found_first<R: Threads + Sync, T: SeriesProgress + Sync>(
     rt: &R,
     alloc: Global,
@@ -133,7 +133,7 @@ fn found_first<R: Threads + Sync, T: SeriesProgress + Sync>(
     ensures { IfOk result
         (λ v. All (IsProved mine.now.predecessors.pairs mine.now.prices) v.items) }
 {
-    if !effort.method.begins_with_pseudoflow(mine.prices.len()) {
+    if effort.method == Method::PushRelabel {
         return Ok(Vec::new(alloc));
     }
     found_beside(rt, alloc, mine, effort, gate)
@@ -142,11 +142,11 @@ fn found_first<R: Threads + Sync, T: SeriesProgress + Sync>(
 /// The shells of a mine at its factors: each factor's mine is solved, a check accepts its flow, and the pit is added to
 /// the series, in the order of the factors.
 ///
-/// Where the method begins with pseudoflow, `found_beside` solves the factors by halves: the blocks between two pits that are
+/// Unless push-relabel alone was asked for, `found_beside` solves the factors by halves, by pseudoflow: the blocks between two pits that are
 /// known make a smaller mine, and as many threads as the effort has workers share the smaller mines of a level. A factor at
 /// which that proves no pit is solved afterwards over the whole mine, unless the method ends with pseudoflow. There, and where
-/// the method begins with the push-relabel machine, one factor is solved after another, and the workers are the machine's: one
-/// or two run without a lock, and more under one. The pits don't depend on the schedule: a mine has one best pit at a factor.
+/// push-relabel alone was asked for, one factor is solved after another, and the workers are the machine's: one or two run
+/// without a lock, and more under one. The pits don't depend on the schedule: a mine has one best pit at a factor.
 ///
 /// # Errors
 /// Of the first factor at which no pit is proved: `Unsolved` with the reason, `Model` where an amount of its net

@@ -11,19 +11,19 @@ use Rattle.shell_engines.proofs.lifted_pits.best_with.Goals as goal
 pub overflow_cast-row : goal.overflow_cast-row
 overflow_cast-row c =
     let n = priced_count c.args.prices.now in
-    let low = subst (All (λ b. b < n)) c.as_slice.ensures.value c.in_ok-worth.ensures.1 in
+    let low = subst (All (λ b. b < n)) c.as_slice.ensures.value c.in_ok-worth.ensures.sum.1 in
     let short = ascending_short c.args.blocks.items n c.in_ok-pit.ensures.1 low in
     let size = ap (λ (xs : List ℕ). length xs) c.in_ok-pit.ensures.0 in
     omega (arith, short, size, c.len-2.ensures, c.len.ensures.table.blocks)
 
-pub returns : goal.returns
-returns c = λ pairs best.
+pub returns-clause-best : goal.returns-clause-best
+returns-clause-best c = λ pairs best.
     let prices = c.args.prices.now in
     let xs = c.args.blocks.items in
     let k = c.args.factor in
-    let low = subst (All (λ b. b < priced_count prices)) c.as_slice.ensures.value c.in_ok-worth.ensures.1 in
+    let low = subst (All (λ b. b < priced_count prices)) c.as_slice.ensures.value c.in_ok-worth.ensures.sum.1 in
     let fits : FitsSigned w128 c.in_ok-worth.worth = search rules in
-    let worth = to_z-of_z w128 c.in_ok-worth.worth fits ∙ c.in_ok-worth.ensures.0 ∙ ap (λ (ys : List ℕ). worth_in (λ i. worth_at prices k (number_in ys i)) every_block (length ys)) c.as_slice.ensures.value in
+    let worth = to_z-of_z w128 c.in_ok-worth.worth fits ∙ c.in_ok-worth.ensures.sum.0 ∙ ap (λ (ys : List ℕ). worth_in (λ i. worth_at prices k (number_in ys i)) every_block (length ys)) c.as_slice.ensures.value in
     let count = c.len-2.ensures ∙ ap (λ (ys : List ℕ). length ys) c.in_ok-pit.ensures.0 in
     let row = proved_row pairs prices k xs c.len-2.result (to_z w128 (of_z w128 c.in_ok-worth.worth)) c.in_ok-pit.ensures.1 low count worth best in
     record {

@@ -21,7 +21,7 @@ returns c = λ pairs h part found.
     let first = c.requires.first in
     let last = c.requires.last in
     let rising = c.blocks-2.ensures.ascending in
-    let at = subst (λ (o : Option (Vec ℕ Global)). IfSome o (λ v. (v.items ≡ map (number_in ks) ss) × All (λ i. i < length ks) ss)) c.in-Some.is c.in_ok-inside.ensures in
+    let at = subst (λ (o : Option (Vec ℕ Global)). IfSome o (λ v. (v.items ≡ map (number_in ks) ss) × All (λ i. i < length ks) ss)) c.in-Some.is c.in_ok-inside.ensures.found in
     let ke : ks ≡ kept = c.as_slice-kept.ensures.value in
     let se : ss ≡ s = c.blocks-2.ensures.is in
     let inside : c.in-Some.inside.items ≡ map (number_in kept) s = at.0 ∙ ap (λ (xs : List ℕ). map (number_in xs) ss) ke ∙ ap (map (number_in kept)) se in
@@ -37,7 +37,7 @@ returns c = λ pairs h part found.
     let is_k : c.index.result.now ≡ get_or factors place 0 = get_or_read factors place c.index.result.now c.requires.inside c.index.ensures 0 in
     let best = lifted_best pairs prices factors from to place low kept s h part first last rising places found blocks are in
     record {
-      found = c.in-Some-best_with.ensures pairs (subst (λ f. IsBest (mine_at pairs prices f) (holds_of blocks)) (sym is_k) best);
+      found = c.in-Some-best_with.ensures.best pairs (subst (λ f. IsBest (mine_at pairs prices f) (holds_of blocks)) (sym is_k) best);
       lower = same_lists_part pairs prices factors from place low _ _ _ again inside (lower_part pairs prices factors from to place low kept s h part first last rising places found blocks are);
-      higher = same_lists_part pairs prices factors (place + 1) to blocks _ _ _ above outside (higher_part pairs prices factors from to place low kept s h part first last rising places found blocks are);
+      higher = same_lists_part pairs prices factors (place + 1) to blocks _ _ _ above outside (higher_part pairs prices factors from to place low kept s h part first last rising places found blocks are c.in-Some-best_with.ensures.list.0 c.in-Some-best_with.ensures.list.1);
     }
