@@ -102,6 +102,7 @@ def stamps(folder: Path) -> list[tuple[int, int] | None]:
 
 
 def stamp(path: Path) -> tuple[int, int] | None:
+    """When a file was written last, and its size; None where it isn't there."""
     try:
         found = path.stat()
     except OSError:

@@ -481,6 +481,7 @@ def in_whole(name: str, values: Floats, rounding: Decimal, model: Model) -> Whol
             f"a {name} of {values[at]:g} for one block: is a unit wrong?",
             table=model.table,
             row=row_at(model, at),
+            key=("economics", METALS if name == "revenue" else name),
         )
     whole: Whole = np.rint(values / float(rounding)).astype(np.int64)
     return whole
@@ -502,5 +503,6 @@ def fence_price(priced: Priced, rounding: Decimal) -> int:
             raise PlanError(
                 "[economics] forbid: the mine brings too much for an amount that keeps blocks from being dug",
                 try_this="prices and costs in thousands",
+                key=("economics", "forbid"),
             )
     return price

@@ -250,11 +250,17 @@ def check_limits(slopes: Slopes, model: Model) -> None:
         ]
         told = f"[slopes] {name}: {len(pattern.offsets)} offsets make {count:,} pairs over {len(model):,} blocks, and pit takes {search.PAIRS:,}"
         if not fitting:
-            raise PlanError(told, try_this="larger blocks: even one level up is too much")
+            raise PlanError(
+                told, try_this="larger blocks: even one level up is too much", key=key_of(name)
+            )
         levels, tried = min(
             fitting, key=lambda found: (found[1].error.badness(slopes.safe), -found[0])
         )
-        raise PlanError(told, try_this=f"levels = {levels} in [slopes]: {tried}; or larger blocks")
+        raise PlanError(
+            told,
+            try_this=f"levels = {levels} in [slopes]: {tried}; or larger blocks",
+            key=key_of(name),
+        )
 
 
 def _with_fewer_levels(pattern: Pattern, safe: bool) -> Iterator[tuple[int, Pattern]]:

@@ -96,7 +96,8 @@ def priced_of(parts: Parts, model: Model) -> Priced | None:
     if parts.economics:
         priced = parts.economics.priced(model)
         for factor in (parts.factors or [])[-1:]:
-            priced.check_room(factor)
+            with about("economics", "rounding"):
+                priced.check_room(factor)
         return priced
     section = parts.told.get("economics")
     if isinstance(section, Mapping):

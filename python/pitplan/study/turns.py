@@ -155,10 +155,14 @@ def holder(folder: Path) -> Holder | None:
 
 
 def is_held(folder: Path) -> Holder | None:
-    """Who has the study now; None where nobody has."""
+    """Who has the study now; None where nobody has, or that can't be told."""
     try:
-        with open(folder / LOCK, "r+", encoding="utf-8") as file:
-            fcntl.flock(file, fcntl.LOCK_EX | fcntl.LOCK_NB)
-            return None
-    except OSError as error:
-        return holder(folder) if error.errno in (errno.EWOULDBLOCK, errno.EACCES) else None
+        file = open(folder / LOCK, encoding="utf-8")
+    except OSError:
+        return None
+    with file:
+        try:
+            fcntl.flock(file, fcntl.LOCK_SH | fcntl.LOCK_NB)
+        except OSError as error:
+            return holder(folder) if error.errno in (errno.EWOULDBLOCK, errno.EACCES) else None
+    return None

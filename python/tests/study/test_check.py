@@ -273,6 +273,13 @@ ERRORS = [
         ("model", "size"),
     ),
     (
+        "amounts in another unit",
+        ("price = 8500", "price = 8.5e12"),
+        None,
+        "a revenue of",
+        ("economics", "metals"),
+    ),
+    (
         "a word for a number",
         ("mining_rate = 1e6", 'mining_rate = "1e6"'),
         None,
