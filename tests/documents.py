@@ -40,7 +40,6 @@ UNTYPED = {
         "python3 examples/csv_to_minelib.py mine.csv 20 20 10 mine revenue cost tonnes",
         "pit slopes --blocks mine.blocks",
         "pit shells --prec mine.prec",
-        "pit report --prec mine.prec",
     ),
 }  # the mine of tests/day, which types them
 NUMBER = re.compile(r"(?<![\w.,-])\d[\d,]*(?:\.\d+)?")
@@ -235,8 +234,6 @@ def play(day, top):
         *page_facts.of_table(guide),
         *page_facts.of_copper(guide),
         *page_facts.of_patterns(guide),
-        *page_facts.of_stretched_cones(guide),
-        *page_facts.of_regions(guide),
         *page_facts.of_shells(guide),
         *page_facts.of_benches(guide),
     )
