@@ -71,8 +71,6 @@ def of_readme(reader):
     return [
         "The best pit has {} blocks and is worth {:,} dollars".format(*pit),
         "# the example mine: ACCEPTED %d %d\n" % pit,
-        "pit check ─► ACCEPTED %d %d\n" % pit,
-        " %d blocks, worth %d:\n" % pit,
     ]
 
 
