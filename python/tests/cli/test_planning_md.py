@@ -17,7 +17,10 @@ from pathlib import Path
 import served
 
 TOP = Path(__file__).resolve().parents[3]
-DOCUMENTS = TOP / "docs" / "PLANNING.md", TOP / "docs" / "STUDY.md"  # in the order in which they are played
+DOCUMENTS = (
+    TOP / "docs" / "PLANNING.md",
+    TOP / "docs" / "STUDY.md",
+)  # in the order in which they are played
 OWN = ("study.toml", ".py")  # files that the walk writes with `cat`
 
 
@@ -131,13 +134,10 @@ def test_options_of_the_text_are_options_of_a_command():
         for option in it.opts
     }
     known |= set(
-        re.findall(
-            r"--[a-z][\w-]*", (TOP / "completions" / "pit.bash").read_text()
-        )
+        re.findall(r"--[a-z][\w-]*", (TOP / "completions" / "pit.bash").read_text())
     )  # those of `pit`
-    named = set(re.findall(
-            r"(?<![\w-])--[a-z][\w-]*", "\n".join(one.read_text() for one in DOCUMENTS)
-        )
+    named = set(
+        re.findall(r"(?<![\w-])--[a-z][\w-]*", "\n".join(one.read_text() for one in DOCUMENTS))
     )
     assert len(named) > 20 and named - known <= {"--help", "--no-install-recommends"}, named - known
 
