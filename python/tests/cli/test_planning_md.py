@@ -127,9 +127,10 @@ def test_options_of_the_text_are_options_of_a_command():
     from pitplan.cli import main as cli, console
 
     cli.load_commands()
+    whole = get_command(console.app)
     known = {
         option
-        for command in get_command(console.app).commands.values()
+        for command in (whole, *whole.commands.values())
         for it in command.params
         for option in it.opts
     }
