@@ -35,12 +35,11 @@ STATUSES = (
 )
 LOOKS_TYPED = re.compile(r"(pit|python3|pitplan|\./\S+|cd|grep|sed|cut|cat) ")
 UNTYPED = {
-    "README.md": ("./run-example", "./install", "python3 tests/run"),
+    "README.md": ("./run-example", "./install", "pitplan "),  # these as PLANNING's test types them
     "docs/GUIDE.md": (
         "python3 examples/csv_to_minelib.py mine.csv 20 20 10 mine revenue cost tonnes",
         "pit slopes --blocks mine.blocks",
         "pit shells --prec mine.prec",
-        "pit report --prec mine.prec",
     ),
 }  # the mine of tests/day, which types them
 NUMBER = re.compile(r"(?<![\w.,-])\d[\d,]*(?:\.\d+)?")
@@ -71,7 +70,6 @@ OTHERS = {
     65: "per cent",
     80: "per cent",
     100: "per cent",
-    67: "minutes of a first build on two cores, timed",
 }
 
 NAMED = re.compile(r".*`([\w-]+\.\w+)`:$")
@@ -235,8 +233,6 @@ def play(day, top):
         *page_facts.of_table(guide),
         *page_facts.of_copper(guide),
         *page_facts.of_patterns(guide),
-        *page_facts.of_stretched_cones(guide),
-        *page_facts.of_regions(guide),
         *page_facts.of_shells(guide),
         *page_facts.of_benches(guide),
     )

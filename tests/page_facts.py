@@ -71,8 +71,6 @@ def of_readme(reader):
     return [
         "The best pit has {} blocks and is worth {:,} dollars".format(*pit),
         "# the example mine: ACCEPTED %d %d\n" % pit,
-        "pit check ─► ACCEPTED %d %d\n" % pit,
-        " %d blocks, worth %d:\n" % pit,
     ]
 
 
@@ -111,16 +109,10 @@ def of_copper(reader):
     ]
     across, along, benches = (1 + max(block[axis] for block in blocks) for axis in (1, 2, 3))
     _, x, y, z, revenue, cost, tonnes, *_ = blocks[1]
-    top = [block for block in blocks if block[3] == benches - 1]
-    below = [block for block in blocks if block[3] == benches - 2]
-    haul = {block[5] - top[0][5] for block in below} | {block[8] - top[0][8] for block in below}
     return [
         "%s benches of %d by %d blocks" % ({3: "three"}[benches], across, along),
         "block 1 is at x = %d, y = %d on bench %d, has a revenue of %s dollars and a cost of %s, and weighs %s tonnes"
         % (x, y, z, commas(revenue), commas(cost), commas(tonnes)),
-        "The first charges %s dollars for every block, the second %d to dig it and %d more where it is treated. In both the haul costs %d more"
-        % (commas(top[0][5]), top[0][8], top[0][7], *haul),
-        "the waste that it strips costs %d dollars and not %s" % (top[0][8], commas(top[0][5])),
         "".join(
             "    %s\n" % line for line in (folder / "priced.blocks").read_text().splitlines()[:3]
         ),
@@ -182,69 +174,18 @@ def of_patterns(reader):
     ]
 
 
-def of_stretched_cones(reader):
-    """The table of stretched cones by block and slope: how many offsets each has, and that it errs by no more than is said."""
-    facts = []
-    for head, *cells in re.findall(
-        r"^\| (cubes|20 x .*?|25 x .*?) \| (.*?) \| (.*?) \| (.*?) \|$", reader.text, re.M
-    ):
-        size = tuple(map(int, head.split(",")[0].split(" x "))) if head != "cubes" else (1, 1, 1)
-        for angle, cell in zip((40, 45, 50), cells):
-            named = re.search(r"`(.*)`", cell)[1]
-            offsets = offsets_of(reader, named)
-            off = errors(offsets, size, angle)
-            is_near = (
-                sum(map(abs, off)) / len(off) <= 0.5
-                and max(map(abs, off)) <= 1
-                and min(off) < 0 < max(off)
-            )
-            reader.day.same("%s for %d degrees in %s" % (named, angle, head), is_near, True)
-            facts.append(
-                "%d of `%s`" % (len(offsets), named)
-                if named.startswith("offsets.py")
-                else "`%s` %d" % (named, len(offsets))
-            )
-        facts.append("| %s |" % head)
-    return ["| Block, metres | 40 degrees | 45 degrees | 50 degrees |"] + facts
-
-
-def of_regions(reader):
-    """Of two regions: the pits where one of their slopes holds everywhere."""
-    for name in "west", "east":
-        reader.asks("pit solve --prec {0}.prec --upit copper.upit > {0}.cert".format(name))
-    answers = [
-        reader.asks("pit check --prec {0}.prec --upit copper.upit {0}.cert".format(name)).strip()
-        for name in ("west", "east")
-    ]
-    return ["With 45 degrees everywhere the answer is `%s`, and with 38 `%s`" % tuple(answers)]
-
-
 def of_shells(reader):
-    """Of the shells: the pit at each factor, what each adds, and those of the mill beside them."""
-    model = "--prec copper.prec --blocks priced.blocks --settings"
-    costs, mill = (
-        shell_lines(reader.asks("pit shells %s %s" % (model, name)))
-        for name in ("settings.toml", "mill.toml")
-    )
-    facts = []
-    for factor, count, worth in costs:
+    """Of the shells: the pit at each factor, as `pit check` has it, and what is said of some."""
+    model = "--prec copper.prec --blocks priced.blocks --settings settings.toml"
+    shells = shell_lines(reader.asks("pit shells %s" % model))
+    for factor, count, worth in shells:
         answer = reader.asks(
-            "pit solve %s settings.toml --factor %d > of.cert; pit check %s settings.toml of.cert"
-            % (model, factor, model)
+            "pit solve %s --factor %d > of.cert; pit check %s of.cert" % (model, factor, model)
         )
         reader.day.same("pit check at %d" % factor, answer, "ACCEPTED %d %d\n" % (count, worth))
-        facts += ["| %d | `%s`" % (factor, answer.strip())] * (factor != 650)
-    for this, above in zip(costs, costs[1:] + [None]):
-        adds = " %d blocks " % (above[1] - this[1]) if above else " "
-        facts.append("| %d %% | %d | %s |%s|" % (this[0] / 10, this[1], commas(this[2]), adds))
-    facts += [
-        "| %d %% | %d, %s | %d, %s |"
-        % (one[0] / 10, one[1], commas(one[2]), two[1], commas(two[2]))
-        for one, two in zip(costs, mill)
-    ]
-    by_factor = {line[0]: line for line in costs}
+    by_factor = {line[0]: line for line in shells}
     best = "%d blocks, worth %s dollars" % (by_factor[1000][1], commas(by_factor[1000][2]))
-    return facts + [
+    return [
         "The second checks it: %s." % best,
         "\n%s. No other set" % best,
         "the best pit has %d blocks, and is worth %s dollars at that price"
@@ -257,21 +198,13 @@ def of_shells(reader):
 
 
 def of_benches(reader):
-    """Of the bench table: how it is read, and its pivot."""
+    """Of the bench table: how it is read."""
     with open(reader.place / "benches.csv", newline="") as file:
         rows = [{column: int(cell) for column, cell in row.items()} for row in csv.DictReader(file)]
     at = {(row["z"], row["shell"]): row for row in rows}
-    shells = sorted({row["shell"] for row in rows})
     first = [at[z, 500] for z in (2, 1)]
     half = next(worth for factor, _, worth in shell_lines(reader.seen) if factor == 500)
-    last = [at[z, 1000] for z in (2, 1, 0)]
-    pivot = [
-        "| %d | %s |"
-        % (z, " | ".join(str(at.get((z, shell), {"tonnes": 0})["tonnes"]) for shell in shells))
-        for z in (2, 1, 0)
-    ]
-    return pivot + [
-        "| z | %s |" % " | ".join(map(str, shells)),
+    return [
         "the first shell has %d blocks on the top bench and %d below, %s tonnes in all"
         % (first[0]["blocks"], first[1]["blocks"], commas(sum(row["tonnes"] for row in first))),
         "Its worth, %s and %s, is %s dollars at the full price; at half the price, as `pit shells` says, it is %s."
@@ -279,13 +212,6 @@ def of_benches(reader):
             *(commas(row["worth"]) for row in first),
             commas(sum(row["worth"] for row in first)),
             commas(half),
-        ),
-        "strips %d blocks on the top bench, which lose %s dollars, to come to %s on bench 1 and %s on bench 0"
-        % (
-            last[0]["blocks"],
-            commas(-last[0]["worth"]),
-            commas(last[1]["worth"]),
-            commas(last[2]["worth"]),
         ),
         "The rows of the shells up to 1000 have %s dollars together"
         % commas(sum(row["worth"] for row in rows if row["shell"] <= 1000)),

@@ -23,7 +23,13 @@ CITING = (
     "crates/README.md",
 )
 LONGEST_SENTENCE = 40
-MOST_WORDS = {"docs/DECISIONS.md": 4_500, "docs/ASSURANCE.md": 2_200, "bench/RESULTS.md": 2_800}
+MOST_WORDS = {
+    "README.md": 900,
+    "docs/GUIDE.md": 4_800,
+    "docs/DECISIONS.md": 4_500,
+    "docs/ASSURANCE.md": 2_000,
+    "bench/RESULTS.md": 2_800,
+}
 UNREAD = ("bench/LAST_RUN.md", "docs/STATEMENT.md")  # whose sentences may be longer
 SENTENCE = re.compile(r"(?<=[.!?:])\s+")
 LINK = re.compile(r"\]\(([^()\s]+)\)")

@@ -1,9 +1,9 @@
-"""Plays docs/PLANNING.md: each command in it is run, in one folder, and prints what the document shows.
+"""Plays docs/PLANNING.md, and after it docs/STUDY.md: each command in them is run, in one folder, and prints what the document shows.
 
-In the document's indented blocks a line `$ words` is a command, and the lines below it are what it prints; `..` stands for
+In a document's indented blocks a line `$ words` is a command, and the lines below it are what it prints; `..` stands for
 anything, in a line or in place of lines. What `$ cat FILE` shows of a text of one's own is written to FILE.
 
-    python3 python/tests/test_planning_md.py --rewrite
+    python3 python/tests/cli/test_planning_md.py --rewrite
 
 puts what the commands print now in place of what the document shows, but for lines with `..`; read the difference.
 """
@@ -17,7 +17,10 @@ from pathlib import Path
 import served
 
 TOP = Path(__file__).resolve().parents[3]
-DOCUMENT = TOP / "docs" / "PLANNING.md"
+DOCUMENTS = (
+    TOP / "docs" / "PLANNING.md",
+    TOP / "docs" / "STUDY.md",
+)  # in the order in which they are played
 OWN = ("study.toml", ".py")  # files that the walk writes with `cat`
 
 
@@ -89,25 +92,27 @@ def shown_of(lines, start, end):
 
 
 def test_the_walk(tmp_path):
-    lines, folder = DOCUMENT.read_text().splitlines(), workplace(tmp_path)
-    found = steps(lines)
-    assert len(found) > 10
-    for start, end, command in found:
-        shown = shown_of(lines, start, end)
-        said, _ = played(command, shown, folder)
-        assert agrees(
-            shown or [""], said
-        ), f"line {start} of PLANNING.md: $ {command}\n" + "\n".join(said)
+    folder = workplace(tmp_path)
+    for document, fewest in zip(DOCUMENTS, (30, 4)):
+        lines = document.read_text().splitlines()
+        found = steps(lines)
+        assert len(found) >= fewest, document.name
+        for start, end, command in found:
+            shown = shown_of(lines, start, end)
+            said, _ = played(command, shown, folder)
+            assert agrees(
+                shown or [""], said
+            ), f"line {start} of {document.name}: $ {command}\n" + "\n".join(said)
 
 
 def test_figures_of_the_text_are_in_what_was_printed():
-    """A figure of the running text, outside of code, is one that some command of the document printed."""
-    lines = DOCUMENT.read_text().splitlines()
+    """A figure of the running text, outside of code and tables, is one that some command printed."""
+    lines = "\n".join(document.read_text() for document in DOCUMENTS).splitlines()
     printed = "\n".join(line for line in lines if line.startswith("    "))
     told = [
         number
         for line in lines
-        if not line.startswith("    ")
+        if not line.startswith(("    ", "|"))
         for number in re.findall(
             r"(?<![\w.,-])\d[\d,]*\.?\d+(?![\w%])", re.sub(r"`[^`]*`", "", line)
         )
@@ -122,33 +127,35 @@ def test_options_of_the_text_are_options_of_a_command():
     from pitplan.cli import main as cli, console
 
     cli.load_commands()
+    whole = get_command(console.app)
     known = {
         option
-        for command in get_command(console.app).commands.values()
+        for command in (whole, *whole.commands.values())
         for it in command.params
         for option in it.opts
     }
     known |= set(
-        re.findall(
-            r"--[a-z][\w-]*", (DOCUMENT.parent.parent / "completions" / "pit.bash").read_text()
-        )
+        re.findall(r"--[a-z][\w-]*", (TOP / "completions" / "pit.bash").read_text())
     )  # those of `pit`
-    named = set(re.findall(r"(?<![\w-])--[a-z][\w-]*", DOCUMENT.read_text()))
+    named = set(
+        re.findall(r"(?<![\w-])--[a-z][\w-]*", "\n".join(one.read_text() for one in DOCUMENTS))
+    )
     assert len(named) > 20 and named - known <= {"--help", "--no-install-recommends"}, named - known
 
 
 def rewrite():
-    lines = DOCUMENT.read_text().splitlines()
     with tempfile.TemporaryDirectory() as name:
         folder = workplace(Path(name))
-        for start, end, command in steps(lines):
-            shown = shown_of(lines, start, end)
-            said, _ = played(command, shown, folder)
-            if not agrees(shown or [""], said):
-                print(f"$ {command}")
-                lines[start:end] = [None] * (end - start)
-                lines[start - 1] += "".join("\n    " + line if line else "\n" for line in said)
-    DOCUMENT.write_text("\n".join(line for line in lines if line is not None) + "\n")
+        for document in DOCUMENTS:
+            lines = document.read_text().splitlines()
+            for start, end, command in steps(lines):
+                shown = shown_of(lines, start, end)
+                said, _ = played(command, shown, folder)
+                if not agrees(shown or [""], said):
+                    print(f"$ {command}")
+                    lines[start:end] = [None] * (end - start)
+                    lines[start - 1] += "".join("\n    " + line if line else "\n" for line in said)
+            document.write_text("\n".join(line for line in lines if line is not None) + "\n")
 
 
 if __name__ == "__main__":

@@ -378,29 +378,6 @@ def test_wrong_words_of_the_script(words, said):
     )
 
 
-def test_the_cones_that_the_guide_names_hold_their_slopes():
-    rows = re.findall(
-        r"^\| (cubes|\d+ x \d+ x \d+)[^|]*\|([^|]*)\|([^|]*)\|([^|]*)\|$",
-        (TOP / "docs" / "GUIDE.md").read_text(),
-        re.M,
-    )
-    tried = 0
-    for block, *cells in rows:
-        size = (10, 10, 10) if block == "cubes" else tuple(map(int, block.split(" x ")))
-        for slope, cell in zip((40, 45, 50), cells):
-            for pattern, count in re.findall(r"`(cone:[\d:]+)` (\d+)", cell):
-                asked, offsets = search.wall(size, slope), walls.named(pattern)
-                error = search.error_of(asked, search.Outline(asked, offsets))
-                assert (
-                    len(offsets) == int(count)
-                    and error.mean <= 0.5
-                    and error.worst <= 1
-                    and error.flattest < 0 < error.steepest
-                ), (block, slope, pattern, str(error))
-                tried += 1
-    assert tried >= 11
-
-
 @pytest.mark.parametrize("angles", [45, BY_BEARING, [(0, 35), (45, 50), (90, 35), (180, 45)]])
 @pytest.mark.parametrize("safe", [False, True])
 def test_nothing_better_is_passed_over(angles, safe):
