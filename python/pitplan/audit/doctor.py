@@ -17,6 +17,7 @@ from pathlib import Path
 from .. import __version__
 from ..base.errors import PlanError
 from ..base.machine import free_memory, processors
+from ..base.units_shown import share_text
 from ..pit.program import Pit
 
 # What is imported, and Debian's package of it.
@@ -222,7 +223,7 @@ def shelled(folder: Path) -> None:
     for verdict in Study(folder).shells(list(PITS), 1).with_certificates(1).verdicts:
         if (verdict["count"], verdict["worth"]) != PITS[verdict["factor"]]:
             raise PlanError(
-                f"at factor {verdict['factor'] / 1000:g} {verdict['count']} blocks worth {verdict['worth']}, and by hand {PITS[verdict['factor']]}"
+                f"at factor {share_text(verdict['factor'])} {verdict['count']} blocks worth {verdict['worth']}, and by hand {PITS[verdict['factor']]}"
             )
 
 

@@ -7,11 +7,9 @@ from decimal import Decimal
 import numpy as np
 import numpy.typing as npt
 
+from .arrays import Bools, Floats, Ints
 from .errors import PlanError
 
-Whole = npt.NDArray[np.int64]
-Floats = npt.NDArray[np.float64]
-Bools = npt.NDArray[np.bool_]
 
 THOUSAND = 1000  # a factor is in thousandths
 MOST = Decimal(10) ** 12  # the most that `pit` reads for a block
@@ -61,9 +59,9 @@ class Priced:
         Which blocks may not be dug: `mining` has a price for them that keeps them from every pit. Default: none.
     """
 
-    revenue: Whole
-    processing: Whole
-    mining: Whole
+    revenue: Ints
+    processing: Ints
+    mining: Ints
     rounding: Decimal = Decimal(1)
     metal: dict[str, Floats] = field(default_factory=dict)
     grade: dict[str, Floats] = field(default_factory=dict)
@@ -77,7 +75,7 @@ class Priced:
     def __len__(self) -> int:
         return len(self.revenue)
 
-    def thousandths(self, factor: int) -> Whole:
+    def thousandths(self, factor: int) -> Ints:
         """What each block is worth at a factor, in thousandths of `rounding`: whole numbers, exact.
 
         Parameters
@@ -109,9 +107,9 @@ class Priced:
                 try_this=f"rounding = {larger.normalize():f} in [economics]",
             )
 
-    def of_part(self, part: slice, factor: int) -> Whole:
+    def of_part(self, part: slice, factor: int) -> Ints:
         """`thousandths` of some of the blocks, where `check_room` has passed."""
-        worth: Whole = self.revenue[part] * factor
+        worth: Ints = self.revenue[part] * factor
         worth -= self.processing[part] * THOUSAND
         np.maximum(worth, 0, out=worth)
         worth -= self.mining[part] * THOUSAND
@@ -147,12 +145,12 @@ class Priced:
         return spelled(Decimal(thousandths) * self.rounding / THOUSAND)
 
 
-def furthest(values: Whole) -> int:
+def furthest(values: Ints) -> int:
     """How far from 0 whole numbers go."""
     return max(int(values.max(initial=0)), -int(values.min(initial=0)))
 
 
-def exact_sum(values: Whole) -> int:
+def exact_sum(values: Ints) -> int:
     """The sum of whole numbers as Python's whole number: it is never rounded and never overflows, for up to 2^31 of them."""
     high = int(
         (values >> HALF).sum(dtype=np.int64)
@@ -172,9 +170,9 @@ def spelled(value: Decimal) -> str:
     return "0" if text in ("-0", "") else text
 
 
-def as_text(values: Whole, rounding: Decimal) -> npt.NDArray[np.object_] | Whole:
+def as_text(values: Ints, rounding: Decimal) -> npt.NDArray[np.object_] | Ints:
     """Amounts as `.blocks` has them: exact decimals, whole numbers where `rounding` is one."""
     if rounding == rounding.to_integral_value():
-        whole: Whole = values * int(rounding)
+        whole: Ints = values * int(rounding)
         return whole
     return np.array([spelled(Decimal(int(v)) * rounding) for v in values], dtype=object)

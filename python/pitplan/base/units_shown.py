@@ -6,8 +6,6 @@ from collections.abc import Iterable
 from dataclasses import dataclass
 from typing import Any
 
-import numpy as np
-
 PREFIXES = ((1e9, "G", "thousand million"), (1e6, "M", "million"), (1e3, "k", "thousand"))
 
 
@@ -21,6 +19,8 @@ class Scale:
 
 def scale_of(amounts: Any, unit: str) -> Scale:
     """The scale at which the greatest of some amounts has two to five digits before the point: t, kt, Mt; $, thousand $, .."""
+    import numpy as np  # a command that shows no amounts needs none of it
+
     values = np.abs(np.asarray(amounts, float))
     values = values[np.isfinite(values)]
     most = float(values.max()) if len(values) else 0.0
@@ -54,6 +54,11 @@ def lengths(values: Iterable[float]) -> list[str]:
 def factor_text(thousandths: int) -> str:
     """A factor as a share of the price: 850 is 0.85, 875 is 0.875."""
     return f"{thousandths / 1000:.3f}" if thousandths % 10 else f"{thousandths / 1000:.2f}"
+
+
+def share_text(thousandths: float) -> str:
+    """A factor as a message names it: 850 is 0.85, 800 is 0.8, 1000 is 1."""
+    return f"{thousandths / 1000:g}"
 
 
 def separated(number: str) -> str:

@@ -9,7 +9,6 @@ from typing import TYPE_CHECKING, Optional
 import typer
 from rich.markup import escape
 
-from ..base.amounts import THOUSAND
 from ..base.errors import PlanError
 from ..base.next_command import command
 from ..table.study_keys import keys_of
@@ -95,6 +94,8 @@ def named(said: str) -> tuple[str, str]:
 @app.command()
 def build(folder: Path = STUDY) -> None:
     """Read the table, work out what each block brings and costs, and make the slopes."""
+    from ..base.amounts import THOUSAND
+
     from ..slopes.looks import looks
     from ..study.building import Building
     from ..study.study import Study

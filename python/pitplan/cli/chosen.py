@@ -4,9 +4,9 @@ from __future__ import annotations
 from pathlib import Path
 from typing import TYPE_CHECKING
 
-from ..base.amounts import THOUSAND
 from ..base.errors import PlanError
 from ..base.next_command import command
+from ..base.units_shown import share_text
 from ..study.shells import Shells, series_of, thousandths
 from ..study.study import Study
 from .console import err, opened
@@ -86,11 +86,11 @@ def not_run(study: Study, factor: int) -> PlanError:
     near = sorted(sorted(there, key=lambda found: abs(found - factor))[:2])
     if not near:
         return PlanError(
-            f"the pit at factor {factor / THOUSAND:g} hasn't been run",
+            f"the pit at factor {share_text(factor)} hasn't been run",
             try_this=command("shells", study.named),
         )
     return PlanError(
-        f"the pit at factor {factor / THOUSAND:g} hasn't been run; the nearest that have are "
-        + ", ".join(f"{found / THOUSAND:g}" for found in near),
+        f"the pit at factor {share_text(factor)} hasn't been run; the nearest that have are "
+        + ", ".join(share_text(found) for found in near),
         try_this=f"one of these; or put it into factors in [shells] of study.toml, then: {command('shells', study.named)}",
     )

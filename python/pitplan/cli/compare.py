@@ -8,6 +8,7 @@ from typing import TYPE_CHECKING, Any, List, Optional
 
 import typer
 from ..base.errors import PlanError
+from ..base.units_shown import share_text
 from .console import STUDY, app, described, err, opened, results, say
 
 if TYPE_CHECKING:
@@ -162,7 +163,7 @@ def tell(study: Study, found: Comparison) -> None:
     currency, held = study.currency, found.design.held
     tonnes = study.model.blocks.tonnes.to_numpy(float)
     lines = [
-        f"{found.design.name}: {int(held.sum()):,} blocks, {tonnes[held].sum() / 1e6:,.2f} Mt, worth {money(found.worth, currency)} at factor {found.factor / 1000:g}",
+        f"{found.design.name}: {int(held.sum()):,} blocks, {tonnes[held].sum() / 1e6:,.2f} Mt, worth {money(found.worth, currency)} at factor {share_text(found.factor)}",
         *(f"  {note}" for note in found.design.notes),
         *forbidden_lines(study, held),
         f"best pit: {int(found.optimum.sum()):,} blocks, {tonnes[found.optimum].sum() / 1e6:,.2f} Mt, worth {money(found.bound, currency)}: no pit that keeps the slopes is worth more",

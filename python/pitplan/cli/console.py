@@ -22,6 +22,7 @@ from ..base import events
 from ..base.errors import PlanError
 from ..base.next_command import command
 from ..base.within import only_within, refuse_outside
+from ..base.units_shown import share_text
 
 if TYPE_CHECKING:
     from rich.status import Status
@@ -231,7 +232,7 @@ def shells_of(folder: Path) -> tuple[Shells, dict[str, float]]:
     missing = [factor for factor in told.factors if not study.verdict(factor)]
     if missing:
         raise PlanError(
-            f"{len(missing)} of {len(told.factors)} pits haven't been run, the first at factor {missing[0] / 1000:g}",
+            f"{len(missing)} of {len(told.factors)} pits haven't been run, the first at factor {share_text(missing[0])}",
             try_this=command("shells", folder),
         )
     return Shells(study, told.factors), told.rates

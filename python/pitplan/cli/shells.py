@@ -13,6 +13,7 @@ import typer
 from ..base import events
 from ..base.errors import PlanError
 from ..base.next_command import command
+from ..base.units_shown import share_text
 from .build import tell_strange
 from .console import (
     STUDY,
@@ -114,7 +115,9 @@ def shown(factors: list[int], workers: int) -> Iterator[Told]:
                 if factor in lanes:
                     bars.remove_task(lanes.pop(factor))  # type: ignore[arg-type]
             elif factor not in lanes:
-                lanes[factor] = bars.add_task(f"  factor {factor / 1000:g}", total=1.0, told=what)
+                lanes[factor] = bars.add_task(
+                    f"  factor {share_text(factor)}", total=1.0, told=what
+                )
             else:
                 bars.update(lanes[factor], completed=share, told=what if share < 1 else "checking")  # type: ignore[arg-type]
 
@@ -145,7 +148,7 @@ def lines(total: int) -> Told:
             there.add(factor)
         if is_new or what == "killed":
             print(
-                f"factor {factor / 1000:g} {what}: {len(there)} of {total} after {time.time() - began:.0f} s",
+                f"factor {share_text(factor)} {what}: {len(there)} of {total} after {time.time() - began:.0f} s",
                 file=sys.stderr,
                 flush=True,
             )
@@ -231,8 +234,10 @@ def warn_of_edges(found: Shells) -> None:
         if first:
             last = count(len(found.factors) - 1)
             blocks = f"{first[1]:,} {'block' if first[1] == 1 else 'blocks'} there" + (
-                f", {last:,} at factor {found.factors[-1] / 1000:g}"
+                f", {last:,} at factor {share_text(found.factors[-1])}"
                 if first[0] != found.factors[-1]
                 else ""
             )
-            warn(f"from factor {first[0] / 1000:g} on a pit {what.format(blocks)}\n  try: {hint}")
+            warn(
+                f"from factor {share_text(first[0])} on a pit {what.format(blocks)}\n  try: {hint}"
+            )

@@ -9,7 +9,6 @@ import typer
 from ..base.errors import PlanError
 from ..base.files import whole_file
 from ..study import older
-from ..table.spreadsheets import write_table
 from .console import STUDY, app, described, err, print_columns, say, warn
 
 if TYPE_CHECKING:
@@ -28,6 +27,8 @@ EVERY: Any = typer.Option(
 @app.command()
 def slopes(folder: Path = STUDY, every: int = EVERY) -> None:
     """Show the angles that are asked for and those that are built, by bearing and region, and draw them."""
+    from ..table.spreadsheets import write_table
+
     told = described(folder)
     grid = grid_of(told)
     with err.status("looking for offsets"):

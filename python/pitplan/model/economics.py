@@ -12,17 +12,8 @@ from typing import Union
 import numpy as np
 import pandas as pd
 
-from ..base.amounts import (
-    LARGEST_FACTOR,
-    MOST,
-    THOUSAND,
-    Bools,
-    Floats,
-    Priced,
-    Whole,
-    exact_sum,
-    rounding_of,
-)
+from ..base.arrays import Bools, Floats, Ints
+from ..base.amounts import LARGEST_FACTOR, MOST, THOUSAND, Priced, exact_sum, rounding_of
 from ..base.errors import MOST_CELLS, Cell, Gathered, KeyPath, PlanError, Remedy, about, meant
 from ..base.units import metal_in_a_tonne
 from ..table.column_names import AIR
@@ -472,7 +463,7 @@ def row_at(model: Model, block: int) -> int | None:
     return row if row >= 0 else None
 
 
-def in_whole(name: str, values: Floats, rounding: Decimal, model: Model) -> Whole:
+def in_whole(name: str, values: Floats, rounding: Decimal, model: Model) -> Ints:
     """Amounts in whole multiples of `rounding`, half to even."""
     most = float(MOST)
     if not np.abs(values).max(initial=0.0) <= most:  # so also where a product is no number
@@ -483,7 +474,7 @@ def in_whole(name: str, values: Floats, rounding: Decimal, model: Model) -> Whol
             row=row_at(model, at),
             key=("economics", METALS if name == "revenue" else name),
         )
-    whole: Whole = np.rint(values / float(rounding)).astype(np.int64)
+    whole: Ints = np.rint(values / float(rounding)).astype(np.int64)
     return whole
 
 

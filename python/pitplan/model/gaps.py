@@ -6,9 +6,9 @@ from dataclasses import replace
 from typing import TYPE_CHECKING, Any
 
 import numpy as np
-import numpy.typing as npt
 import pandas as pd
 
+from ..base.arrays import Bools
 from ..base.errors import PlanError
 from ..table.column_names import AIR
 from .grid import Grid
@@ -16,7 +16,6 @@ from .grid import Grid
 if TYPE_CHECKING:
     from .model import Model
 
-Bools = npt.NDArray[np.bool_]
 LARGEST = 1 << 24  # blocks that pit reads
 
 

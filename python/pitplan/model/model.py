@@ -10,6 +10,7 @@ import numpy as np
 import numpy.typing as npt
 import pandas as pd
 
+from ..base.arrays import Array, Bools, Floats, Ints
 from ..base.errors import Gathered, PlanError, about, meant
 from ..table.column_names import PLACES, SIZES, which_columns
 from ..table.csv_text import (
@@ -25,9 +26,8 @@ from ..table.csv_text import (
 )
 from ..table.study_keys import refuse_wrong
 from . import gaps, subblocks
-from .grid import Floats, Grid
+from .grid import Grid
 
-Ints = npt.NDArray[np.int64]
 OFF = 0.05  # of a block: how far a centre may be off the grid
 MOST_STEPS = 10**9  # blocks along an axis, so that their numbers are whole and fit
 SAMPLE = 50_000  # centres, by which the grid that most are on is found
@@ -77,7 +77,7 @@ class Model:
     source: Path | None = None
     absent: Sequence[str] = ()
     parts: subblocks.Parts | None = None
-    fenced: tuple[Sequence[str], npt.NDArray[np.bool_]] | None = None
+    fenced: tuple[Sequence[str], Bools] | None = None
     unweighed: dict[str, int] = field(default_factory=dict)
 
     def __len__(self) -> int:
@@ -104,10 +104,10 @@ class Model:
         return cube
 
     @property
-    def is_rock(self) -> npt.NDArray[np.bool_]:
+    def is_rock(self) -> Bools:
         """Whether a block weighs anything, of shape (len(self),): the others are air, of which nothing is dug. Where none weighs
         anything, all are rock."""
-        found: npt.NDArray[np.bool_] = self.blocks["tonnes"].to_numpy(float) > 0
+        found: Bools = self.blocks["tonnes"].to_numpy(float) > 0
         return found if found.any() else ~found
 
     @property
@@ -500,10 +500,10 @@ def light(blocks: pd.DataFrame) -> list[str]:
     ]
 
 
-def without_blanks(words: pd.Series) -> npt.NDArray[Any]:
+def without_blanks(words: pd.Series) -> Array:
     """Words without the blanks around them, which packages fill cells up with."""
     code, kinds = pd.factorize(words)
-    found: npt.NDArray[Any] = np.array([*(str(kind).strip() for kind in kinds), ""], object)[
+    found: Array = np.array([*(str(kind).strip() for kind in kinds), ""], object)[
         code
     ]  # the last is that of an empty cell, whose code is -1
     return found

@@ -9,19 +9,17 @@ from collections.abc import Iterator
 from typing import TYPE_CHECKING, Any
 
 import numpy as np
-import numpy.typing as npt
 from shapely.geometry import MultiPolygon, Polygon, box
 from shapely.ops import unary_union
+
+from ..base.arrays import Array, Bools, Floats
 
 if TYPE_CHECKING:
     from .grid import Grid
     from .model import Model
 
-Bools = npt.NDArray[np.bool_]
-Floats = npt.NDArray[np.float64]
 
-
-def cube_of(model: Model, values: npt.NDArray[Any], empty: Any) -> npt.NDArray[Any]:
+def cube_of(model: Model, values: Array, empty: Any) -> Array:
     """A value for each place of the grid, of the grid's shape; `empty` where no block is.
 
     Parameters

@@ -11,16 +11,15 @@ from pathlib import Path
 from typing import Any
 
 import numpy as np
-import numpy.typing as npt
 import pandas as pd
 
 from ..base.amounts import Priced, rounding_of
+from ..base.arrays import Array, Ints
 from ..base.errors import PlanError
 from ..base.next_command import command
 from .grid import Grid
 from .model import Model
 
-Array = npt.NDArray[Any]
 # What numpy and zipfile raise of a file that is damaged.
 DAMAGED = (
     ValueError,
@@ -50,7 +49,7 @@ def bytes_as_words(data: Array, count: int) -> Array:
     return np.array(bytes(data).decode().split("\n") if count else [], dtype=object)
 
 
-def save(path: Path, model: Model, priced: Priced, region: npt.NDArray[np.int64]) -> None:
+def save(path: Path, model: Model, priced: Priced, region: Ints) -> None:
     """Writes a model, what its blocks bring and cost, and the region of slopes of each block."""
     arrays: dict[str, Array] = {
         "revenue": priced.revenue,
@@ -162,8 +161,8 @@ def load_priced(path: Path) -> Priced:
         )
 
 
-def load_region(path: Path) -> npt.NDArray[np.int64]:
+def load_region(path: Path) -> Ints:
     """The region of slopes of each block: 0 is "default", the others in the order of ``study.toml``."""
     with opened(path) as file:
-        region: npt.NDArray[np.int64] = file["region"].astype(np.int64)
+        region: Ints = file["region"].astype(np.int64)
         return region

@@ -10,16 +10,16 @@ import numpy as np
 import numpy.typing as npt
 import pandas as pd
 
+from ..base.arrays import Floats, Ints
 from ..base.errors import PlanError
 from ..table.column_names import PLACES, SIZES
 from ..table.csv_text import NO_WEIGHT, number_column
 from ..table.formula import stripped
-from .grid import Floats, Grid
+from .grid import Grid
 
 if TYPE_CHECKING:
     from .model import Model
 
-Ints = npt.NDArray[np.int64]
 OFF = 1e-3  # of a block: how far coordinates and sizes, which tables round, may be off
 
 

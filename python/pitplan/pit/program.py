@@ -18,10 +18,11 @@ from pathlib import Path
 from typing import Union
 
 import numpy as np
-import numpy.typing as npt
 
+from ..base.arrays import Bools, Ints
 from ..base.errors import Disagreement, Killed, MachineError, NotAccepted, PlanError
 from ..base.files import ROOM
+from ..base.units_shown import share_text
 from .valued import Valued
 
 Progress = Callable[[int, int], None]
@@ -70,7 +71,7 @@ class Accepted:
 
     count: int
     worth: str
-    blocks: npt.NDArray[np.int64]
+    blocks: Ints
     factor: int
     certificate: str
     size: int
@@ -81,7 +82,7 @@ class Accepted:
             raise TypeError("an Accepted is made by Pit.check alone")
 
     @property
-    def mask(self) -> npt.NDArray[np.bool_]:
+    def mask(self) -> Bools:
         """Whether a block is in the pit, of shape (blocks of the model,)."""
         found = np.zeros(self.size, bool)
         found[self.blocks] = True
@@ -110,7 +111,7 @@ class Stated:
     count: int
     worth: str
     factor: int
-    mask: npt.NDArray[np.bool_]
+    mask: Bools
     begun: InitVar[object] = None
 
     def __post_init__(self, begun: object) -> None:
@@ -238,7 +239,7 @@ class Pit:
         )
         if said:
             raise NotAccepted(
-                f"pit solve at factor {factor / 1000:g}: {said.strip()}", try_this=hint_of(said)
+                f"pit solve at factor {share_text(factor)}: {said.strip()}", try_this=hint_of(said)
             )
         with packed(certificate) if keeps else nullcontext() as kept:
             found = self.check(files, certificate, kept)
@@ -528,7 +529,7 @@ def each_proved(proved: Callable[[int], None]) -> Heard:
     return heard
 
 
-def shell_of_blocks(table: Path, factors: Sequence[int]) -> npt.NDArray[np.int64]:
+def shell_of_blocks(table: Path, factors: Sequence[int]) -> Ints:
     """The first factor whose pit has each block, in thousandths, of shape (blocks,); above all factors where none has it.
 
     Raises
@@ -559,7 +560,7 @@ def shell_of_blocks(table: Path, factors: Sequence[int]) -> npt.NDArray[np.int64
             "the table of blocks that pit shells wrote isn't one of all blocks and these factors",
             try_this="is the disk full? else tell the maintainers",
         )
-    first: npt.NDArray[np.int64] = np.nan_to_num(shell, nan=float(ABOVE)).astype(np.int64)
+    first: Ints = np.nan_to_num(shell, nan=float(ABOVE)).astype(np.int64)
     return first
 
 
@@ -590,7 +591,7 @@ class PitLines:
     def __init__(self) -> None:
         self.digest = hashlib.sha256()
         self.rest, self.head, self.is_over = b"", list[bytes](), False
-        self.blocks: list[npt.NDArray[np.int64]] = []
+        self.blocks: list[Ints] = []
 
     def take(self, data: bytes) -> None:
         """Takes in the next piece."""
@@ -610,7 +611,7 @@ class PitLines:
             piece, self.is_over = piece[: min(ends)], True
         self.blocks.append(numbers_in(piece))
 
-    def found(self) -> tuple[int, int, npt.NDArray[np.int64]]:
+    def found(self) -> tuple[int, int, Ints]:
         """How many blocks the certificate's model has, its factor in thousandths, and the blocks of its PIT lines.
 
         Raises
@@ -631,15 +632,13 @@ class PitLines:
         )
 
 
-def numbers_in(lines: bytes) -> npt.NDArray[np.int64]:
+def numbers_in(lines: bytes) -> Ints:
     """The numbers of lines ``PIT b``."""
     if lines.translate(None, b"0123456789PIT \n"):
         raise NotAccepted("a certificate has other lines between its PIT lines")
     if not lines:
         return np.empty(0, np.int64)
-    found: npt.NDArray[np.int64] = np.fromstring(
-        lines.replace(b"PIT ", b"").decode(), dtype=np.int64, sep="\n"
-    )
+    found: Ints = np.fromstring(lines.replace(b"PIT ", b"").decode(), dtype=np.int64, sep="\n")
     if len(found) != lines.count(b"\n"):
         raise NotAccepted("a certificate has other lines between its PIT lines")
     return found

@@ -15,10 +15,10 @@ from pathlib import Path
 from typing import TYPE_CHECKING, Any
 
 import numpy as np
-import numpy.typing as npt
 import pandas as pd
 
 from ..base.amounts import THOUSAND, spelled
+from ..base.arrays import Bools
 from ..base.errors import Disagreement
 from ..base.next_command import command
 from ..pit.valued import Valued
@@ -29,7 +29,6 @@ from .design import Design
 if TYPE_CHECKING:
     from ..study.study import Study
 
-Bools = npt.NDArray[np.bool_]
 PIECE = 1 << 22
 
 

@@ -3,10 +3,10 @@ from __future__ import annotations
 
 from typing import TYPE_CHECKING
 
+from ..base.arrays import Bools
 from ..base.units_shown import separated
 
 if TYPE_CHECKING:
-    from ..base.amounts import Bools
     from ..study.study import Study
     from .compare import Comparison
 

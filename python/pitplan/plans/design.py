@@ -7,9 +7,9 @@ from pathlib import Path
 from typing import Any
 
 import numpy as np
-import numpy.typing as npt
 import pandas as pd
 
+from ..base.arrays import Bools
 from ..base.errors import PlanError, meant
 from ..model.model import Model
 from ..table.column_names import PLACES, USUAL
@@ -17,7 +17,6 @@ from ..table.csv_text import PLAIN, dialect_beside, head_of, names_of, number_co
 from ..table.spreadsheets import as_written
 from .surface import Surface, heights, of_dxf, of_points
 
-Bools = npt.NDArray[np.bool_]
 YES = (
     "1",
     "yes",

@@ -4,11 +4,12 @@ from __future__ import annotations
 from typing import TYPE_CHECKING, Any
 
 import numpy as np
-import numpy.typing as npt
 import pandas as pd
 
 from ..base.amounts import THOUSAND
+from ..base.arrays import Bools, Floats, Shorts
 from ..base.errors import PlanError
+from ..base.units_shown import share_text
 from ..model import outlines
 from ..study.pit_by_pit import Cells
 from . import widths
@@ -47,16 +48,14 @@ class Phases:
             raise PlanError(f"the mining width is {mining_width:g}, and has to be above 0")
         self.shells, self.mining_width = shells, mining_width
         count = len(shells.factors)
-        self.pushback: npt.NDArray[np.int16] = np.where(
-            shells.dug < count, shells.dug + 1, 0
-        ).astype(np.int16)
+        self.pushback: Shorts = np.where(shells.dug < count, shells.dug + 1, 0).astype(np.int16)
         there = np.bincount(self.pushback, minlength=count + 1)[1:]
         if (there == 0).any():
             i = int(np.argmin(there))
             before = (
-                f"the pit at {shells.factors[i] / THOUSAND:g} is that at {shells.factors[i - 1] / THOUSAND:g}"
+                f"the pit at {share_text(shells.factors[i])} is that at {share_text(shells.factors[i - 1])}"
                 if i
-                else f"the pit at {shells.factors[0] / THOUSAND:g} is empty"
+                else f"the pit at {share_text(shells.factors[0])} is empty"
             )
             raise PlanError(
                 f"{before}: there is no pushback {i + 1}",
@@ -112,7 +111,7 @@ class Phases:
             rows.append(row | rock | mill | found | self.room(here, tonnes[:, :, level]))
         return pd.DataFrame(rows)
 
-    def room(self, plane: npt.NDArray[np.bool_], tonnes: npt.NDArray[np.float64]) -> dict[str, Any]:
+    def room(self, plane: Bools, tonnes: Floats) -> dict[str, Any]:
         """How wide a pushback is on a bench."""
         sx, sy, _ = self.shells.study.model.grid.size
         found = widths.widths(plane, (sx, sy), self.mining_width or 0.0)

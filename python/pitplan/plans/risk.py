@@ -28,6 +28,7 @@ import pandas as pd
 
 from ..base import kept_json
 from ..base.amounts import THOUSAND, Priced, spelled
+from ..base.arrays import Array, Bools, Floats, Levels, Singles
 from ..base.errors import Disagreement, MachineError, PlanError
 from ..base.next_command import command
 from ..base.within import refuse_outside
@@ -37,6 +38,7 @@ from ..model.grid import Grid
 from ..model.model import Model, TableKeys
 from ..study import edges
 from ..base.files import FULL, made_whole, mark, sweep
+from ..base.units_shown import share_text
 from ..study.study import Study
 from ..study.runs import Told
 from ..study.verdicts import Verdict
@@ -49,8 +51,6 @@ from .task_line import Task
 if TYPE_CHECKING:
     from ..pit.program import Files
 
-Bools = npt.NDArray[np.bool_]
-Floats = npt.NDArray[np.float32]
 NOT_ALIKE, FEWEST = (
     0.1,
     50,
@@ -225,7 +225,7 @@ def rows_of(study: Study) -> int:
     return len(held)
 
 
-def by_line(grades: Floats, row_block: npt.NDArray[np.int32]) -> Floats:
+def by_line(grades: Singles, row_block: npt.NDArray[np.int32]) -> Singles:
     """Grades of the rows that have a block as grades of all lines below the header, 0 where a line has none; grades of all lines as they are."""
     if len(grades) == len(row_block):
         return grades
@@ -251,7 +251,7 @@ def opened(
     return grades, "realisations.npy"
 
 
-def of_table(path: Path, model: Model | None, keys: TableKeys | None) -> Floats:
+def of_table(path: Path, model: Model | None, keys: TableKeys | None) -> Singles:
     """The realisations of a CSV, a column each. The table's own columns of ids and coordinates may stand beside them: they are
     left out, and the ids have to be those of the table, row by row.
 
@@ -323,7 +323,7 @@ def same_ids(found: pd.Series, model: Model, path: Path) -> None:
         )
 
 
-def checked(grades: npt.NDArray[Any], number: int, path: Path) -> npt.NDArray[Any]:
+def checked(grades: Array, number: int, path: Path) -> Array:
     """A realisation, refused where a cell is no grade."""
     if grades.dtype.kind not in "iuf":
         raise PlanError(
@@ -342,7 +342,7 @@ def checked(grades: npt.NDArray[Any], number: int, path: Path) -> npt.NDArray[An
     return grades
 
 
-def digest_of(grades: npt.NDArray[Any]) -> str:
+def digest_of(grades: Array) -> str:
     """The sha256 of a realisation as 32-bit numbers, which is how it is used."""
     return hashlib.sha256(np.ascontiguousarray(grades, np.float32).tobytes()).hexdigest()
 
@@ -463,7 +463,7 @@ class Realisation(Study):
                 each.table = each.table or folder_of(self.base) / "risk.json"
             raise
 
-    def grades(self) -> Floats:
+    def grades(self) -> Singles:
         """The grades of this realisation, of shape (lines of the table below its header,).
 
         Raises
@@ -474,7 +474,7 @@ class Realisation(Study):
         path = folder_of(self.base) / self.setup.file
         refuse_outside(path)
         try:
-            found: Floats = np.ascontiguousarray(
+            found: Singles = np.ascontiguousarray(
                 np.load(path, mmap_mode="r", allow_pickle=False)[self.number], np.float32
             )
         except (OSError, *store.DAMAGED) as error:
@@ -612,9 +612,7 @@ class Risk:
             setup.factors,
             len(setup.digests),
         )
-        self.hits: npt.NDArray[np.uint16] = np.zeros(
-            (len(self.factors), study.manifest["blocks"]), np.uint16
-        )
+        self.hits: Levels = np.zeros((len(self.factors), study.manifest["blocks"]), np.uint16)
         tonnes = lean_model(study, setup.economics).blocks.tonnes.to_numpy(float)
         self.side, self.floor = np.zeros((2, len(self.factors), self.count), np.int64)
         touching, on_floor = edges.touching(study), edges.on_floor(study.model)
@@ -626,7 +624,7 @@ class Risk:
                 assert verdict is not None  # its mask has just been read
                 if (below & ~mask).any():
                     raise Disagreement(
-                        f"realisation {r}: the pit at {self.factors[i - 1] / THOUSAND:g} isn't within that at {factor / THOUSAND:g}, and pit proves that it is",
+                        f"realisation {r}: the pit at {share_text(self.factors[i - 1])} isn't within that at {share_text(factor)}, and pit proves that it is",
                         try_this="were results of several models mixed in this folder?",
                     )
                 self.hits[i] += mask
@@ -645,9 +643,9 @@ class Risk:
                 )
         self.runs = pd.DataFrame(rows)
 
-    def likelihood(self, factor: int = THOUSAND) -> npt.NDArray[np.float64]:
+    def likelihood(self, factor: int = THOUSAND) -> Floats:
         """The share of the realisations whose pit has a block, of shape (blocks,)."""
-        found: npt.NDArray[np.float64] = self.hits[self.at(factor)] / self.count
+        found: Floats = self.hits[self.at(factor)] / self.count
         return found
 
     def pit(self, likelihood: float, factor: int = THOUSAND) -> Bools:
@@ -662,8 +660,8 @@ class Risk:
         """Where a factor stands in the series."""
         if factor not in self.factors:
             raise PlanError(
-                f"no realisation was run at factor {factor / THOUSAND:g}",
-                try_this=", ".join(f"{f / THOUSAND:g}" for f in self.factors),
+                f"no realisation was run at factor {share_text(factor)}",
+                try_this=", ".join(share_text(f) for f in self.factors),
             )
         return self.factors.index(factor)
 
@@ -785,7 +783,7 @@ def means(study: Study, setup: Setup) -> Means:
     )
 
 
-def alike(grades: npt.NDArray[Any], table: npt.NDArray[Any]) -> bool:
+def alike(grades: Array, table: Array) -> bool:
     """Whether grades have to do with those of the table, row by row: not where rows are in another order. Few rows tell nothing."""
     there = table > 0
     if int(there.sum()) < FEWEST or np.ptp(grades[there]) == 0 or np.ptp(table[there]) == 0:

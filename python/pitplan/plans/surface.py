@@ -7,14 +7,12 @@ from pathlib import Path
 from typing import Any
 
 import numpy as np
-import numpy.typing as npt
 
+from ..base.arrays import Floats, Ints
 from ..base.errors import PlanError, meant
 from ..base.within import refuse_outside
 from ..model.grid import Grid
 
-Floats = npt.NDArray[np.float64]
-Ints = npt.NDArray[np.int64]
 AT_ONCE = 4_000_000  # columns under triangles that are looked at in one go
 SLACK = 1e-9
 MOST = 1_000_000  # faces and other entities that the blocks of a DXF may bring

@@ -19,6 +19,7 @@ from ..base.amounts import THOUSAND
 from ..base.errors import PlanError, meant
 from ..base.next_command import command
 from ..base.files import whole_file
+from ..base.units_shown import share_text
 from ..model.economics import Amount, Economics
 from ..model.model import Model
 from ..slopes.slopes import Slopes
@@ -204,7 +205,7 @@ def price_factor(factor: int, change: Change) -> int:
             round(exact) if round(exact) != factor else factor + (1 if change.by > 0 else -1)
         )  # no change is none that can be made
         raise PlanError(
-            f"{change} of factor {factor / THOUSAND:g} is factor {exact / THOUSAND:.9g}, and factors are whole thousandths",
+            f"{change} of factor {share_text(factor)} is factor {exact / THOUSAND:.9g}, and factors are whole thousandths",
             try_this=f"{change.what}={100 * (near / factor - 1):+.9g}",
         )
     return thousandths(round(exact) / THOUSAND)

@@ -5,9 +5,9 @@ import math
 from typing import TYPE_CHECKING, Any
 
 import numpy as np
-import numpy.typing as npt
 import pandas as pd
 
+from ..base.arrays import Bools, Ints
 from ..model.grid import Grid
 from ..slopes.offsets import Outline, wall
 
@@ -15,8 +15,6 @@ if TYPE_CHECKING:
     from ..model.model import Model
     from ..study.resting import Resting
 
-Bools = npt.NDArray[np.bool_]
-Ints = npt.NDArray[np.int64]
 SECTORS = 16  # of bearings: each 22.5 degrees wide, the first around north
 LEVELS = 6  # over which a wall is measured, where the slopes look at fewer
 COLUMNS = ("bearing", "pairs", "steepest", "built", "height", "away", "id", "x", "y", "bench")

@@ -4,11 +4,10 @@ from __future__ import annotations
 import math
 
 import numpy as np
-import numpy.typing as npt
 from scipy import ndimage
 
-Bools = npt.NDArray[np.bool_]
-Floats = npt.NDArray[np.float64]
+from ..base.arrays import Bools, Floats
+
 STEPS = 4  # radii that are tried, in the shorter side of a block: widths are told to half a block
 FINE = 32  # steps up to which each is tried
 SLACK = 1e-9

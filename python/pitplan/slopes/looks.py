@@ -10,9 +10,9 @@ from collections.abc import Iterator, Mapping, Sequence
 from typing import Any, Protocol
 
 import numpy as np
-import numpy.typing as npt
 
 from ..base.amounts import THOUSAND, Priced
+from ..base.arrays import Bools
 from ..base.errors import spelled
 from ..base.strange import Strange
 from ..base.units import PRICES
@@ -24,7 +24,6 @@ from ..table.column_names import PLACES, USUAL
 from ..table.study_keys import METALS
 from .slopes import Slopes
 
-Bools = npt.NDArray[np.bool_]
 FLAT = 0.2  # the share of columns that end above the lowest level, where z runs the other way
 FAR_OFF = (
     20  # how many times the next largest cell a cell may be, or a block's weight the usual one

@@ -13,9 +13,9 @@ from pathlib import Path
 from typing import Any, cast
 
 import numpy as np
-import numpy.typing as npt
 import pandas as pd
 
+from ..base.arrays import Bools, Ints
 from ..base.errors import Gathered, KeyPath, PlanError, meant
 from ..model.grid import Grid
 from ..model.model import Model
@@ -28,7 +28,6 @@ from .offsets import Angles, Offset, Pattern
 
 DEFAULT = "default"
 STEP = 15  # degrees of bearing between two rows of the table of asked and built angles
-Ints = npt.NDArray[np.int64]
 Begun = Callable[
     [str, int, int], None
 ]  # a region whose predecessors are begun, which it is of how many
@@ -207,7 +206,7 @@ def searched(wall: search.Wall, safe: bool, levels: int | None) -> Pattern:
     return search.search(wall, safe=safe, levels=levels)
 
 
-def _pairs(there: npt.NDArray[np.bool_], of: npt.NDArray[np.bool_], offset: Offset) -> int:
+def _pairs(there: Bools, of: Bools, offset: Offset) -> int:
     """How many blocks of a set have a block at an offset; both sets over the places of the grid."""
     low, high = [], []
     for step, count in zip(offset, there.shape):

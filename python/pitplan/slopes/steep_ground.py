@@ -11,8 +11,8 @@ from dataclasses import replace
 from typing import TYPE_CHECKING, Tuple
 
 import numpy as np
-import numpy.typing as npt
 
+from ..base.arrays import Bools, Shorts
 from ..model.gaps import added
 from ..table.column_names import AIR
 
@@ -20,8 +20,6 @@ if TYPE_CHECKING:
     from ..model.model import Model
     from .slopes import Slopes
 
-Bools = npt.NDArray[np.bool_]
-Ints = npt.NDArray[np.int16]
 Offsets = Sequence[Sequence[Tuple[int, int, int]]]
 Slices = Tuple[slice, slice]
 
@@ -64,7 +62,7 @@ def with_air(model: Model, slopes: Slopes) -> Model:
     return found_model
 
 
-def led_through(there: Bools, air: Bools, region: Ints, offsets: Offsets) -> Bools:
+def led_through(there: Bools, air: Bools, region: Shorts, offsets: Offsets) -> Bools:
     """Which places of air a block is led through to another block.
 
     Parameters

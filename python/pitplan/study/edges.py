@@ -6,16 +6,13 @@ from collections.abc import Iterable, Iterator, Sequence
 from typing import TYPE_CHECKING
 
 import numpy as np
-import numpy.typing as npt
 
+from ..base.arrays import Bools, Ints
 from ..model.gaps import enclosed
 
 if TYPE_CHECKING:
     from ..model.model import Model
     from .folder import StudyFolder
-
-Bools = npt.NDArray[np.bool_]
-Ints = npt.NDArray[np.int64]
 
 
 # What is said of a pit that touches the model's side, or reaches its floor, and what to try; the first with how many blocks do.

@@ -11,10 +11,11 @@ from pathlib import Path
 import numpy as np
 import pandas as pd
 
+from ..base.arrays import Floats
 from ..base.errors import PlanError
 from ..base.next_command import command
 from ..base.usual_metals import metal_of, unit_of
-from ..model.grid import Floats, Grid
+from ..model.grid import Grid
 from ..model.subblocks import OFF
 from ..slopes.slopes import DEFAULT
 from ..table.column_names import PLACES, REGIONS, SIZES, which_columns

@@ -7,11 +7,10 @@ from contextlib import contextmanager
 from functools import cached_property
 from pathlib import Path
 
-import numpy as np
-import numpy.typing as npt
 
 from ..base import kept_json
 from ..base.amounts import Priced
+from ..base.arrays import Ints
 from ..base.digests import sha256_unless_known
 from ..base.errors import PlanError
 from ..base.next_command import command
@@ -132,12 +131,12 @@ class StudyFolder:
         return store.load_priced(self.where / "blocks.npz")
 
     @cached_property
-    def region(self) -> npt.NDArray[np.int64]:
+    def region(self) -> Ints:
         """The region of slopes of each block, of shape (blocks,): an index into ``manifest["offsets"]``."""
         return store.load_region(self.where / "blocks.npz")
 
     @cached_property
-    def sides(self) -> list[npt.NDArray[np.int64]]:
+    def sides(self) -> list[Ints]:
         """For each region of slopes how high up a block of each column asks for a place beside or below the model; see `edges.highest_touching`."""
         return list(edges.highest_touching(self.model, self.manifest["offsets"].values()))
 

@@ -6,17 +6,16 @@ from decimal import Decimal
 from typing import TYPE_CHECKING, Any
 
 import numpy as np
-import numpy.typing as npt
 import pandas as pd
 
 from ..base.amounts import THOUSAND, exact_sum
+from ..base.arrays import Array, Floats
 from ..base.errors import PlanError
 from ..table.study_keys import refuse_wrong
 
 if TYPE_CHECKING:
     from .shells import Shells
 
-Floats = npt.NDArray[np.float64]
 YEARS = 15  # that the largest pit takes, where no rate is given
 MOST_YEARS = 1000  # that it may take: what needs longer has a rate in another unit
 
@@ -82,7 +81,7 @@ class Cells:
         cell = shells.shell.astype(np.int64) * nz + (nz - 1 - m.blocks.iz.to_numpy())
         tonnes, ore = m.blocks.tonnes.to_numpy(float), p.milled(base)
 
-        def summed(values: npt.NDArray[Any]) -> Floats:
+        def summed(values: Array) -> Floats:
             found: Floats = (
                 np.bincount(cell, values, (s + 1) * nz).astype(float).reshape(s + 1, nz)[:s]
             )

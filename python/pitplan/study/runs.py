@@ -10,9 +10,9 @@ from pathlib import Path
 
 import numpy as np
 
-from ..base.amounts import THOUSAND
 from ..base.errors import Disagreement
 from ..base.files import host, made_whole, mark
+from ..base.units_shown import share_text
 from ..pit.program import Accepted, Stated
 from .verdicts import Verdict, Verdicts
 
@@ -67,7 +67,7 @@ class Runs(Verdicts):
             self.agree(found, factor)
             if stated is not None and (stated != found.mask).any():
                 raise Disagreement(
-                    f"at factor {factor / THOUSAND:g} pit shells stated another pit than pit solve found, and the best pit is one",
+                    f"at factor {share_text(factor)} pit shells stated another pit than pit solve found, and the best pit is one",
                     try_this="keep the folder, and tell the maintainers",
                 )
             if sure:

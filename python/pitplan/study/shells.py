@@ -6,19 +6,18 @@ from functools import cached_property
 from typing import TYPE_CHECKING
 
 import numpy as np
-import numpy.typing as npt
 import pandas as pd
 
 from ..base.amounts import LARGEST_FACTOR, THOUSAND
+from ..base.arrays import Bools, Shorts
 from ..base.errors import Disagreement, PlanError
+from ..base.units_shown import share_text
 from . import edges, pit_by_pit
 
 if TYPE_CHECKING:
     from .runs import Told
     from .study import Study
     from .verdicts import Verdict
-
-Bools = npt.NDArray[np.bool_]
 
 
 def thousandths(share: float) -> int:
@@ -40,9 +39,7 @@ def thousandths(share: float) -> int:
         raise PlanError(f"a factor is {share!r}, and has to be a share of the price, as 0.85")
     found = round(float(share) * THOUSAND)
     if abs(found - share * THOUSAND) > 1e-6 or not 0 <= found <= LARGEST_FACTOR:
-        hint = (
-            f"{share / THOUSAND:g}" if LARGEST_FACTOR / THOUSAND < share <= LARGEST_FACTOR else None
-        )
+        hint = share_text(share) if LARGEST_FACTOR / THOUSAND < share <= LARGEST_FACTOR else None
         raise PlanError(
             f"a factor is {share:g}, and has to be a share of the price in whole thousandths, from 0 to {LARGEST_FACTOR // THOUSAND}",
             try_this=hint,
@@ -115,9 +112,7 @@ class Shells:
     def __init__(self, study: Study, series: Iterable[int]) -> None:
         self.study = study
         self.factors = sorted(series)
-        self.shell: npt.NDArray[np.int16] = np.full(
-            study.manifest["blocks"], len(self.factors), np.int16
-        )
+        self.shell: Shorts = np.full(study.manifest["blocks"], len(self.factors), np.int16)
         self.verdicts: list[Verdict] = []
         with study.verifying():
             self.read()
@@ -129,7 +124,7 @@ class Shells:
             mask = self.study.mask(self.factors[i])
             if below is not None and (mask & ~below).any():
                 raise Disagreement(
-                    f"the pit at {self.factors[i] / THOUSAND:g} isn't within that at {self.factors[i + 1] / THOUSAND:g}, and pit proves that it is",
+                    f"the pit at {share_text(self.factors[i])} isn't within that at {share_text(self.factors[i + 1])}, and pit proves that it is",
                     try_this="were results of several models mixed in this folder?",
                 )
             self.shell[mask] = i
@@ -161,7 +156,7 @@ class Shells:
         )
 
     @cached_property
-    def dug(self) -> npt.NDArray[np.int16]:
+    def dug(self) -> Shorts:
         """As `shell`, of rock alone: blocks of air have ``len(factors)``. What is drawn and measured is rock."""
         return np.where(self.study.model.is_rock, self.shell, np.int16(len(self.factors)))
 

@@ -11,14 +11,14 @@ import numpy as np
 import numpy.typing as npt
 
 from ..base import kept_json
-from ..base.amounts import THOUSAND
+from ..base.arrays import Bools
 from ..base.errors import Disagreement, PlanError
 from ..base.next_command import command
+from ..base.units_shown import share_text
 from ..model import store
 from ..pit.program import Accepted, Stated
 from .folder import StudyFolder
 
-Bools = npt.NDArray[np.bool_]
 VERDICT: dict[str, kept_json.Holds] = {
     "factor": kept_json.is_factor,
     "count": kept_json.is_count,
@@ -98,7 +98,7 @@ class Verdicts(StudyFolder):
         done = self.checked_verdict(factor)
         if not done:
             raise PlanError(
-                f"the pit at factor {factor / THOUSAND:g} hasn't been run over this model",
+                f"the pit at factor {share_text(factor)} hasn't been run over this model",
                 try_this=command("shells", self.named),
             )
         bits = bits_of(self.place(factor) / "pit.npz")
@@ -117,7 +117,7 @@ class Verdicts(StudyFolder):
         last digit, and so is its count of blocks."""
         if found.factor != factor or found.size != self.manifest["blocks"]:
             raise Disagreement(
-                f"the pit is of factor {found.factor / THOUSAND:g} over {found.size:,} blocks, and {factor / THOUSAND:g} over {self.manifest['blocks']:,} was asked for"
+                f"the pit is of factor {share_text(found.factor)} over {found.size:,} blocks, and {share_text(factor)} over {self.manifest['blocks']:,} was asked for"
             )
         self.adds_up(found.mask, found.count, found.worth, factor)
 
@@ -128,12 +128,12 @@ class Verdicts(StudyFolder):
         ours, counted = self.priced.worth_of(mask, factor), int(np.count_nonzero(mask))
         if ours != worth or counted != count:
             raise Disagreement(
-                f"at factor {factor / THOUSAND:g} pit says {count:,} blocks worth {worth}, and the table adds up to {counted:,} blocks worth {ours}",
+                f"at factor {share_text(factor)} pit says {count:,} blocks worth {worth}, and the table adds up to {counted:,} blocks worth {ours}",
                 try_this="this is a mistake in pitplan or damage on the disk: keep the folder, and tell the maintainers",
             )
         if (mask & self.priced.forbidden).any():
             raise PlanError(
-                f"[economics] forbid: at factor {factor / THOUSAND:g} the mine brings so much that blocks are dug that may not be",
+                f"[economics] forbid: at factor {share_text(factor)} the mine brings so much that blocks are dug that may not be",
                 try_this="prices and costs in thousands, or no factor as large",
             )
 

@@ -16,9 +16,9 @@ from pathlib import Path
 from typing import IO, Any, cast
 
 import numpy as np
-import numpy.typing as npt
 import pandas as pd
 
+from ..base.arrays import Floats
 from ..base.errors import MOST_CELLS, Cell, PlanError, Remedy
 from ..base.machine import free_memory
 from ..base.within import refuse_outside
@@ -464,7 +464,7 @@ def uneven(path: Path, said: str, width: int) -> PlanError:
 
 def number_column(
     values: pd.Series, table: object, absent: Collection[str] = (), hint: str | None = None
-) -> npt.NDArray[np.float64]:
+) -> Floats:
     """A column as numbers.
 
     Parameters
@@ -487,7 +487,7 @@ def number_column(
     """
     if values.dtype.kind not in "iuf":
         values = numbers_of(values, table, absent, hint)
-    found: npt.NDArray[np.float64] = values.to_numpy(dtype=float, copy=True)
+    found: Floats = values.to_numpy(dtype=float, copy=True)
     marks = numbers_among(absent)
     if marks:
         found[np.isin(found, marks)] = 0.0

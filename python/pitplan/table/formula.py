@@ -13,9 +13,9 @@ from collections.abc import Callable, Sequence
 from typing import Any
 
 import numpy as np
-import numpy.typing as npt
 import pandas as pd
 
+from ..base.arrays import Array
 from ..base.errors import PlanError, meant
 from .column_names import AIR
 from .csv_text import number_column
@@ -52,7 +52,7 @@ PARTS = f"numbers, 'words', columns, + - * / ** > >= < <= == != and or not, {', 
 LONGEST = 2000
 
 
-def worked_out(text: str, table: pd.DataFrame, what: str) -> npt.NDArray[Any]:
+def worked_out(text: str, table: pd.DataFrame, what: str) -> Array:
     """What a formula gives for each row.
 
     Parameters
@@ -87,7 +87,7 @@ def worked_out(text: str, table: pd.DataFrame, what: str) -> npt.NDArray[Any]:
     except (TypeError, OverflowError):
         reading.tell_words()
         raise PlanError(f"{told} counts with words") from None
-    each: npt.NDArray[Any] = np.broadcast_to(np.asarray(found), (len(table),)).copy()
+    each: Array = np.broadcast_to(np.asarray(found), (len(table),)).copy()
     if each.dtype == bool:
         return each
     if each.dtype.kind not in "iuf":
@@ -247,7 +247,7 @@ class Reading:
                 )
         return ORDER[type(op)](a, b)
 
-    def words_of(self, cells: Any, word: str, part: str) -> npt.NDArray[Any]:
+    def words_of(self, cells: Any, word: str, part: str) -> Array:
         """The words of a column without the blanks around them; `word` has to be one of them."""
         found = stripped(cells)
         there = set(pd.unique(found))
@@ -294,13 +294,13 @@ def has_words(side: Any) -> bool:
     return isinstance(side, str) or isinstance(side, np.ndarray) and side.dtype.kind not in "iufb"
 
 
-def stripped(cells: Any) -> npt.NDArray[Any]:
+def stripped(cells: Any) -> Array:
     """The words of a column without the blanks around them; an empty cell is a word of no letter."""
     code, kinds = pd.factorize(cells)
     words = np.array(
         [*(text_of(kind) for kind in kinds), ""], object
     )  # the last is that of an empty cell, whose code is -1
-    found: npt.NDArray[Any] = words[code]
+    found: Array = words[code]
     return found
 
 

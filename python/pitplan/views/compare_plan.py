@@ -4,11 +4,11 @@ from __future__ import annotations
 from typing import TYPE_CHECKING, Any
 
 import numpy as np
-import numpy.typing as npt
 from matplotlib.figure import Figure
 from matplotlib.lines import Line2D
 from matplotlib.patches import Patch
 
+from ..base.arrays import Bools
 from ..base.units_shown import factor_text
 from . import plane as planes
 from .pictures import CASING, SEPARATED, add_north_and_scale
@@ -20,7 +20,6 @@ if TYPE_CHECKING:
 # Of each kind of cell: its colour and its hatch, so that the picture says the same in black and white.
 BOTH, LEFT, OVER = ("#dcdcdc", ""), ("#9ecae1", "///"), ("#fdae6b", "...")
 MOST_INCHES = (7.6, 8.0)
-Cells = npt.NDArray[np.bool_]
 
 
 def widest_bench(found: Comparison) -> float:
@@ -76,7 +75,7 @@ def plan(model: Model, found: Comparison, elevation: float) -> Figure:
     return figure
 
 
-def frame(cells: Cells, cut: planes.Plane) -> tuple[tuple[float, float], tuple[float, float]]:
+def frame(cells: Bools, cut: planes.Plane) -> tuple[tuple[float, float], tuple[float, float]]:
     """From where to where a picture of some cells goes, in x and in y, with a margin; of none, over the whole plan."""
     at = np.argwhere(cells)
     if not len(at):
@@ -93,7 +92,7 @@ def frame(cells: Cells, cut: planes.Plane) -> tuple[tuple[float, float], tuple[f
     return spans[0], spans[1]
 
 
-def fill(axes: Any, cells: Cells, cut: planes.Plane, colour: str, hatch: str) -> None:
+def fill(axes: Any, cells: Bools, cut: planes.Plane, colour: str, hatch: str) -> None:
     """Colours some cells: one polygon for each run of cells in a row."""
     from matplotlib.collections import PolyCollection
 
@@ -117,10 +116,10 @@ def fill(axes: Any, cells: Cells, cut: planes.Plane, colour: str, hatch: str) ->
     )
 
 
-def key(held: Cells, best: Cells) -> list[Any]:
+def key(held: Bools, best: Bools) -> list[Any]:
     """What colours and lines are."""
 
-    def patch(cells: Cells, kind: tuple[str, str], word: str) -> Patch:
+    def patch(cells: Bools, kind: tuple[str, str], word: str) -> Patch:
         return Patch(
             facecolor=kind[0],
             hatch=kind[1] or None,

@@ -12,14 +12,13 @@ from typing import TYPE_CHECKING
 import numpy as np
 import numpy.typing as npt
 
+from ..base.arrays import Bools, Levels
 from ..base.errors import PlanError
 from ..base.next_command import command
 
 if TYPE_CHECKING:
     from ..study.study import Study
 
-Bools = npt.NDArray[np.bool_]
-Levels = npt.NDArray[np.uint16]
 NO_COLUMN = 65535  # the model has no rock here
 
 

@@ -10,12 +10,12 @@ from dataclasses import dataclass, field
 from typing import TYPE_CHECKING, Any
 
 import numpy as np
-import numpy.typing as npt
 import pandas as pd
 
 from ..base.amounts import THOUSAND
+from ..base.arrays import Bools, Levels
 from ..base.units_shown import Scale, amount_text, factor_text, lengths, scale_of, separated
-from .levels import NO_COLUMN, Levels, surfaces
+from .levels import NO_COLUMN, surfaces
 
 if TYPE_CHECKING:
     from ..model.grid import Grid
@@ -25,7 +25,6 @@ if TYPE_CHECKING:
     from ..study.shells import Shells
     from ..study.study import Study
 
-Bools = npt.NDArray[np.bool_]
 Columns = list[tuple[str, list[str]]]  # a heading with its unit, and the texts below it
 PATTERNS = 5  # that blocks are told apart by, unless there are more kinds of them
 CERTIFIED = "Each pit has a certificate that pit check has accepted: no pit that keeps the slopes is worth more at its factor. "

@@ -6,6 +6,7 @@ from typing import TYPE_CHECKING
 import numpy as np
 
 from ..base.amounts import THOUSAND
+from ..base.units_shown import share_text
 from .plane import borders, section as cut_of
 
 if TYPE_CHECKING:
@@ -78,7 +79,7 @@ def section(found: Risk, factor: int = THOUSAND, row: int | None = None) -> Figu
     figure.colorbar(image, cax=beside, label=f"Likelihood over {found.count} realisations")
     axes.set_aspect(exaggeration)
     axes.set_title(
-        f"{model.name}: {cut.title}, likelihood at factor {factor / THOUSAND:g}{second_line(cut, exaggeration)}",
+        f"{model.name}: {cut.title}, likelihood at factor {share_text(factor)}{second_line(cut, exaggeration)}",
         fontsize=12,
     )
     for each in (axes.xaxis, axes.yaxis):

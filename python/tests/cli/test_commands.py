@@ -222,7 +222,7 @@ from pitplan.cli.main import main
 try:
     main()
 except SystemExit:
-    print(*(name for name in ("pandas.core", "typer.rich_utils", "rich.markdown") if "__file__" in vars(sys.modules.get(name, object))))
+    print(*(name for name in ("numpy", "pandas.core", "typer.rich_utils", "rich.markdown") if "__file__" in vars(sys.modules.get(name, object))))
 """
 
 
@@ -253,8 +253,8 @@ def test_ctrl_c_while_a_module_is_loaded_is_no_other_error(tmp_path, monkeypatch
 
 
 def test_ctrl_c_while_the_command_is_loaded_is_told_in_a_line(tmp_path):
-    (tmp_path / "lib" / "pontihaw" / "pitplan").mkdir(parents=True)
-    (tmp_path / "lib" / "pontihaw" / "pitplan" / "cli.py").write_text("raise KeyboardInterrupt\n")
+    (tmp_path / "lib" / "pontihaw" / "pitplan" / "cli").mkdir(parents=True)
+    (tmp_path / "lib/pontihaw/pitplan/cli/main.py").write_text("raise KeyboardInterrupt\n")
     shutil.copy(PITPLAN, tmp_path / "pitplan")
     ran = subprocess.run([str(tmp_path / "pitplan"), "shells"], capture_output=True, text=True)
     assert (ran.returncode, ran.stderr) == (130, "stopped before anything was done\n")

@@ -28,7 +28,7 @@ def test_the_script_runs(tmp_path):
     said = subprocess.run(
         [
             sys.executable,
-            str(TOP / "python" / "pitplan" / "plainly.py"),
+            str(TOP / "python" / "pitplan" / "audit" / "plainly.py"),
             "--prec",
             "mine.prec",
             "--blocks",

@@ -3,13 +3,13 @@ from __future__ import annotations
 
 import os
 from collections.abc import Sequence
-from typing import TYPE_CHECKING, Any
+from typing import TYPE_CHECKING
 
 import numpy as np
-import numpy.typing as npt
 import pandas as pd
 
 from ...base.amounts import THOUSAND
+from ...base.arrays import Array, Floats
 from ...table.spreadsheets import write_table
 
 if TYPE_CHECKING:
@@ -61,12 +61,12 @@ def table_of(
     return found
 
 
-def spelled_once(values: npt.NDArray[np.float64]) -> npt.NDArray[Any]:
+def spelled_once(values: Floats) -> Array:
     """Numbers as CSV has them, where few of them differ, as places on a grid: each is spelled once. Other numbers stay."""
     few, which = np.unique(values, return_inverse=True)
     if 4 * len(few) > len(values):
         return values
-    found: npt.NDArray[Any] = np.array(
+    found: Array = np.array(
         ["" if value != value else repr(value) for value in few.tolist()], dtype=object
     )[which]
     return found

@@ -5,22 +5,21 @@ import gzip
 import io
 from collections.abc import Iterable, Iterator
 from pathlib import Path
-from typing import IO, TYPE_CHECKING, Any, cast
+from typing import IO, TYPE_CHECKING, cast
 
 import numpy as np
-import numpy.typing as npt
 
-from ...base.amounts import THOUSAND
+from ...base.arrays import Array, Ints
 from ...base.digests import sha256_unless_known
 from ...base.errors import PlanError
 from ...base.next_command import command
 from ...base.files import whole_file
+from ...base.units_shown import share_text
 from ...table.csv_text import dialect_of, head_of, names_of, opened, separator_of
 
 if TYPE_CHECKING:
     from ...study.shells import Shells
 
-Ints = npt.NDArray[np.int64]
 COLUMN = "pit_shell"
 BLANKS = b" \t\n\r\x0b\x0c"  # what `bytes.strip` takes away
 PIECE = 1 << 22  # bytes of a table that are written at a time
@@ -123,7 +122,7 @@ def write(shells: Shells, target: Path, decimal: str | None = None) -> int:
     decimal = (
         decimal or dialect_of(path, "latin-1").decimal
     )  # where 0,5 is a number, 0.5 is a word, and 1.1 a day of January
-    shares = [f"{factor / THOUSAND:g}".replace(".", decimal) for factor in shells.factors] + [""]
+    shares = [share_text(factor).replace(".", decimal) for factor in shells.factors] + [""]
     cells = [(mark + share).encode() for share in shares]
     block = study.model.row_block
     shell = np.where(block >= 0, shells.shell[np.maximum(block, 0)], len(shells.factors))
@@ -138,9 +137,7 @@ def free_name(names: list[str]) -> str:
     )
 
 
-def rewrite(
-    path: Path, target: Path, head: bytes, cells: list[bytes], shell: npt.NDArray[Any]
-) -> None:
+def rewrite(path: Path, target: Path, head: bytes, cells: list[bytes], shell: Array) -> None:
     """The table with a cell more in each record, written beside `target` and renamed."""
     with whole_file(target) as part, opened(path) as old, cast(
         IO[bytes], gzip.open(part, "wb", 1) if target.suffix == ".gz" else open(part, "wb")
@@ -151,7 +148,7 @@ def rewrite(
             row += write_piece(new, text, cells, shell[row:])
 
 
-def write_piece(new: IO[bytes], text: bytes, cells: list[bytes], shell: npt.NDArray[Any]) -> int:
+def write_piece(new: IO[bytes], text: bytes, cells: list[bytes], shell: Array) -> int:
     """Writes the records of a piece, each with the cell that `shell` says, the last one where it has no more; returns how many they are."""
     plain = plain_ends(text)
     if plain:  # nearly all of a large table
@@ -165,7 +162,7 @@ def write_piece(new: IO[bytes], text: bytes, cells: list[bytes], shell: npt.NDAr
 
 
 def with_cells(
-    text: bytes, plain: tuple[bytes, Ints], cells: list[bytes], shell: npt.NDArray[Any]
+    text: bytes, plain: tuple[bytes, Ints], cells: list[bytes], shell: Array
 ) -> Iterator[bytes]:
     """The lines of a plain piece, each with its cell: those that have the same one and stand below each other go at once."""
     end, places = plain

@@ -10,6 +10,7 @@ import numpy.typing as npt
 import pandas as pd
 
 from ...base.amounts import THOUSAND
+from ...base.arrays import Array, Floats, Ints
 from ...base.errors import PlanError, meant
 from ...base.files import whole_file
 from ...model.model import OURS
@@ -19,8 +20,6 @@ if TYPE_CHECKING:
     from ...model.model import Model
     from ...study.shells import Shells
 
-Bools = npt.NDArray[np.bool_]
-Ints = npt.NDArray[np.int64]
 # The corners of a hexahedron in the order of VTK_HEXAHEDRON: the lower face counterclockwise, then the upper one.
 CORNERS = ((0, 0, 0), (1, 0, 0), (1, 1, 0), (0, 1, 0), (0, 0, 1), (1, 0, 1), (1, 1, 1), (0, 1, 1))
 OWN = ("block", "shell", "worth")
@@ -79,7 +78,7 @@ def mesh_of(
     kept = np.arange(len(model)) if is_whole else np.flatnonzero(shells.dug < count)
     points, cells = hexahedra(model, kept)
     shares = np.array([*(factor / THOUSAND for factor in shells.factors), np.nan])
-    data: dict[str, npt.NDArray[Any]] = {
+    data: dict[str, Array] = {
         "shell": shares[shells.shell[kept]],
         "worth": shells.study.priced.worth(THOUSAND)[kept],
         "block": kept.astype(np.int32),
@@ -102,7 +101,7 @@ def mesh_of(
     return mesh, pd.DataFrame(legend, columns=["column", "number", "word"])
 
 
-def hexahedra(model: Model, kept: Ints) -> tuple[npt.NDArray[np.float64], Ints]:
+def hexahedra(model: Model, kept: Ints) -> tuple[Floats, Ints]:
     """The corners of blocks, each once, of shape (corners, 3); and the eight corners of each block, of shape (len(kept), 8)."""
     nx, ny, nz = (n + 1 for n in model.grid.shape)
     b = model.blocks
