@@ -702,3 +702,27 @@ def test_a_mine_that_takes_for_ever_is_worth_nothing_and_no_warning():
             np.full(3, 1e6), np.full(3, 1e5), np.full(3, 1e9), Rates(1e6, 1.5, 0.08)
         )
     assert worth == 0.0 and years == pytest.approx(2e5)
+
+
+def test_a_wrong_key_hides_no_other(tmp_path):
+    """What is wrong in study.toml by itself, and what the table says of its other keys, are told at once."""
+    text = STUDY
+    for was, now in (
+        ("dilution = 0.05", "dilution = 5"),
+        ('["OXI", "SUL"]', '["OXI", "SULF"]'),
+        ("mining = 2.0", 'mining = "2.0 + ZZC"'),
+        ("recovery = 0.60", "recovery = 60"),
+        ("WEST = 44", "WESST = 44"),
+        ("discount = 0.08", "discount = 8"),
+    ):
+        text = text.replace(was, now, 1)
+    found = check(written_study(tmp_path / "s", cell("CU", 7, "N/S")(table(9, 8, 5, 5)), text))
+    assert {error.key for error in found.errors} == {
+        ("economics", "dilution"),
+        ("economics", "mill"),
+        ("economics", "mining"),
+        ("economics", "metals", "copper", "grade"),
+        ("economics", "metals", "gold", "recovery"),
+        ("slopes", "regions", "WESST"),
+        ("shells", "discount"),
+    }
