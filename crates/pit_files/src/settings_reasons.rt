@@ -9,7 +9,7 @@ use toml::Table;
 // The most bytes of settings that are kept: more are hardly written by hand.
 const MOST_KEPT: usize = 1 << 20;
 
-const KEYS: [Key; 11] = [
+const KEYS: [Key; 8] = [
     Key::Revenue,
     Key::Cost,
     Key::Tonnes,
@@ -18,9 +18,6 @@ const KEYS: [Key; 11] = [
     Key::Offsets,
     Key::Processing,
     Key::Mining,
-    Key::Slopes,
-    Key::Region,
-    Key::Up,
 ];
 
 /// What was read of settings so far, and where the number of offsets that they list is put.
@@ -95,7 +92,7 @@ fn tell_key<R: Eprint>(rt: &R, alloc: Global, name: &str, text: &[u8]) {
         let name = Escaped { text: name };
         let key = Escaped { text: key };
         let _ = rt.eprintln(format_args!(
-            "reason: {name} has the key {key}, and settings have revenue, cost, processing, mining, tonnes, factors, report, offsets, slopes, region and up"
+            "reason: {name} has the key {key}, and settings have revenue, cost, processing, mining, tonnes, factors, report and offsets"
         ));
     }
 }

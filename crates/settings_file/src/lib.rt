@@ -1,5 +1,5 @@
 //! Reads settings: the TOML text that says which columns of a block model hold revenue, cost and tonnes, or a mill's
-//! charges in place of cost, at which factors shells are drawn, and which offsets a slope has, or that of each region.
+//! charges in place of cost, at which factors shells are drawn, and which offsets a slope has.
 //!
 //! It stands on the kit's `toml`, which parses the text into a table of values, and on `fixed_worth` for the limits.
 //!
@@ -13,11 +13,9 @@ mod keys;
 mod reading;
 mod settings;
 mod settings_fault;
-mod up_sign;
 mod values;
 
 pub use keys::Key;
 pub use reading::read_settings;
 pub use settings::Settings;
 pub use settings_fault::SettingsFault;
-pub use up_sign::UpSign;
