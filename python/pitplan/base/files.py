@@ -67,7 +67,8 @@ def made_whole(place: Path, is_study: bool = True) -> Iterator[Path]:
 
 def put(work: Path, place: Path) -> None:
     """Renames a folder to `place`, in place of what is there. Where another process puts its own there at the same moment, one of
-    them wins; `place` is never left empty."""
+    them wins. Where this process is killed between its two renames, `sweep` puts back what was there.
+    """
     older = work.with_name(work.name + ".old")
     for left in reversed(range(RENAME_ATTEMPTS)):
         try:
@@ -99,8 +100,13 @@ def mark() -> str:
 
 
 def sweep(folder: Path, names: str = ".f*") -> None:
-    """Takes away what processes of this machine that are no more have left half done."""
+    """Takes away what processes of this machine that are no more have left half done. What one of them had moved aside, and put
+    nothing in its place, comes back."""
     for half in folder.glob(names):
         parts = half.name.removesuffix(".old").rsplit(".", 3)
         if len(parts) == 4 and parts[1] == host() and not os.path.exists(f"/proc/{parts[2]}"):
+            place = folder / parts[0].removeprefix(".")
+            if half.name.endswith(".old") and not place.exists():
+                with suppress(OSError):  # another process does so at the same moment
+                    os.rename(half, place)
             shutil.rmtree(half, ignore_errors=True)

@@ -5,7 +5,7 @@
     runs/base/f00800/   pit.npz verdict.json, and best.cert.gz where its certificate was asked for
     out/     tables and pictures
 
-Each of these is written in a folder of its own and renamed, so that it is there whole or not at all. A pit counts where its
+The model and each run are written in a folder of their own and renamed, so that they are there whole or not at all. A pit counts where its
 verdict names the digests of the model as it stands; what else is there is made again. So a run that was cut off goes on
 where it was, and a pit of an older model is never shown.
 """

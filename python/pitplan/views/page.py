@@ -202,7 +202,7 @@ def write(
     Parameters
     ----------
     shells : Shells
-        The pits, each accepted by `pit check`.
+        The pits, each proved.
     path : str or path
         The file to write, whole or not at all.
     table : DataFrame or None
