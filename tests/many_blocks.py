@@ -29,9 +29,17 @@ def lay_out(prices, folder):
     stacks = range(0, len(prices), HEIGHT)
     rows = [(b, range(b - b % HEIGHT, b)) for b in range(len(prices))]
     (folder / "s").write_text(SETTINGS)
-    (folder / "b").write_text("".join("%d 0 0 0 %d %d\n" % (b, *price) for b, price in enumerate(prices)))
-    (folder / "p").write_text("".join("%d %d%s\n" % (b, len(under), "".join(" %d" % p for p in under)) for b, under in rows))
-    (folder / "d").write_text("".join("%d\n" % b for b in range(len(prices)) if b not in {stacks[k] for k in LACKING}))
+    (folder / "b").write_text(
+        "".join("%d 0 0 0 %d %d\n" % (b, *price) for b, price in enumerate(prices))
+    )
+    (folder / "p").write_text(
+        "".join(
+            "%d %d%s\n" % (b, len(under), "".join(" %d" % p for p in under)) for b, under in rows
+        )
+    )
+    (folder / "d").write_text(
+        "".join("%d\n" % b for b in range(len(prices)) if b not in {stacks[k] for k in LACKING})
+    )
 
 
 def worth(price, factor):
@@ -60,8 +68,15 @@ def wanted_shells(prices):
     """The lines of `shells` and the table of the blocks."""
     lines, shells = "", [""] * len(prices)
     for factor in FACTORS:
-        found = [height_of(prices[first : first + HEIGHT], factor) for first in range(0, len(prices), HEIGHT)]
-        lines += "SHELL %d %d %s\n" % (factor, sum(k for k, _ in found), printed(sum(w for _, w in found)))
+        found = [
+            height_of(prices[first : first + HEIGHT], factor)
+            for first in range(0, len(prices), HEIGHT)
+        ]
+        lines += "SHELL %d %d %s\n" % (
+            factor,
+            sum(k for k, _ in found),
+            printed(sum(w for _, w in found)),
+        )
         for stack, (height, _) in enumerate(found):
             for b in range(stack * HEIGHT, stack * HEIGHT + height):
                 shells[b] = shells[b] or str(factor)

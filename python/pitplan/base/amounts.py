@@ -1,7 +1,7 @@
 """Amounts of money as whole numbers, so that sums are exact: what this package adds up is `pit`'s worth to the last digit."""
 from __future__ import annotations
 
-from dataclasses import dataclass, field
+from dataclasses import dataclass, field, replace
 from decimal import Decimal
 
 import numpy as np
@@ -74,6 +74,18 @@ class Priced:
 
     def __len__(self) -> int:
         return len(self.revenue)
+
+    def first(self, count: int) -> Priced:
+        """Those of the first blocks: of a table's, without the air that was added after them."""
+        return replace(
+            self,
+            revenue=self.revenue[:count],
+            processing=self.processing[:count],
+            mining=self.mining[:count],
+            metal={name: amounts[:count] for name, amounts in self.metal.items()},
+            grade={name: grades[:count] for name, grades in self.grade.items()},
+            forbidden=self.forbidden[:count],
+        )
 
     def thousandths(self, factor: int) -> Ints:
         """What each block is worth at a factor, in thousandths of `rounding`: whole numbers, exact.

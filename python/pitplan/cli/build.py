@@ -129,7 +129,7 @@ def build(folder: Path = STUDY) -> None:
             f"{int(study.priced.forbidden.sum()):,} of {len(model):,} blocks may not be dug, by forbid"
             + (f"; of {part:,} of them it holds for some sub-blocks alone" if part else "")
         )
-    tell_strange(looks(model, study.priced, told))
+    tell_strange(looks(model, study.priced.first(len(model)), told))
     print_patterns(told.slopes, study.model.grid)
     set_aside(study, key_of(told.slopes, study.model.grid))
     print_size(study, told)
