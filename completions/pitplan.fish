@@ -13,7 +13,7 @@ complete -c pitplan -n '__fish_seen_subcommand_from init' -s c -l column -x -a '
 complete -c pitplan -n '__fish_seen_subcommand_from init' -l encoding -x -d 'Of the table where it isn\'t UTF-8, as cp1252'
 complete -c pitplan -n '__fish_seen_subcommand_from init' -l force -d 'Write over a study.toml that is there'
 complete -c pitplan -n '__fish_seen_subcommand_from init' -s h -l help -d 'Show this message and exit'
-complete -c pitplan -n __fish_use_subcommand -a check -d 'Say what is wrong with a study, all at a time, and what looks wrong'
+complete -c pitplan -n __fish_use_subcommand -a check -d 'Say what is wrong with a study, all of it at once, and what looks wrong'
 complete -c pitplan -n '__fish_seen_subcommand_from check' -F
 complete -c pitplan -n '__fish_seen_subcommand_from check' -l watch -d 'Do it again whenever study.toml or the table is saved, until stopped'
 complete -c pitplan -n '__fish_seen_subcommand_from check' -s h -l help -d 'Show this message and exit'

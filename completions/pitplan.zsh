@@ -4,7 +4,7 @@ _pitplan() {
     local -a commands
     commands=(
         'init:Look at a table of blocks, and write a study.toml for it'
-        'check:Say what is wrong with a study, all at a time, and what looks wrong'
+        'check:Say what is wrong with a study, all of it at once, and what looks wrong'
         'build:Read the table, work out what each block brings and costs, and make the slopes'
         'slopes:Show the angles that are asked for and those that are built, by bearing and region, and draw them'
         'shells:Find the proved pit at each factor, and the tables'

@@ -28,7 +28,7 @@ def lines_of(error: PlanError, study_toml: Path | None = None) -> list[str]:
     if error.cells:
         found.append(
             "  also "
-            + ", ".join(f"row {cell.row + 2:,}: {in_a_line(cell.text)!r}" for cell in error.cells)
+            + ", ".join(f"row {cell.row + 2}: {in_a_line(cell.text)!r}" for cell in error.cells)
         )
     return found + ([f"  try: {in_a_line(error.try_this)}"] if error.try_this else [])
 

@@ -297,12 +297,18 @@ def meant(word: str, known: Iterable[str]) -> str:
     "; is 'dilution' meant?"
     """
     names = [str(name) for name in known]
+    near = near_to(word, names)
+    if near is not None:
+        return f"; is {near!r} meant?"
+    return f"; there are {', '.join(names[:40])}" if names else "; there are none"
+
+
+def near_to(word: str, names: Sequence[str]) -> str | None:
+    """The name that looks most like a word; None where none looks like it."""
     near = difflib.get_close_matches(word, names, 1, 0.6)
     folded = {name.lower(): name for name in names}
     if not near and word.lower() in folded:
         near = [folded[word.lower()]]
     if not near:
-        near = [name for name in names if len(word) > 1 and word.lower() in name.lower()][:1]
-    if near:
-        return f"; is {near[0]!r} meant?"
-    return f"; there are {', '.join(names[:40])}" if names else "; there are none"
+        near = [name for name in names if len(word) > 1 and word.lower() in name.lower()]
+    return near[0] if near else None

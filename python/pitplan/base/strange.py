@@ -31,3 +31,12 @@ class Strange:
             + (f"; {self.expected}" if self.expected else "")
             + f"\n  try: {self.try_this}"
         )
+
+
+def rounded(value: float, digits: int = 3) -> str:
+    """A number with so many digits that count, and no power of ten.
+
+    >>> rounded(8504.3), rounded(3.8571), rounded(1_934_000)
+    ('8,500', '3.86', '1,930,000')
+    """
+    return f"{float(f'{value:.{digits}g}'):,.15g}"

@@ -3,14 +3,18 @@ from __future__ import annotations
 
 import time
 from pathlib import Path
+from typing import TYPE_CHECKING, NoReturn
 
 import typer
 
-from ..base.errors import Gathered, PlanError
+from ..base.errors import ENDED, Gathered, PlanError
 from ..base.next_command import command
 from . import console
 from .build import print_tonnage, tell_strange
 from .console import STUDY, app, err, say
+
+if TYPE_CHECKING:
+    from ..study.check import Checked
 
 EVERY = 0.3  # seconds between two looks whether a file was saved
 COMPASS = {"north": 0, "east": 90, "south": 180, "west": 270}
@@ -25,18 +29,38 @@ def check(
         help="Do it again whenever study.toml or the table is saved, until stopped.",
     ),
 ) -> None:
-    """Say what is wrong with a study, all at a time, and what looks wrong. Takes seconds; builds nothing."""
+    """Say what is wrong with a study, all of it at once, and what looks wrong. Takes seconds; builds nothing."""
     if is_watching:
-        watch(folder)
-        return
-    found = Gathered()
-    found.add(once(folder))
+        try:
+            watch(folder)
+        except KeyboardInterrupt:  # nothing was begun that could be kept
+            err.print("stopped")
+            raise typer.Exit(ENDED) from None
+    checked, found = once(folder), Gathered()
+    found.add(checked.errors)
     found.tell()
-    say(f"nothing is wrong; then: {command('build', folder)}")
+    say(f"{ending(checked)}; then: {command('build', folder)}")
 
 
-def once(folder: Path) -> list[PlanError]:
-    """Checks a study, shows what there is to show, and gives its errors."""
+def ending(found: Checked) -> str:
+    """What a check came to, in words."""
+    if found.errors:
+        return counted(len(found.errors), "error")
+    looks = counted(len(found.looks), "look")
+    return f"no errors; {looks} to decide on" if found.looks else "nothing is wrong"
+
+
+def counted(count: int, what: str) -> str:
+    """A number of things.
+
+    >>> counted(1, "look"), counted(5, "look")
+    ('1 look', '5 looks')
+    """
+    return f"{count} {what}" if count == 1 else f"{count} {what}s"
+
+
+def once(folder: Path) -> Checked:
+    """Checks a study, shows what there is to show, and gives what was found."""
     from ..study.check import check
     from ..study.study_file import path_of
 
@@ -67,10 +91,10 @@ def once(folder: Path) -> list[PlanError]:
             },
         )
     tell_strange(found.looks)
-    return found.errors
+    return found
 
 
-def watch(folder: Path) -> None:
+def watch(folder: Path) -> NoReturn:
     """Checks a study whenever it is saved, until ctrl-C."""
     seen = None
     while True:
@@ -78,14 +102,10 @@ def watch(folder: Path) -> None:
         if now != seen:
             seen = now
             say(time.strftime("%H:%M:%S"))
-            errors = once(folder)
-            for error in errors:
+            found = once(folder)
+            for error in found.errors:
                 console.tell(error)
-            say(
-                f"{len(errors)} {'error' if len(errors) == 1 else 'errors'}; ctrl-C ends"
-                if errors
-                else "nothing is wrong; ctrl-C ends"
-            )
+            say(f"{ending(found)}; ctrl-C ends")
         time.sleep(EVERY)
 
 

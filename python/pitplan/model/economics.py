@@ -14,11 +14,22 @@ import pandas as pd
 
 from ..base.arrays import Bools, Floats, Ints
 from ..base.amounts import LARGEST_FACTOR, MOST, THOUSAND, Priced, exact_sum, rounding_of
-from ..base.errors import MOST_CELLS, Cell, Gathered, KeyPath, PlanError, Remedy, about, meant
+from ..base.errors import (
+    MOST_CELLS,
+    Cell,
+    Gathered,
+    KeyPath,
+    PlanError,
+    Remedy,
+    about,
+    meant,
+    near_to,
+    spelled,
+)
 from ..base.units import metal_in_a_tonne
 from ..table.column_names import AIR
 from ..table.formula import names_in, worked_out
-from ..table.study_keys import METALS, refuse_wrong
+from ..table.study_keys import METALS, of_percent, refuse_wrong
 from .model import Model
 from .subblocks import coded
 
@@ -205,14 +216,15 @@ class Economics:
         with wrong.part("economics", "mill"):
             to_mill = self.to_mill(model)
         for m in self.metals:
-            at, what = ("economics", METALS, m.name), f"recovery of {m.name}"
+            at, what = ("economics", METALS, m.name), f"[economics] recovery of {m.name}"
             with wrong.part(*at, "grade"):
                 grade[m.name] = grades_of(m, model)
             with wrong.part(*at, "recovery"):
+                refuse_shares(what, m.recovery, (*at, "recovery"))
                 recovery[m.name] = share(what, amount(what, m.recovery, model), model)
         for name in ("processing", "mining"):
             with wrong.part("economics", name):
-                costs[name] = cost(name, getattr(self, name), model)
+                costs[name] = cost(f"[economics] {name}", getattr(self, name), model)
         with wrong.part("economics", "forbid"):
             forbidden = self.forbidden(model)
         wrong.tell()
@@ -359,9 +371,9 @@ def amount(what: str, given: Amount, model: Model) -> Floats:
     kinds = [str(kind) for kind in b.rock.unique()]
     unsaid = sorted(set(kinds) - set(given) - {AIR})
     if unsaid and "other" not in given:
-        strange = next((name for name in given if name not in kinds), None)
+        refuse_misspelt(what, given, kinds, unsaid)
         raise PlanError(
-            f"{what}: nothing is said of rock {', '.join(rock or 'without a name, an empty cell' for rock in unsaid)}{meant(strange, unsaid) if strange else ''}",
+            f"{what}: nothing is said of rock {', '.join(rock or 'without a name, an empty cell' for rock in unsaid)}",
             table=model.table,
             row=row_at(model, int(np.argmax(b.rock == unsaid[0]))),
             try_this=f"{{ {unsaid[0] if BARE.fullmatch(unsaid[0]) else json.dumps(unsaid[0], ensure_ascii=False)} = .. }}, or {{ other = .. }} for the rest",
@@ -378,6 +390,20 @@ def amount(what: str, given: Amount, model: Model) -> Floats:
         {kind: float(given.get(kind, given.get("other", 0.0))) for kind in kinds}
     ).to_numpy(float)
     return found
+
+
+def refuse_misspelt(
+    what: str, given: Mapping[str, float], kinds: Sequence[str], unsaid: Sequence[str]
+) -> None:
+    """Refuses a name of no rock that looks like that of one of which nothing is said."""
+    for name in given:
+        near = near_to(name, unsaid) if name not in kinds else None
+        if near:
+            better = {near if rock == name else rock: value for rock, value in given.items()}
+            raise PlanError(
+                f"{what}: no block is of rock {name!r}; is {near!r} meant?",
+                try_this=spelled(better),
+            )
 
 
 def of_formula(text: str, model: Model, what: str) -> Floats | Bools:
@@ -428,6 +454,23 @@ def holds(formula: str, model: Model) -> tuple[Bools, Bools]:
     return each, rows
 
 
+def refuse_shares(what: str, given: Amount, key: KeyPath) -> None:
+    """Refuses shares that stand in study.toml itself and aren't from 0 to 1: no row of the table is to blame."""
+    if isinstance(given, str):
+        return
+    by_rock = given if isinstance(given, Mapping) else {"": given}
+    for rock, value in by_rock.items():
+        if not 0 <= value <= 1:
+            better = {name: of_percent(each) for name, each in by_rock.items()}
+            of_rock = f" of rock {rock}" if isinstance(given, Mapping) else ""
+            right = Remedy(key, better if isinstance(given, Mapping) else better[rock])
+            raise PlanError(
+                f"{what}{of_rock} is {value:g}, and a share is from 0 to 1",
+                try_this=right if 0 <= better[rock] <= 1 else None,
+                key=key,
+            )
+
+
 def share(what: str, values: Floats, model: Model) -> Floats:
     """Refuses shares that aren't from 0 to 1."""
     wrong = (values < 0) | (values > 1)
@@ -443,12 +486,16 @@ def share(what: str, values: Floats, model: Model) -> Floats:
 
 def cost(what: str, given: Amount, model: Model) -> Floats:
     """What a tonne costs, at least 0."""
+    for value in given.values() if isinstance(given, Mapping) else [given]:
+        if isinstance(value, (int, float)) and value < 0:
+            raise PlanError(f"{what} costs {value:g} a tonne, less than nothing")
     values = amount(what, given, model)
     wrong = values < 0
     if wrong.any():
         at = int(np.argmax(wrong))
         raise PlanError(
-            f"{what} costs {values[at]:g} a tonne here, less than nothing, and so for {int(wrong.sum()):,} blocks",
+            f"{what} costs {values[at]:g} a tonne here, less than nothing"
+            + (f", and so for {int(wrong.sum()):,} blocks" if wrong.sum() > 1 else ""),
             table=model.table,
             row=row_at(model, at),
             try_this=f"max(0, {given}), if the formula runs below 0"

@@ -1,7 +1,8 @@
 """A block model: the planner's table, on a regular grid."""
 from __future__ import annotations
 
-from collections.abc import Mapping, Sequence
+from collections.abc import Iterator, Mapping, Sequence
+from contextlib import contextmanager
 from dataclasses import dataclass, field, fields
 from pathlib import Path
 from typing import Any
@@ -11,8 +12,8 @@ import numpy.typing as npt
 import pandas as pd
 
 from ..base.arrays import Array, Bools, Floats, Ints
-from ..base.errors import Gathered, PlanError, about, meant
-from ..table.column_names import PLACES, SIZES, which_columns
+from ..base.errors import Gathered, PlanError, Remedy, about, meant
+from ..table.column_names import PLACES, SIZES, misnamed, said_of_misnamed, which_columns
 from ..table.csv_text import (
     NO_PLACE,
     NO_WEIGHT,
@@ -236,7 +237,7 @@ def read_with(path: Path, keys: TableKeys) -> Model:
             frame, names, places, size, subblocks.Wanted(keys.regularise, keys.rotation, table)
         )
     notes += whole.notes
-    with about("model", "size"):
+    with axes_told(names, keys.columns), about("model", "size"):
         grid, index = on_grid(whole.places, size, keys, names, whole.frame.index, table)
     with about("model", "columns"):
         blocks = columns_of(whole.frame, names, grid, index, table)
@@ -415,6 +416,27 @@ def on_grid(
     return Grid((float(east), float(north), low_z), size, shape, float(keys.rotation)), (ix, iy, iz)
 
 
+@contextmanager
+def axes_told(names: Mapping[str, str], given: Mapping[str, str]) -> Iterator[None]:
+    """Errors of the grid, where a column has a usual name of another axis: they say that, and what to try is that one."""
+    try:
+        yield
+    except PlanError as error:
+        wrong = misnamed(names)
+        if not wrong or error.key != ("model", "size"):
+            raise
+        better = {key: name for key, name in given.items() if key not in wrong}
+        better |= {axis: names[key] for key, axis in wrong.items()}
+        raise PlanError(
+            "; ".join((error.what, *said_of_misnamed(names, wrong))),
+            table=error.table,
+            row=error.row,
+            column=error.column,
+            try_this=Remedy(("model", "columns"), better),
+            key=("model", "columns"),
+        ) from None
+
+
 @dataclass(frozen=True)
 class Axis:
     """What an error says of an axis."""
@@ -483,6 +505,7 @@ def twins(flat: Ints, rows: pd.Index, column: str, table: str) -> None:
             row=second,
             column=column,
             try_this="take one of the rows out; or regularise = true in [model], with the columns dx, dy and dz, if these are sub-blocks",
+            key=("model", "table"),
         )
 
 

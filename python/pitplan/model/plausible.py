@@ -7,7 +7,7 @@ from __future__ import annotations
 import numpy as np
 
 from ..base.amounts import THOUSAND, Priced
-from ..base.strange import Strange
+from ..base.strange import Strange, rounded
 from ..table.study_keys import METALS
 from .economics import Economics, holds
 from .model import Model
@@ -44,7 +44,7 @@ def of_tonnes(model: Model) -> list[Strange]:
         return []
     return [
         Strange(
-            f"a block of {size} weighs {weight:,.4g} tonnes on average, {density:,.3g} for each cubic unit",
+            f"a block of {size} weighs {rounded(weight, 4)} tonnes on average, {rounded(density)} for each cubic unit",
             "rock has 1.5 to 5 in a cubic metre",
             "is that the column of tonnes or density, in tonnes, and is the size in the unit of the coordinates?",
             ("model", "size"),

@@ -14,13 +14,13 @@ import numpy as np
 from ..base.amounts import THOUSAND, Priced
 from ..base.arrays import Bools
 from ..base.errors import spelled
-from ..base.strange import Strange
+from ..base.strange import Strange, rounded
 from ..base.units import PRICES
 from ..base.usual_metals import usual_price
 from ..model.economics import Economics
 from ..model.model import Model, TableKeys
 from ..model.plausible import strange
-from ..table.column_names import PLACES, USUAL
+from ..table.column_names import misnamed, said_of_misnamed
 from ..table.study_keys import METALS
 from .slopes import Slopes
 
@@ -28,6 +28,8 @@ FLAT = 0.2  # the share of columns that end above the lowest level, where z runs
 FAR_OFF = (
     20  # how many times the next largest cell a cell may be, or a block's weight the usual one
 )
+DENSEST = 8  # tonnes for a cubic unit; ores of iron have up to 5
+TIMES_DENSER = 5  # how many times the usual density a block's may be
 FEW = 10  # cells that are looked at so
 EVERYWHERE = 0.95  # the share of the rock from which on a formula keeps nearly all
 TIMES_USUAL = 8  # how many times a metal's usual price a price may be, or its share
@@ -91,6 +93,7 @@ def looks(model: Model, priced: Priced, told: Says) -> list[Strange]:
         *of_axes(model),
         *of_ground(model, rock),
         *of_weights(model, rock),
+        *of_density(model),
         *of_cells(model, told.economics),
         *of_unread(model, told),
         *of_costs(priced, rock),
@@ -105,18 +108,13 @@ def looks(model: Model, priced: Priced, told: Says) -> list[Strange]:
 
 def of_axes(model: Model) -> Iterator[Strange]:
     """Coordinates whose columns are called as another axis is."""
-    usual = {
-        key: next((other for other in PLACES if model.columns[key].lower() in USUAL[other]), key)
-        for key in PLACES
-    }
-    wrong = [key for key in PLACES if usual[key] != key]
+    wrong = misnamed(model.columns)
     if wrong:
-        better = {usual[key]: model.columns[key] for key in wrong}
+        better = {axis: model.columns[key] for key, axis in wrong.items()}
         yield Strange(
-            ", ".join(f"{key} is read from {model.columns[key]}" for key in wrong),
-            ", ".join(f"{model.columns[key]} is a usual name of {usual[key]}" for key in wrong),
+            *said_of_misnamed(model.columns, wrong),
             f"columns = {spelled(better)} in [model]",
-            ("model", "columns", wrong[0]),
+            ("model", "columns", next(iter(wrong))),
         )
 
 
@@ -168,6 +166,24 @@ def of_weights(model: Model, rock: Bools) -> Iterator[Strange]:
             f"row {row_of(model, at)} weighs {tonnes[at]:,.0f} tonnes",
             f"half of all blocks weigh {usual:,.0f} or less",
             f"that cell{others(len(heavy))}",
+            ("model", "columns"),
+        )
+
+
+def of_density(model: Model) -> Iterator[Strange]:
+    """Blocks that are denser than any rock, or than most others, as a slip of the decimal makes them. Where most are, the unit is
+    another, of which the tonnes tell."""
+    if "tonnes" in model.columns or "density" not in model.columns:
+        return
+    density = model.blocks.tonnes.to_numpy(float) / model.grid.volume
+    usual = float(np.median(density[density > 0]))
+    dense = np.flatnonzero(density > min(DENSEST, TIMES_DENSER * usual))
+    if usual <= DENSEST and len(dense):
+        at = int(dense[np.argmax(density[dense])])
+        yield Strange(
+            f"row {row_of(model, at)} has a density of {rounded(density[at])} by {model.columns['density']}",
+            f"half of all blocks have {rounded(usual)} or less",
+            f"that cell{others(len(dense))}: a decimal",
             ("model", "columns"),
         )
 
@@ -273,7 +289,7 @@ def of_prices(economics: Economics) -> Iterator[Strange]:
             fits = 1 / TIMES_USUAL <= times[nearest] <= TIMES_USUAL
             yield Strange(
                 f"{metal.name} costs {metal.price:,.6g} {economics.currency} a {metal.price_unit}",
-                f"about {usual * PRICES[metal.price_unit]:,.3g} is usual",
+                f"about {rounded(usual * PRICES[metal.price_unit])} is usual",
                 f'price_unit = "{nearest}" of {metal.name}'
                 if fits
                 else f"price and price_unit of {metal.name}",
@@ -312,7 +328,7 @@ def of_rates(model: Model, priced: Priced, rates: Mapping[str, float]) -> Iterat
         years = amount / rate if rate else 1.0
         if amount and not SHORTEST <= years <= LONGEST:
             yield Strange(
-                f"at {rate:,.6g} tonnes a year the {'rock' if name == 'mining_rate' else 'ore'} of the whole model takes {years:,.3g} years",
+                f"at {rate:,.6g} tonnes a year the {'rock' if name == 'mining_rate' else 'ore'} of the whole model takes {rounded(years)} years",
                 "a mine takes some tens of years",
                 f"{name} in [shells] in tonnes a year, as 4e6",
                 ("shells", name),

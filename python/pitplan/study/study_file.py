@@ -310,6 +310,12 @@ def economics_of(found: Mapping[str, Any]) -> Economics:
 
 def series(found: Any) -> list[int]:
     """The factors in thousandths: a series from, to, by; or a list of shares of the price."""
-    if isinstance(found, Mapping):
-        return factors(*(float(found[key]) for key in study_keys.SERIES))
-    return series_of(found)
+    try:
+        if isinstance(found, Mapping):
+            return factors(*(float(found[key]) for key in study_keys.SERIES))
+        return series_of(found)
+    except PlanError as error:
+        named = "" if error.what.startswith("factors") else "factors: "
+        raise PlanError(
+            f"[shells] {named}{error.what}", try_this=error.remedy or error.try_this
+        ) from None

@@ -275,6 +275,29 @@ def which_columns(
     return found
 
 
+def misnamed(columns: Mapping[str, str]) -> dict[str, str]:
+    """For each of x, y and z whose column has a usual name of another axis, that axis.
+
+    >>> misnamed({"x": "YC", "y": "XC", "z": "RL"})
+    {'x': 'y', 'y': 'x'}
+    """
+    found = {}
+    for key in PLACES:
+        name = columns[key].lower()
+        usual = next((other for other in PLACES if name in USUAL[other]), key)
+        if usual != key:
+            found[key] = usual
+    return found
+
+
+def said_of_misnamed(columns: Mapping[str, str], wrong: Mapping[str, str]) -> tuple[str, str]:
+    """What is read from columns with a usual name of another axis, and what they usually are."""
+    return (
+        ", ".join(f"{key} is read from {columns[key]}" for key in wrong),
+        ", ".join(f"{columns[key]} is a usual name of {axis}" for key, axis in wrong.items()),
+    )
+
+
 def nearest(missing: Sequence[str], names: Sequence[str]) -> dict[str, str]:
     """For each of x, y and z the name that looks most like one of its usual names, each name once; NAME where none does.
 

@@ -7,6 +7,7 @@ Rules that join several keys, as that `regions` needs `by`, stand with the datac
 from __future__ import annotations
 
 import math
+import tomllib
 from collections.abc import Callable, Mapping, Sequence
 from dataclasses import dataclass
 from numbers import Integral, Real
@@ -18,6 +19,8 @@ from .column_names import USUAL
 
 SECTIONS = ("model", "economics", "slopes", "shells")
 NEEDED = SECTIONS[:3]  # sections that a study.toml has to have
+LEAST_PERCENT = 2  # from which on a number in place of a share is taken for percent
+LONGEST_BARE = 60  # letters of a value in quotes that is read as one without
 METALS = "metals"  # the section of the keys of a metal, each a table in the list of that name in [economics]
 
 
@@ -758,9 +761,42 @@ def wrong_value(key: Key, value: Any, where: str, at: KeyPath) -> PlanError:
         value
     ):  # scaled by the factor, a penalty would fall with the price
         hint = f"price = 0, selling = {-value:g}, if it is a penalty"
+    if key.most == 1 and is_number(value) and key.holds(of_percent(value)):
+        hint = Remedy(at, of_percent(value))
+    bare = unquoted(value)
+    is_quoted = bare != value and key.holds(bare)
     return PlanError(
-        f"{where} {key.name} is {value!r}, and has to be {key.must}", try_this=hint, key=at
+        f"{where} {key.name} is {value!r}, and has to be {key.must}{', without quotes' if is_quoted else ''}",
+        try_this=Remedy(at, bare) if is_quoted else hint,
+        key=at,
     )
+
+
+def of_percent(value: float) -> float:
+    """A share that was told in percent as a share; another number as it is: one just above 1 is no percent.
+
+    >>> of_percent(96.5), of_percent(1.02), of_percent(0.3)
+    (0.965, 1.02, 0.3)
+    """
+    return float(f"{value / 100:.12g}") if LEAST_PERCENT <= value <= 100 else value
+
+
+def unquoted(value: Any) -> Any:
+    """A value with what numbers, flags and lists it has in quotes without them.
+
+    >>> unquoted("30"), unquoted(["20", 20]), unquoted("north")
+    (30, [20, 20], 'north')
+    """
+    if isinstance(value, str) and len(value) <= LONGEST_BARE:
+        try:
+            return tomllib.loads(f"bare = {value}")["bare"]
+        except ValueError:
+            return value
+    if isinstance(value, list):
+        return [unquoted(part) for part in value]
+    if isinstance(value, dict):
+        return {name: unquoted(part) for name, part in value.items()}
+    return value
 
 
 def missing_in(

@@ -368,7 +368,7 @@ def test_a_rock_without_a_name_is_told_with_its_row(frame):
     frame.loc[4, "ROCK"] = ""
     said = refusal(costs(processing={"OXI": 7.5, "SUL": 9.0}).priced, model_of(frame))
     assert (
-        "t.csv, row 6: processing: nothing is said of rock without a name" in said
+        "t.csv, row 6: [economics] processing: nothing is said of rock without a name" in said
         and '{ "" = .. }' in said
     )
 

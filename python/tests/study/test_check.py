@@ -14,6 +14,8 @@ from mines import below, table, written_study
 from processes import command, said, started
 from pitplan.study.check import check
 from pitplan.study.pit_by_pit import Rates, discounted
+from pitplan.base.error_text import lines_of
+from pitplan.base.errors import Cell, PlanError
 from pitplan.base.study_lines import line_of
 
 TOP = Path(__file__).resolve().parents[3]
@@ -98,7 +100,7 @@ ERRORS = [
         "recovery in percent",
         ("recovery = 0.85", "recovery = 88"),
         None,
-        "recovery of copper is 88, and a share is from 0 to 1",
+        "study.toml: [economics] recovery of copper is 88, and a share is from 0 to 1\n  try: recovery = 0.88 in",
         ("economics", "metals", "copper", "recovery"),
     ),
     (
@@ -112,14 +114,14 @@ ERRORS = [
         "payable in percent",
         ("payable = 0.965", "payable = 96.5"),
         None,
-        "payable is 96.5, and has to be a number from 0 to 1",
+        "payable is 96.5, and has to be a number from 0 to 1\n  try: payable = 0.965 in",
         ("economics", "metals", "copper", "payable"),
     ),
     (
         "discount in percent",
         ("discount = 0.08", "discount = 8"),
         None,
-        "discount is 8, and has to be a share",
+        "discount is 8, and has to be a share from 0 to below 1, as 0.08\n  try: discount = 0.08 in",
         ("shells", "discount"),
     ),
     (
@@ -128,6 +130,41 @@ ERRORS = [
         None,
         "dilution is 5, and has to be a number from 0 to 1",
         ("economics", "dilution"),
+    ),
+    (
+        "mining recovery in percent",
+        ("mining_recovery = 0.97", "mining_recovery = 97"),
+        None,
+        "and at most 1\n  try: mining_recovery = 0.97 in",
+        ("economics", "mining_recovery"),
+    ),
+    (
+        "recovery by rock in percent",
+        ("recovery = 0.85", "recovery = { OXI = 0.8, other = 85 }"),
+        None,
+        "of copper of rock other is 85, and a share is from 0 to 1\n  try: recovery = { OXI = 0.8, other = 0.85 }",
+        ("economics", "metals", "copper", "recovery"),
+    ),
+    (
+        "a number in quotes",
+        ("rotation = 0", 'rotation = "30"'),
+        None,
+        "'30', and has to be a number, without quotes\n  try: rotation = 30 in [model]",
+        ("model", "rotation"),
+    ),
+    (
+        "a misspelt rock in a table by rock",
+        ("SUL = 9.0", "SULF = 9.0"),
+        None,
+        "no block is of rock 'SULF'; is 'SUL' meant?\n  try: { OXI = 7.5, SUL = 9 }",
+        ("economics", "processing"),
+    ),
+    (
+        "digging below 0 in one block",
+        ("mining = 2.0", 'mining = "2 - 3 * (CU >= 0.5)"'),
+        lambda frame: frame.assign(CU=np.where(np.arange(len(frame)) == 40, 0.5, 0.4)),
+        "row 42: [economics] mining costs -1 a tonne here, less than nothing\n",
+        ("economics", "mining"),
     ),
     (
         "negative tonnes",
@@ -141,7 +178,7 @@ ERRORS = [
         None,
         lambda frame: pd.concat([frame, frame.iloc[[3]]]),
         "is at the place of row 5: two blocks at one place",
-        ("model", "size"),
+        ("model", "table"),
     ),
     (
         "a misspelt region",
@@ -168,7 +205,7 @@ ERRORS = [
         "factors in percent",
         ("from = 0.4, to = 1.2, step = 0.1", "from = 40, to = 120, step = 10"),
         None,
-        "a factor is 40, and has to be a share",
+        "[shells] factors: a factor is 40, and has to be a share",
         ("shells", "factors"),
     ),
     (
@@ -261,7 +298,7 @@ ERRORS = [
         "digging below 0",
         ("mining = 2.0", "mining = -2.0"),
         None,
-        "mining costs -2 a tonne here",
+        "study.toml: [economics] mining costs -2 a tonne, less than nothing",
         ("economics", "mining"),
     ),
     ("feet for metres", (METRES, "[65.6, 65.6, 49.2]"), None, "off the grid", ("model", "size")),
@@ -269,8 +306,8 @@ ERRORS = [
         "x and y swapped in a turned model",
         ("rotation = 0", 'rotation = 30\ncolumns = { x = "YC", y = "XC" }'),
         turned,
-        "off the grid",
-        ("model", "size"),
+        'YC is a usual name of y, XC is a usual name of x\n  try: columns = { y = "YC", x = "XC" } in',
+        ("model", "columns"),
     ),
     (
         "amounts in another unit",
@@ -292,7 +329,7 @@ LOOKS = [
         "a price a pound told as a tonne",
         ("price = 8500", "price = 3.86"),
         None,
-        'copper costs 3.86 $ a t; about 8.5e+03 is usual\n  try: price_unit = "lb" of copper',
+        'copper costs 3.86 $ a t; about 8,500 is usual\n  try: price_unit = "lb" of copper',
         ("economics", "metals", "copper", "price"),
     ),
     (
@@ -306,7 +343,7 @@ LOOKS = [
         "gold a gram told as an ounce",
         ("price = 1900", "price = 61"),
         None,
-        'gold costs 61 $ a oz; about 1.9e+03 is usual\n  try: price_unit = "g" of gold',
+        'gold costs 61 $ a oz; about 1,900 is usual\n  try: price_unit = "g" of gold',
         ("economics", "metals", "gold", "price"),
     ),
     (
@@ -405,6 +442,20 @@ LOOKS = [
         None,
         cell("TONNES", 7, 1.5e6),
         "row 9 weighs 1,500,000 tonnes; half of all blocks weigh 1",
+        ("model", "columns"),
+    ),
+    (
+        "a density ten times too large",
+        None,
+        lambda frame: cell("SG", 7, 26.7)(density()(frame)),
+        "row 9 has a density of 26.7 by SG; half of all blocks have 2.49",
+        ("model", "columns"),
+    ),
+    (
+        "a density many times that of light rock",
+        None,
+        lambda frame: cell("SG", 7, 6.5)(density(0.4)(frame)),
+        "row 9 has a density of 6.5 by SG; half of all blocks have 0.997",
         ("model", "columns"),
     ),
     (
@@ -649,6 +700,7 @@ def test_check_says_each_error_and_its_line_and_shows_the_tonnage(tmp_path):
         "  try: size = [20, 20, 10]",
         "error: study.toml: [economics] dilution is 5, and has to be a number from 0 to 1",
         "  study.toml:11: dilution = 5",
+        "  try: dilution = 0.05 in [economics]",
         "error: study.toml: [economics] metal gold has no key 'prise'; is 'price' meant?",
         '  study.toml:15: { name = "gold", grade = "AU", grade_unit = "g/t", prise = 1900, price_unit = "oz", recovery = 0.60, payable = 0.98 },',
         "  try: name, grade, grade_unit, price, price_unit, recovery, payable, selling",
@@ -665,6 +717,16 @@ def test_check_says_each_error_and_its_line_and_shows_the_tonnage(tmp_path):
         and "nothing is wrong" in out
     )
     assert not (folder / "model").exists()
+    for price, ends in (
+        ("3.86", "no errors; 2 looks to decide on; then: "),
+        ("80000", "no errors; 1 look to decide on; then: "),
+    ):
+        (folder / "study.toml").write_text(
+            STUDY.replace("price = 8500", f"price = {price}").replace(
+                "selling = 420", "selling = 2000" if price == "80000" else "selling = 420"
+            )
+        )
+        assert ends in said("check", folder)
 
 
 def until(log, words):
@@ -692,7 +754,12 @@ def test_check_watches_what_is_saved(tmp_path):
             and log.read_text().count("ctrl-C ends") == 2
         )
         run.send_signal(signal.SIGINT)
-        assert run.wait(60) == 130
+        assert run.wait(60) == 130 and log.read_text().endswith("stopped\n")
+
+
+def test_rows_are_spelled_alike_in_a_message():
+    error = PlanError("no number", row=4335).with_cells([Cell(4336, "x")])
+    assert lines_of(error) == ["row 4337: no number", "  also row 4338: 'x'"]
 
 
 def test_a_mine_that_takes_for_ever_is_worth_nothing_and_no_warning():
