@@ -50,12 +50,14 @@ def compare(
     ),
 ) -> None:
     """Put a designed pit beside the proved best one: does it keep the slopes, what is it worth, how far from the bound. Status 1 where it breaks the slopes."""
+    from ..plans.design import with_sub_blocks
     from .chosen import beside
 
     study = opened(folder)
     with err.status("the design is read"):
+        model = study.model if surface else with_sub_blocks(study)
         design = design_of(
-            study.model, ids, (column, value), (surface, layer), described(folder).keys.encoding
+            model, ids, (column, value), (surface, layer), described(folder).keys.encoding
         )
     found = beside(study, design, factor)
     with err.status("tables and plans are written"):
