@@ -513,6 +513,19 @@ def test_a_block_is_in_a_design_where_any_of_its_sub_blocks_is(tmp_path, forbid)
         design.by_ids(made.model, ["b2"])
 
 
+def test_the_command_ends_with_status_1_where_a_design_digs_what_may_not_be_dug(tmp_path):
+    text = HALVES_TOML.replace("[economics]", '[economics]\nforbid = ["LAKE == 1"]')
+    folder = written_study(tmp_path / "s", HALVES, text)
+    for command in ("build", "shells"):
+        assert pitplan(command, folder).returncode == 0
+    fine = pitplan("compare", folder, "--column", "CUT")
+    assert fine.returncode == 0 and "look: 1 block is only partly" in fine.stdout, fine.stderr
+    shut = pitplan("compare", folder, "--column", "LAKE")
+    assert shut.returncode == 1 and "CLOSED" in shut.stdout, shut.stderr
+    assert "look: the design digs 1 block that forbid keeps" in shut.stdout
+    assert "so the status is 1" in shut.stdout
+
+
 def bowl(model, points=140, seed=3):
     """Points of a made-up pit's surface, in true coordinates, and its triangles."""
     r = np.random.default_rng(seed)
