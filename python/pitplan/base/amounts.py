@@ -57,6 +57,8 @@ class Priced:
         Tonnes that the mill gets for each tonne of ore in place.
     forbidden : bool array of shape (blocks,)
         Which blocks may not be dug: `mining` has a price for them that keeps them from every pit. Default: none.
+    unfenced : int array of shape (forbidden blocks,), or empty
+        What digging each of these would cost. Empty where a study was built before this was kept.
     """
 
     revenue: Ints
@@ -67,6 +69,7 @@ class Priced:
     grade: dict[str, Floats] = field(default_factory=dict)
     feed: float = 1.0
     forbidden: Bools = field(default_factory=lambda: np.zeros(0, bool))
+    unfenced: Ints = field(default_factory=lambda: np.zeros(0, np.int64))
 
     def __post_init__(self) -> None:
         if not len(self.forbidden):
@@ -131,6 +134,20 @@ class Priced:
         """What each block is worth at a factor (in thousandths), in units of currency, of shape (blocks,): for pictures and tables."""
         worth: Floats = self.thousandths(factor) * (float(self.rounding) / THOUSAND)
         return worth
+
+    def worth_unfenced(self, factor: int) -> Floats:
+        """As `worth`; a block that may not be dug is worth what it would be if it might, or not a number where that wasn't kept."""
+        found = self.worth(factor)
+        if not self.forbidden.any():
+            return found
+        if len(self.unfenced):
+            fence = self.mining[self.forbidden] - self.unfenced
+            found[self.forbidden] = (
+                self.thousandths(factor)[self.forbidden] + fence * THOUSAND
+            ) * (float(self.rounding) / THOUSAND)
+        else:
+            found[self.forbidden] = np.nan
+        return found
 
     def milled(self, factor: int) -> Bools:
         """Whether a block, once it is dug, goes to the mill at a factor (in thousandths)."""

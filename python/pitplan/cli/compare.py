@@ -49,13 +49,15 @@ def compare(
         help="Draw the plan of the bench at this elevation. Default: where the two differ most.",
     ),
 ) -> None:
-    """Put a designed pit beside the proved best one: does it keep the slopes, what is it worth, how far from the bound. Status 1 where it breaks the slopes."""
+    """Put a designed pit beside the proved best one: does it keep the slopes, what is it worth, how far from the bound. Status 1 where it breaks the slopes, or digs what may not be dug."""
+    from ..plans.design import with_sub_blocks
     from .chosen import beside
 
     study = opened(folder)
     with err.status("the design is read"):
+        model = study.model if surface else with_sub_blocks(study)
         design = design_of(
-            study.model, ids, (column, value), (surface, layer), described(folder).keys.encoding
+            model, ids, (column, value), (surface, layer), described(folder).keys.encoding
         )
     found = beside(study, design, factor)
     with err.status("tables and plans are written"):
@@ -66,7 +68,10 @@ def compare(
         + ("" if found.is_closed else ", pairs.csv, walls.csv, repair.csv")
         + ", plans"
     )
-    if not found.is_closed:
+    is_forbidden = bool((found.design.held & study.priced.forbidden).any())
+    if is_forbidden:
+        say("the design digs what may not be dug, so the status is 1")
+    if is_forbidden or not found.is_closed:
         raise typer.Exit(1)
 
 

@@ -120,6 +120,7 @@ def page(
     ),
 ) -> None:
     """Write one HTML file with pits in three dimensions, sections, plans and tables: pits by factor, pushbacks, a design beside the best pit. It needs no network."""
+    from ..plans.design import with_sub_blocks
     from ..plans.phases import Phases
     from ..views import page as pages
     from .chosen import beside, pits_at, shares_of
@@ -131,7 +132,9 @@ def page(
     found = None
     if design or column:
         encoding = described(folder).keys.encoding
-        made = design_of(shells.study.model, design, (column, value), layer, encoding)
+        is_surface = design is not None and design.suffix.lower() == ".dxf"
+        model = shells.study.model if is_surface else with_sub_blocks(shells.study)
+        made = design_of(model, design, (column, value), layer, encoding)
         found = beside(shells.study, made, factor)
     path = pages.write(
         shells, results(shells.study) / "pits.html", shells.table(1000, **rates), title, cut, found

@@ -195,6 +195,7 @@ class Economics:
             whole[0], whole[1], whole[2], rounding, metal, read.grade, self.feed, read.forbidden
         )
         if found.forbidden.any():
+            found.unfenced = found.mining[found.forbidden]
             found.mining[found.forbidden] = fence_price(found, rounding)
         return found
 

@@ -56,6 +56,7 @@ def save(path: Path, model: Model, priced: Priced, region: Ints) -> None:
         "processing": priced.processing,
         "mining": priced.mining,
         "forbidden": priced.forbidden,
+        "unfenced": priced.unfenced,
         "row_block": model.row_block,
         "region": region.astype(np.uint16),
     }
@@ -158,6 +159,7 @@ def load_priced(path: Path) -> Priced:
             grade,
             told["feed"],
             file["forbidden"],
+            file["unfenced"] if "unfenced" in file.files else np.zeros(0, np.int64),
         )
 
 

@@ -12,6 +12,7 @@ if TYPE_CHECKING:
         by_column as by_column,
         by_file as by_file,
         by_ids as by_ids,
+        with_sub_blocks as with_sub_blocks,
     )
     from .phases import Phases as Phases
     from .risk import Risk as Risk
@@ -22,7 +23,7 @@ else:
         __name__,
         {
             "compare": "Comparison",
-            "design": "Design by_column by_file by_ids",
+            "design": "Design by_column by_file by_ids with_sub_blocks",
             "phases": "Phases",
             "risk": "Risk",
             "task_line": "Task task_of",

@@ -2,20 +2,25 @@
 from __future__ import annotations
 
 from collections.abc import Iterable, Sequence
-from dataclasses import dataclass, field
+from dataclasses import dataclass, field, replace
 from pathlib import Path
-from typing import Any
+from typing import TYPE_CHECKING, Any
 
 import numpy as np
 import pandas as pd
 
-from ..base.arrays import Bools
+from ..base.arrays import Bools, Ints
 from ..base.errors import PlanError, meant
+from ..base.next_command import command
 from ..model.model import Model
+from ..study.study_file import read_study_file
 from ..table.column_names import PLACES, USUAL
 from ..table.csv_text import PLAIN, dialect_beside, head_of, names_of, number_column, read_frame
 from ..table.spreadsheets import as_written
 from .surface import Surface, heights, of_dxf, of_points
+
+if TYPE_CHECKING:
+    from ..study.study import Study
 
 YES = (
     "1",
@@ -86,6 +91,68 @@ def rowless(model: Model) -> Bools:
     return found
 
 
+def with_sub_blocks(study: Study) -> Model:
+    """A study's model with its sub-blocks, which a built one doesn't keep: where it has some, the study's table is read again.
+
+    Raises
+    ------
+    PlanError
+        Where study.toml or the table is gone, or the table isn't the one that the study was built from.
+    """
+    if not study.model.has_sub_blocks:
+        return study.model
+    read = read_study_file(study.named).read_model()
+    if not np.array_equal(read.row_block, study.model.row_block):
+        raise PlanError(
+            "isn't the table that the study was built from",
+            table=read.table,
+            try_this=command("build", study.named),
+        )
+    return replace(study.model, parts=read.parts)
+
+
+def cells_of(model: Model, column: str) -> tuple[pd.Series, Ints]:
+    """The cells of a column, by their rows of the table, and the block of each: sub-blocks have that which they are part of.
+
+    Raises
+    ------
+    PlanError
+        Where the table has no such column, or the model's sub-blocks aren't at hand.
+    """
+    if model.parts is None and model.has_sub_blocks:
+        raise PlanError(
+            "which sub-blocks does the design take? A model that was built doesn't have them any more",
+            try_this="design.with_sub_blocks(study) in place of study.model",
+        )
+    if column not in model.blocks.columns:
+        raise PlanError(
+            f"the table has no column {column!r}{meant(column, map(str, model.blocks.columns))}"
+        )
+    if model.parts is not None:
+        table, block = model.parts.frame, model.parts.parent.astype(np.int64)
+        return pd.Series(table[column].to_numpy(), table["row"].to_numpy()), block
+    block = np.flatnonzero(~rowless(model))
+    cells, row = model.blocks[column].to_numpy(), model.blocks["row"].to_numpy()
+    return pd.Series(cells[block], row[block]), block
+
+
+def whole(model: Model, taken: Bools, block: Ints) -> tuple[Bools, list[str]]:
+    """The blocks of rows that a design takes, and a note of those that it takes in part: a block is in a design where any of its
+    sub-blocks is."""
+    held = np.zeros(len(model), bool)
+    held[block[taken]] = True
+    if model.parts is None:
+        return held, []
+    tonnes = model.parts.frame["tonnes"].to_numpy(float)
+    partly = held & (np.bincount(block, ~taken & (tonnes > 0), len(model)) > 0)
+    if not partly.any():
+        return held, []
+    here, count = partly[block], int(partly.sum())
+    return held, [
+        f"look: {count:,} {'blocks are' if count > 1 else 'block is'} only partly in the design: {tonnes[here & taken].sum():,.0f} t of {tonnes[here].sum():,.0f} t; all of {'them count' if count > 1 else 'it counts'}"
+    ]
+
+
 def by_ids(model: Model, ids: Iterable[Any], name: str = "design", table: object = None) -> Design:
     """The blocks of some ids.
 
@@ -103,8 +170,8 @@ def by_ids(model: Model, ids: Iterable[Any], name: str = "design", table: object
     """
     wanted = ids if isinstance(ids, pd.Series) else pd.Series(list(ids), dtype=object)
     words = wanted.astype(str).str.strip().map(as_written)
-    own = ~rowless(model)
-    known = pd.Index(model.blocks["id"][own].astype(str).str.strip())
+    cells, block = cells_of(model, "id")
+    known = pd.Index(cells.astype(str).str.strip())
     strange = ~words.isin(known).to_numpy()
     if strange.any():
         at = int(np.argmax(strange))
@@ -118,20 +185,17 @@ def by_ids(model: Model, ids: Iterable[Any], name: str = "design", table: object
             else "the table has no column of ids: rows as a spreadsheet counts them, 2 for the first",
         )
     inside = known.isin(pd.Index(words))
-    twice = known[inside & known.duplicated(keep=False)]
+    named = pd.DataFrame({"id": known[inside], "block": block[inside]}).drop_duplicates()["id"]
+    twice = named[named.duplicated()]
     if len(twice):
         raise PlanError(
-            f"{twice[0]!r} is the id of several blocks of the model",
+            f"{twice.iloc[0]!r} is the id of several blocks of the model",
             table=table,
             try_this="--column, with a column of the table that says which rows the design takes",
         )
-    held = np.zeros(len(model), bool)
-    held[np.flatnonzero(own)[inside]] = True
-    notes = (
-        [f"{int(words.duplicated().sum()):,} ids stand there more than once"]
-        if words.duplicated().any()
-        else []
-    )
+    held, notes = whole(model, inside, block)
+    if words.duplicated().any():
+        notes.append(f"{int(words.duplicated().sum()):,} ids stand there more than once")
     return Design(name, held, rowless(model), notes)
 
 
@@ -158,7 +222,7 @@ def by_ids_of(model: Model, path: Path, encoding: str | None = None) -> Design:
     frame = read_frame(path, dialect, names)
     ids = frame[column or names[0]].fillna("").astype(str)
     ids = ids[ids.str.strip() != ""]
-    if column is None and as_written(names[0]) in set(model.blocks["id"].astype(str)):
+    if column is None and as_written(names[0]) in set(cells_of(model, "id")[0].astype(str)):
         ids = pd.concat(
             [pd.Series([names[0]], index=[-1]), ids]
         )  # no header line: the first is an id too
@@ -206,37 +270,34 @@ def by_column(model: Model, column: str, value: str | None = None) -> Design:
     PlanError
         Where the table has no such column, or a cell says neither.
     """
-    if column not in model.blocks.columns:
-        raise PlanError(
-            f"the table has no column {column!r}{meant(column, map(str, model.blocks.columns))}"
-        )
-    cells = model.blocks[column]
-    own = ~rowless(model)
+    cells, block = cells_of(model, column)
     if value is not None:
-        held = said(cells, value) & own
-        if not held.any():
-            there = ", ".join(map(str, cells[own].drop_duplicates().head(10)))
+        taken = said(cells, value)
+        if not taken.any():
+            there = ", ".join(map(str, cells.drop_duplicates().head(10)))
             raise PlanError(
                 f"no cell is {value!r}; there are {there}", table=model.name, column=column
             )
-        return Design(f"{column}-{value}", held, rowless(model))
+        held, notes = whole(model, taken, block)
+        return Design(f"{column}-{value}", held, rowless(model), notes)
     if cells.dtype.kind in "iufb":
         numbers = np.nan_to_num(cells.to_numpy(float))
-        unclear, held = own & (numbers < 0), own & (numbers > 0)
+        unclear, taken = numbers < 0, numbers > 0
     else:
         words = cells.fillna("").astype(str).str.strip().str.lower()
-        held, out = (words.isin(known).to_numpy() & own for known in (YES, NO))
-        unclear = own & ~held & ~out
+        taken, out = (words.isin(known).to_numpy() for known in (YES, NO))
+        unclear = ~taken & ~out
     if unclear.any():
         at = int(np.argmax(unclear))
         raise PlanError(
             f"{cells.iloc[at]!r} says neither yes nor no",
             table=model.name,
-            row=int(model.blocks["row"].iloc[at]),
+            row=int(cells.index[at]),
             column=column,
             try_this="--value WORD, the cell of the blocks that the design takes",
         )
-    return Design(column, held, rowless(model))
+    held, notes = whole(model, taken, block)
+    return Design(column, held, rowless(model), notes)
 
 
 def said(cells: pd.Series, value: str) -> Bools:

@@ -19,7 +19,7 @@ from shapely.geometry import Point, Polygon
 
 import pitplan as pp
 from mines import STUDY_TOML, costs, study_of, table, written_study
-from pitplan.cli import compare as commands_compare
+from pitplan.cli import build as commands_build, compare as commands_compare
 from pitplan.plans import compare, compare_words, design, surface, walls
 from pitplan.views import compare_plan
 from pitplan.study.resting import Resting
@@ -468,6 +468,62 @@ def test_designs_by_a_column(tmp_path):
     ):
         with pytest.raises(pp.PlanError, match=said):
             design.by_column(model, name, value)
+
+
+HALVES = (
+    pd.DataFrame(  # a whole block, one of two halves, and one of a half of rock below one of air
+        {
+            "IJK": ["a", "b1", "b2", "c1", "c2"],
+            "XC": [10, 30, 30, 50, 50.0],
+            "YC": 10.0,
+            "ZC": [5, 2.5, 7.5, 2.5, 7.5],
+            "XINC": 20.0,
+            "YINC": 20.0,
+            "ZINC": [10, 5, 5, 5, 5.0],
+            "TONNES": [8000, 3000, 5000, 4000, 0.0],
+            "CU": 0.5,
+            "ROCK": "SUL",
+            "CUT": [0, 1, 0, 1, 0],
+            "LAKE": [1, 0, 0, 0, 0],
+        }
+    )
+)
+HALVES_TOML = STUDY_TOML.replace("size = [20, 20, 15]", "size = [20, 20, 10]\nregularise = true")
+
+
+@pytest.mark.parametrize("forbid", [None, "CUT == 9"])  # forbid makes CUT a column of codes
+def test_a_block_is_in_a_design_where_any_of_its_sub_blocks_is(tmp_path, forbid):
+    text = HALVES_TOML.replace(
+        "[economics]", f"[economics]\nforbid = {json.dumps([forbid] if forbid else [])}"
+    )
+    folder = written_study(tmp_path / "s", HALVES, text)
+    commands_build.build(folder)
+    made = pp.Study(folder)
+    model = design.with_sub_blocks(made)
+    note = "look: 1 block is only partly in the design: 3,000 t of 8,000 t; all of it counts"
+    for found in (
+        design.by_column(model, "CUT"),
+        design.by_column(model, "CUT", "1"),
+        design.by_ids(model, ["b1", "c1"]),
+    ):
+        assert found.held.tolist() == [False, True, True] and found.notes == [note]
+    both = design.by_ids(model, ["b2", "b1"])  # each has a block, also those that aren't its first
+    assert both.held.tolist() == [False, True, False] and both.notes == []
+    with pytest.raises(pp.PlanError, match=r"(?s)which sub-blocks .*with_sub_blocks"):
+        design.by_ids(made.model, ["b2"])
+
+
+def test_the_command_ends_with_status_1_where_a_design_digs_what_may_not_be_dug(tmp_path):
+    text = HALVES_TOML.replace("[economics]", '[economics]\nforbid = ["LAKE == 1"]')
+    folder = written_study(tmp_path / "s", HALVES, text)
+    for command in ("build", "shells"):
+        assert pitplan(command, folder).returncode == 0
+    fine = pitplan("compare", folder, "--column", "CUT")
+    assert fine.returncode == 0 and "look: 1 block is only partly" in fine.stdout, fine.stderr
+    shut = pitplan("compare", folder, "--column", "LAKE")
+    assert shut.returncode == 1 and "CLOSED" in shut.stdout, shut.stderr
+    assert "look: the design digs 1 block that forbid keeps" in shut.stdout
+    assert "so the status is 1" in shut.stdout
 
 
 def bowl(model, points=140, seed=3):

@@ -327,6 +327,29 @@ def test_worths_and_ways_of_blocks_are_the_table_s_in_cents_too(tmp_path):
     ).any()
 
 
+def test_a_forbidden_block_has_its_own_worth_and_a_code_is_a_whole_number(tmp_path):
+    f = table(6, 5, 4, 3)
+    f["SECCOD"] = np.where(f.XC < 5010, 1.0, 2.0)
+    is_shut = (f.XC < 5010).to_numpy()
+    shells = study_of(tmp_path, f, economics=costs(forbid=["SECCOD == 1"])).shells([1000])
+    export_csv.write(shells, tmp_path / "x.csv", ["SECCOD", "CU"], is_whole=True)
+    found = pd.read_csv(tmp_path / "x.csv")
+    revenue, processing = (
+        np.rint(v)
+        for v in (
+            f.TONNES * f.CU * 0.01 * 0.85 * 8500,
+            f.TONNES * f.ROCK.map({"OXI": 7.5, "SUL": 9.0}),
+        )
+    )
+    worth = np.maximum(revenue - processing, 0) - np.rint(2 * f.TONNES)
+    assert found.worth.tolist() == worth.tolist() and is_shut.any()
+    assert (found["to"] == "forbidden").tolist() == is_shut.tolist()
+    assert found.SECCOD.dtype.kind == "i" and (found.SECCOD == f.SECCOD).all()
+    export_vtu.write(shells, tmp_path / "x.vtu", is_whole=True)
+    _, data = read_vtu(tmp_path / "x.vtu")
+    assert data["worth"].tolist() == worth.tolist()
+
+
 def test_words_that_a_spreadsheet_would_run_arent_written_as_formulas(tmp_path):
     bad = ["=1+1", "+B1", "-A2", "@SUM(A1)", "=cmd|' /C calc'!A0"]
     fine = ["-5", "+3.5", "B-1", "", "'x", "1=1"]

@@ -3,17 +3,19 @@ from __future__ import annotations
 
 import os
 from collections.abc import Sequence
-from typing import TYPE_CHECKING
+from typing import TYPE_CHECKING, Any
 
 import numpy as np
 import pandas as pd
 
-from ...base.amounts import THOUSAND
+from ...base.amounts import THOUSAND, Priced
 from ...base.arrays import Array, Floats
 from ...table.spreadsheets import write_table
 
 if TYPE_CHECKING:
     from ...study.shells import Shells
+
+MOST_EXACT = 2**53  # whole numbers below it are floats, to the last digit
 
 
 def table_of(
@@ -33,7 +35,8 @@ def table_of(
     DataFrame
         ``id``, ``row`` (of the table, as a spreadsheet counts it; 0 for a block that was added), ``x``, ``y``, ``z`` (the
         centre; z is an elevation), ``rock``, ``tonnes``, ``shell`` (the factor of the first pit that has it, as a share of the
-        price), ``worth`` (at factor 1) and ``to`` (``mill`` or ``waste``, at factor 1).
+        price), ``worth`` (at factor 1) and ``to`` (``mill`` or ``waste``, at factor 1; ``forbidden`` for a block that may not be
+        dug, whose worth is what it would be if it might).
     """
     from .vtu import columns_of, free
 
@@ -52,13 +55,31 @@ def table_of(
             "rock": b["rock"].to_numpy(),
             "tonnes": b["tonnes"].to_numpy(),
             "shell": shares[shells.shell[kept]],
-            "worth": np.round(study.priced.worth(THOUSAND)[kept], 6),
-            "to": np.where(study.priced.milled(THOUSAND)[kept], "mill", "waste"),
+            "worth": np.round(study.priced.worth_unfenced(THOUSAND)[kept], 6),
+            "to": ways_of(study.priced)[kept],
         }
     )
     for name in columns_of(study.model, columns or ()):
-        found[free(name) if name not in found else f"{name} of the table"] = b[name].to_numpy()
+        found[free(name) if name not in found else f"{name} of the table"] = whole_numbers(b[name])
     return found
+
+
+def ways_of(priced: Priced) -> Array:
+    """Where each block goes at factor 1."""
+    found: Array = np.where(priced.milled(THOUSAND), "mill", "waste").astype(object)
+    found[priced.forbidden] = "forbidden"
+    return found
+
+
+def whole_numbers(cells: pd.Series) -> Any:
+    """A column as whole numbers where all of it are some, as codes of sub-blocks or beside added air: 1 and not 1.0."""
+    values = cells.to_numpy()
+    if values.dtype.kind != "f":
+        return values
+    told = values[~np.isnan(values)]
+    if (np.abs(told) < MOST_EXACT).all() and (told == np.rint(told)).all():
+        return pd.array(values, dtype="Int64")
+    return values
 
 
 def spelled_once(values: Floats) -> Array:

@@ -80,7 +80,7 @@ def mesh_of(
     shares = np.array([*(factor / THOUSAND for factor in shells.factors), np.nan])
     data: dict[str, Array] = {
         "shell": shares[shells.shell[kept]],
-        "worth": shells.study.priced.worth(THOUSAND)[kept],
+        "worth": shells.study.priced.worth_unfenced(THOUSAND)[kept],
         "block": kept.astype(np.int32),
     }
     legend = []
