@@ -53,7 +53,6 @@ module _ (n next : ℕ) (ps row : List (ℕ × ℕ)) (firsts predecessors : List
   rests_more : IsRests (record { blocks = n; pairs = ps ++ row })
   rests_more = record {
     blocks = h.rests.blocks;
-    few = omega (arith, size, few);
     known = All-append (IsKnown n) ps row h.rests.known (All-weaker (IsOfBlock n next) (IsKnown n) (λ p k. let e = k.0 in (omega arith, k.1)) row own);
     rising = record { rises = risen };
     apart = λ p k e. elim (Contains-append_cases ps row p k) [ inl c ↦ h.rests.apart p c e | inr c ↦ a p c e ];

@@ -2,7 +2,7 @@
 
 ghost use Rattle.std.specs.Prelude.{◌≡◌, ◌<◌, ◌≤◌, All, IfOk, MatchOption, length, map, slice_index_or};
 ghost use Rattle.std.specs.List.{Contains};
-ghost use Rattle.prec_file.specs.Rests.{IsRests, AreApart, IsKnown, IsRising, first_of, above_of};
+ghost use Rattle.prec_file.specs.Rests.{IsRests, AreApart, AreFew, IsKnown, IsRising, first_of, above_of};
 ghost use Rattle.prec_file.specs.Indexes.{AreAbove, pairs_by};
 
 use crate::Rests;
@@ -114,6 +114,7 @@ impl Predecessors {
     pub fn len(&self) -> u32
         ensures is { result ≡ self.now.blocks }
         ensures all { IsRests self.now }
+        ensures few { AreFew self.now.pairs }
     {
         self.blocks
     }

@@ -2,7 +2,7 @@
 
 ghost use Rattle.std.specs.Prelude.{◌≡◌, ◌<◌, ◌≤◌, All, IfOk, MatchResult, MatchOption, length, map, slice_index_or};
 ghost use Rattle.std.specs.List.{Contains};
-ghost use Rattle.prec_file.specs.Rests.{IsRests, IsKnown, KnownAt, IsFirstNot, ArePairsOf, first_of, above_of, below_of};
+ghost use Rattle.prec_file.specs.Rests.{IsRests, AreFew, IsKnown, KnownAt, IsFirstNot, ArePairsOf, first_of, above_of, below_of};
 ghost use Rattle.prec_file.specs.Faults.{FaultStands};
 
 use crate::index::{filled_by, part, starts_of};
@@ -133,6 +133,7 @@ impl Rests {
     pub fn len(&self) -> u32
         ensures is { result ≡ self.now.blocks }
         ensures all { IsRests self.now }
+        ensures few { AreFew self.now.pairs }
     {
         self.predecessors.len()
     }
