@@ -4,6 +4,7 @@ pub mod FirstPits
 pub mod HeldBytes
 pub mod HeldLines
 pub mod Lacks
+pub mod LeastLacks
 pub mod NextLines
 pub mod MarkedBlocks
 pub mod LineFlows

@@ -299,7 +299,7 @@ impl<G: OrderedGroup> Room<G> {
         // proof: the pairs of a net are of its blocks
         let _worths = net.worths();
         mark(&mut self.marks, self.pit.pit().blocks());
-        first_open(net.predecessors(), &self.marks)
+        first_open(net.held(), &self.marks)
     }
 
     // The first block of the net whose balance is not zero.

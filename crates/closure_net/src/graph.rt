@@ -4,12 +4,14 @@
 ghost use Rattle.std.specs.Prelude.{◌≡◌, ◌<◌, length, map, MatchResult};
 ghost use Rattle.ordered_group.specs.Amount.{positive, negative};
 ghost use Rattle.ordered_group.specs.Sums.{amount_at};
+ghost use Rattle.places.specs.Holders.{pairs_held, pairs_lent};
 ghost use Rattle.closure_net.specs.Network.{net_view, IsNet, IsNetParts};
 ghost use Rattle.closure_net.specs.Faults.{WorthsFaultStands};
 
 use crate::net::NetFault;
 use crate::worths::{opposite_part, worths_of_blocks};
 use ordered_group::{OrderedGroup, positive_part};
+use places::{Held, HeldRef};
 use prec_file::Predecessors;
 use std::alloc::Global;
 use std::marker::Model;
@@ -20,42 +22,39 @@ use std::marker::Model;
 /// each block the blocks that rest on it.
 #[derive(Drop)]
 pub struct Graph<G: OrderedGroup> {
-    predecessors: Predecessors,
+    held: Held,
     worths: Vec<G>,
 }
 
 impl<G: OrderedGroup> Model for Graph<G> {
     ghost use Rattle.std.specs.Prelude.{map};
+    ghost use Rattle.places.specs.Holders.{pairs_held};
     ghost use Rattle.closure_net.specs.Network.{NetView, net_view, IsNetParts};
 
     ghost Value = { NetView };
 
-    ghost view = { λ g. net_view g.predecessors.pairs (map G.parts_of g.worths.items) };
+    ghost view = { λ g. net_view (pairs_held g.held).pairs (map G.parts_of g.worths.items) };
 
-    ghost invariant = { λ g. IsNetParts g.predecessors (map G.parts_of g.worths.items) };
+    ghost invariant = { λ g. IsNetParts (pairs_held g.held) (map G.parts_of g.worths.items) };
 }
 
 impl<G: OrderedGroup> Graph<G> {
-    /// The graph of blocks with these predecessors, with the worth of each in billionths.
+    /// The graph of blocks with these predecessors, by a list or by places, with the worth of each in billionths.
     ///
     /// # Errors
     /// Those of [`crate::Net::of_worths`].
     pub fn of_worths(
         alloc: Global,
-        predecessors: Predecessors,
+        held: Held,
         nanos: &[i128],
     ) -> Result<Graph<G>, NetFault>
-        ensures { MatchResult result
-            (λ g. (g ≡ net_view predecessors.pairs
-            (map (λ v. G.block_parts v predecessors.blocks) nanos.now))
-            × (predecessors.blocks ≡ length nanos.now))
-            (λ e. WorthsFaultStands G.block_parts predecessors.blocks nanos.now e) }
+        ensures { let rests = pairs_held held in MatchResult result
+            (λ g. (g ≡ net_view rests.pairs (map (λ v. G.block_parts v rests.blocks) nanos.now))
+            × (rests.blocks ≡ length nanos.now))
+            (λ e. WorthsFaultStands G.block_parts rests.blocks nanos.now e) }
     {
-        match worths_of_blocks(alloc, predecessors.len(), nanos) {
-            Ok(worths) => Ok(Graph {
-                predecessors,
-                worths,
-            }),
+        match worths_of_blocks(alloc, held.len(), nanos) {
+            Ok(worths) => Ok(Graph { held, worths }),
             Err(fault) => Err(fault),
         }
     }
@@ -65,7 +64,7 @@ impl<G: OrderedGroup> Graph<G> {
         ensures { result ≡ self.now }
     {
         GraphRef {
-            predecessors: &self.predecessors,
+            held: self.held.as_ref(),
             worths: &self.worths,
         }
     }
@@ -74,19 +73,20 @@ impl<G: OrderedGroup> Graph<G> {
 /// A graph that is another's: a [`Graph`] or a [`crate::Net`] lends it.
 #[derive(Drop)]
 pub struct GraphRef<'a, G: OrderedGroup> {
-    predecessors: &'a Predecessors,
+    held: HeldRef<'a>,
     worths: &'a [G],
 }
 
 impl<'a, G: OrderedGroup> Model for GraphRef<'a, G> {
     ghost use Rattle.std.specs.Prelude.{map};
+    ghost use Rattle.places.specs.Holders.{pairs_lent};
     ghost use Rattle.closure_net.specs.Network.{NetView, net_view, IsNetParts};
 
     ghost Value = { NetView };
 
-    ghost view = { λ g. net_view g.predecessors.now.pairs (map G.parts_of g.worths.now) };
+    ghost view = { λ g. net_view (pairs_lent g.held).pairs (map G.parts_of g.worths.now) };
 
-    ghost invariant = { λ g. IsNetParts g.predecessors.now (map G.parts_of g.worths.now) };
+    ghost invariant = { λ g. IsNetParts (pairs_lent g.held) (map G.parts_of g.worths.now) };
 }
 
 impl<'a, G: OrderedGroup> GraphRef<'a, G> {
@@ -96,7 +96,7 @@ impl<'a, G: OrderedGroup> GraphRef<'a, G> {
         ensures { result ≡ net_view predecessors.now.pairs (map G.parts_of worths.now) }
     {
         GraphRef {
-            predecessors,
+            held: HeldRef::Listed(predecessors),
             worths,
         }
     }
@@ -105,7 +105,7 @@ impl<'a, G: OrderedGroup> GraphRef<'a, G> {
     pub fn len(&self) -> u32
         ensures { result ≡ length self.now.worths }
     {
-        self.predecessors.len()
+        self.held.blocks()
     }
 
     /// What block b is worth.
@@ -134,11 +134,11 @@ impl<'a, G: OrderedGroup> GraphRef<'a, G> {
     }
 
     /// What rests on what.
-    pub fn predecessors(&self) -> &'a Predecessors
-        ensures blocks { result.now.blocks ≡ length self.now.worths }
-        ensures pairs { result.now.pairs ≡ self.now.pairs }
+    pub fn held(&self) -> HeldRef<'a>
+        ensures blocks { (pairs_lent result).blocks ≡ length self.now.worths }
+        ensures pairs { (pairs_lent result).pairs ≡ self.now.pairs }
     {
-        self.predecessors
+        self.held
     }
 
     /// What each block is worth.

@@ -24,6 +24,7 @@ use closure_net::{Graph, laws};
 use fixed_worth::CountedRead;
 use mine_inputs::{CertificateProblem, EngineFault, MineToCheck};
 use ordered_group::{Group, OrderedGroup, Scaled, Worth, WorthSize};
+use places::Held;
 use prec_file::Predecessors;
 use std::alloc::Global;
 use std::thread::Threads;
@@ -235,7 +236,7 @@ fn judge_by<G: OrderedGroup, C: CountedRead>(
         predecessors,
         ..
     } = mine;
-    let graph = Graph::<G>::of_worths(alloc, predecessors, &nanos)?;
+    let graph = Graph::<G>::of_worths(alloc, Held::Listed(predecessors), &nanos)?;
     drop(nanos);
     let net = graph.as_ref();
     // proof: what is known of every net, that its pairs are of its blocks and in order

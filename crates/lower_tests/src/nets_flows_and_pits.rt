@@ -3,6 +3,7 @@
 
 ghost use Rattle.std.specs.Prelude.{◌≤◌};
 
+use places::{Held, Precedence};
 use closure_net::{Carried, Flow, Graph, GraphRef, Net, NetFault, Pit, Port, PortKind, pit_of};
 use fixed_worth::MOST_BLOCKS;
 use ordered_group::{Scaled, Worth, WorthSize};
@@ -108,7 +109,7 @@ fn is_two_on_waste(graph: &GraphRef<'_, WorthSize>) -> bool {
     graph.worth(0) == amount(6, -1)
         && graph.positive(2) == amount(0, 0)
         && graph.negative(2) == amount(10, 1)
-        && graph.predecessors().above(1) == [2].as_slice()
+        && graph.held().has(1, 2)
         && graph.worths().len() == 3
 }
 
@@ -117,7 +118,7 @@ fn graph_of_text(alloc: Global) -> Result<Graph<WorthSize>, Fail> {
     let listed = read_listed(alloc, b"0 1 2\n1 1 2\n", 3)?;
     let predecessors = listed.into_predecessors(alloc)?;
     Ok(
-        Graph::of_worths(alloc, predecessors, &[6, 5, -10])
+        Graph::of_worths(alloc, Held::Listed(predecessors), &[6, 5, -10])
             .ok()
             .ok_or("worths")?,
     )

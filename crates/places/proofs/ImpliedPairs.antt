@@ -87,7 +87,7 @@ rises_below t n (suc m) i j l k =
 
 pub implied_is : (v : PrecedenceView) → IsPrecedence v → IsImplied v (implied v)
 implied_is v h = record {
-  pairs = record {
+  rests = record {
     blocks = h.few;
     known = λ i d l. let q = only_below v.rests v.blocks v.blocks i l in subst (IsKnown v.blocks) (get_or_default (pairs_below v.rests v.blocks v.blocks) i (0, 0) d l) (q.block, q.predecessor);
     rising = record { rises = rises_below v.rests v.blocks v.blocks };

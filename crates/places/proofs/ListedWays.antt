@@ -1,15 +1,15 @@
 -- The ways of a list of pairs.
 use Rattle.fixed_worth.proofs.Common.{refl, Option, None, MatchOption, is_some, false_from_ne_true, ◌≡◌, ℕ, ◌<◌, ◌+◌, ◌≤◌, ◌==◌, ◌∙◌, get_or_default, List, IsTrue, Some, Contains, length, get_or, sym, subst, ap, arith, All-contains, Contains-get_or, get_or_from_slice_get, slice_get-get_or, length-map}
-use Rattle.prec_file.specs.Rests.{RestsView, IsRests, IsKnown, has_pair, from_at, to_at, numbers, above_of, first_of}
+use Rattle.prec_file.specs.Rests.{RestsView, IsRests, AreFew, IsKnown, has_pair, from_at, to_at, numbers, above_of, first_of}
 use Rattle.prec_file.specs.declared.limits.TheConstants.{MOST_PAIRS}
 use Rattle.prec_file.proofs.Finding.{above_at, above_has}
 use Rattle.prec_file.proofs.Passing.{passing_most}
 use Rattle.prec_file.proofs.Pairs.{rests_of_pair, pair_of_rests}
-use Rattle.places.specs.Prelude.{ArePairs, IsPrecedence, Leads, listed}
+use Rattle.places.specs.Prelude.{IsPrecedence, Leads, listed}
 
 -- a block has few ways
-pub few_ways : (r : RestsView) → IsRests r → (b : ℕ) → length (above_of r.pairs b) ≤ MOST_PAIRS
-few_ways r h b = omega (arith, h.few, length-map (numbers (from_at r.pairs) b (length r.pairs)) (to_at r.pairs), passing_most (λ k. from_at r.pairs k == b) (length r.pairs))
+pub few_ways : (r : RestsView) → AreFew r.pairs → (b : ℕ) → length (above_of r.pairs b) ≤ MOST_PAIRS
+few_ways r h b = omega (arith, h, length-map (numbers (from_at r.pairs) b (length r.pairs)) (to_at r.pairs), passing_most (λ k. from_at r.pairs k == b) (length r.pairs))
 
 -- a way leads to a block of a pair
 listed_sound : (r : RestsView) → IsRests r → (b p k : ℕ) → Leads (listed r) b p k → IsTrue (has_pair r.pairs b p)
@@ -45,7 +45,3 @@ listed_is r h = record {
 pub pair_found : (pairs : List (ℕ × ℕ)) (b p : ℕ) (found : Option ℕ) → MatchOption found (¬ (Contains pairs (b, p))) (λ k. (k < length pairs) × (get_or pairs k (0, 0) ≡ (b, p))) → is_some found ≡ has_pair pairs b p
 pair_found pairs b p None none = sym (false_from_ne_true (has_pair pairs b p) (λ t. none (pair_of_rests pairs b p t)))
 pair_found pairs b p (Some k) at = sym (rests_of_pair pairs b p (subst (Contains pairs) at.1 (Contains-get_or pairs k (0, 0) at.0)))
-
--- the pairs of a list are pairs of a precedence
-pub pairs_listed : (r : RestsView) → IsRests r → ArePairs r
-pairs_listed r h = record { blocks = h.blocks; known = h.known; rising = h.rising; apart = h.apart }

@@ -1,8 +1,7 @@
 //! Who precedes a block, by a list or by places, whichever a mine has.
 
 ghost use Rattle.std.specs.Prelude.{◌≡◌, ◌<◌, ℕ};
-ghost use Rattle.prec_file.specs.Rests.{has_pair};
-ghost use Rattle.places.specs.Implied.{ArePairs};
+ghost use Rattle.prec_file.specs.Rests.{IsRests, has_pair};
 ghost use Rattle.places.specs.Holders.{pairs_held, pairs_lent, lent};
 
 use crate::{Grid, Precedence};
@@ -31,7 +30,7 @@ impl Held {
     /// How many blocks there are.
     pub fn len(&self) -> u32
         ensures is { result ≡ (pairs_held self.now).blocks }
-        ensures all { ArePairs (pairs_held self.now) }
+        ensures all { IsRests (pairs_held self.now) }
     {
         match self {
             Held::Listed(list) => list.len(),
@@ -87,7 +86,7 @@ impl<'a> HeldRef<'a> {
     /// How many blocks there are; and whether one rests on another is whether the list of pairs has them.
     pub fn blocks(&self) -> u32
         ensures is { result ≡ (pairs_lent self.now).blocks }
-        ensures all { ArePairs (pairs_lent self.now) }
+        ensures all { IsRests (pairs_lent self.now) }
         ensures same { (b p : ℕ) → (lent self.now).rests b p ≡ has_pair (pairs_lent self.now).pairs b p }
         ensures size { result ≡ (lent self.now).blocks }
     {
