@@ -75,7 +75,7 @@ pub fn value_files<'a, R: Files + Print + Eprint + Threads + Sync + AllocGlobal>
     )
 }
 
-/// Writes the predecessors of each block of a file, by a pattern.
+/// Writes the predecessors of each block of a file, by a pattern. A greater z is higher, where no option says otherwise.
 ///
 /// # Errors
 /// `Device` where a file can't be opened; then those of the engine.
@@ -83,7 +83,7 @@ pub fn slopes_file<R: Files + Print + Eprint + AllocGlobal>(
     rt: &R,
     args: SlopesArgs<'_>,
     pattern: PatternChoice,
-    up: Up,
+    up: Option<Up>,
 ) -> Result<Verdict, EngineFault>
     requires { IsChoice pattern }
 {
@@ -92,10 +92,12 @@ pub fn slopes_file<R: Files + Print + Eprint + AllocGlobal>(
     let mut blocks = open_file(rt, args.verbose, args.blocks, heard)?;
     let mut out = Counted::new(output(rt, args.verbose, None));
     let selection = selection_asked(args);
+    let up = up.unwrap_or(Up::PlusZ);
     slopes_engine(rt.alloc(), &mut blocks, pattern, up, selection, &mut out)
 }
 
-/// Writes the predecessors of each block of a file, by the offsets that a file of settings lists.
+/// Writes the predecessors of each block of a file, by the offsets that a file of settings lists, or by its slopes of
+/// regions.
 ///
 /// # Errors
 /// `Device` where a file can't be opened; then those of the engine.
@@ -103,7 +105,7 @@ pub fn listed_slopes_files<R: Files + Print + Eprint + AllocGlobal>(
     rt: &R,
     args: SlopesArgs<'_>,
     settings: &str,
-    up: Up,
+    up: Option<Up>,
 ) -> Result<Verdict, EngineFault> {
     let offsets = AtomicU64::new(0);
     let heard = Heard::of_settings(rt.alloc(), args.verbose, Some(&offsets));

@@ -1,7 +1,7 @@
 //! Why settings are refused, told on standard error where the line of the fault doesn't say it.
 
 use command_line::Escaped;
-use settings_file::{Key, SettingsFault, read_settings};
+use settings_file::{Key, Settings, SettingsFault, read_settings};
 use std::alloc::Global;
 use std::sync::atomic::{AtomicU64, Ordering};
 use toml::Table;
@@ -60,12 +60,26 @@ impl<'a> KeptText<'a> {
             Err(SettingsFault::UnknownKey) => tell_key(rt, alloc, name, &self.bytes),
             Err(_) => {}
             Ok(settings) => {
-                if let (Some(number), Some(listed)) = (self.offsets, settings.offsets()) {
-                    number.store(listed.len() as u64, Ordering::SeqCst);
+                if let Some(number) = self.offsets {
+                    number.store(most_offsets(&settings), Ordering::SeqCst);
                 }
             }
         }
     }
+}
+
+// How many offsets settings list, in the region that has most where they name slopes by region.
+fn most_offsets(settings: &Settings) -> u64 {
+    let mut most = 0;
+    if let Some(listed) = settings.offsets() {
+        most = listed.len();
+    }
+    if let Some(slopes) = settings.slopes() {
+        for listed in slopes {
+            most = most.max(listed.len());
+        }
+    }
+    most as u64
 }
 
 // Tells in which line a text is no TOML.
