@@ -22,7 +22,7 @@ from pathlib import Path
 import page_facts
 
 PAGES = "README.md", "docs/GUIDE.md", "docs/SOLVERS.md"
-COMMANDS = "slopes", "solve", "check", "shells", "report", "replay", "value"
+COMMANDS = "slopes", "solve", "check", "shells", "report", "replay", "value", "schedule"
 STATUSES = (
     ("REFUSED", 1),
     ("UNSETTLED", 1),

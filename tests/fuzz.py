@@ -27,6 +27,7 @@ KINDS = (
     "report",
     "replay",
     "value",
+    "schedule",
     "certificate",
     "settings",
     "hostile",

@@ -6,6 +6,7 @@ use crate::escaped::{Escaped, has_control};
 use crate::options::STATUSES;
 use crate::replay_command::{ReplayArgs, replay_args, replay_command};
 use crate::report_command::report_command;
+use crate::schedule_command::{ScheduleArgs, schedule_args, schedule_command};
 use crate::series_options::{SeriesArgs, SeriesCommand, series_args};
 use crate::shells_command::shells_command;
 use crate::slopes_command::{SlopesArgs, slopes_args, slopes_command};
@@ -26,6 +27,8 @@ pub enum Request<'a> {
     Check(CheckArgs<'a>),
     /// A run is to be repeated from its trace.
     Replay(ReplayArgs<'a>),
+    /// A schedule is to be judged.
+    Schedule(ScheduleArgs<'a>),
     /// Shells are to be drawn, or reported by benches.
     Series(SeriesArgs<'a>),
     /// Predecessors are to be written by a slope pattern.
@@ -79,6 +82,7 @@ fn parsed<'a>(alloc: Global, args: &'a [String]) -> Result<Request<'a>, Error> {
         Some(("report", matches)) => {
             Ok(Request::Series(series_args(SeriesCommand::Report, matches)))
         }
+        Some(("schedule", matches)) => Ok(Request::Schedule(schedule_args(matches))),
         Some(("shells", matches)) => {
             Ok(Request::Series(series_args(SeriesCommand::Shells, matches)))
         }
@@ -101,6 +105,7 @@ fn pit_command<'a>(alloc: Global) -> Result<Command<'a>, AllocError> {
     let command = with_command(command, shells_command(alloc))?;
     let command = with_command(command, report_command(alloc))?;
     let command = with_command(command, value_command(alloc))?;
+    let command = with_command(command, schedule_command(alloc))?;
     with_command(command, replay_command(alloc))
 }
 

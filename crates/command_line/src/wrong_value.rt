@@ -5,6 +5,7 @@ use crate::declined::Declined;
 use crate::escaped::Escaped;
 use crate::replay_command::replay_command;
 use crate::report_command::report_command;
+use crate::schedule_command::schedule_command;
 use crate::series_options::SeriesCommand;
 use crate::shells_command::shells_command;
 use crate::slopes_command::slopes_command;
@@ -23,6 +24,8 @@ pub enum Commanded {
     Solve,
     /// `replay`.
     Replay,
+    /// `schedule`.
+    Schedule,
     /// `value`.
     Value,
     /// `shells` or `report`.
@@ -111,6 +114,7 @@ fn command_of<'a>(alloc: Global, command: Commanded) -> Result<Command<'a>, Allo
         Commanded::Slopes => (slopes_command(alloc), "pit slopes"),
         Commanded::Solve => (solve_command(alloc), "pit solve"),
         Commanded::Replay => (replay_command(alloc), "pit replay"),
+        Commanded::Schedule => (schedule_command(alloc), "pit schedule"),
         Commanded::Value => (value_command(alloc), "pit value"),
         Commanded::Series(SeriesCommand::Shells) => (shells_command(alloc), "pit shells"),
         Commanded::Series(SeriesCommand::Report) => (report_command(alloc), "pit report"),

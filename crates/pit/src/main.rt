@@ -9,19 +9,22 @@ mod reasons;
 mod series_commands;
 
 use command_line::{
-    Commanded, Declined, OffsetsArgs, ReplayArgs, Request, SeriesArgs, SlopesArgs, SolveArgs,
-    ValueArgs, WrongValue, declined_for, request_of,
+    Commanded, Declined, OffsetsArgs, ReplayArgs, Request, ScheduleArgs, SeriesArgs, SlopesArgs,
+    SolveArgs, ValueArgs, WrongValue, declined_for, request_of,
 };
 use design_engines::{DesignProblem, ValueFault, write_problem};
 use engines::{EngineFault, Unwatched, Verdict, status, stored_check, write_fault};
 use fixed_worth::Counted;
 use pit_commands::{
     SolvingAsked, check_files, effort_for_series, factor_asked, listed_slopes_files, pattern_asked,
-    replay_asked, replay_files, slopes_file, solve_files, solving_asked, table_over_an_input,
+    replay_asked, replay_files, schedule_factor_asked, schedule_files, slopes_file, solve_files, solving_asked, table_over_an_input,
     up_asked, value_factor_asked, value_files,
 };
 use progress::{Meter, PROGRESS_ALONE, Tells};
 use reasons::{advise_on_workers, tell_choice, tell_slope_reason};
+use schedule_engines::{
+    PeriodsProblem, PlanFault, ScheduleProblem, write_periods_problem, write_schedule_problem,
+};
 use series_commands::series_files;
 use shells::Factor;
 use std::process::ExitCode;
@@ -33,16 +36,20 @@ use std::{env, io};
 // The exit status where the arguments are wrong.
 const USAGE: u8 = 2;
 
-// The exit status where a design is wrong, as any other input.
+// The exit status where a design, periods or a schedule are wrong, as any other input.
 const FAULTY: u8 = 3;
 
-// How the program ends where no fault of another input than a design stands.
+// How the program ends where no fault of another input than a design, periods or a schedule stands.
 #[derive(Clone, Copy)]
 enum Ending {
     // An engine answered.
     Answered(Verdict),
     // A design could not be judged.
     Misdrawn(DesignProblem),
+    // Periods are wrong.
+    Unplanned(PeriodsProblem),
+    // A schedule is wrong.
+    Unscheduled(ScheduleProblem),
     // A help text or the version was printed, or what is wrong with the arguments; with this exit status.
     Printed(u8),
 }
@@ -54,6 +61,14 @@ fn main(rt: HostRuntime) -> ExitCode {
         Ok(Ending::Printed(status)) => ExitCode::from(status),
         Ok(Ending::Misdrawn(problem)) => {
             let _ = write_problem(problem, &mut errors);
+            ExitCode::from(FAULTY)
+        }
+        Ok(Ending::Unplanned(problem)) => {
+            let _ = write_periods_problem(problem, &mut errors);
+            ExitCode::from(FAULTY)
+        }
+        Ok(Ending::Unscheduled(problem)) => {
+            let _ = write_schedule_problem(problem, &mut errors);
             ExitCode::from(FAULTY)
         }
         Err(fault) => {
@@ -85,6 +100,7 @@ fn run<R: Files + Print + Eprint + Env + Clock + Threads + Wait + Sync + AllocGl
         Ok(Request::Series(args)) => series(rt, args),
         Ok(Request::Slopes(args)) => slopes(rt, args),
         Ok(Request::Value(args)) => value(rt, args),
+        Ok(Request::Schedule(args)) => schedule(rt, args),
         Err(declined) => printed(rt, &declined),
     }
 }
@@ -153,6 +169,23 @@ fn value<R: Files + Print + Eprint + Threads + Sync + AllocGlobal>(
         Ok(verdict) => Ok(Ending::Answered(verdict)),
         Err(ValueFault::Design(problem)) => Ok(Ending::Misdrawn(problem)),
         Err(ValueFault::Engine(fault)) => Err(fault),
+    }
+}
+
+// Judges a schedule over the mine of files and its periods.
+fn schedule<R: Files + Print + Eprint + Threads + Sync + AllocGlobal>(
+    rt: &R,
+    args: ScheduleArgs<'_>,
+) -> Result<Ending, EngineFault> {
+    let factor = match schedule_factor_asked(args) {
+        Ok(factor) => factor,
+        Err(wrong) => return refused(rt, wrong),
+    };
+    match schedule_files(rt, args, factor) {
+        Ok(verdict) => Ok(Ending::Answered(verdict)),
+        Err(PlanFault::Periods(problem)) => Ok(Ending::Unplanned(problem)),
+        Err(PlanFault::Schedule(problem)) => Ok(Ending::Unscheduled(problem)),
+        Err(PlanFault::Engine(fault)) => Err(fault),
     }
 }
 

@@ -1,10 +1,10 @@
-//! Runs the engines of `check`, `replay`, `value` and `slopes` on files: opens all files of a command before any is read,
+//! Runs the engines of `check`, `replay`, `value`, `schedule` and `slopes` on files: opens all files of a command before any is read,
 //! and gives the engine's answer.
 
 ghost use Rattle.engines.specs.Slopes.{IsChoice};
 
 use crate::slopes_args::selection_asked;
-use command_line::{CheckArgs, ReplayArgs, SlopesArgs, ValueArgs};
+use command_line::{CheckArgs, ModelArgs, ReplayArgs, ScheduleArgs, SlopesArgs, ValueArgs};
 use design_engines::{ValueFault, compare_engine, value_engine};
 use engines::{
     EngineFault, PatternChoice, Verdict, check_engine, slopes_engine, slopes_from_settings_engine,
@@ -12,6 +12,7 @@ use engines::{
 use fixed_worth::Counted;
 use pit_files::{Heard, offsets_of, open_file, open_mine, output};
 use replay_engines::{ReplayAsked, replay_engine};
+use schedule_engines::{PlanFault, ScheduleInputs, schedule_engine};
 use shells::Factor;
 use slope::Up;
 use std::rt::Files;
@@ -73,6 +74,43 @@ pub fn value_files<'a, R: Files + Print + Eprint + Threads + Sync + AllocGlobal>
         &mut certificate,
         &mut out,
     )
+}
+
+// The file with the columns of what blocks use: the blocks of the mine, where no other is named.
+fn uses_file<'a>(args: ScheduleArgs<'a>) -> &'a str {
+    match (args.uses, args.model) {
+        (Some(uses), _) => uses,
+        (None, ModelArgs::Prices { blocks, .. }) => blocks,
+        // the command line needs the option beside values
+        (None, ModelArgs::Values { .. }) => "",
+    }
+}
+
+/// Judges the schedule of a file over the mine of files and its periods.
+///
+/// # Errors
+/// `Device` where a file can't be opened; then those of the engine.
+pub fn schedule_files<'a, R: Files + Print + Eprint + Threads + Sync + AllocGlobal>(
+    rt: &'a R,
+    args: ScheduleArgs<'a>,
+    factor: Factor,
+) -> Result<Verdict, PlanFault> {
+    let alloc = rt.alloc();
+    let mut mine = open_mine(rt, args.verbose, args.prec, args.model)?;
+    let periods = open_file(rt, args.verbose, args.periods, Heard::nothing(alloc))?;
+    let uses = open_file(rt, args.verbose, uses_file(args), Heard::nothing(alloc))?;
+    let schedule = open_file(rt, args.verbose, args.schedule, Heard::nothing(alloc))?;
+    let mut beside = ScheduleInputs {
+        periods,
+        uses,
+        schedule,
+    };
+    let mut out = Counted::new(output(rt, args.verbose, None));
+    if schedule_engine(rt, alloc, &mut mine, &mut beside, factor, &mut out)? {
+        Ok(Verdict::Done)
+    } else {
+        Ok(Verdict::No)
+    }
 }
 
 /// Writes the predecessors of each block of a file, by a pattern.
