@@ -1,5 +1,5 @@
 -- What was read of the columns of a model is what the text has there.
-use Rattle.fixed_worth.proofs.Common.{◌≡◌, ℕ, suc, ◌+◌, ◌*◌, ◌/◌, ◌%◌, ◌<◌, ◌≤◌, ℤ, pos, ◌<ℤ◌, List, length, slice_index, slice_index_or, sym, ap, ap₂, subst, ◌∙◌, arith, get_or_default, div-mul-add, mul-le}
+use Rattle.fixed_worth.proofs.Common.{◌≡◌, ℕ, suc, Option, Some, None, Result, Ok, Err, MatchResult, IfSome, Vec, ◌+◌, ◌*◌, ◌/◌, ◌%◌, ◌<◌, ◌≤◌, ℤ, pos, ◌<ℤ◌, List, length, slice_index, slice_index_or, sym, ap, ap₂, subst, ◌∙◌, arith, get_or_default, div-mul-add, mul-le}
 use Rattle.std.proofs.lemmas.Nat.{mod-mul-add}
 use Rattle.blocks_file.specs.Denotes.{BlocksView}
 use Rattle.mine_inputs.specs.BlockTexts.{ReadsBlocks}
@@ -45,3 +45,10 @@ uses_wrong n columns text m (plan.Periods (period_problem.NegativeUse r b)) h wr
     (h.0, h.1, sym d.count ∙ wrong.0, known, wrong.2, subst (λ (z : ℤ). z <ℤ pos 0) (d.value r b known k) wrong.3)
 uses_wrong n columns text m (plan.Engine engine.Memory) h wrong = tt
 uses_wrong n columns text m _ h wrong = absurd wrong
+
+-- what was read of a text of blocks, where its device tells its bytes
+pub uses_answer : (o : Option (List ℕ)) (n : ℕ) (columns : List ℕ) (m : BlocksView) (answer : Result (Vec ℕ) PlanFault) → IfSome o (λ text. ReadsBlocks columns text m)
+    → MatchResult answer (λ v. (m.blocks ≡ n) × AreUses m v.items) (UsesWrong m n) → IfSome o (λ text. MatchResult answer (λ v. ReadsUses n columns text v.items) (UsesFail n columns text))
+uses_answer None n columns m answer h are = tt
+uses_answer (Some text) n columns m (Ok v) h are = uses_read n columns text v.items m h are.0 are.1
+uses_answer (Some text) n columns m (Err e) h are = uses_wrong n columns text m e h are
