@@ -22,18 +22,16 @@ import proving
 import tree
 
 COPY = tree.ROOM / "tree"
-RUNS = (
-    tree.ROOM / "runs"
-)  # a folder for each run of one library, for its temporary files: `/tmp` may be memory
+# a folder for each run of one library, for its temporary files: `/tmp` may be memory
+RUNS = tree.ROOM / "runs"
 LEFT_OUT = shutil.ignore_patterns("out", "must-fail", "edits", "planted.edits")
 ENDED = re.compile(r"rt: (\w+) (proved|NOT PROVED|is kept)\b")
 KEPT = "and the crates below passed, and that is kept"
 KEPT_ENTRY = re.compile(r"proof-(\w+)-")
 PATIENCE = 10  # the seconds in which processes that are told to end do so
 SILENT = 20  # a run that has said nothing for so many seconds is proving, and no longer taking what is kept
-PROCESSORS = (
-    4  # on fewer one run keeps them as busy, by a simulation, and reads what is kept but once
-)
+# on fewer one run keeps them as busy, by a simulation, and reads what is kept but once
+PROCESSORS = 4
 MOST_JOBS = 4  # the kit's own limit; a run of one crate gives its proof half of the processors, since its (empty) tests wait too
 NEAR = 0.9  # a chain of crates that is so much of the longest goes first too
 
