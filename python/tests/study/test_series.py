@@ -212,7 +212,7 @@ def test_what_asks_for_certificates_makes_those_that_it_needs(tmp_path):
         code == 0
         and "each pit is as pit shells states it" in said
         and f"pitplan shells {folder} --certificates" in said
-        and "factor 0.6 proved: 1 of 3" in err
+        and "factor 1.2 proved: 1 of 3" in err  # the highest pit first, which holds the others
     )
     study = pp.Study(folder)
     for words in (
