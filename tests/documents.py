@@ -35,7 +35,8 @@ STATUSES = (
 )
 LOOKS_TYPED = re.compile(r"(pit|python3|pitplan|\./\S+|cd|grep|sed|cut|cat) ")
 UNTYPED = {
-    "README.md": ("./run-example", "./install", "pitplan "),  # these as PLANNING's test types them
+    # the last as PLANNING's test types them
+    "README.md": ("./run-example", "./install", "python3 tests/run", "pitplan "),
     "docs/GUIDE.md": (
         "python3 examples/csv_to_minelib.py mine.csv 20 20 10 mine revenue cost tonnes",
         "pit slopes --blocks mine.blocks",
