@@ -76,7 +76,7 @@ def repository(top, room):
     shared = [
         file.relative_to(top)
         for file in (top / "python" / "pitplan").rglob("*.py")
-        if file.name in ("__init__.py", "machine.py")
+        if file.name in ("__init__.py", "door.py", "machine.py")
     ]
     for file in ("build", "run-example", "tests/run", *scripts, *shared):
         (tree / file).parent.mkdir(parents=True, exist_ok=True)
