@@ -12,7 +12,7 @@ use Rattle.mine_inputs.specs.declared.mines.MineInputs.{MineInputs}
 use Rattle.mine_inputs.specs.declared.priced_inputs.PriceColumns.{PriceColumns}
 use Rattle.mine_inputs.specs.declared.worths.Worths.{Worths}
 use Rattle.mine_inputs.specs.declared.worths.Worths.TheVariants.{Values, Prices}
-use Rattle.mine_inputs.specs.Prelude.{MineFails, PrecFails, ReadsUpit, ReadsSettingsText, SettingsReadFails, IsMissing, ReadsPrices, PricesReadFail, ReadsPrec, PrecReadFails, PricedMineFails, ForWorths, ForTexts, MineTexts, mine_texts, priced_texts, precedence_of, price_wanted, WorthsRead, price_keys, columns_said, table_by, table_of, AreRead, AreWorthsOf, IsMineRead, blocks_valued, nanos_at, price_at}
+use Rattle.mine_inputs.specs.Prelude.{MineFails, PrecFails, ReadsUpit, ReadsSettingsText, SettingsReadFails, IsMissing, ReadsPrices, PricesReadFail, ReadsPrec, PrecReadFails, PricedMineFails, ForWorths, ForTexts, MineTexts, mine_texts, priced_texts, precedence_of, price_wanted, WorthsRead, price_keys, slope_keys, columns_said, table_by, table_of, AreRead, AreWorthsOf, IsMineRead, blocks_valued, nanos_at, price_at}
 use Rattle.settings_file.proofs.Known.{settings_are}
 use Rattle.mine_inputs.proofs.MineDevices.{always, under, under2, all_texts, for_worths, for_texts}
 use Rattle.mine_inputs.proofs.PricedAnswers.{settings_answer, missing_answer, prices_unsaid, prices_answer, prices_said, priced}
@@ -40,10 +40,10 @@ module _ (o q : Option (List ℕ)) (p : List ℕ) (k : ℕ) where
   unread : (e : EngineFault) → IfSome o (λ s. IfSome q (λ b. PricedMineFails s b p e)) → IfSome o (λ s. IfSome q (λ b. MineFails (priced_texts s b p k) e))
   unread e h = under2 o q (λ s b. PricedMineFails s b p e) (λ s b. MineFails (priced_texts s b p k) e) h (λ s b f. priced_fails s b p k e f)
 
-  pub settings_unread : (e : EngineFault) → IfSome o (λ s. SettingsReadFails s e) → IfSome o (λ s. IfSome q (λ b. MineFails (priced_texts s b p k) e))
+  pub settings_unread : (e : EngineFault) → IfSome o (λ s. SettingsReadFails slope_keys s e) → IfSome o (λ s. IfSome q (λ b. MineFails (priced_texts s b p k) e))
   settings_unread e h = unread e (settings_answer o q (Some p) e h)
 
-  module _ (said : SettingsView) (a : IfSome o (λ s. ReadsSettingsText s said)) where
+  module _ (said : SettingsView) (a : IfSome o (λ s. ReadsSettingsText slope_keys s said)) where
     pub key_missing : (e : EngineFault) → IsMissing (price_keys said) said e → IfSome o (λ s. IfSome q (λ b. MineFails (priced_texts s b p k) e))
     key_missing e m = unread e (missing_answer o q (Some p) said e a m)
 
@@ -51,7 +51,7 @@ module _ (o q : Option (List ℕ)) (p : List ℕ) (k : ℕ) where
       pub prices_unread : (e : EngineFault) → IfSome q (λ b. PricesReadFail columns b e) → IfSome o (λ s. IfSome q (λ b. MineFails (priced_texts s b p k) e))
       prices_unread e h = unread e (prices_answer o q (Some p) said e a whole (prices_unsaid q columns said e is h))
 
-      table_known : (s b : List ℕ) (table : PricesView) → NoRevenueNegative table → ReadsSettingsText s said → ReadsPrices (columns_said said) b table → AreWorthsOf (priced_texts s b p k) k (Prices table)
+      table_known : (s b : List ℕ) (table : PricesView) → NoRevenueNegative table → ReadsSettingsText slope_keys s said → ReadsPrices (columns_said said) b table → AreWorthsOf (priced_texts s b p k) k (Prices table)
       table_known s b table positive r t =
           let known : table ≡ table_of s b = t.is ∙ ap (λ (v : SettingsView). table_by v b) (sym (settings_are s said r.1)) in
           record {
@@ -65,7 +65,7 @@ module _ (o q : Option (List ℕ)) (p : List ℕ) (k : ℕ) where
 
       pub prices_read : (table : PricesView) → NoRevenueNegative table → IfSome q (λ b. ReadsPrices columns b table) → IfSome o (λ s. IfSome q (λ b. AreWorthsOf (priced_texts s b p k) k (Prices table)))
       prices_read table positive h =
-          under o (λ s. ReadsSettingsText s said) (λ s. IfSome q (λ b. AreWorthsOf (priced_texts s b p k) k (Prices table))) a (λ s r.
+          under o (λ s. ReadsSettingsText slope_keys s said) (λ s. IfSome q (λ b. AreWorthsOf (priced_texts s b p k) k (Prices table))) a (λ s r.
           under q (λ b. ReadsPrices (columns_said said) b table) (λ b. AreWorthsOf (priced_texts s b p k) k (Prices table)) (prices_said q columns said table is h) (λ b t. table_known s b table positive r t))
 
 -- ---- either kind, and the precedence

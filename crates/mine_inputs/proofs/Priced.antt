@@ -4,15 +4,17 @@ use Rattle.blocks_file.specs.Records as blocks
 use Rattle.blocks_file.specs.Denotes.{BlocksView, Denotes}
 use Rattle.prec_file.specs.Rests.{RestsView}
 use Rattle.closure_net.proofs.Views.{same_at_default}
+use Rattle.settings_file.specs.declared.keys.Key.{Key}
 use Rattle.settings_file.specs.declared.settings_fault.SettingsFault.{SettingsFault}
 use Rattle.settings_file.specs.declared.settings_fault.SettingsFault.TheVariants as settings_fault
-use Rattle.settings_file.specs.Settings.{SettingsView, ReadsSettings, first_missing}
+use Rattle.settings_file.specs.Settings.{SettingsView, ReadsSettings, first_missing, first_said}
 use Rattle.settings_file.proofs.Known.{settings_are, settings_read}
 use Rattle.prec_file.specs.Records as prec
 use Rattle.shells.specs.Prices.{PricesView, plain_costs, mill_costs, NoRevenueNegative, PricesFaultStands, priced_count, worth_at, worths_at}
-use Rattle.mine_inputs.specs.Prelude.{priced_texts, ReadsBlocks, ReadsSettingsText, SettingsReadFails, ReadsPrices, ReadsPrec, PricesReadFail, ModelPricesFail, cell, cells, values_of, charge_list, column_list, columns_said, costs_at, first_charges, first_columns, table_at, table_by, table_of, price_keys, price_columns, ColumnsKnown, IsWithinLimit, AreRead, ArePricesRead, of_settings}
+use Rattle.mine_inputs.specs.Prelude.{priced_texts, ReadsBlocks, ReadsSettingsText, SettingsReadFails, ReadsPrices, ReadsPrec, PricesReadFail, ModelPricesFail, cell, cells, values_of, charge_list, column_list, columns_said, costs_at, first_charges, first_columns, table_at, table_by, table_of, price_keys, slope_keys, price_columns, ColumnsKnown, IsWithinLimit, AreRead, ArePricesRead, of_settings}
 use Rattle.mine_inputs.specs.declared.engine_fault.EngineFault.{EngineFault}
 use Rattle.mine_inputs.specs.declared.engine_fault.EngineFault.TheVariants as engine
+use Rattle.mine_inputs.specs.declared.engine_fault.Problem.TheVariants as problem
 use Rattle.mine_inputs.specs.declared.priced_inputs.ChargeColumns.{ChargeColumns}
 use Rattle.mine_inputs.specs.declared.priced_inputs.ChargeColumns.TheVariants.{Plain, Mill}
 use Rattle.mine_inputs.specs.declared.priced_inputs.PriceColumns.{PriceColumns}
@@ -65,10 +67,17 @@ table_is columns text m table d is =
 -- ---- settings and prices
 
 -- what the reader tells of a text of settings stands in it
-pub settings_told : (text : List ℕ) (fault : SettingsFault) → IsWithinLimit text → ReadsSettings text (Err fault) → SettingsReadFails text (of_settings fault)
-settings_told text (settings_fault.Missing key) within h = absurd h
-settings_told text settings_fault.NoMemory within h = tt
-settings_told text _ within h = (within, h)
+pub settings_told : (unused : List Key) (text : List ℕ) (fault : SettingsFault) → IsWithinLimit text → ReadsSettings text (Err fault) → SettingsReadFails unused text (of_settings fault)
+settings_told unused text (settings_fault.Unused key) within h = absurd h
+settings_told unused text (settings_fault.Missing key) within h = absurd h
+settings_told unused text settings_fault.NoMemory within h = tt
+settings_told unused text _ within h = (within, h)
+
+-- of the keys of which no use is made this is the first that is there
+pub unused_told : (unused : List Key) (text : List ℕ) (said : SettingsView) (key : Key) → IsWithinLimit text → ReadsSettings text (Ok said) → first_said unused said ≡ Some key → SettingsReadFails unused text (engine.Settings (problem.Fault (settings_fault.Unused key)))
+unused_told unused text said key within h m =
+    let M : SettingsView → Type 0 = λ v. first_said unused v ≡ Some key in
+    (within, (settings_read text said h, subst M (sym (settings_are text said h)) m))
 
 -- the prices were made of the columns of the text
 prices_made : (text : List ℕ) (columns : PriceColumns) (m : BlocksView) (table : PricesView) → ReadsBlocks (column_list columns) text m → table ≡ first_columns columns.charges m → ReadsPrices columns text table
@@ -92,7 +101,7 @@ prices_told (Some text) columns m (Ok table) h is = prices_made text columns m t
 prices_told (Some text) columns m (Err fault) h f = prices_fail text columns m fault h f
 
 -- the texts that price blocks, and the precedence, were read
-pub all_read : (settings text precedence : List ℕ) (said : SettingsView) (table : PricesView) (rests : RestsView) (n : ℕ) → n ≡ priced_count table → NoRevenueNegative table → first_missing (price_keys said) said ≡ None → ReadsSettingsText settings said → ReadsPrices (columns_said said) text table → ReadsPrec n precedence rests
+pub all_read : (settings text precedence : List ℕ) (said : SettingsView) (table : PricesView) (rests : RestsView) (n : ℕ) → n ≡ priced_count table → NoRevenueNegative table → first_missing (price_keys said) said ≡ None → ReadsSettingsText slope_keys settings said → ReadsPrices (columns_said said) text table → ReadsPrec n precedence rests
     → ArePricesRead settings text precedence table rests
 all_read settings text precedence said table rests n e positive whole s t p =
     let known = settings_are settings said s.1 in
@@ -101,7 +110,8 @@ all_read settings text precedence said table rests n e positive whole s t p =
     let count = sym (length-map-range_with_len (cell text (unwrap_or said.revenue 0)) 0 (blocks.record_count_of text)) ∙ ap priced_count (sym t.is) ∙ size in
     let M : SettingsView → Type 0 = λ v. first_missing (price_keys v) v ≡ None in
     let C : SettingsView → Type 0 = λ v. blocks.fault_of (price_columns v) text ≡ None in
-    let columns : ColumnsKnown settings = record { within = s.0; read = settings_read settings said s.1; said = subst M (sym known) whole } in
+    let U : SettingsView → Type 0 = λ v. first_said slope_keys v ≡ None in
+    let columns : ColumnsKnown settings = record { within = s.0; read = settings_read settings said s.1; used = subst U (sym known) s.2; said = subst M (sym known) whole } in
     let F : ℕ → Type 0 = λ k. prec.fault_of k precedence ≡ None in
     record {
       mine = λ factor. record {

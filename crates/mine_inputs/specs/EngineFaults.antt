@@ -15,6 +15,8 @@ use Rattle.slope.specs.declared.pattern_fault.PatternFault.{PatternFault}
 use Rattle.slope.specs.declared.pattern_fault.PatternFault.TheVariants as pattern_fault
 use Rattle.slope.specs.declared.slope_fault.SlopeFault.{SlopeFault}
 use Rattle.slope.specs.declared.slope_fault.SlopeFault.TheVariants as slope_fault
+use Rattle.slope.specs.declared.region_fault.RegionFault.{RegionFault}
+use Rattle.slope.specs.declared.region_fault.RegionFault.TheVariants as region_fault
 use Rattle.closure_net.specs.declared.net.NetFault.{NetFault}
 use Rattle.closure_net.specs.declared.net.NetFault.TheVariants as net_fault
 use Rattle.mine_inputs.specs.declared.engine_fault.Problem.TheVariants as problem
@@ -23,7 +25,7 @@ use Rattle.mine_inputs.specs.declared.engine_fault.SlopeProblem.TheVariants as s
 use Rattle.mine_inputs.specs.declared.engine_fault.EngineFault.{EngineFault}
 use Rattle.mine_inputs.specs.declared.engine_fault.EngineFault.TheVariants as engine
 use Rattle.std.specs.Prelude.{ℕ, List, codes, Option, Some}
-use Rattle.slope.specs.FaultText.{pattern_fault_text, slope_fault_text}
+use Rattle.slope.specs.FaultText.{pattern_fault_text, region_fault_text, slope_fault_text}
 use Rattle.certificate_file.specs.Certificate.{fault_text}
 use Rattle.mine_inputs.specs.declared.engine_fault.Problem.{Problem}
 use Rattle.mine_inputs.specs.declared.engine_fault.CertificateProblem.{CertificateProblem}
@@ -65,6 +67,10 @@ abbrev pub of_slope : SlopeFault → EngineFault
 of_slope slope_fault.NoMemory = engine.Memory
 of_slope fault = engine.Slope (slope_problem.Pairs fault)
 
+abbrev pub of_regions : RegionFault → EngineFault
+of_regions region_fault.NoMemory = engine.Memory
+of_regions fault = engine.Slope (slope_problem.Regions fault)
+
 abbrev pub of_model : NetFault → EngineFault
 of_model net_fault.NoMemory = engine.Memory
 of_model fault = engine.Model fault
@@ -89,3 +95,4 @@ certificate_problem_text (certificate_problem.Fault fault) = fault_text fault
 abbrev pub slope_text : SlopeProblem → List ℕ
 slope_text (slope_problem.Pattern fault) = pattern_fault_text fault
 slope_text (slope_problem.Pairs fault) = slope_fault_text fault
+slope_text (slope_problem.Regions fault) = region_fault_text fault

@@ -12,7 +12,7 @@ use Rattle.mine_inputs.specs.declared.engine_fault.Problem.TheVariants as proble
 use Rattle.mine_inputs.specs.declared.engine_fault.EngineFault.{EngineFault}
 use Rattle.mine_inputs.specs.declared.engine_fault.EngineFault.TheVariants as engine
 use Rattle.mine_inputs.specs.Limits.{IsTooLong, IsWithinLimit}
-use Rattle.mine_inputs.specs.PricedTexts.{price_keys, SettingsFails, PricedBlocksFail, PricesFail}
+use Rattle.mine_inputs.specs.PricedTexts.{price_keys, slope_keys, SettingsFails, PricedBlocksFail, PricesFail}
 use Rattle.mine_inputs.specs.Mines.{MineTexts, mine_texts, priced_texts, precedence_of, worth_by, WorthsRead}
 
 -- the values are no text of values: too long, or a fault where as many blocks are wanted as the text declares
@@ -36,7 +36,7 @@ ValuesFail (priced_texts settings blocks precedence factor) p = ⊥
 
 abbrev pub SettingsFail : MineTexts → Problem SettingsFault → Type 0
 SettingsFail (mine_texts values precedence) p = ⊥
-SettingsFail (priced_texts settings blocks precedence factor) p = SettingsFails price_keys settings p
+SettingsFail (priced_texts settings blocks precedence factor) p = SettingsFails price_keys slope_keys settings p
 
 abbrev pub BlocksFail : MineTexts → Problem BlocksFault → Type 0
 BlocksFail (mine_texts values precedence) p = ⊥

@@ -7,7 +7,7 @@ use Rattle.mine_inputs.specs.declared.engine_fault.EngineFault.{EngineFault}
 use Rattle.mine_inputs.specs.declared.engine_fault.EngineFault.TheVariants as engine
 use Rattle.blocks_file.specs.Records as blocks
 use Rattle.blocks_file.specs.Denotes.{BlocksView}
-use Rattle.settings_file.specs.Settings.{SettingsView, ReadsSettings, first_missing}
+use Rattle.settings_file.specs.Settings.{SettingsView, ReadsSettings, first_missing, first_said}
 use Rattle.settings_file.specs.declared.keys.Key.{Key}
 use Rattle.settings_file.specs.declared.settings_fault.SettingsFault.TheVariants as settings_fault
 use Rattle.shells.specs.Prices.{PricesView, PricesFaultStands}
@@ -17,7 +17,7 @@ use Rattle.fixed_worth.specs.declared.whole_input.InputFault.TheVariants as inpu
 use Rattle.mine_inputs.specs.declared.priced_inputs.ChargeColumns.{ChargeColumns}
 use Rattle.mine_inputs.specs.declared.priced_inputs.PriceColumns.{PriceColumns}
 use Rattle.mine_inputs.specs.Limits.{IsTooLong, IsWithinLimit}
-use Rattle.mine_inputs.specs.PricedTexts.{price_keys, column_list, first_columns, table_at, PricesRead, SettingsFaultStands, SettingsFails, PricedBlocksFail, PricesFail}
+use Rattle.mine_inputs.specs.PricedTexts.{price_keys, slope_keys, column_list, first_columns, table_at, PricesRead, SettingsFaultStands, SettingsFails, PricedBlocksFail, PricesFail}
 use Rattle.mine_inputs.specs.BlockTexts.{BlocksFails}
 use Rattle.mine_inputs.specs.Mines.{ValuesRead}
 use Rattle.mine_inputs.specs.FaultStands.{PrecFails}
@@ -42,17 +42,17 @@ PrecReadFails n text engine.Memory = Unit {0}
 PrecReadFails n text engine.Device = Unit {0}
 PrecReadFails n text _ = ⊥
 
--- the settings are those of the text
-abbrev pub ReadsSettingsText : List ℕ → SettingsView → Type 0
-ReadsSettingsText text said = IsWithinLimit text × ReadsSettings text (Ok said)
+-- the settings are those of the text, and say nothing at the keys of which no use is made
+abbrev pub ReadsSettingsText : List Key → List ℕ → SettingsView → Type 0
+ReadsSettingsText unused text said = IsWithinLimit text × ReadsSettings text (Ok said) × (first_said unused said ≡ None)
 
--- a fault of the text of settings, want of memory or a failing device; that a key is missing is told later
-abbrev pub SettingsReadFails : List ℕ → EngineFault → Type 0
-SettingsReadFails text (engine.Settings problem.InputTooLong) = IsTooLong text
-SettingsReadFails text (engine.Settings (problem.Fault fault)) = IsWithinLimit text × SettingsFaultStands (λ s. []) text fault
-SettingsReadFails text engine.Memory = Unit {0}
-SettingsReadFails text engine.Device = Unit {0}
-SettingsReadFails text _ = ⊥
+-- a fault of the text of settings, a key that isn't used, want of memory or a failing device; that a key is missing is told later
+abbrev pub SettingsReadFails : List Key → List ℕ → EngineFault → Type 0
+SettingsReadFails unused text (engine.Settings problem.InputTooLong) = IsTooLong text
+SettingsReadFails unused text (engine.Settings (problem.Fault fault)) = IsWithinLimit text × SettingsFaultStands (λ s. []) unused text fault
+SettingsReadFails unused text engine.Memory = Unit {0}
+SettingsReadFails unused text engine.Device = Unit {0}
+SettingsReadFails unused text _ = ⊥
 
 -- of these keys this is the first at which settings say nothing
 abbrev pub IsMissing : List Key → SettingsView → EngineFault → Type 0
@@ -79,7 +79,7 @@ ModelPricesFail charges m _ = ⊥
 
 -- why the texts of a mine of prices aren't read
 abbrev pub PricedMineFails : List ℕ → List ℕ → List ℕ → EngineFault → Type 0
-PricedMineFails settings text precedence (engine.Settings p) = SettingsFails price_keys settings p
+PricedMineFails settings text precedence (engine.Settings p) = SettingsFails price_keys slope_keys settings p
 PricedMineFails settings text precedence (engine.Blocks p) = PricedBlocksFail settings text p
 PricedMineFails settings text precedence (engine.Prices fault) = PricesFail settings text fault
 PricedMineFails settings text precedence (engine.Prec p) = (n : ℕ) × PricesRead settings text n × PrecFails n precedence p

@@ -2,6 +2,7 @@
 pub mod Mines
 pub mod PricedTexts
 pub mod BlockTexts
+pub mod SlopedTexts
 pub mod Limits
 -- a mine as devices, and as it was read
 pub mod MineInputs

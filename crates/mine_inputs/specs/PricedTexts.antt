@@ -5,10 +5,10 @@ use Rattle.blocks_file.specs.Records as blocks
 use Rattle.blocks_file.specs.Denotes.{BlocksView}
 use Rattle.blocks_file.specs.declared.blocks_fault.BlocksFault.{BlocksFault}
 use Rattle.settings_file.specs.declared.keys.Key.{Key}
-use Rattle.settings_file.specs.declared.keys.Key.TheVariants.{Revenue, Cost, Processing, Mining}
+use Rattle.settings_file.specs.declared.keys.Key.TheVariants.{Revenue, Cost, Processing, Mining, Slopes, Region, Up}
 use Rattle.settings_file.specs.declared.settings_fault.SettingsFault.{SettingsFault}
 use Rattle.settings_file.specs.declared.settings_fault.SettingsFault.TheVariants as settings_fault
-use Rattle.settings_file.specs.Settings.{SettingsView, ReadsSettings, AreSettings, settings_of, names_mill, first_missing}
+use Rattle.settings_file.specs.Settings.{SettingsView, ReadsSettings, AreSettings, settings_of, names_mill, first_missing, first_said}
 use Rattle.shells.specs.Prices.{CostsView, plain_costs, mill_costs, PricesView, NoRevenueNegative, PricesFaultStands}
 use Rattle.shells.specs.declared.prices_fault.PricesFault.{PricesFault}
 use Rattle.mine_inputs.specs.declared.engine_fault.Problem.{Problem}
@@ -28,6 +28,10 @@ keys_by true others = Revenue ∷ (others ++ (Processing ∷ Mining ∷ []))
 -- the keys that a priced model needs: there is a mill where the settings name one of its charges
 abbrev pub price_keys : SettingsView → List Key
 price_keys s = keys_by (names_mill s) []
+
+-- the keys of slopes by region: where the precedence is a text of its own, no use is made of them
+abbrev pub slope_keys : List Key
+slope_keys = Slopes ∷ Region ∷ Up ∷ []
 
 -- the columns of charges that settings name
 abbrev pub charges_by : Bool → SettingsView → ChargeColumns
@@ -95,15 +99,17 @@ table_by s text = table_at (columns_said s) text
 abbrev pub table_of : List ℕ → List ℕ → PricesView
 table_of settings text = table_by (settings_of settings) text
 
--- The text of settings is read, and says something at each of the keys that such settings need.
-pub record KeysSaid (needed : SettingsView → List Key) (settings : List ℕ) : Type 0 where
+-- The text of settings is read, and says something at each of the keys that such settings need, and nothing at those of which
+-- no use is made.
+pub record KeysSaid (needed : SettingsView → List Key) (unused : List Key) (settings : List ℕ) : Type 0 where
   pub within : IsWithinLimit settings
   pub read : AreSettings settings
+  pub used : first_said unused (settings_of settings) ≡ None
   pub said : first_missing (needed (settings_of settings)) (settings_of settings) ≡ None
 
 -- the settings name the columns of prices
 abbrev pub ColumnsKnown : List ℕ → Type 0
-ColumnsKnown settings = KeysSaid price_keys settings
+ColumnsKnown settings = KeysSaid price_keys slope_keys settings
 
 -- The settings name the columns of prices, and the text of blocks has them, of n blocks; no revenue is negative.
 pub record PricesRead (settings text : List ℕ) (n : ℕ) : Type 0 where
@@ -113,15 +119,17 @@ pub record PricesRead (settings text : List ℕ) (n : ℕ) : Type 0 where
   pub count : blocks.record_count_of text ≡ n
   pub revenues : NoRevenueNegative (table_of settings text)
 
--- a fault of settings that need these keys: one of the text, or a key is missing; want of memory isn't one
-abbrev pub SettingsFaultStands : (SettingsView → List Key) → List ℕ → SettingsFault → Type 0
-SettingsFaultStands needed text settings_fault.NoMemory = ⊥
-SettingsFaultStands needed text (settings_fault.Missing key) = AreSettings text × (first_missing (needed (settings_of text)) (settings_of text) ≡ Some key)
-SettingsFaultStands needed text fault = ReadsSettings text (Err fault)
+-- a fault of settings that need the first of these keys, where no use is made of the others: one of the text, a key that isn't
+-- used, or one that is missing; want of memory isn't one
+abbrev pub SettingsFaultStands : (SettingsView → List Key) → List Key → List ℕ → SettingsFault → Type 0
+SettingsFaultStands needed unused text settings_fault.NoMemory = ⊥
+SettingsFaultStands needed unused text (settings_fault.Unused key) = AreSettings text × (first_said unused (settings_of text) ≡ Some key)
+SettingsFaultStands needed unused text (settings_fault.Missing key) = AreSettings text × (first_missing (needed (settings_of text)) (settings_of text) ≡ Some key) × (first_said unused (settings_of text) ≡ None)
+SettingsFaultStands needed unused text fault = ReadsSettings text (Err fault)
 
-abbrev pub SettingsFails : (SettingsView → List Key) → List ℕ → Problem SettingsFault → Type 0
-SettingsFails needed text problem.InputTooLong = IsTooLong text
-SettingsFails needed text (problem.Fault fault) = IsWithinLimit text × SettingsFaultStands needed text fault
+abbrev pub SettingsFails : (SettingsView → List Key) → List Key → List ℕ → Problem SettingsFault → Type 0
+SettingsFails needed unused text problem.InputTooLong = IsTooLong text
+SettingsFails needed unused text (problem.Fault fault) = IsWithinLimit text × SettingsFaultStands needed unused text fault
 
 -- a fault of the blocks, of which the settings name the columns
 abbrev pub PricedBlocksFail : List ℕ → List ℕ → Problem BlocksFault → Type 0

@@ -8,7 +8,7 @@ use fixed_worth::WriteFault;
 use prec_file::PrecFault;
 use settings_file::SettingsFault;
 use shells::PricesFault;
-use slope::{PatternFault, SlopeFault};
+use slope::{PatternFault, RegionFault, SlopeFault};
 use std::alloc::AllocError;
 use std::fmt;
 use thiserror::Error;
@@ -70,6 +70,8 @@ pub enum SlopeProblem {
     Pattern(PatternFault),
     /// The offsets of the pattern give no pairs of these blocks.
     Pairs(SlopeFault),
+    /// The slopes of regions give no pairs of these blocks.
+    Regions(RegionFault),
 }
 
 impl fmt::Display for SlopeProblem {
@@ -82,6 +84,7 @@ impl fmt::Display for SlopeProblem {
         match self {
             SlopeProblem::Pattern(fault) => write!(f, "{fault}"),
             SlopeProblem::Pairs(fault) => write!(f, "{fault}"),
+            SlopeProblem::Regions(fault) => write!(f, "{fault}"),
         }
     }
 }
@@ -273,6 +276,20 @@ impl From<SlopeFault> for EngineFault {
         match fault {
             SlopeFault::NoMemory => EngineFault::Memory,
             fault => EngineFault::Slope(SlopeProblem::Pairs(fault)),
+        }
+    }
+}
+
+impl From<RegionFault> for EngineFault {
+    ghost use Rattle.std.specs.Prelude.{◌≡◌};
+    ghost use Rattle.mine_inputs.specs.EngineFaults.{of_regions};
+
+    ghost from_gives = { λ fault e. e ≡ of_regions fault };
+
+    fn from(fault: RegionFault) -> EngineFault {
+        match fault {
+            RegionFault::NoMemory => EngineFault::Memory,
+            fault => EngineFault::Slope(SlopeProblem::Regions(fault)),
         }
     }
 }

@@ -15,6 +15,7 @@ mod engine_fault;
 mod inputs;
 mod mines;
 mod priced_inputs;
+mod sloped_inputs;
 mod worths;
 
 pub use engine_fault::{CertificateProblem, EngineFault, Problem, SlopeProblem};
@@ -22,6 +23,7 @@ pub use inputs::{blocks_from, predecessors_from, unread};
 pub use mines::{MineInputs, MineToCheck, MineToSolve, WorthInputs, mine_to_check, mine_to_solve};
 pub use priced_inputs::{
     ChargeColumns, PriceColumns, missing, place_beside, price_columns, priced_blocks_from,
-    prices_from, prices_of, settings_from,
+    priced_settings_from, prices_from, prices_of, settings_from,
 };
+pub use sloped_inputs::{sloped_blocks_from, up_of};
 pub use worths::Worths;

@@ -10,7 +10,7 @@ ghost use Rattle.mine_inputs.specs.ReadMines.{AreRead, AreWorthsOf, IsMineRead};
 
 use crate::engine_fault::{EngineFault, Problem};
 use crate::inputs::{predecessors_from, unread};
-use crate::priced_inputs::{price_columns, prices_from, settings_from};
+use crate::priced_inputs::{price_columns, priced_settings_from, prices_from};
 use crate::worths::Worths;
 use certificate_file::Price;
 use fixed_worth::{CountedRead, MOST_BYTES, read_whole};
@@ -66,7 +66,7 @@ fn worths_by_prices<D: CountedRead>(
         → (D.failed settings.new ≡ D.failed settings.old)
         × (D.failed blocks.new ≡ D.failed blocks.old) }
 {
-    let settings = settings_from(alloc, settings)?;
+    let settings = priced_settings_from(alloc, settings)?;
     let columns = price_columns(&settings, &[])?;
     let prices = prices_from(alloc, blocks, columns)?;
     // proof: no revenue of prices is negative

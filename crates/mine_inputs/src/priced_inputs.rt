@@ -2,9 +2,9 @@
 //! fault of an input.
 
 ghost use Rattle.std.specs.Prelude.{◌≡◌, ◌+◌, ◌-◌, ◌^◌, ◌<◌, ◌↔◌, true, false, [], ◌∷◌, ◌++◌, length, None, IfOk, IfSome, MatchResult, IsErrOf};
-ghost use Rattle.settings_file.specs.Settings.{names_mill, first_missing};
+ghost use Rattle.settings_file.specs.Settings.{names_mill, first_missing, first_said};
 ghost use Rattle.mine_inputs.specs.Limits.{IsWithinLimit};
-ghost use Rattle.mine_inputs.specs.PricedTexts.{keys_by, charges_by, columns_said, charge_list, columns_beside, place_beside, values_of, first_columns};
+ghost use Rattle.mine_inputs.specs.PricedTexts.{keys_by, slope_keys, charges_by, columns_said, charge_list, columns_beside, place_beside, values_of, first_columns};
 ghost use Rattle.mine_inputs.specs.BlockTexts.{ReadsBlocks, BlocksReadFails};
 ghost use Rattle.mine_inputs.specs.Inputs.{ReadsSettingsText, SettingsReadFails, IsMissing, ReadsPrices, PricesReadFail, ModelPricesFail};
 
@@ -16,32 +16,74 @@ use settings_file::{Key, Settings, SettingsFault, read_settings};
 use shells::Prices;
 use std::alloc::{AllocError, Global};
 
-/// The settings of a text. Whether the keys are there that a command needs is asked later.
+/// The settings of a text, where the command makes no use of these keys. Whether the keys are there that it needs is
+/// asked later.
 ///
 /// # Errors
-/// `Settings` for more than 2^32 bytes, or for a fault of [`read_settings`]. `Memory` where memory is refused, `Device`
-/// where a read fails.
-pub fn settings_from<R: CountedRead>(alloc: Global, from: &mut R) -> Result<Settings, EngineFault>
+/// `Settings` for more than 2^32 bytes, for a fault of [`read_settings`], or for the first of these keys that is there.
+/// `Memory` where memory is refused, `Device` where a read fails.
+pub fn settings_from<R: CountedRead>(
+    alloc: Global,
+    from: &mut R,
+    unused: &[Key],
+) -> Result<Settings, EngineFault>
     requires { R.failed from.old < 2 ^ 64 - 1 }
     ensures read { IfSome (R.remaining from.old) (λ text. MatchResult result
-        (ReadsSettingsText text)
-        (SettingsReadFails text)) }
+        (ReadsSettingsText unused.now text)
+        (SettingsReadFails unused.now text)) }
     ensures device { IsErrOf result EngineFault.Device
         ↔ (R.failed from.new ≡ R.failed from.old + 1) }
     ensures kept { ¬ IsErrOf result EngineFault.Device → R.failed from.new ≡ R.failed from.old }
 {
     let too_long = EngineFault::Settings(Problem::InputTooLong);
     let text = read_whole(alloc, from, MOST_BYTES).map_err(|fault| unread(fault, too_long))?;
-    settings_in(alloc, text.as_slice())
+    settings_in(alloc, text.as_slice(), unused)
 }
 
-// What a text says as settings.
-fn settings_in(alloc: Global, text: &[u8]) -> Result<Settings, EngineFault>
+// What a text says as settings, where no use is made of these keys.
+fn settings_in(alloc: Global, text: &[u8], unused: &[Key]) -> Result<Settings, EngineFault>
     requires { IsWithinLimit text.now }
-    ensures read { MatchResult result (ReadsSettingsText text.now) (SettingsReadFails text.now) }
+    ensures read { MatchResult result
+        (ReadsSettingsText unused.now text.now)
+        (SettingsReadFails unused.now text.now) }
     ensures no_device { ¬ IsErrOf result EngineFault.Device }
 {
-    Ok(read_settings(alloc, text)?)
+    let settings = read_settings(alloc, text)?;
+    match first_said(&settings, unused) {
+        Some(key) => Err(EngineFault::Settings(Problem::Fault(SettingsFault::Unused(key)))),
+        None => Ok(settings),
+    }
+}
+
+// The first of these keys at which settings say something.
+fn first_said(settings: &Settings, keys: &[Key]) -> Option<Key>
+    ensures { result ≡ first_said keys.now settings.now }
+{
+    for key in keys {
+        if settings.says(*key) {
+            return Some(*key);
+        }
+    }
+    None
+}
+
+/// The settings of a mine with prices, whose precedence is a text of its own: no use is made of slopes by region.
+///
+/// # Errors
+/// Those of [`settings_from`], with the keys `slopes`, `region` and `up`.
+pub fn priced_settings_from<R: CountedRead>(
+    alloc: Global,
+    from: &mut R,
+) -> Result<Settings, EngineFault>
+    requires { R.failed from.old < 2 ^ 64 - 1 }
+    ensures read { IfSome (R.remaining from.old) (λ text. MatchResult result
+        (ReadsSettingsText slope_keys text)
+        (SettingsReadFails slope_keys text)) }
+    ensures device { IsErrOf result EngineFault.Device
+        ↔ (R.failed from.new ≡ R.failed from.old + 1) }
+    ensures kept { ¬ IsErrOf result EngineFault.Device → R.failed from.new ≡ R.failed from.old }
+{
+    settings_from(alloc, from, &[Key::Slopes, Key::Region, Key::Up])
 }
 
 /// The columns of blocks that have their charges.

@@ -2,7 +2,7 @@
 use Rattle.fixed_worth.proofs.Common.{◌≡◌, ℕ, List, Some, None, Result, Ok, Err, MatchResult, IfErr, refl, sym, ap, ◌∙◌, subst, arith, common_steps}
 use Rattle.toml.specs.Data.{Members}
 use Rattle.settings_file.specs.declared.settings_fault.SettingsFault.{SettingsFault}
-use Rattle.settings_file.specs.declared.settings_fault.SettingsFault.TheVariants.{NotToml, UnknownKey, BadValue, Missing, NoMemory}
+use Rattle.settings_file.specs.declared.settings_fault.SettingsFault.TheVariants.{NotToml, UnknownKey, BadValue, Unused, Missing, NoMemory}
 use Rattle.settings_file.specs.Prelude.{IsOfTable, SettingsView, settings_in, settings_by, said_or_nothing, settings_of, IsDocument, Says, ReadsSettings, AreSettings}
 
 -- what was read is what the text says
@@ -21,6 +21,7 @@ pub no_settings_fault : (text : List ℕ) (s : SettingsView) (fault : SettingsFa
 no_settings_fault text s NotToml h ne k = let g : Some h.0 ≡ None = sym h.1.parsed ∙ k h.1.utf8 in cc
 no_settings_fault text s UnknownKey h ne k = no_fault text s UnknownKey h k
 no_settings_fault text s (BadValue key) h ne k = no_fault text s (BadValue key) h k
+no_settings_fault text s (Unused key) h ne k = k
 no_settings_fault text s (Missing key) h ne k = k
 no_settings_fault text s NoMemory h ne k = ne refl
 
@@ -29,6 +30,7 @@ pub table_is_text : (text : List ℕ) (ms : Members) (answer : Result SettingsVi
     → MatchResult answer (λ s. settings_in ms ≡ Ok s) (λ e. ¬ (e ≡ NoMemory) → settings_in ms ≡ Err e) → IfErr answer IsOfTable → ReadsSettings text answer
 table_is_text text ms (Ok s) d h k = (ms, d, h)
 table_is_text text ms (Err NotToml) d h k = absurd k
+table_is_text text ms (Err (Unused key)) d h k = k
 table_is_text text ms (Err (Missing key)) d h k = k
 table_is_text text ms (Err NoMemory) d h k = d.utf8
 table_is_text text ms _ d h k = (ms, d, h (λ e. cc))

@@ -4,7 +4,7 @@ use Rattle.std.specs.Prelude.{◌≡◌, true, IsOk}
 use Rattle.toml.specs.Data.{Members}
 use Rattle.settings_file.specs.declared.keys.Key.TheVariants.{Revenue, Tonnes}
 use Rattle.settings_file.specs.declared.settings_fault.SettingsFault.{SettingsFault}
-use Rattle.settings_file.specs.declared.settings_fault.SettingsFault.TheVariants.{NotToml, Missing}
+use Rattle.settings_file.specs.declared.settings_fault.SettingsFault.TheVariants.{NotToml, Unused, Missing}
 use Rattle.settings_file.specs.Keys.{all_known}
 use Rattle.settings_file.specs.Values.{whole_value_within}
 use Rattle.settings_file.specs.Settings.{said_at, cost_in}
@@ -19,5 +19,6 @@ pub record IsGoodUpToFactors (ms : Members) : Type 0 where
 -- a fault that a table of a document can have, or want of memory
 abbrev pub IsOfTable : SettingsFault → Type 0
 IsOfTable NotToml = ⊥
+IsOfTable (Unused key) = ⊥
 IsOfTable (Missing key) = ⊥
 IsOfTable _ = Unit {0}

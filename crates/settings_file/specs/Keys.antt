@@ -2,7 +2,7 @@
 use Rattle.std.specs.Prelude.{ℕ, ◌&&◌, ◌||◌, Bool, true, List, codes, bytes_eq}
 use Rattle.toml.specs.Data.{Members, no_members, member}
 use Rattle.settings_file.specs.declared.keys.Key.{Key}
-use Rattle.settings_file.specs.declared.keys.Key.TheVariants.{Revenue, Cost, Tonnes, Factors, Report, Offsets, Processing, Mining}
+use Rattle.settings_file.specs.declared.keys.Key.TheVariants.{Revenue, Cost, Tonnes, Factors, Report, Offsets, Processing, Mining, Slopes, Region, Up}
 
 -- A key as it is written.
 abbrev pub key_name : Key → List ℕ
@@ -14,10 +14,13 @@ key_name Report = codes "report"
 key_name Offsets = codes "offsets"
 key_name Processing = codes "processing"
 key_name Mining = codes "mining"
+key_name Slopes = codes "slopes"
+key_name Region = codes "region"
+key_name Up = codes "up"
 
 -- Whether a name is a key.
 abbrev pub is_known : List ℕ → Bool
-is_known name = bytes_eq name (key_name Revenue) || bytes_eq name (key_name Cost) || bytes_eq name (key_name Tonnes) || bytes_eq name (key_name Factors) || bytes_eq name (key_name Report) || bytes_eq name (key_name Offsets) || bytes_eq name (key_name Processing) || bytes_eq name (key_name Mining)
+is_known name = bytes_eq name (key_name Revenue) || bytes_eq name (key_name Cost) || bytes_eq name (key_name Tonnes) || bytes_eq name (key_name Factors) || bytes_eq name (key_name Report) || bytes_eq name (key_name Offsets) || bytes_eq name (key_name Processing) || bytes_eq name (key_name Mining) || bytes_eq name (key_name Slopes) || bytes_eq name (key_name Region) || bytes_eq name (key_name Up)
 
 -- Whether every name of a table is a key.
 abbrev pub all_known : Members → Bool

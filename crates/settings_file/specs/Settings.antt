@@ -4,11 +4,12 @@ use Rattle.toml.specs.Parse.{parse_document}
 use Rattle.toml.specs.Data.{Data, Members, get_member}
 use Rattle.fixed_worth.specs.declared.limits.TheConstants.{MOST_FACTOR}
 use Rattle.settings_file.specs.declared.keys.Key.{Key}
-use Rattle.settings_file.specs.declared.keys.Key.TheVariants.{Revenue, Cost, Tonnes, Factors, Report, Offsets, Processing, Mining}
+use Rattle.settings_file.specs.declared.keys.Key.TheVariants.{Revenue, Cost, Tonnes, Factors, Report, Offsets, Processing, Mining, Slopes, Region, Up}
 use Rattle.settings_file.specs.declared.settings_fault.SettingsFault.{SettingsFault}
-use Rattle.settings_file.specs.declared.settings_fault.SettingsFault.TheVariants.{NotToml, UnknownKey, BadValue, Missing, NoMemory}
+use Rattle.settings_file.specs.declared.settings_fault.SettingsFault.TheVariants.{NotToml, UnknownKey, BadValue, Unused, Missing, NoMemory}
 use Rattle.settings_file.specs.Keys.{key_name, all_known}
-use Rattle.settings_file.specs.Values.{whole_value_within, factors_of, offsets_of, AreFactors}
+use Rattle.settings_file.specs.declared.up_sign.UpSign.{UpSign}
+use Rattle.settings_file.specs.Values.{whole_value_within, factors_of, offsets_of, slopes_of, sign_of, AreFactors}
 
 -- What the type shows: the value of each key, where the text has the key.
 pub record SettingsView : Type 0 where
@@ -20,10 +21,19 @@ pub record SettingsView : Type 0 where
   pub offsets : Option (List (ℤ × ℤ × ℤ))
   pub processing : Option ℕ
   pub mining : Option ℕ
+  pub slopes : Option (List (List (ℤ × ℤ × ℤ)))
+  pub region : Option ℕ
+  pub up : Option UpSign
+
+-- What settings say of slopes that differ by region: the offsets of each, the column of the block's own, and which way is up.
+pub record RegionsView : Type 0 where
+  pub slopes : Option (List (List (ℤ × ℤ × ℤ)))
+  pub region : Option ℕ
+  pub up : Option UpSign
 
 -- what the type shows, by the values of the keys
-abbrev pub settings_view : (revenue cost tonnes : Option ℕ) (factors : Option (List ℕ)) (report : Option ℕ) (offsets : Option (List (ℤ × ℤ × ℤ))) (processing mining : Option ℕ) → SettingsView
-settings_view revenue cost tonnes factors report offsets processing mining = record {
+abbrev pub settings_view : (revenue cost tonnes : Option ℕ) (factors : Option (List ℕ)) (report : Option ℕ) (offsets : Option (List (ℤ × ℤ × ℤ))) (processing mining : Option ℕ) (slopes : Option (List (List (ℤ × ℤ × ℤ)))) (region : Option ℕ) (up : Option UpSign) → SettingsView
+settings_view revenue cost tonnes factors report offsets processing mining slopes region up = record {
   revenue = revenue;
   cost = cost;
   tonnes = tonnes;
@@ -32,6 +42,9 @@ settings_view revenue cost tonnes factors report offsets processing mining = rec
   offsets = offsets;
   processing = processing;
   mining = mining;
+  slopes = slopes;
+  region = region;
+  up = up;
 }
 
 -- What is known of settings that were read: columns are numbered from 0 to 65,535, and factors are from 0 to 10,000.
@@ -43,6 +56,7 @@ pub record IsSettings (s : SettingsView) : Type 0 where
   pub report : IfSome s.report (λ factor. factor ≤ MOST_FACTOR)
   pub processing : IfSome s.processing (λ column. column ≤ 65535)
   pub mining : IfSome s.mining (λ column. column ≤ 65535)
+  pub region : IfSome s.region (λ column. column ≤ 65535)
 
 -- What a value at a key reads as; one that doesn't read is bad.
 abbrev pub or_bad : {V : Type 0} → Key → Option V → Result (Option V) SettingsFault
@@ -62,19 +76,31 @@ said_at key reads ms = value_said key reads (get_member (key_name key) ms)
 abbrev pub has_mill : Members → Bool
 has_mill ms = is_some (get_member (key_name Processing) ms) || is_some (get_member (key_name Mining) ms)
 
--- A mill's charges stand in place of costs: beside them a column of costs is a bad value.
-abbrev pub beside_mill : Bool → Option ℕ → Result (Option ℕ) SettingsFault
-beside_mill true (Some column) = Err (BadValue Cost)
-beside_mill _ o = Ok o
+-- Where what stands in a key's place is there too, the key's value is bad.
+abbrev pub beside : {V : Type 0} → Key → Bool → Option V → Result (Option V) SettingsFault
+beside key true (Some v) = Err (BadValue key)
+beside key _ o = Ok o
 
 -- The first fault, or what the next step says.
 abbrev pub then_with : {A B : Type 0} → Result A SettingsFault → (A → Result B SettingsFault) → Result B SettingsFault
 then_with (Ok x) next = next x
 then_with (Err e) next = Err e
 
--- what a table says at the key of costs
+-- what a table says at the key of costs, in whose place a mill's charges stand
 abbrev pub cost_in : Members → Result (Option ℕ) SettingsFault
-cost_in ms = then_with (said_at Cost (whole_value_within 65535) ms) (beside_mill (has_mill ms))
+cost_in ms = then_with (said_at Cost (whole_value_within 65535) ms) (beside Cost (has_mill ms))
+
+-- what a table says at the key of offsets, in whose place slopes by region stand
+abbrev pub offsets_in : Members → Result (Option (List (ℤ × ℤ × ℤ))) SettingsFault
+offsets_in ms = then_with (said_at Offsets offsets_of ms) (beside Offsets (is_some (get_member (key_name Slopes) ms)))
+
+-- what a table says of slopes by region
+abbrev pub regions_in : Members → Result RegionsView SettingsFault
+regions_in ms =
+    then_with (said_at Slopes slopes_of ms) (λ slopes.
+    then_with (said_at Region (whole_value_within 65535) ms) (λ region.
+    then_with (said_at Up sign_of ms) (λ up.
+    Ok (record { slopes = slopes; region = region; up = up }))))
 
 -- The value of each key, or the first key, in this order, whose value is bad.
 abbrev pub values_in : Members → Result SettingsView SettingsFault
@@ -84,10 +110,11 @@ values_in ms =
     then_with (said_at Tonnes (whole_value_within 65535) ms) (λ tonnes.
     then_with (said_at Factors factors_of ms) (λ factors.
     then_with (said_at Report (whole_value_within MOST_FACTOR) ms) (λ report.
-    then_with (said_at Offsets offsets_of ms) (λ offsets.
+    then_with (offsets_in ms) (λ offsets.
     then_with (said_at Processing (whole_value_within 65535) ms) (λ processing.
     then_with (said_at Mining (whole_value_within 65535) ms) (λ mining.
-    Ok (record { revenue = revenue; cost = cost; tonnes = tonnes; factors = factors; report = report; offsets = offsets; processing = processing; mining = mining })))))))))
+    then_with (regions_in ms) (λ by.
+    Ok (settings_view revenue cost tonnes factors report offsets processing mining by.slopes by.region by.up))))))))))
 
 -- A name that is no key comes before all bad values.
 abbrev pub settings_in : Members → Result SettingsView SettingsFault
@@ -102,19 +129,20 @@ pub record IsDocument (text : List ℕ) (ms : Members) : Type 0 where
 abbrev pub Says : List ℕ → (Members → Type 0) → Type 0
 Says text P = (ms : Members) × IsDocument text ms × P ms
 
--- What the reader answers for a text. Memory is asked for only where the text is UTF-8, and a missing key is no fault of the
--- text.
+-- What the reader answers for a text. Memory is asked for only where the text is UTF-8, and a key that is missing or unused is no
+-- fault of the text.
 abbrev pub ReadsSettings : List ℕ → Result SettingsView SettingsFault → Type 0
 ReadsSettings text (Ok s) = Says text (λ ms. settings_in ms ≡ Ok s)
 ReadsSettings text (Err NotToml) = IsUtf8 text → parse_document text ≡ None
 ReadsSettings text (Err NoMemory) = IsUtf8 text
+ReadsSettings text (Err (Unused key)) = ⊥
 ReadsSettings text (Err (Missing key)) = ⊥
 ReadsSettings text (Err fault) = Says text (λ ms. settings_in ms ≡ Err fault)
 
 -- what settings say, or nothing at any key where there is a fault
 abbrev pub said_or_nothing : Result SettingsView SettingsFault → SettingsView
 said_or_nothing (Ok s) = s
-said_or_nothing (Err e) = record { revenue = None; cost = None; tonnes = None; factors = None; report = None; offsets = None; processing = None; mining = None }
+said_or_nothing (Err e) = settings_view None None None None None None None None None None None
 
 abbrev pub settings_by : Option Members → SettingsView
 settings_by (Some ms) = said_or_nothing (settings_in ms)
@@ -138,6 +166,9 @@ is_said s Report = is_some s.report
 is_said s Offsets = is_some s.offsets
 is_said s Processing = is_some s.processing
 is_said s Mining = is_some s.mining
+is_said s Slopes = is_some s.slopes
+is_said s Region = is_some s.region
+is_said s Up = is_some s.up
 
 -- whether settings name a charge of a mill
 abbrev pub names_mill : SettingsView → Bool
@@ -148,6 +179,11 @@ abbrev pub first_missing : List Key → SettingsView → Option Key
 first_missing [] s = None
 first_missing (key ∷ keys) s = cond (is_said s key) (first_missing keys s) (Some key)
 
+-- the first of these keys at which there is something
+abbrev pub first_said : List Key → SettingsView → Option Key
+first_said [] s = None
+first_said (key ∷ keys) s = cond (is_said s key) (Some key) (first_said keys s)
+
 -- A word with a key in parentheses.
 abbrev pub at_key : List ℕ → Key → List ℕ
 at_key word key = word ++ (codes "(" ++ (key_name key ++ codes ")"))
@@ -157,5 +193,6 @@ abbrev pub settings_fault_text : SettingsFault → List ℕ
 settings_fault_text NotToml = codes "NotToml"
 settings_fault_text UnknownKey = codes "UnknownKey"
 settings_fault_text (BadValue key) = at_key (codes "BadValue") key
+settings_fault_text (Unused key) = at_key (codes "Unused") key
 settings_fault_text (Missing key) = at_key (codes "Missing") key
 settings_fault_text NoMemory = codes "NoMemory"

@@ -1,9 +1,11 @@
 -- What one value of a TOML document reads as.
 use Rattle.std.specs.Bool.{nat_le, nat_lt}
-use Rattle.std.specs.Prelude.{ℕ, ◌<◌, ◌≤◌, ◌&&◌, Bool, true, cond, ℤ, pos, negsuc, List, [], ◌∷◌, length, slice_index, Option, Some, None}
+use Rattle.std.specs.Prelude.{ℕ, ◌<◌, ◌≤◌, ◌&&◌, Bool, true, cond, ℤ, pos, negsuc, List, [], ◌∷◌, length, slice_index, Option, Some, None, codes, bytes_eq}
 use Rattle.std.specs.List.{All}
-use Rattle.toml.specs.Data.{Data, Items, no_items, item, as_integer, as_array}
+use Rattle.toml.specs.Data.{Data, Items, no_items, item, as_integer, as_array, as_str}
 use Rattle.fixed_worth.specs.declared.limits.TheConstants.{MOST_FACTOR, MOST_FACTORS}
+use Rattle.settings_file.specs.declared.up_sign.UpSign.{UpSign}
+use Rattle.settings_file.specs.declared.up_sign.UpSign.TheVariants.{Plus, Minus}
 
 -- A whole number from 0 to the most, and nothing else.
 abbrev pub whole_upto : ℕ → Option ℤ → Option ℕ
@@ -73,6 +75,25 @@ offsets_of_items None = None
 
 abbrev pub offsets_of : Data → Option (List (ℤ × ℤ × ℤ))
 offsets_of d = offsets_of_items (as_array d)
+
+-- Slopes: an array with the offsets of each region, as `offsets` lists them.
+abbrev pub slopes_of_items : Option Items → Option (List (List (ℤ × ℤ × ℤ)))
+slopes_of_items (Some ds) = all_read offsets_of ds
+slopes_of_items None = None
+
+abbrev pub slopes_of : Data → Option (List (List (ℤ × ℤ × ℤ)))
+slopes_of d = slopes_of_items (as_array d)
+
+-- Which way is up: "plus", where a greater z is higher, or "minus".
+abbrev pub sign_of_word : List ℕ → Option UpSign
+sign_of_word word = cond (bytes_eq word (codes "plus")) (Some Plus) (cond (bytes_eq word (codes "minus")) (Some Minus) None)
+
+abbrev pub sign_of_text : Option (List ℕ) → Option UpSign
+sign_of_text (Some word) = sign_of_word word
+sign_of_text None = None
+
+abbrev pub sign_of : Data → Option UpSign
+sign_of d = sign_of_text (as_str d)
 
 -- What is known of factors that were read.
 pub record AreFactors (ns : List ℕ) : Type 0 where

@@ -1,10 +1,10 @@
-//! Reads the arrays of settings: the factors of a series, and the offsets of a slope. Of a value that is no such
-//! array it gives nothing.
+//! Reads the arrays of settings: the factors of a series, the offsets of a slope, and those of the slope of each
+//! region. Of a value that is no such array it gives nothing.
 
-ghost use Rattle.std.specs.Prelude.{◌≡◌, ◌≤◌, IfOk, IfSome, option_map};
+ghost use Rattle.std.specs.Prelude.{◌≡◌, ◌≤◌, IfOk, IfSome, map, option_map};
 ghost use Rattle.std.specs.List.{All};
 ghost use Rattle.toml.specs.View.{view, array_view};
-ghost use Rattle.settings_file.specs.Values.{all_read, whole_value_within, offset_of, are_ascending, factors_of, offsets_of, AreFactors};
+ghost use Rattle.settings_file.specs.Values.{all_read, whole_value_within, offset_of, are_ascending, factors_of, offsets_of, slopes_of, AreFactors};
 
 use crate::values::{number_in_i32, number_within};
 use fixed_worth::{MOST_FACTOR, MOST_FACTORS};
@@ -113,6 +113,38 @@ pub(crate) fn offsets_in(
 {
     match value.as_array() {
         Some(values) => offsets_among(alloc, values),
+        None => Ok(None),
+    }
+}
+
+// The lists of offsets that the values are, or `None` where one is something else.
+fn slopes_among(
+    alloc: Global,
+    values: &Array,
+) -> Result<Option<Vec<Vec<(i32, i32, i32)>>>, AllocError>
+    ensures { IfOk result (λ o. option_map (λ v. map (λ w. w.items) v.items) o
+        ≡ all_read offsets_of (array_view values.now)) }
+{
+    let mut slopes = Vec::new(alloc);
+    for value in values {
+        match offsets_in(alloc, value)? {
+            Some(offsets) => slopes.push(offsets)?,
+            None => return Ok(None),
+        }
+    }
+    Ok(Some(slopes))
+}
+
+// The offsets of each region that a value is.
+pub(crate) fn slopes_in(
+    alloc: Global,
+    value: &Value,
+) -> Result<Option<Vec<Vec<(i32, i32, i32)>>>, AllocError>
+    ensures { IfOk result (λ o. option_map (λ v. map (λ w. w.items) v.items) o
+        ≡ slopes_of (view value.now)) }
+{
+    match value.as_array() {
+        Some(values) => slopes_among(alloc, values),
         None => Ok(None),
     }
 }

@@ -22,6 +22,12 @@ pub enum Key {
     Processing,
     /// The column of what it costs to mine a block, wherever it goes.
     Mining,
+    /// The offsets of each region's slope.
+    Slopes,
+    /// The column that says in which region a block is.
+    Region,
+    /// Which way is up.
+    Up,
 }
 
 impl Key {
@@ -38,6 +44,9 @@ impl Key {
             Key::Offsets => "offsets",
             Key::Processing => "processing",
             Key::Mining => "mining",
+            Key::Slopes => "slopes",
+            Key::Region => "region",
+            Key::Up => "up",
         }
     }
 }
@@ -68,6 +77,15 @@ pub(crate) fn is_key(text: &str) -> bool
         return true;
     }
     if text == Key::Mining.name() {
+        return true;
+    }
+    if text == Key::Slopes.name() {
+        return true;
+    }
+    if text == Key::Region.name() {
+        return true;
+    }
+    if text == Key::Up.name() {
         return true;
     }
     false

@@ -1,19 +1,19 @@
 //! Reads the text of settings: gives the value of each of its keys, or says that it is no TOML, or has an unknown key
 //! or a bad value.
 
-ghost use Rattle.std.specs.Prelude.{◌≡◌, ◌≤◌, ◌⊎◌, Ok, Err, IfOk, IfErr, IfSome, MatchResult, option_map, is_some};
+ghost use Rattle.std.specs.Prelude.{◌≡◌, ◌≤◌, ◌⊎◌, Ok, Err, IfOk, IfErr, IfSome, MatchResult, map, option_map, is_some};
 ghost use Rattle.toml.specs.Data.{get_member};
 ghost use Rattle.toml.specs.View.{table_view};
 ghost use Rattle.settings_file.specs.Keys.{key_name, all_known};
-ghost use Rattle.settings_file.specs.Values.{factors_of, offsets_of, AreFactors};
+ghost use Rattle.settings_file.specs.Values.{factors_of, offsets_of, slopes_of, AreFactors};
 ghost use Rattle.settings_file.specs.GoodTables.{IsGoodUpToFactors, IsOfTable};
-ghost use Rattle.settings_file.specs.Settings.{said_at, has_mill, cost_in, settings_in, ReadsSettings};
+ghost use Rattle.settings_file.specs.Settings.{said_at, has_mill, cost_in, offsets_in, regions_in, settings_in, ReadsSettings};
 
-use crate::arrays::{factors_in, offsets_in};
+use crate::arrays::{factors_in, offsets_in, slopes_in};
 use crate::keys::{Key, is_key};
-use crate::settings::{Columns, Settings};
+use crate::settings::{Columns, RegionKeys, Settings, SlopeKeys};
 use crate::settings_fault::SettingsFault;
-use crate::values::{MOST_COLUMN, number_at};
+use crate::values::{MOST_COLUMN, number_at, sign_at};
 use fixed_worth::MOST_FACTOR;
 use std::alloc::Global;
 use toml::Table;
@@ -78,8 +78,8 @@ fn factors_at(alloc: Global, table: &Table) -> Result<Option<Vec<u32>>, Settings
     }
 }
 
-// The offsets of the table.
-fn offsets_at(alloc: Global, table: &Table) -> Result<Option<Vec<(i32, i32, i32)>>, SettingsFault>
+// The offsets at their key, whatever stands beside it.
+fn listed_at(alloc: Global, table: &Table) -> Result<Option<Vec<(i32, i32, i32)>>, SettingsFault>
     ensures value { MatchResult result
         (λ o. said_at Key.Offsets offsets_of (table_view table.now)
         ≡ Ok (option_map (λ v. v.items) o))
@@ -96,6 +96,62 @@ fn offsets_at(alloc: Global, table: &Table) -> Result<Option<Vec<(i32, i32, i32)
         },
         None => Ok(None),
     }
+}
+
+// The offsets of the table, which don't stand beside slopes by region.
+fn offsets_at(alloc: Global, table: &Table) -> Result<Option<Vec<(i32, i32, i32)>>, SettingsFault>
+    ensures value { MatchResult result
+        (λ o. offsets_in (table_view table.now) ≡ Ok (option_map (λ v. v.items) o))
+        (λ e. ¬ (e ≡ SettingsFault.NoMemory) → offsets_in (table_view table.now) ≡ Err e) }
+    ensures fault { IfErr result (λ e. (e ≡ SettingsFault.BadValue Key.Offsets)
+        ⊎ (e ≡ SettingsFault.NoMemory)) }
+{
+    let offsets = listed_at(alloc, table)?;
+    if offsets.is_some() && has_key(table, Key::Slopes) {
+        return Err(SettingsFault::BadValue(Key::Offsets));
+    }
+    Ok(offsets)
+}
+
+// The offsets of each region's slope of the table.
+fn slopes_at(
+    alloc: Global,
+    table: &Table,
+) -> Result<Option<Vec<Vec<(i32, i32, i32)>>>, SettingsFault>
+    ensures value { MatchResult result
+        (λ o. said_at Key.Slopes slopes_of (table_view table.now)
+        ≡ Ok (option_map (λ v. map (λ w. w.items) v.items) o))
+        (λ e. ¬ (e ≡ SettingsFault.NoMemory)
+        → said_at Key.Slopes slopes_of (table_view table.now) ≡ Err e) }
+    ensures fault { IfErr result (λ e. (e ≡ SettingsFault.BadValue Key.Slopes)
+        ⊎ (e ≡ SettingsFault.NoMemory)) }
+{
+    match table.get(Key::Slopes.name()) {
+        Some(value) => match slopes_in(alloc, value) {
+            Ok(Some(slopes)) => Ok(Some(slopes)),
+            Ok(None) => Err(SettingsFault::BadValue(Key::Slopes)),
+            Err(_) => Err(SettingsFault::NoMemory),
+        },
+        None => Ok(None),
+    }
+}
+
+// What the table says of slopes by region, or its first fault.
+fn regions_at(alloc: Global, table: &Table) -> Result<RegionKeys, SettingsFault>
+    ensures value { MatchResult result
+        (λ by. regions_in (table_view table.now) ≡ Ok (record {
+          slopes = option_map (λ v. map (λ w. w.items) v.items) by.slopes;
+          region = by.region;
+          up = by.up;
+        }))
+        (λ e. ¬ (e ≡ SettingsFault.NoMemory) → regions_in (table_view table.now) ≡ Err e) }
+    ensures bound { IfOk result (λ by. IfSome by.region (λ column. column ≤ 65535)) }
+    ensures kind { IfErr result IsOfTable }
+{
+    let slopes = slopes_at(alloc, table)?;
+    let region = number_at(table, Key::Region, MOST_COLUMN)?;
+    let up = sign_at(table)?;
+    Ok(RegionKeys { slopes, region, up })
 }
 
 // What the table says, or its first fault.
@@ -118,6 +174,7 @@ fn settings_of(alloc: Global, table: &Table) -> Result<Settings, SettingsFault>
     let offsets = offsets_at(alloc, table)?;
     let processing = number_at(table, Key::Processing, MOST_COLUMN)?;
     let mining = number_at(table, Key::Mining, MOST_COLUMN)?;
+    let regions = regions_at(alloc, table)?;
     let columns = Columns {
         revenue,
         cost,
@@ -125,7 +182,8 @@ fn settings_of(alloc: Global, table: &Table) -> Result<Settings, SettingsFault>
         processing,
         mining,
     };
-    Ok(Settings::of(columns, factors, report, offsets))
+    let slopes = SlopeKeys { offsets, regions };
+    Ok(Settings::of(columns, factors, report, slopes))
 }
 
 /// What a text says as settings.
@@ -133,7 +191,7 @@ fn settings_of(alloc: Global, table: &Table) -> Result<Settings, SettingsFault>
 /// # Errors
 /// In this order: `NotToml` where the text is no TOML document; `UnknownKey` where a name of its table is no key; `BadValue`
 /// with the first key whose value is of a wrong kind or out of its range (a cost beside a mill's charges counts as a bad value
-/// of `cost`). `NoMemory` where memory is refused. Never `Missing`.
+/// of `cost`, and so do offsets beside slopes by region). `NoMemory` where memory is refused. Never `Unused` or `Missing`.
 pub fn read_settings(alloc: Global, bytes: &[u8]) -> Result<Settings, SettingsFault>
     ensures { ReadsSettings bytes.now result }
 {

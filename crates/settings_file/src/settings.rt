@@ -1,11 +1,12 @@
 //! What settings say: the columns of revenue, costs and tonnes, the factors of the shells and of the report, and the
-//! offsets of a slope, each where its key is there.
+//! offsets of a slope or of the slope of each region, each where its key is there.
 
-ghost use Rattle.std.specs.Prelude.{◌≡◌, ◌≤◌, IfSome, option_map};
+ghost use Rattle.std.specs.Prelude.{◌≡◌, ◌≤◌, IfSome, map, option_map};
 ghost use Rattle.settings_file.specs.Values.{AreFactors};
 ghost use Rattle.settings_file.specs.Settings.{SettingsView, settings_view, IsSettings, is_said, names_mill};
 
 use crate::keys::Key;
+use crate::up_sign::UpSign;
 use fixed_worth::MOST_FACTOR;
 use std::marker::Model;
 
@@ -19,6 +20,21 @@ pub(crate) struct Columns {
     pub(crate) mining: Option<u32>,
 }
 
+// What settings say of slopes, each where its key is there.
+#[derive(Drop)]
+pub(crate) struct SlopeKeys {
+    pub(crate) offsets: Option<Vec<(i32, i32, i32)>>,
+    pub(crate) regions: RegionKeys,
+}
+
+// What settings say of slopes that differ by region, each where its key is there.
+#[derive(Drop)]
+pub(crate) struct RegionKeys {
+    pub(crate) slopes: Option<Vec<Vec<(i32, i32, i32)>>>,
+    pub(crate) region: Option<u32>,
+    pub(crate) up: Option<UpSign>,
+}
+
 /// What settings say: the value of each key, where the text has the key.
 #[derive(Drop)]
 pub struct Settings {
@@ -30,21 +46,26 @@ pub struct Settings {
     offsets: Option<Vec<(i32, i32, i32)>>,
     processing: Option<u32>,
     mining: Option<u32>,
+    slopes: Option<Vec<Vec<(i32, i32, i32)>>>,
+    region: Option<u32>,
+    up: Option<UpSign>,
 }
 
 impl Model for Settings {
-    ghost use Rattle.std.specs.Prelude.{option_map};
+    ghost use Rattle.std.specs.Prelude.{map, option_map};
     ghost use Rattle.settings_file.specs.Settings.{SettingsView, settings_view, IsSettings};
 
     ghost Value = { SettingsView };
 
     ghost view = { λ s. settings_view s.revenue s.cost s.tonnes
         (option_map (λ v. v.items) s.factors) s.report
-        (option_map (λ v. v.items) s.offsets) s.processing s.mining };
+        (option_map (λ v. v.items) s.offsets) s.processing s.mining
+        (option_map (λ v. map (λ w. w.items) v.items) s.slopes) s.region s.up };
 
     ghost invariant = { λ s. IsSettings
         (settings_view s.revenue s.cost s.tonnes (option_map (λ v. v.items) s.factors) s.report
-        (option_map (λ v. v.items) s.offsets) s.processing s.mining) };
+        (option_map (λ v. v.items) s.offsets) s.processing s.mining
+        (option_map (λ v. map (λ w. w.items) v.items) s.slopes) s.region s.up) };
 }
 
 impl Settings {
@@ -52,7 +73,7 @@ impl Settings {
         columns: Columns,
         factors: Option<Vec<u32>>,
         report: Option<u32>,
-        offsets: Option<Vec<(i32, i32, i32)>>,
+        slopes: SlopeKeys,
     ) -> Settings
         requires revenue { IfSome columns.revenue (λ column. column ≤ 65535) }
         requires cost { IfSome columns.cost (λ column. column ≤ 65535) }
@@ -61,9 +82,12 @@ impl Settings {
         requires report { IfSome report (λ factor. factor ≤ MOST_FACTOR) }
         requires processing { IfSome columns.processing (λ column. column ≤ 65535) }
         requires mining { IfSome columns.mining (λ column. column ≤ 65535) }
+        requires region { IfSome slopes.regions.region (λ column. column ≤ 65535) }
         ensures { result ≡ settings_view columns.revenue columns.cost columns.tonnes
             (option_map (λ v. v.items) factors) report
-            (option_map (λ v. v.items) offsets) columns.processing columns.mining }
+            (option_map (λ v. v.items) slopes.offsets) columns.processing columns.mining
+            (option_map (λ v. map (λ w. w.items) v.items) slopes.regions.slopes)
+            slopes.regions.region slopes.regions.up }
     {
         let Columns {
             revenue,
@@ -72,6 +96,8 @@ impl Settings {
             processing,
             mining,
         } = columns;
+        let SlopeKeys { offsets, regions } = slopes;
+        let RegionKeys { slopes, region, up } = regions;
         Settings {
             revenue,
             cost,
@@ -81,6 +107,9 @@ impl Settings {
             offsets,
             processing,
             mining,
+            slopes,
+            region,
+            up,
         }
     }
 
@@ -153,6 +182,31 @@ impl Settings {
         self.mining
     }
 
+    /// The offsets of each region's slope, as [`Settings::offsets`] are: item r has those of region r.
+    pub fn slopes(&self) -> Option<&[Vec<(i32, i32, i32)>]>
+        ensures { option_map (λ s. map (λ w. w.items) s.now) result ≡ self.now.slopes }
+    {
+        match &self.slopes {
+            Some(slopes) => Some(slopes.as_slice()),
+            None => None,
+        }
+    }
+
+    /// The number of the column that says in which region a block is.
+    pub fn region(&self) -> Option<u32>
+        ensures value { result ≡ self.now.region }
+        ensures bound { IfSome result (λ column. column ≤ 65535) }
+    {
+        self.region
+    }
+
+    /// Which way is up.
+    pub fn up(&self) -> Option<UpSign>
+        ensures { result ≡ self.now.up }
+    {
+        self.up
+    }
+
     /// Whether a charge of a mill is named: processing or mining.
     pub fn names_mill(&self) -> bool
         ensures { result ≡ names_mill self.now }
@@ -173,6 +227,9 @@ impl Settings {
             Key::Offsets => self.offsets.is_some(),
             Key::Processing => self.processing.is_some(),
             Key::Mining => self.mining.is_some(),
+            Key::Slopes => self.slopes.is_some(),
+            Key::Region => self.region.is_some(),
+            Key::Up => self.up.is_some(),
         }
     }
 }

@@ -13,6 +13,9 @@ pub enum SettingsFault {
     UnknownKey,
     /// The key's value has a wrong kind or is out of its range.
     BadValue(Key),
+    /// A key is there of which the command makes no use, though it matters: what the key says would go unheard. The reader
+    /// never answers this.
+    Unused(Key),
     /// A key that the command needs isn't there. The reader never answers this.
     Missing(Key),
     /// Memory was refused.
@@ -32,6 +35,10 @@ impl fmt::Display for SettingsFault {
             SettingsFault::BadValue(key) => {
                 let name = key.name();
                 write!(f, "BadValue({name})")
+            }
+            SettingsFault::Unused(key) => {
+                let name = key.name();
+                write!(f, "Unused({name})")
             }
             SettingsFault::Missing(key) => {
                 let name = key.name();

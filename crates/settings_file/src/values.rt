@@ -1,13 +1,14 @@
-//! Reads one whole number of settings within its range, such as a column's number or a factor; tells a missing key
-//! from a bad value.
+//! Reads one value of settings: a whole number within its range, such as a column's number or a factor, or which way is
+//! up; tells a missing key from a bad value.
 
 ghost use Rattle.std.specs.Prelude.{◌≡◌, ◌≤◌, IfSome, IfOk, IfErr};
 ghost use Rattle.toml.specs.View.{view, table_view};
-ghost use Rattle.settings_file.specs.Values.{whole_value_within, offset_number};
+ghost use Rattle.settings_file.specs.Values.{whole_value_within, offset_number, sign_of};
 ghost use Rattle.settings_file.specs.Settings.{said_at};
 
 use crate::keys::Key;
 use crate::settings_fault::SettingsFault;
+use crate::up_sign::UpSign;
 use toml::{Table, Value};
 
 pub(crate) const MOST_COLUMN: u32 = 65_535;
@@ -60,6 +61,38 @@ pub(crate) fn number_at(table: &Table, key: Key, most: u32) -> Result<Option<u32
         Some(value) => match number_within(value, most) {
             Some(number) => Ok(Some(number)),
             None => Err(SettingsFault::BadValue(key)),
+        },
+        None => Ok(None),
+    }
+}
+
+// Which way is up, by a value.
+fn sign_in(value: &Value) -> Option<UpSign>
+    ensures { result ≡ sign_of (view value.now) }
+{
+    match value.as_str() {
+        Some(word) => {
+            if word == "plus" {
+                return Some(UpSign::Plus);
+            }
+            if word == "minus" {
+                return Some(UpSign::Minus);
+            }
+            None
+        }
+        None => None,
+    }
+}
+
+// Which way is up, or `None` where the table doesn't say.
+pub(crate) fn sign_at(table: &Table) -> Result<Option<UpSign>, SettingsFault>
+    ensures value { result ≡ said_at Key.Up sign_of (table_view table.now) }
+    ensures fault { IfErr result (λ e. e ≡ SettingsFault.BadValue Key.Up) }
+{
+    match table.get(Key::Up.name()) {
+        Some(value) => match sign_in(value) {
+            Some(sign) => Ok(Some(sign)),
+            None => Err(SettingsFault::BadValue(Key::Up)),
         },
         None => Ok(None),
     }

@@ -11,3 +11,6 @@ pub mod Repeats
 pub mod BlockSteps
 pub mod TwoSteps
 pub mod Reduction
+pub mod Narrow
+pub mod Alike
+pub mod Regions

@@ -1,6 +1,6 @@
 -- What only the functions of this crate say to one another: lists as they are gathered, a cone level by level, the index
 -- of places, and the pairs block by block.
-use Rattle.std.specs.Prelude.{◌≡◌, ◌≢◌, ℕ, ◌<◌, ◌≤◌, ◌+◌, ◌-◌, ◌*◌, ◌/◌, ℤ, pos, ◌-ℤ◌, ◌≤ℤ◌, ◌<ℤ◌, ◌⊎◌, List, [], length, take, AllPairs, Contains, Option, Some, None, Result, Ok, Err, FitsSigned, slice_index_or}
+use Rattle.std.specs.Prelude.{◌≡◌, ◌≢◌, ℕ, ◌<◌, ◌≤◌, ◌+◌, ◌-◌, ◌*◌, ◌/◌, Bool, true, false, All, ℤ, pos, ◌-ℤ◌, ◌≤ℤ◌, ◌<ℤ◌, ◌⊎◌, List, [], length, take, AllPairs, Contains, Option, Some, None, Result, Ok, Err, FitsSigned, slice_index_or}
 use Rattle.std.specs.Global.{Vec}
 use Rattle.std.specs.Int.{w32}
 use Rattle.prec_file.specs.declared.limits.TheConstants.{MOST_PAIRS}
@@ -9,9 +9,9 @@ use Rattle.blocks_file.specs.declared.place.Place.{Place}
 use Rattle.blocks_file.specs.Denotes.{BlocksView}
 use Rattle.slope.specs.Lists.{AreMoreThan}
 use Rattle.prec_file.specs.Rests.{RowsView}
-use Rattle.slope.specs.Offsets.{Offset, OffsetBefore, AreOffsetsRising}
+use Rattle.slope.specs.Offsets.{Offset, OffsetBefore, AreOffsetsRising, IsPattern}
 use Rattle.slope.specs.Patterns.{IsNear}
-use Rattle.slope.specs.Slopes.{place_of, IsSelected, IsFirstRepeat, offset_between}
+use Rattle.slope.specs.Slopes.{place_of, IsSelected, IsFirstRepeat, offset_between, region_of, offsets_in, IsRegion, listed_at, AreRegions, AreAllUpward, HaveAllFew, IsFirstOutside, IsFirstNotUpward, IsFirstWide}
 use Rattle.slope.specs.declared.selection.Selection.{Selection}
 use Rattle.slope.specs.declared.selection.Selection.TheVariants.{Every, Reduced}
 use Rattle.slope.specs.declared.sight.Sight.{Sight}
@@ -20,6 +20,9 @@ use Rattle.slope.specs.declared.pattern_fault.PatternFault.{PatternFault}
 use Rattle.slope.specs.declared.pattern_fault.PatternFault.TheVariants as pattern
 use Rattle.slope.specs.declared.slope_fault.SlopeFault.{SlopeFault}
 use Rattle.slope.specs.declared.slope_fault.SlopeFault.TheVariants as slope
+use Rattle.slope.specs.declared.region_fault.RegionFault.{RegionFault}
+use Rattle.slope.specs.declared.region_fault.RegionFault.TheVariants as region
+use Rattle.slope.specs.declared.region_slopes.TheConstants.{MOST_REGIONS}
 use Rattle.slope.specs.declared.up.Up.{Up}
 
 -- What has the property, each once.
@@ -153,27 +156,62 @@ IndexFaultStands m (slope.SamePlace b c) = IsFirstRepeat m b c
 IndexFaultStands m slope.TooMany = ⊥
 IndexFaultStands m slope.NoMemory = Unit {0}
 
+-- The region of a block: by the first column of a model, or region 0.
+abbrev pub region_by : Bool → BlocksView → ℕ → Option ℕ
+region_by true m b = region_of m b
+region_by false m b = Some 0
+
+-- The offsets of a block's own region.
+abbrev pub own_by : Bool → List (List Offset) → BlocksView → ℕ → List Offset
+own_by by_column patterns m b = offsets_in patterns (region_by by_column m b)
+
+-- Every block has a region, and its offsets make a pattern.
+pub record HaveRegions (by_column : Bool) (patterns : List (List Offset)) (m : BlocksView) : Type 0 where
+  pub each : (b : ℕ) → b < m.blocks → IsRegion patterns (region_by by_column m b)
+  pub are : (b : ℕ) → b < m.blocks → IsPattern (own_by by_column patterns m b)
+
+-- The patterns have the offsets that are listed for their regions.
+pub record AreOfListed (listed patterns : List (List Offset)) : Type 0 where
+  pub as_many : length patterns ≡ length listed
+  pub are : (r : ℕ) → r < length patterns → IsPattern (listed_at patterns r)
+  pub held : (r : ℕ) (o : Offset) → Contains (listed_at listed r) o → Contains (listed_at patterns r) o
+  pub only : (r : ℕ) (o : Offset) → Contains (listed_at patterns r) o → Contains (listed_at listed r) o
+
 -- The selected pairs of the blocks below this one.
-pub record IsPairBelow (m : BlocksView) (offsets : List Offset) (up : Up) (selection : Selection) (block : ℕ) (pair : ℕ × ℕ) : Type 0 where
-  pub selected : IsSelected selection m offsets up pair
+pub record IsPairBelow (m : BlocksView) (own : ℕ → List Offset) (up : Up) (selection : Selection) (block : ℕ) (pair : ℕ × ℕ) : Type 0 where
+  pub selected : IsSelected selection m own up pair
   pub below : pair.0 < block
 
--- Those, and this block's at the first offsets.
-pub record IsPairUpTo (m : BlocksView) (offsets : List Offset) (up : Up) (selection : Selection) (block i : ℕ) (pair : ℕ × ℕ) : Type 0 where
-  pub selected : IsSelected selection m offsets up pair
-  pub below : (pair.0 < block) ⊎ ((pair.0 ≡ block) × Contains (take i offsets) (offset_between up (place_of m block) (place_of m pair.1)))
+-- Those, and this block's at the first of its offsets.
+pub record IsPairUpTo (m : BlocksView) (own : ℕ → List Offset) (up : Up) (selection : Selection) (block i : ℕ) (pair : ℕ × ℕ) : Type 0 where
+  pub selected : IsSelected selection m own up pair
+  pub below : (pair.0 < block) ⊎ ((pair.0 ≡ block) × Contains (take i (own block)) (offset_between up (place_of m block) (place_of m pair.1)))
 
 -- The blocks below this one are listed, with their selected pairs.
-pub record AreListedBelow (m : BlocksView) (offsets : List Offset) (up : Up) (selection : Selection) (block : ℕ) (rows : RowsView) : Type 0 where
+pub record AreListedBelow (m : BlocksView) (own : ℕ → List Offset) (up : Up) (selection : Selection) (block : ℕ) (rows : RowsView) : Type 0 where
   pub blocks : rows.blocks ≡ m.blocks
   pub next : rows.next ≡ block
-  pub pairs : Collects (IsPairBelow m offsets up selection block) rows.pairs
+  pub pairs : Collects (IsPairBelow m own up selection block) rows.pairs
+
+-- A fault of places or of pairs, as one of slopes by region.
+abbrev pub region_fault_of : SlopeFault → RegionFault
+region_fault_of (slope.SamePlace b c) = region.SamePlace b c
+region_fault_of slope.TooMany = region.TooMany
+region_fault_of slope.NoMemory = region.NoMemory
+
+-- The fault of regions or their offsets stands, whatever the places are.
+abbrev pub RegionRefusalStands : List (List Offset) → BlocksView → RegionFault → Type 0
+RegionRefusalStands listed m (region.UnknownRegion b) = IsFirstOutside listed m b
+RegionRefusalStands listed m (region.NotUpward r i) = AreRegions listed m × IsFirstNotUpward listed r i
+RegionRefusalStands listed m (region.TooManyOffsets r) = AreRegions listed m × AreAllUpward listed × IsFirstWide listed r
+RegionRefusalStands listed m region.TooManyRegions = AreRegions listed m × AreAllUpward listed × HaveAllFew listed × (MOST_REGIONS < length listed)
+RegionRefusalStands listed m fault = ⊥
 
 -- The fault of the pairs stands.
-abbrev pub PairFaultStands : BlocksView → List Offset → Up → Selection → SlopeFault → Type 0
-PairFaultStands m offsets up selection (slope.SamePlace b c) = ⊥
-PairFaultStands m offsets up selection slope.TooMany = AreMoreThan MOST_PAIRS (IsSelected selection m offsets up)
-PairFaultStands m offsets up selection slope.NoMemory = Unit {0}
+abbrev pub PairFaultStands : BlocksView → (ℕ → List Offset) → Up → Selection → SlopeFault → Type 0
+PairFaultStands m own up selection (slope.SamePlace b c) = ⊥
+PairFaultStands m own up selection slope.TooMany = AreMoreThan MOST_PAIRS (IsSelected selection m own up)
+PairFaultStands m own up selection slope.NoMemory = Unit {0}
 
 -- Why a pair isn't added to so many: there are 2^27 already, or fewer and no memory for one more.
 abbrev pub PairRefusalStands : ℕ → SlopeFault → Type 0
@@ -191,40 +229,61 @@ offset_at offsets i = slice_index_or offsets i (pos 0, pos 0, pos 0)
 abbrev pub rest_after : Offset → Offset → Offset
 rest_after step whole = (whole.0 -ℤ step.0, whole.1 -ℤ step.1, whole.2 -ℤ step.2)
 
--- Offset a of the list is a first step: another of the list leads on from it to the whole.
-pub record IsFirstStep (offsets : List Offset) (whole : Offset) (a : ℕ) : Type 0 where
+-- Offset a of the list is a first step: one of all offsets leads on from it to the whole.
+pub record IsFirstStep (offsets all : List Offset) (whole : Offset) (a : ℕ) : Type 0 where
   pub known : a < length offsets
-  pub onward : Contains offsets (rest_after (offset_at offsets a) whole)
+  pub onward : Contains all (rest_after (offset_at offsets a) whole)
 
 -- The numbers of the first steps among the first k offsets, and nothing else.
-pub record AreFirstSteps (offsets : List Offset) (whole : Offset) (k : ℕ) (steps : List ℕ) : Type 0 where
-  pub held : (a : ℕ) → a < k → IsFirstStep offsets whole a → Contains steps a
-  pub only : (a : ℕ) → Contains steps a → IsFirstStep offsets whole a
+pub record AreFirstSteps (offsets all : List Offset) (whole : Offset) (k : ℕ) (steps : List ℕ) : Type 0 where
+  pub held : (a : ℕ) → a < k → IsFirstStep offsets all whole a → Contains steps a
+  pub only : (a : ℕ) → Contains steps a → IsFirstStep offsets all whole a
 
--- The numbers of the offsets at which no block may stand where a pair at an offset is selected: none where every pair is, and the
--- first steps to it where the reduced ones are.
-abbrev pub AreStepsTo : Selection → List Offset → Offset → List ℕ → Type 0
-AreStepsTo Every offsets whole steps = steps ≡ []
-AreStepsTo Reduced offsets whole steps = AreFirstSteps offsets whole (length offsets) steps
+-- The numbers of the offsets at which a third block may stand that a pair at an offset leads over: none are asked for where
+-- every pair is selected, and the first steps to it where the reduced ones are.
+abbrev pub AreStepsTo : Selection → List Offset → List Offset → Offset → List ℕ → Type 0
+AreStepsTo Every offsets all whole steps = steps ≡ []
+AreStepsTo Reduced offsets all whole steps = AreFirstSteps offsets all whole (length offsets) steps
 
 -- Such numbers for each of the first k offsets.
-pub record AreStepsOfEach (selection : Selection) (offsets : List Offset) (k : ℕ) (steps : List (Vec ℕ)) : Type 0 where
+pub record AreStepsOfEach (selection : Selection) (offsets all : List Offset) (k : ℕ) (steps : List (Vec ℕ)) : Type 0 where
   pub as_many : length steps ≡ k
-  pub each : (i : ℕ) (d : Vec ℕ) → i < k → AreStepsTo selection offsets (offset_at offsets i) (slice_index_or steps i d).items
+  pub each : (i : ℕ) (d : Vec ℕ) → i < k → AreStepsTo selection offsets all (offset_at offsets i) (slice_index_or steps i d).items
+
+-- The offsets of the first k patterns are among all.
+abbrev pub HoldsOf : List (List Offset) → ℕ → List Offset → Type 0
+HoldsOf patterns k all = (r : ℕ) (o : Offset) → r < k → Contains (listed_at patterns r) o → Contains all o
+
+-- Such numbers for each offset of each of the first k patterns.
+pub record AreStepsOfRegions (selection : Selection) (patterns : List (List Offset)) (all : List Offset) (k : ℕ) (steps : List (Vec (Vec ℕ))) : Type 0 where
+  pub as_many : length steps ≡ k
+  pub each : (r : ℕ) (d : Vec (Vec ℕ)) → r < k → AreStepsOfEach selection (listed_at patterns r) all (length (listed_at patterns r)) (slice_index_or steps r d).items
+
+-- Those of every pattern, by offsets that hold all of theirs.
+pub record AreRegionSteps (selection : Selection) (patterns : List (List Offset)) (all : List Offset) (steps : List (Vec (Vec ℕ))) : Type 0 where
+  pub of_all : HoldsOf patterns (length patterns) all
+  pub of_each : AreStepsOfRegions selection patterns all (length patterns) steps
 
 -- ---- what stands around a block
 
--- The model and the pattern, and the place that is looked from.
+-- The model, the patterns of its regions, the offsets of the block that is looked from, and its place.
 pub record SurroundingsView : Type 0 where
   pub model : BlocksView
+  pub patterns : List (List Offset)
+  pub by_column : Bool
   pub offsets : List Offset
   pub up : Up
   pub from : Place
 
--- The surroundings are of this model and pattern.
-pub record ArePlacesOf (v : SurroundingsView) (m : BlocksView) (offsets : List Offset) (up : Up) : Type 0 where
+-- The offsets of each block's own region.
+abbrev pub owns : SurroundingsView → ℕ → List Offset
+owns v = own_by v.by_column v.patterns v.model
+
+-- The surroundings are of this model and these patterns.
+pub record ArePlacesOf (v : SurroundingsView) (m : BlocksView) (by_column : Bool) (patterns : List (List Offset)) (up : Up) : Type 0 where
   pub of_model : v.model ≡ m
-  pub of_offsets : v.offsets ≡ offsets
+  pub of_column : v.by_column ≡ by_column
+  pub of_patterns : v.patterns ≡ patterns
   pub of_up : v.up ≡ up
 
 -- Block p stands at offset i.
@@ -242,19 +301,26 @@ IsSight v i sight.Unasked = Unit {0}
 IsSight v i sight.Nothing = StandsNone v i
 IsSight v i (sight.Block p) = StandsAtOffset v i p
 
--- The index is that of the model, and what was seen stands there.
+-- The index is that of the model, every block has a region and room for what is seen, and what was seen stands there.
 pub record AreSeen (v : SurroundingsView) (keys : List Offset) (blocks : List ℕ) (seen : List Sight) : Type 0 where
   pub indexed : IsIndex v.model keys blocks
-  pub one_each : length seen ≡ length v.offsets
+  pub regions : HaveRegions v.by_column v.patterns v.model
+  pub room : (r : ℕ) → length (listed_at v.patterns r) ≤ length seen
+  pub one_each : length v.offsets ≤ length seen
   pub each : (i : ℕ) (d : Sight) → i < length v.offsets → IsSight v i (slice_index_or seen i d)
 
--- A block stands at one of these offsets.
-pub record StandsAtSome (v : SurroundingsView) (steps : List ℕ) : Type 0 where
+-- Block q stands at offset a, and by its own offsets rests on what stands at offset i.
+pub record LiesBetween (v : SurroundingsView) (i a q : ℕ) : Type 0 where
+  pub stands : StandsAtOffset v a q
+  pub onward : Contains (owns v q) (rest_after (offset_at v.offsets a) (offset_at v.offsets i))
+
+-- A block at one of these offsets lies between.
+pub record LiesAtSome (v : SurroundingsView) (i : ℕ) (steps : List ℕ) : Type 0 where
   pub step : ℕ
   pub among : Contains steps step
   pub block : ℕ
-  pub stands : StandsAtOffset v step block
+  pub lies : LiesBetween v i step block
 
--- No block stands at any of these offsets.
-abbrev pub StandsAtNone : SurroundingsView → List ℕ → Type 0
-StandsAtNone v steps = (a : ℕ) → Contains steps a → StandsNone v a
+-- No block at any of these offsets lies between.
+abbrev pub LiesAtNone : SurroundingsView → ℕ → List ℕ → Type 0
+LiesAtNone v i steps = (a q : ℕ) → Contains steps a → LiesBetween v i a q → ⊥

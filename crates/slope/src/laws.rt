@@ -1,16 +1,17 @@
-//! Laws of the pairs that a pattern gives: a block has at most as many predecessors as there are offsets, and the
-//! reduced pairs have the same closures as all pairs.
+//! Laws of the pairs that a pattern or the slopes of regions give: a block has at most as many predecessors as there are
+//! offsets, and the reduced pairs have the same closures as all pairs.
 //!
 //! The functions do nothing. A caller names one where its own proof needs the law.
 
-ghost use Rattle.std.specs.Prelude.{◌↔◌, ℕ, ◌≤◌, Bool, Contains, length};
+ghost use Rattle.std.specs.Prelude.{◌↔◌, ℕ, ◌≤◌, Bool, Contains, List, length};
 ghost use Rattle.blocks_file.specs.Denotes.{BlocksView};
 ghost use Rattle.prec_file.specs.Rests.{RestsView, above_of};
 ghost use Rattle.prec_file.specs.Written.{AreNarrow};
 ghost use Rattle.slope.specs.declared.selection.Selection as selected;
 ghost use Rattle.slope.specs.declared.selection.Selection.TheVariants.{Reduced};
 ghost use Rattle.slope.specs.declared.up.Up as declared;
-ghost use Rattle.slope.specs.Slopes.{AreSlopes, IsSlopePair, IsClosedBy};
+ghost use Rattle.slope.specs.Offsets.{Offset};
+ghost use Rattle.slope.specs.Slopes.{AreAllUpward, AreOwnSlopes, AreSlopes, IsOwnPair, IsSlopePair, IsClosedBy, own_offsets};
 
 use crate::Pattern;
 
@@ -35,3 +36,12 @@ pub fn reduced_pairs_close(pattern: &Pattern)
     // proof: each offset leads up
     let _ = pattern.offsets();
 }
+
+/// So do the reduced pairs of slopes by region, where each offset leads up.
+pub fn reduced_region_pairs_close()
+    ensures { (listed : List (List Offset)) (m : BlocksView) (up : declared.Up) (rests : RestsView)
+        (e : ℕ → Bool) → AreAllUpward listed
+        → AreOwnSlopes m (own_offsets listed m) up Reduced rests
+        → IsClosedBy (Contains rests.pairs) e
+        ↔ IsClosedBy (IsOwnPair m (own_offsets listed m) up) e }
+{}

@@ -19,6 +19,7 @@
 #![tactic(auto)]
 
 mod cone;
+mod ground;
 mod guesses;
 pub mod laws;
 mod offset_order;
@@ -27,6 +28,8 @@ mod pattern;
 mod pattern_fault;
 mod place_index;
 mod place_search;
+mod region_fault;
+mod region_slopes;
 mod selection;
 mod sight;
 mod slope_fault;
@@ -37,6 +40,8 @@ mod up;
 
 pub use pattern::{MOST_CONE_NUMBER, MOST_OFFSETS, Pattern};
 pub use pattern_fault::PatternFault;
+pub use region_fault::RegionFault;
+pub use region_slopes::{MOST_REGIONS, predecessors_by_region};
 pub use selection::Selection;
 pub use slope_fault::SlopeFault;
 pub use slope_pairs::{predecessors_of, rests_of};

@@ -9,6 +9,7 @@ ghost use Rattle.slope.specs.Patterns.{five_offsets, nine_offsets, IsInCone, Upw
 use crate::PatternFault;
 use crate::cone::cone_offsets;
 use crate::offset_order::in_order;
+use crate::two_steps::widened;
 use std::alloc::{AllocError, Global};
 use std::marker::Model;
 
@@ -18,6 +19,8 @@ use std::marker::Model;
 #[derive(Drop)]
 pub struct Pattern {
     offsets: Vec<(i32, i32, i32)>,
+    // the same in numbers so wide that the difference of any two fits
+    wide: Vec<(i64, i64, i64)>,
 }
 
 impl Model for Pattern {
@@ -25,7 +28,7 @@ impl Model for Pattern {
 
     ghost view = { λ p. p.offsets.items };
 
-    ghost invariant = { λ p. IsPattern p.offsets.items };
+    ghost invariant = { λ p. IsPattern p.offsets.items × (p.wide.items ≡ p.offsets.items) };
 }
 
 /// The greatest number of a cone: its levels, its run and its rise.
@@ -41,7 +44,7 @@ fn numbers()
 {}
 
 // The first offset that doesn't lead up.
-fn first_not_upward(listed: &[(i32, i32, i32)]) -> Option<usize>
+pub(crate) fn first_not_upward(listed: &[(i32, i32, i32)]) -> Option<usize>
     ensures { MatchOption result
         (All IsUpward listed.now)
         (λ i. IsFirstNot (UpwardAt listed.now) (length listed.now) i) }
@@ -55,14 +58,35 @@ fn first_not_upward(listed: &[(i32, i32, i32)]) -> Option<usize>
 }
 
 impl Pattern {
+    // The pattern of these offsets.
+    fn of(alloc: Global, offsets: Vec<(i32, i32, i32)>) -> Result<Pattern, AllocError>
+        requires { IsPattern offsets.items }
+        ensures is { IfOk result (λ p. p ≡ offsets.items) }
+        ensures all { IfOk result IsPattern }
+    {
+        let wide = widened(alloc, &offsets)?;
+        Ok(Pattern { offsets, wide })
+    }
+
+    // A copy.
+    pub(crate) fn copied(&self, alloc: Global) -> Result<Pattern, AllocError>
+        ensures is { IfOk result (λ p. p ≡ self.now) }
+        ensures all { IfOk result IsPattern }
+    {
+        let offsets = Vec::from_slice(alloc, &self.offsets)?;
+        Pattern::of(alloc, offsets)
+    }
+
     // The pattern of few offsets that lead up.
-    fn gathered(alloc: Global, listed: &[(i32, i32, i32)]) -> Result<Pattern, AllocError>
+    pub(crate) fn gathered(alloc: Global, listed: &[(i32, i32, i32)]) -> Result<Pattern, AllocError>
         requires upward { All IsUpward listed.now }
         requires few { length listed.now ≤ MOST_OFFSETS }
-        ensures { IfOk result (AreOffsets (Contains listed.now)) }
+        ensures is { IfOk result (AreOffsets (Contains listed.now)) }
+        ensures all { IfOk result IsPattern }
     {
         let offsets = in_order(Vec::from_slice(alloc, listed)?);
-        Ok(Pattern { offsets })
+        let pattern = Pattern::of(alloc, offsets)?;
+        Ok(pattern)
     }
 
     /// The block above and the four that share a side with it, which is called 1:5.
@@ -115,9 +139,10 @@ impl Pattern {
             (ConeFaultStands levels run rise) }
     {
         let listed = cone_offsets(alloc, levels, run, rise)?;
-        Ok(Pattern {
-            offsets: in_order(listed),
-        })
+        match Pattern::of(alloc, in_order(listed)) {
+            Ok(pattern) => Ok(pattern),
+            Err(_) => Err(PatternFault::NoMemory),
+        }
     }
 
     /// The offsets of a list, which may be empty; repeats are dropped.
@@ -148,5 +173,13 @@ impl Pattern {
         ensures all { IsPattern self.now }
     {
         &self.offsets
+    }
+
+    // The offsets in wide numbers, in order.
+    pub(crate) fn wide(&self) -> &[(i64, i64, i64)]
+        ensures is { result.now ≡ self.now }
+        ensures all { IsPattern self.now }
+    {
+        &self.wide
     }
 }

@@ -1,14 +1,16 @@
-//! Tells which block stands at each offset of a pattern from a given block, and looks each up at most once.
+//! Tells which block stands at each offset of a block's own region from it, and looks each up at most once.
 
-ghost use Rattle.std.specs.Prelude.{◌≡◌, ◌<◌, ◌⊎◌, true, false, All, MatchOption, MatchResult, length};
-ghost use Rattle.slope.specs.Slopes.{place_of};
-ghost use Rattle.slope.specs.Gathering.{ArePlacesOf, AreStepsTo, IsIndex, StandsAtOffset, StandsNone, StandsAtSome, StandsAtNone, offset_at};
+ghost use Rattle.std.specs.Prelude.{◌≡◌, ◌<◌, ◌⊎◌, true, false, All, IsTrue, ◌↔◌, Contains, MatchOption, MatchResult, length};
+ghost use Rattle.slope.specs.Slopes.{AreApartBelow, listed_at, place_of};
+ghost use Rattle.slope.specs.Gathering.{ArePlacesOf, HaveRegions, IsIndex, LiesAtNone, LiesAtSome, StandsAtOffset, StandsNone, offset_at, owns, region_by, rest_after};
 
+use crate::ground::Ground;
 use crate::guesses::Guesses;
 use crate::place_index::PlaceIndex;
 use crate::place_search::block_at;
 use crate::sight::{Sight, sight_of};
-use crate::{Selection, SlopeFault, Up};
+use crate::two_steps::leads_on_at;
+use crate::{SlopeFault, Up};
 use blocks_file::{BlockModel, Place};
 use std::alloc::Global;
 use std::marker::Model;
@@ -18,6 +20,7 @@ use std::marker::Model;
 pub(crate) struct Surroundings<'a> {
     index: &'a PlaceIndex,
     model: &'a BlockModel,
+    ground: &'a Ground,
     offsets: &'a [(i32, i32, i32)],
     up: Up,
     from: Place,
@@ -31,36 +34,54 @@ impl<'a> Model for Surroundings<'a> {
     ghost Value = { SurroundingsView };
 
     ghost view = { λ s.
-        record { model = s.model.now; offsets = s.offsets.now; up = s.up; from = s.from } };
+        record {
+          model = s.model.now;
+          patterns = s.ground.now.patterns.items;
+          by_column = s.ground.now.by_column;
+          offsets = s.offsets.now;
+          up = s.up;
+          from = s.from;
+        } };
 
     ghost invariant = { λ s. AreSeen
-        (record { model = s.model.now; offsets = s.offsets.now; up = s.up; from = s.from })
+        (record {
+          model = s.model.now;
+          patterns = s.ground.now.patterns.items;
+          by_column = s.ground.now.by_column;
+          offsets = s.offsets.now;
+          up = s.up;
+          from = s.from;
+        })
         s.index.now.keys.items s.index.now.blocks.items s.seen.items };
 }
 
 impl<'a> Surroundings<'a> {
-    // Nothing is looked up yet.
+    // No block is looked from yet.
     pub(crate) fn new(
         alloc: Global,
         index: &'a PlaceIndex,
         model: &'a BlockModel,
-        offsets: &'a [(i32, i32, i32)],
+        ground: &'a Ground,
         up: Up,
     ) -> Result<Surroundings<'a>, SlopeFault>
-        requires { IsIndex model.now index.now.keys.items index.now.blocks.items }
+        requires index { IsIndex model.now index.now.keys.items index.now.blocks.items }
+        requires regions { HaveRegions
+            ground.now.by_column ground.now.patterns.items model.now }
         ensures { MatchResult result
-            (λ s. ArePlacesOf s model.now offsets.now up)
+            (λ s. ArePlacesOf s model.now ground.now.by_column ground.now.patterns.items up)
             (λ e. e ≡ SlopeFault.NoMemory) }
     {
         let from = Place { x: 0, y: 0, z: 0 };
-        let Ok(seen) = vec![in alloc; Sight::Unasked; offsets.len()] else {
+        let most = ground.widest();
+        let Ok(seen) = vec![in alloc; Sight::Unasked; most] else {
             return Err(SlopeFault::NoMemory);
         };
-        match Guesses::new(alloc, offsets.len()) {
+        match Guesses::new(alloc, most) {
             Ok(guesses) => Ok(Surroundings {
                 index,
                 model,
-                offsets,
+                ground,
+                offsets: &[],
                 up,
                 from,
                 seen,
@@ -70,16 +91,23 @@ impl<'a> Surroundings<'a> {
         }
     }
 
-    // Looks from a block from now on.
-    pub(crate) fn stand_on(&mut self, block: u32)
+    // Looks from a block from now on, and tells its region.
+    pub(crate) fn stand_on(&mut self, block: u32) -> usize
         requires { block < self.old.model.blocks }
-        ensures same { ArePlacesOf self.new self.old.model self.old.offsets self.old.up }
+        ensures same { ArePlacesOf self.new
+            self.old.model self.old.by_column self.old.patterns self.old.up }
         ensures from { self.new.from ≡ place_of self.old.model block }
+        ensures region { result < length self.old.patterns }
+        ensures own { owns self.old block ≡ listed_at self.old.patterns result }
+        ensures offsets { self.new.offsets ≡ listed_at self.old.patterns result }
     {
+        let region = self.ground.region(self.model, block);
+        self.offsets = self.ground.patterns[region].offsets();
         self.from = self.model.place(block);
         self.guesses
             .stand_on(self.index.rank_of(block), self.from.z);
         self.seen.fill(Sight::Unasked);
+        region
     }
 
     // The block at offset i.
@@ -107,33 +135,52 @@ impl<'a> Surroundings<'a> {
         }
     }
 
-    // Whether a block stands at one of these offsets.
-    fn any_at(&mut self, steps: &[u32]) -> bool
-        requires { All (λ a. a < length self.old.offsets) steps.now }
+    // Whether a block rests by its own offsets on what stands at offset i, where it stands at offset a.
+    fn leads_on_from(&self, block: u32, a: usize, i: usize) -> bool
+        requires known { block < self.now.model.blocks }
+        requires step { a < length self.now.offsets }
+        requires whole { i < length self.now.offsets }
+        ensures { IsTrue result ↔ Contains (owns self.now block)
+            (rest_after (offset_at self.now.offsets a) (offset_at self.now.offsets i)) }
+    {
+        let region = self.ground.region(self.model, block);
+        let wide = self.ground.patterns[region].wide();
+        leads_on_at(wide, self.offsets, a, i)
+    }
+
+    // Whether a block at one of these offsets lies between, so that a pair at offset i leads over it.
+    fn any_between(&mut self, i: usize, steps: &[u32]) -> bool
+        requires known { i < length self.old.offsets }
+        requires steps { All (λ a. a < length self.old.offsets) steps.now }
+        requires apart { AreApartBelow self.old.model self.old.model.blocks }
         ensures same { self.new ≡ self.old }
-        ensures none { result ≡ false → StandsAtNone self.old steps.now }
-        ensures some { result ≡ true → StandsAtSome self.old steps.now }
+        ensures none { result ≡ false → LiesAtNone self.old i steps.now }
+        ensures some { result ≡ true → LiesAtSome self.old i steps.now }
     {
         for step in steps {
-            if self.at(*step as usize).is_some() {
-                return true;
+            if let Some(block) = self.at(*step as usize) {
+                if self.leads_on_from(block, *step as usize, i) {
+                    return true;
+                }
             }
         }
         false
     }
 
-    // The block at offset i, where none stands at a step to it.
-    pub(crate) fn direct(&mut self, i: usize, steps: &[u32], _selection: Selection) -> Option<u32>
+    // The block at offset i, where none lies between at one of these steps.
+    pub(crate) fn direct(&mut self, i: usize, steps: &[u32]) -> Option<u32>
         requires known { i < length self.old.offsets }
-        requires steps { AreStepsTo _selection self.old.offsets
-            (offset_at self.old.offsets i) steps.now }
+        requires steps { All (λ a. a < length self.old.offsets) steps.now }
+        requires apart { AreApartBelow self.old.model self.old.model.blocks }
         ensures same { self.new ≡ self.old }
-        ensures steps { AreStepsTo _selection self.old.offsets
-            (offset_at self.old.offsets i) steps.now }
         ensures stands { MatchOption result
-            (StandsAtSome self.old steps.now ⊎ StandsNone self.old i)
-            (λ p. StandsAtOffset self.old i p × StandsAtNone self.old steps.now) }
+            (LiesAtSome self.old i steps.now ⊎ StandsNone self.old i)
+            (λ p. StandsAtOffset self.old i p × LiesAtNone self.old i steps.now) }
     {
-        if self.any_at(steps) { None } else { self.at(i) }
+        if self.any_between(i, steps) {
+            None
+        } else {
+            self.at(i)
+        }
     }
 }

@@ -1,68 +1,8 @@
+use Rattle.slope.proofs.Narrow.{above_most, slopes_narrow}
 use Rattle.slope.proofs.laws.slopes_are_narrow.Goals as goal
-use Rattle.fixed_worth.proofs.Common.{◌≡◌, ◌≢◌, ℕ, zero, suc, ◌+◌, ◌<◌, ◌≤◌, ◌==◌, cond, List, length, get_or, sym, ap, ◌∙◌, arith, nat_tests, get_or_default}
-use Rattle.blocks_file.specs.Denotes.{BlocksView}
-use Rattle.prec_file.specs.Prelude.{RestsView, first_of, above_of, AreNarrow}
-use Rattle.prec_file.proofs.Finding.{above_at, above_rises}
-use Rattle.slope.specs.Prelude.{Offset, IsPattern, place_of, offset_between, IsSlopePair, AreSlopes}
-use Rattle.slope.specs.declared.up.Up.{Up}
-use Rattle.slope.specs.declared.selection.Selection.{Selection}
-use Rattle.slope.proofs.Finding.{one_place}
-use Rattle.slope.proofs.PairSteps.{slope_of}
-
--- a number, with another in the place of k
-moved : ℕ → ℕ → ℕ → ℕ
-moved k last x = cond (x == k) last x
-
-moved_below : (k last x : ℕ) → x < suc k → last < suc k → x ≢ last → moved k last x < k
-unfolding moved
-moved_below k last x a b c = grind (arith, nat_tests, a, b, c)
-
-moved_apart : (k last x y : ℕ) → x ≢ y → x ≢ last → y ≢ last → moved k last x ≢ moved k last y
-unfolding moved
-moved_apart k last x y a b c = grind (arith, nat_tests, a, b, c)
-
--- n numbers below k of which no two are equal are at most k
-at_most : (k n : ℕ) (f : (i : ℕ) → i < n → ℕ) → ((i : ℕ) (l : i < n) → f i l < k) → ((i j : ℕ) (l : i < n) (h : j < n) → i < j → f i l ≢ f j h) → n ≤ k
-at_most k zero f below apart = omega arith
-at_most zero (suc n) f below apart = absurd (let b = below 0 (omega arith) in omega (arith, b))
-at_most (suc k) (suc n) f below apart =
-    let up : (i : ℕ) → i < n → i < suc n = λ i l. omega (arith, l) in
-    let here : n < suc n = omega arith in
-    let last = f n here in
-    let fewer = at_most k n (λ i l. moved k last (f i (up i l)))
-    (λ i l. moved_below k last (f i (up i l)) (below i (up i l)) (below n here) (apart i n (up i l) here l))
-    (λ i j l h r. moved_apart k last (f i (up i l)) (f j (up j h)) (apart i j (up i l) (up j h) r) (apart i n (up i l) here l) (apart j n (up j h) here h)) in
-    omega (arith, fewer)
-
-module _ (m : BlocksView) (os : List Offset) (up : Up) (selection : Selection) (rests : RestsView) (s : AreSlopes m os up selection rests) (b : ℕ) where
-  above : ℕ → ℕ
-  above i = get_or (above_of rests.pairs b) i 0
-
-  pair_of : (i : ℕ) → i < length (above_of rests.pairs b) → IsSlopePair m os up (b, above i)
-  unfolding above
-  pair_of i l =
-      let at = above_at rests.pairs s.rising b i l in
-      slope_of selection m os up (b, above i) (s.only (b, above i) (first_of rests.pairs b + i, at.0, get_or_default rests.pairs (first_of rests.pairs b + i) (b, above i) (0, 0) at.0 ∙ at.1))
-
-  -- no offset leads to two of them
-  offsets_apart : (i j : ℕ) (l : i < length (above_of rests.pairs b)) (h : j < length (above_of rests.pairs b)) → i < j → (pair_of i l).offset.0 ≢ (pair_of j h).offset.0
-  unfolding above
-  offsets_apart i j l h r e =
-      let p = pair_of i l in
-      let q = pair_of j h in
-      let x = get_or_default os p.offset.0 (offset_between up (place_of m b) (place_of m (above i))) (offset_between up (place_of m b) (place_of m (above j))) p.offset.1 in
-      let same : offset_between up (place_of m b) (place_of m (above i)) ≡ offset_between up (place_of m b) (place_of m (above j)) =
-      sym p.offset.2 ∙ x ∙ ap (λ k. get_or os k (offset_between up (place_of m b) (place_of m (above j)))) e ∙ q.offset.2 in
-      s.apart (above i) (above j) (above_rises rests.pairs s.rising b i j r h) q.top (one_place up (place_of m b) (place_of m (above i)) (place_of m (above j)) same)
-
-  pub above_most : length (above_of rests.pairs b) ≤ length os
-  above_most = at_most (length os) (length (above_of rests.pairs b)) (λ i l. (pair_of i l).offset.0) (λ i l. (pair_of i l).offset.1) offsets_apart
-
-slopes_narrow : (m : BlocksView) (os : List Offset) (up : Up) (selection : Selection) (rests : RestsView) → IsPattern os → AreSlopes m os up selection rests → AreNarrow rests
-slopes_narrow m os up selection rests p s b l = omega (arith, above_most m os up selection rests s b, p.few)
 
 pub returns-clause-each : goal.returns-clause-each
-returns-clause-each c = λ m up selection rests s b. above_most m c.args.pattern.now up selection rests s b
+returns-clause-each c = λ m up selection rests s b. above_most m (λ k. c.args.pattern.now) up selection rests s b
 
 pub returns-clause-narrow : goal.returns-clause-narrow
-returns-clause-narrow c = λ m up selection rests s. slopes_narrow m c.args.pattern.now up selection rests c.offsets.ensures.all s
+returns-clause-narrow c = λ m up selection rests s. slopes_narrow m (λ b. c.args.pattern.now) up selection rests (λ b. c.offsets.ensures.all.few) s

@@ -2,4 +2,4 @@ use Rattle.slope.specs.Gathering.{AreFirstSteps}
 use Rattle.slope.proofs.two_steps.steps_to.Given as goal
 
 abbrev pub invariant-loop-a : goal.invariant-loop-a
-invariant-loop-a l = AreFirstSteps l.offsets l.whole l.a l.steps.items
+invariant-loop-a l = AreFirstSteps l.offsets l.all l.whole l.a l.steps.items

@@ -1,9 +1,9 @@
 use Rattle.fixed_worth.proofs.Common.{length, ap, arith, subst, sym, List, Contains, All-contains, All-contains_itself, All-weaker}
-use Rattle.slope.specs.Offsets.{Offset, IsUpward}
+use Rattle.slope.specs.Offsets.{Offset, IsUpward, AreOffsets}
 use Rattle.slope.proofs.pattern.Pattern.gathered.Goals as goal
 
-pub invariant_of-result : goal.invariant_of-result
-invariant_of-result c =
+pub of-requires : goal.of-requires
+of-requires c =
     let e = c.in_ok-from_slice.ensures.items in
     let os = c.in_order-offsets.result.items in
     record {
@@ -12,11 +12,12 @@ invariant_of-result c =
       few = omega (arith, ap length e, c.in_order-offsets.ensures.fewer, c.requires.few);
     }
 
-pub returns : goal.returns
-returns c =
+pub returns-clause-is : goal.returns-clause-is
+returns-clause-is c =
     let e = c.in_ok-from_slice.ensures.items in
-    record {
+    let P : List Offset → Type 0 = λ p. AreOffsets (Contains c.args.listed.now) p in
+    subst P (sym c.in_ok-pattern.ensures.is) (record {
       rising = c.in_order-offsets.ensures.rising;
       held = λ o k. c.in_order-offsets.ensures.held o (subst (λ (xs : List Offset). Contains xs o) (sym e) k);
       only = λ o k. subst (λ (xs : List Offset). Contains xs o) e (c.in_order-offsets.ensures.only o k);
-    }
+    })

@@ -20,7 +20,7 @@ sight_is v i (Some p) s e h = subst (IsSight v i) (sym e) h
 
 pub invariant_of-self : goal.invariant_of-self
 invariant_of-self c =
-    let v : SurroundingsView = record { model = c.self.inside.model.now; offsets = c.self.inside.offsets.now; up = c.self.inside.up; from = c.self.inside.from } in
+    let v : SurroundingsView = record { model = c.self.inside.model.now; patterns = c.self.inside.ground.now.patterns.items; by_column = c.self.inside.ground.now.by_column; offsets = c.self.inside.offsets.now; up = c.self.inside.up; from = c.self.inside.from } in
     let i = c.args.i in
     let l : i < length v.offsets = omega (arith, c.requires, ap (λ (x : SurroundingsView). length x.offsets) c.self.view_is) in
     seen_more v _ _ _ i _ c.self.invariant l (sight_is v i _ _ c.sight_of.ensures (found_stands v i _ _ refl c.block_at-found.ensures))
