@@ -1,0 +1,4 @@
+pub mod Bounded
+pub mod TextsBeside
+pub mod Answered
+pub mod PlanSolved

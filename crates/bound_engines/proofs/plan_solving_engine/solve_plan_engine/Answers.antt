@@ -1,0 +1,10 @@
+use Rattle.bound_engines.specs.Prelude.{SolvesPlan}
+use Rattle.bound_engines.proofs.TextsBeside.{of_read}
+use Rattle.bound_engines.proofs.plan_solving_engine.solve_plan_engine.Goals as goal
+
+pub returns-clause-answer : goal.returns-clause-answer
+returns-clause-answer g c =
+    let mine = c.in-Ok.mine in
+    let asked = c.args.asked in
+    of_read c.args.inputs.now c.args.beside.now g.D.Read.remaining asked.factor (λ texts p u. SolvesPlan texts p u asked.effort.method asked.effort.steps (g.W.Write.contents c.args.out.now) (g.W.Write.contents c.solve_plan.new.out) c.solve_plan.result)
+    mine.worths mine.predecessors c.len.result c.len.ensures.is c.in-Ok-beside_from.beside c.in-Ok.ensures.read c.in-Ok-beside_from.ensures.read c.solve_plan.ensures.answer

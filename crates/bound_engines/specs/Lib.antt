@@ -1,0 +1,10 @@
+-- the devices of what is read beside a mine
+pub mod BesideTexts
+-- what a bound over texts is
+pub mod Bounded
+-- the line of a bound, and what is written
+pub mod BoundLines
+-- what is written of the expanded mine where it is solved
+pub mod PlanSolving
+-- the names of all of them
+pub mod Prelude

@@ -1,0 +1,90 @@
+//! Why there is no bound: a fault of the texts, of the expanded mine, or memory or a device.
+
+ghost use Rattle.std.specs.Prelude.{◌≡◌, IsErrOf};
+ghost use Rattle.mine_inputs.specs.declared.engine_fault.EngineFault.TheVariants as engine;
+ghost use Rattle.schedule_engines.specs.declared.schedule_fault.PlanFault.TheVariants as plan;
+ghost use Rattle.bound_engines.specs.declared.bound_fault.BoundFault.TheVariants as bound;
+
+use closure_net::NetFault;
+use expanded_mine::ExpandFault;
+use mine_inputs::EngineFault;
+use schedule_engines::PlanFault;
+use std::alloc::AllocError;
+
+/// What is wrong with the expanded mine.
+#[derive(Clone, Copy, Debug, PartialEq, Eq)]
+pub enum NodesProblem {
+    /// There are more than 2^24 nodes: blocks times periods.
+    TooManyNodes,
+    /// There are more than 2^27 pairs of nodes.
+    TooManyPairs,
+    /// What a node is worth, a sum of its net, or the bound doesn't fit.
+    TooLarge,
+}
+
+/// Why there is no bound: a fault of the texts, as other engines answer them, or one of the expanded mine.
+#[derive(Clone, Copy, Debug, PartialEq, Eq)]
+pub enum BoundFault {
+    /// What is wrong isn't the expanded mine.
+    Plan(PlanFault),
+    /// The expanded mine.
+    Nodes(NodesProblem),
+}
+
+impl From<PlanFault> for BoundFault {
+    ghost use Rattle.std.specs.Prelude.{◌≡◌};
+    ghost use Rattle.bound_engines.specs.declared.bound_fault.BoundFault.TheVariants as bound;
+
+    ghost from_gives = { λ fault e. e ≡ bound.Plan fault };
+
+    fn from(fault: PlanFault) -> BoundFault {
+        BoundFault::Plan(fault)
+    }
+}
+
+impl From<EngineFault> for BoundFault {
+    ghost use Rattle.std.specs.Prelude.{◌≡◌};
+    ghost use Rattle.schedule_engines.specs.declared.schedule_fault.PlanFault.TheVariants as plan;
+    ghost use Rattle.bound_engines.specs.declared.bound_fault.BoundFault.TheVariants as bound;
+
+    ghost from_gives = { λ fault e. e ≡ bound.Plan (plan.Engine fault) };
+
+    fn from(fault: EngineFault) -> BoundFault {
+        BoundFault::Plan(PlanFault::Engine(fault))
+    }
+}
+
+impl From<AllocError> for BoundFault {
+    ghost use Rattle.std.specs.Prelude.{◌≡◌};
+    ghost use Rattle.mine_inputs.specs.declared.engine_fault.EngineFault.TheVariants as engine;
+    ghost use Rattle.schedule_engines.specs.declared.schedule_fault.PlanFault.TheVariants as plan;
+    ghost use Rattle.bound_engines.specs.declared.bound_fault.BoundFault.TheVariants as bound;
+
+    ghost from_gives = { λ _ e. e ≡ bound.Plan (plan.Engine engine.Memory) };
+
+    fn from(_refused: AllocError) -> BoundFault {
+        BoundFault::Plan(PlanFault::Engine(EngineFault::Memory))
+    }
+}
+
+// What is answered where there is no expanded mine.
+pub(crate) fn of_expansion(fault: ExpandFault) -> BoundFault
+    ensures { ¬ (result ≡ bound.Plan (plan.Engine engine.Device)) }
+{
+    match fault {
+        ExpandFault::TooManyNodes => BoundFault::Nodes(NodesProblem::TooManyNodes),
+        ExpandFault::TooManyPairs => BoundFault::Nodes(NodesProblem::TooManyPairs),
+        ExpandFault::TooLarge => BoundFault::Nodes(NodesProblem::TooLarge),
+        ExpandFault::NoMemory => BoundFault::Plan(PlanFault::Engine(EngineFault::Memory)),
+    }
+}
+
+// What is answered where the nodes have no net: there are as many worths as nodes.
+pub(crate) fn of_net(fault: NetFault) -> BoundFault
+    ensures { ¬ (result ≡ bound.Plan (plan.Engine engine.Device)) }
+{
+    match fault {
+        NetFault::NoMemory => BoundFault::Plan(PlanFault::Engine(EngineFault::Memory)),
+        NetFault::WrongLength | NetFault::TooLarge => BoundFault::Nodes(NodesProblem::TooLarge),
+    }
+}

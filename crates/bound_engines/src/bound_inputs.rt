@@ -1,0 +1,61 @@
+//! Reads what a bound needs beside a mine: periods, and what blocks use.
+
+ghost use Rattle.std.specs.Prelude.{◌≡◌, ◌+◌, ◌≤◌, length, IfOk, IsErrOf};
+ghost use Rattle.mine_inputs.specs.declared.engine_fault.EngineFault.TheVariants as engine;
+ghost use Rattle.schedule_engines.specs.declared.schedule_fault.PlanFault.TheVariants as plan;
+ghost use Rattle.bound_engines.specs.BesideTexts.{BesideCanCount, ForBeside, IsBesideRead, beside_failures};
+
+use fixed_worth::{CountedRead, MOST_BLOCKS};
+use periods_file::{PeriodKey, Periods, PeriodsFault};
+use schedule_engines::{PeriodsProblem, PlanFault, periods_from, uses_from};
+use std::alloc::Global;
+
+/// What a bound needs beside a mine. It is read in the order of these fields, each to its end.
+#[derive(Drop)]
+pub struct BoundInputs<D> {
+    /// What periods weigh and have, at which prices, and which columns have what blocks use.
+    pub periods: D,
+    /// MineLib's `.blocks`, which has these columns.
+    pub uses: D,
+}
+
+/// What was read of them.
+#[derive(Drop)]
+pub(crate) struct BesideRead {
+    /// What periods weigh and have, and at which prices.
+    pub periods: Periods,
+    /// What blocks use, row by row for each resource.
+    pub uses: Vec<u64>,
+}
+
+// Periods and what n blocks use, in this order. Of periods without multipliers no bound is asked.
+pub(crate) fn beside_from<D: CountedRead>(
+    alloc: Global,
+    beside: &mut BoundInputs<D>,
+    n: u32,
+) -> Result<BesideRead, PlanFault>
+    requires blocks { n ≤ MOST_BLOCKS }
+    requires room { BesideCanCount beside.old D.failed }
+    ensures read { ForBeside beside.old D.remaining
+        (λ p u. IfOk result (λ r. IsBesideRead n r p u)) }
+    ensures few { IfOk result (λ r. length r.periods.resources.items ≤ 8) }
+    ensures device { IsErrOf result (plan.Engine engine.Device)
+        → beside_failures beside.new D.failed ≡ beside_failures beside.old D.failed + 1 }
+    ensures kept { ¬ IsErrOf result (plan.Engine engine.Device)
+        → beside_failures beside.new D.failed ≡ beside_failures beside.old D.failed }
+{
+    let periods = match periods_from(alloc, &mut beside.periods) {
+        Ok(periods) => periods,
+        Err(fault) => return Err(fault),
+    };
+    if periods.multipliers.is_none() {
+        let fault = PeriodsFault::Missing(PeriodKey::Multipliers);
+        return Err(PlanFault::Periods(PeriodsProblem::Fault(fault)));
+    }
+    let columns = periods.resources.as_slice();
+    let uses = match uses_from(alloc, &mut beside.uses, columns, n) {
+        Ok(uses) => uses,
+        Err(fault) => return Err(fault),
+    };
+    Ok(BesideRead { periods, uses })
+}

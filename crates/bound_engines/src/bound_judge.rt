@@ -1,0 +1,181 @@
+//! Judges a certificate of the expanded mine of what was read, and gives the bound that it proves.
+
+ghost use Rattle.std.specs.Prelude.{◌≡◌, ◌+◌, ◌-◌, ◌*◌, ◌^◌, ◌<◌, ◌≤◌, List, ℕ, length, IfOk, IfSome, IsErrOf};
+ghost use Rattle.std.specs.Thread.{IsSync};
+ghost use Rattle.ordered_group.specs.declared.groups.Group.TheVariants as group;
+ghost use Rattle.check_pit.specs.CertStreams.{IsReadFor};
+ghost use Rattle.engines.specs.Judging.{IsFresh, IsUndecided, factor_in};
+ghost use Rattle.mine_inputs.specs.Mines.{MineTexts};
+ghost use Rattle.mine_inputs.specs.ReadMines.{AreRead, IsMineRead};
+ghost use Rattle.mine_inputs.specs.declared.engine_fault.EngineFault.TheVariants as engine;
+ghost use Rattle.periods_file.specs.Periods.{periods_view};
+ghost use Rattle.schedule_engines.specs.PlanTexts.{ReadsPeriodsText, ReadsUses};
+ghost use Rattle.schedule_engines.specs.declared.schedule_fault.PlanFault.TheVariants as plan;
+ghost use Rattle.bound_engines.specs.declared.bound_fault.BoundFault.TheVariants as bound;
+ghost use Rattle.bound_engines.specs.Bounded.{IsToldOf};
+
+use crate::bound_fault::{BoundFault, NodesProblem};
+use crate::bound_inputs::BesideRead;
+use crate::nodes_judge::{NodesJudged, factor_from, judge_nodes};
+use crate::planned::{Planned, expanded_of};
+use check_pit::{CertStream, PitFault, StreamBytes};
+use expanded_mine::bound_by;
+use fixed_worth::{CountedRead, MOST_BLOCKS};
+use mine_inputs::{EngineFault, MineToCheck};
+use schedule_engines::PlanFault;
+use std::alloc::Global;
+use std::thread::Threads;
+
+/// What a certificate of the expanded mine tells.
+#[derive(Clone, Copy, Debug, PartialEq, Eq)]
+pub(crate) enum Told {
+    /// No feasible schedule is worth more than this, in 10^-15 of the unit of the worths.
+    Bound(i128),
+    /// Nothing, for this reason.
+    Refused(PitFault),
+}
+
+/// A mine and its periods, for which a certificate is judged.
+#[derive(Drop)]
+pub(crate) struct Case<'a, R> {
+    pub(crate) rt: &'a R,
+    pub(crate) alloc: Global,
+    pub(crate) mine: MineToCheck,
+    pub(crate) beside: BesideRead,
+}
+
+// How many nodes there are.
+fn nodes_of(blocks: u32, periods: usize) -> Result<u32, BoundFault>
+    ensures is { IfOk result (λ nodes. (nodes ≡ periods * blocks)) }
+    ensures no_device { ¬ IsErrOf result (bound.Plan (plan.Engine engine.Device)) }
+{
+    match (periods as u64).checked_mul(blocks as u64) {
+        Some(nodes) if nodes <= MOST_BLOCKS as u64 => Ok(nodes as u32),
+        _ => Err(BoundFault::Nodes(NodesProblem::TooManyNodes)),
+    }
+}
+
+// The bound of a certificate behind its header, for a mine whose blocks are worth so much.
+fn bound_behind<C: CountedRead>(
+    alloc: Global,
+    planned: Planned,
+    stream: &mut CertStream<C>,
+) -> Result<Told, BoundFault>
+    requires few { length planned.periods.resources.items ≤ 8 }
+    requires count { C.failed stream.old.lines.from < 2 ^ 64 - 1 }
+    requires open { IsUndecided stream.old }
+    requires header { IsReadFor (length planned.periods.weights.items * planned.predecessors.blocks)
+        group.Worth stream.old.header stream.old.fault }
+    ensures told { (texts : MineTexts) (p u : List ℕ)
+        → AreRead texts planned.nanos.items planned.predecessors
+        → ReadsPeriodsText p (periods_view planned.periods)
+        → ReadsUses planned.predecessors.blocks planned.periods.resources.items u planned.uses.items
+        → IfOk result (IsToldOf texts p u) }
+    ensures device { IsErrOf result (bound.Plan (plan.Engine engine.Device))
+        → C.failed stream.new.lines.from ≡ C.failed stream.old.lines.from + 1 }
+    ensures kept { ¬ IsErrOf result (bound.Plan (plan.Engine engine.Device))
+        → C.failed stream.new.lines.from ≡ C.failed stream.old.lines.from }
+{
+    let expanded = match expanded_of(alloc, planned) {
+        Ok(expanded) => expanded,
+        Err(fault) => return Err(fault),
+    };
+    let judged = match judge_nodes(alloc, expanded.pairs, expanded.worths.as_slice(), stream) {
+        Ok(judged) => judged,
+        Err(fault) => return Err(fault),
+    };
+    match judged {
+        NodesJudged::Richest(worth) => {
+            match bound_by(&expanded.figures, expanded.prices.as_slice(), worth) {
+                Some(bound) => Ok(Told::Bound(bound)),
+                None => Err(BoundFault::Nodes(NodesProblem::TooLarge)),
+            }
+        }
+        NodesJudged::Refused(fault) => Ok(Told::Refused(fault)),
+    }
+}
+
+// The bound of a certificate of which nothing was read.
+fn bound_from<R: Threads + Sync, C: CountedRead>(
+    rt: &R,
+    alloc: Global,
+    mine: MineToCheck,
+    beside: BesideRead,
+    stream: &mut CertStream<C>,
+) -> Result<Told, BoundFault>
+    requires few { length beside.periods.resources.items ≤ 8 }
+    requires count { C.failed stream.old.lines.from < 2 ^ 64 - 1 }
+    requires fresh { IsFresh stream.old }
+    requires sync { IsSync R.row }
+    ensures told { IfSome (C.remaining stream.old.lines.from) (λ c. (texts : MineTexts) (p u : List ℕ)
+        → IsMineRead texts (factor_in c) mine.worths mine.predecessors
+        → ReadsPeriodsText p (periods_view beside.periods)
+        → ReadsUses mine.predecessors.blocks beside.periods.resources.items u beside.uses.items
+        → IfOk result (IsToldOf texts p u)) }
+    ensures device { IsErrOf result (bound.Plan (plan.Engine engine.Device))
+        → C.failed stream.new.lines.from ≡ C.failed stream.old.lines.from + 1 }
+    ensures kept { ¬ IsErrOf result (bound.Plan (plan.Engine engine.Device))
+        → C.failed stream.new.lines.from ≡ C.failed stream.old.lines.from }
+{
+    let MineToCheck {
+        worths,
+        predecessors,
+    } = mine;
+    let BesideRead { periods, uses } = beside;
+    let nodes = match nodes_of(predecessors.len(), periods.weights.as_slice().len()) {
+        Ok(nodes) => nodes,
+        Err(fault) => return Err(fault),
+    };
+    let factor = match factor_from(&worths, nodes, stream) {
+        Ok(factor) => factor,
+        Err(fault) => return Err(fault),
+    };
+    let Ok(nanos) = worths.nanos_at(rt, alloc, factor) else {
+        return Err(BoundFault::Plan(PlanFault::Engine(EngineFault::Memory)));
+    };
+    let planned = Planned {
+        nanos,
+        predecessors,
+        periods,
+        uses,
+    };
+    bound_behind(alloc, planned, stream)
+}
+
+/// The bound that the certificate of a device proves for a mine and its periods that were read. Where the blocks have prices they
+/// are worth what these give at the factor that the certificate names. The device is handed back.
+///
+/// # Errors
+/// `Nodes` where there are too many or what they are worth doesn't fit; `Certificate` with the first fault of the certificate;
+/// `Device` where a read fails, and `Memory` where memory is refused.
+pub(crate) fn judge_bound<R: Threads + Sync, C: CountedRead>(
+    device: C,
+    case: Case<'_, R>,
+) -> (C, Result<Told, BoundFault>)
+    requires few { length case.beside.periods.resources.items ≤ 8 }
+    requires count { C.failed device < 2 ^ 64 - 1 }
+    requires sync { IsSync R.row }
+    ensures told { IfSome (C.remaining device) (λ c. (texts : MineTexts) (p u : List ℕ)
+        → IsMineRead texts (factor_in c) case.entry.mine.worths case.entry.mine.predecessors
+        → ReadsPeriodsText p (periods_view case.entry.beside.periods)
+        → ReadsUses case.entry.mine.predecessors.blocks case.entry.beside.periods.resources.items u case.entry.beside.uses.items
+        → IfOk result.1 (IsToldOf texts p u)) }
+    ensures device { IsErrOf result.1 (bound.Plan (plan.Engine engine.Device))
+        → C.failed result.0 ≡ C.failed device + 1 }
+    ensures kept { ¬ IsErrOf result.1 (bound.Plan (plan.Engine engine.Device))
+        → C.failed result.0 ≡ C.failed device }
+{
+    let Case {
+        rt,
+        alloc,
+        mine,
+        beside,
+    } = case;
+    let Ok(held) = StreamBytes::new(alloc) else {
+        let fault = BoundFault::Plan(PlanFault::Engine(EngineFault::Memory));
+        return (device, Err(fault));
+    };
+    let mut stream = CertStream::over(held, device);
+    let told = bound_from(rt, alloc, mine, beside, &mut stream);
+    (stream.into_device(), told)
+}

@@ -1,0 +1,92 @@
+//! Expands a mine that was read: the nodes of its blocks and periods, their pairs and their worths.
+
+ghost use Rattle.std.specs.Prelude.{◌≡◌, ◌≤◌, length, IfOk, IsErrOf};
+ghost use Rattle.mine_inputs.specs.declared.engine_fault.EngineFault.TheVariants as engine;
+ghost use Rattle.periods_file.specs.Periods.{periods_view};
+ghost use Rattle.schedule_engines.specs.declared.schedule_fault.PlanFault.TheVariants as plan;
+ghost use Rattle.bound_engines.specs.declared.bound_fault.BoundFault.TheVariants as bound;
+ghost use Rattle.bound_engines.specs.Bounded.{IsExpanded};
+
+use crate::bound_fault::{BoundFault, of_expansion};
+use closure_net::NetFault;
+use expanded_mine::{node_predecessors, node_worths_of};
+use mine_inputs::EngineFault;
+use periods_file::{PeriodKey, Periods, PeriodsFault};
+use prec_file::Predecessors;
+use production_figures::Figures;
+use schedule_engines::{PeriodsProblem, PlanFault};
+use std::alloc::Global;
+
+/// A mine and its periods, as they were read.
+#[derive(Drop)]
+pub(crate) struct Planned {
+    /// What blocks are worth, in billionths.
+    pub nanos: Vec<i128>,
+    /// The predecessors of each block.
+    pub predecessors: Predecessors,
+    /// What periods weigh and have, and at which prices.
+    pub periods: Periods,
+    /// What blocks use, row by row for each resource.
+    pub uses: Vec<u64>,
+}
+
+/// The nodes of a mine and its periods, and the figures that they are made of.
+#[derive(Drop)]
+pub(crate) struct Expanded {
+    /// What blocks are worth and use, and what periods weigh and have.
+    pub figures: Figures,
+    /// The price of each resource in each period, row by row.
+    pub prices: Vec<u64>,
+    /// The predecessors of each node.
+    pub pairs: Predecessors,
+    /// What each node is worth.
+    pub worths: Vec<i128>,
+}
+
+// The nodes of a mine and its periods.
+pub(crate) fn expanded_of(alloc: Global, planned: Planned) -> Result<Expanded, BoundFault>
+    requires { length planned.periods.resources.items ≤ 8 }
+    ensures is { IfOk result (λ x. IsExpanded planned.nanos.items planned.predecessors (periods_view planned.periods)
+        planned.uses.items x.figures x.prices.items x.pairs x.worths.items) }
+    ensures no_device { ¬ IsErrOf result (bound.Plan (plan.Engine engine.Device)) }
+{
+    let Planned {
+        nanos,
+        predecessors,
+        periods,
+        uses,
+    } = planned;
+    // the texts of a mine give as many worths as blocks
+    if nanos.len() != predecessors.len() as usize {
+        let fault = EngineFault::Model(NetFault::WrongLength);
+        return Err(BoundFault::Plan(PlanFault::Engine(fault)));
+    }
+    let Periods {
+        weights,
+        resources,
+        capacities,
+        multipliers,
+    } = periods;
+    let Some(prices) = multipliers else {
+        let fault = PeriodsFault::Missing(PeriodKey::Multipliers);
+        return Err(BoundFault::Plan(PlanFault::Periods(PeriodsProblem::Fault(fault))));
+    };
+    let count = resources.as_slice().len() as u32;
+    let Some(figures) = Figures::new(nanos, weights, count, uses, capacities) else {
+        return Err(BoundFault::Plan(PlanFault::Periods(PeriodsProblem::TooLarge)));
+    };
+    let pairs = match node_predecessors(alloc, &predecessors, figures.periods()) {
+        Ok(pairs) => pairs,
+        Err(fault) => return Err(of_expansion(fault)),
+    };
+    let worths = match node_worths_of(alloc, &figures, prices.as_slice()) {
+        Ok(worths) => worths,
+        Err(fault) => return Err(of_expansion(fault)),
+    };
+    Ok(Expanded {
+        figures,
+        prices,
+        pairs,
+        worths,
+    })
+}

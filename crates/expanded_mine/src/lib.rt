@@ -1,0 +1,17 @@
+//! The expanded mine of a production: the nodes' pairs and worths, and the bound on the worth of every schedule that a richest pit
+//! of it gives.
+//!
+//! Stands on `schedules` for the laws, on `production_figures`, and on `closure_net`, `prec_file`, `ordered_group` and
+//! `fixed_worth`. Promises upward: the pairs and the worths of the nodes are exactly those of the expanded mine; what `bound_by`
+//! answers no feasible schedule exceeds.
+#![tactic(auto)]
+
+mod bound;
+mod expand_fault;
+mod node_pairs;
+mod node_worths;
+
+pub use bound::bound_by;
+pub use expand_fault::ExpandFault;
+pub use node_pairs::node_predecessors;
+pub use node_worths::node_worths_of;

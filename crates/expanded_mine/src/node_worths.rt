@@ -1,0 +1,141 @@
+//! What the nodes of the expanded mine are worth.
+
+ghost use Rattle.std.specs.Prelude.{◌≡◌, ◌<◌, ◌+◌, pos, ◌+ℤ◌, ◌-ℤ◌, ◌*ℤ◌, length, IfOk, IfSome, OnOk, ◌++◌, ◌∷◌, []};
+ghost use Rattle.expanded_mine.specs.Nodes.{AreNodeWorths, charge_by, left_by, left_or_none, node_worth, price_by};
+
+use crate::expand_fault::ExpandFault;
+use fixed_worth::MOST_BLOCKS;
+use production_figures::Figures;
+use std::alloc::Global;
+
+// A sum with a product, where both fit.
+pub(crate) fn with_product(sum: i128, amount: i128, price: u64) -> Option<i128>
+    ensures { IfSome result (λ more. more ≡ sum +ℤ (amount *ℤ pos price)) }
+{
+    match amount.checked_mul(price as i128) {
+        Some(product) => sum.checked_add(product),
+        None => None,
+    }
+}
+
+// The price of resource r in period t, row by row for each resource; 0 where none is listed.
+pub(crate) fn price_at(figures: &Figures, prices: &[u64], r: u32, t: u32) -> u64
+    ensures { result ≡ price_by figures.now prices.now r t }
+{
+    let place = r as usize * figures.periods() as usize + t as usize;
+    if place < prices.len() {
+        prices[place]
+    } else {
+        0
+    }
+}
+
+// What block b is charged in period t.
+fn charge_at(figures: &Figures, prices: &[u64], b: u32, t: u32) -> Option<i128>
+    requires block { b < length figures.now.worths }
+    requires period { t < length figures.now.weights }
+    ensures { IfSome result (λ sum. sum ≡ charge_by figures.now prices.now b t) }
+{
+    let mut sum: i128 = 0;
+    for r in 0..figures.resources() {
+        let amount = figures.used(r, b) as i128;
+        match with_product(sum, amount, price_at(figures, prices, r, t)) {
+            Some(more) => sum = more,
+            None => return None,
+        }
+    }
+    Some(sum)
+}
+
+// A worth at a weight, less a charge.
+fn less_charge(worth: i128, weight: u64, charge: i128) -> Option<i128>
+    ensures { IfSome result (λ left. left ≡ (worth *ℤ pos weight) -ℤ charge) }
+{
+    match worth.checked_mul(weight as i128) {
+        Some(value) => value.checked_sub(charge),
+        None => None,
+    }
+}
+
+// What block b leaves in period t above what it is charged.
+fn left_at(figures: &Figures, prices: &[u64], b: u32, t: u32) -> Option<i128>
+    requires block { b < length figures.now.worths }
+    requires period { t < length figures.now.weights }
+    ensures { IfSome result (λ left. left ≡ left_by figures.now prices.now b t) }
+{
+    match charge_at(figures, prices, b, t) {
+        Some(charge) => less_charge(figures.worth(b), figures.weight(t), charge),
+        None => None,
+    }
+}
+
+// What block b leaves in period t, and nothing from the end of the last period on.
+fn left_or_none_at(figures: &Figures, prices: &[u64], b: u32, t: u32) -> Option<i128>
+    requires block { b < length figures.now.worths }
+    ensures { IfSome result (λ left. left ≡ left_or_none figures.now prices.now b t) }
+{
+    if t < figures.periods() {
+        left_at(figures, prices, b, t)
+    } else {
+        Some(0)
+    }
+}
+
+// A difference, where it fits.
+fn difference(first: i128, second: i128) -> Option<i128>
+    ensures { IfSome result (λ less. less ≡ first -ℤ second) }
+{
+    first.checked_sub(second)
+}
+
+// What the node of block b and period t is worth.
+fn worth_of_node(figures: &Figures, prices: &[u64], b: u32, t: u32) -> Option<i128>
+    requires block { b < length figures.now.worths }
+    requires period { t < length figures.now.weights }
+    ensures { IfSome result (λ worth. worth ≡ node_worth figures.now prices.now b t) }
+{
+    let now = match left_at(figures, prices, b, t) {
+        Some(now) => now,
+        None => return None,
+    };
+    // proof: there are few periods
+    let _few = figures.periods();
+    match left_or_none_at(figures, prices, b, t + 1) {
+        Some(next) => difference(now, next),
+        None => None,
+    }
+}
+
+// Adds a node's worth to those of the nodes before.
+fn push_worth(worths: &mut Vec<i128>, worth: i128) -> Result<(), ExpandFault>
+    ensures { OnOk result (worths.new.items ≡ worths.old.items ++ worth ∷ []) }
+{
+    worths.push(worth).map_err(|_| ExpandFault::NoMemory)
+}
+
+/// What each node of the expanded mine is worth, period by period, in 10^-15 of the unit of the worths: what its block leaves in
+/// its period above the prices of what it uses, less what it leaves in the next one.
+///
+/// # Errors
+/// `TooManyNodes` before all else; `TooLarge` where a number doesn't fit; `NoMemory`.
+pub fn node_worths_of(
+    alloc: Global,
+    figures: &Figures,
+    prices: &[u64],
+) -> Result<Vec<i128>, ExpandFault>
+    ensures { IfOk result (λ v. AreNodeWorths figures.now prices.now v.items) }
+{
+    let blocks = figures.blocks();
+    let nodes = figures.periods() as u64 * blocks as u64;
+    if nodes > MOST_BLOCKS as u64 {
+        return Err(ExpandFault::TooManyNodes);
+    }
+    let mut worths: Vec<i128> = Vec::new(alloc);
+    for i in 0..nodes as u32 {
+        match worth_of_node(figures, prices, i % blocks, i / blocks) {
+            Some(worth) => push_worth(&mut worths, worth)?,
+            None => return Err(ExpandFault::TooLarge),
+        }
+    }
+    Ok(worths)
+}

@@ -1,0 +1,4 @@
+pub mod Scheduled
+pub mod UsesRead
+pub mod TextsBeside
+pub mod Told

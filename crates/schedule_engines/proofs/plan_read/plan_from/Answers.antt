@@ -1,0 +1,31 @@
+use Rattle.std.proofs.Common.{length, ap}
+use Rattle.std.proofs.lemmas.Result.{err_from_is_err_and}
+use Rattle.periods_file.specs.Periods.{periods_view}
+use Rattle.schedule_engines.proofs.TextsBeside.{periods_failed, uses_failed, schedule_failed, all_read}
+use Rattle.schedule_engines.proofs.plan_read.plan_from.Goals as goal
+
+pub returns-in_err-periods-clause-read : goal.returns-in_err-periods-clause-read
+returns-in_err-periods-clause-read g c =
+    let b = c.args.beside.now in
+    let p = err_from_is_err_and c.from_residual.result c.from_residual.ensures.1 in
+    rw (p.1, p.2)
+    (periods_failed (g.D.Read.remaining b.periods) (g.D.Read.remaining b.uses) (g.D.Read.remaining b.schedule) c.args.n c.in_err-periods.field-0.0 c.in_err-periods.ensures.read)
+
+pub returns-in_err-uses-clause-read : goal.returns-in_err-uses-clause-read
+returns-in_err-uses-clause-read g c =
+    let b = c.args.beside.now in
+    let p = err_from_is_err_and c.from_residual-in_err-uses.result c.from_residual-in_err-uses.ensures.1 in
+    rw (p.1, p.2)
+    (uses_failed (g.D.Read.remaining b.periods) (g.D.Read.remaining b.uses) (g.D.Read.remaining b.schedule) c.args.n (periods_view c.in_ok-periods.periods) c.in_ok-periods.ensures.read c.in_err-uses.field-0.0 c.as_slice-columns.result.now c.as_slice-columns.ensures.value c.in_err-uses.ensures.read)
+
+pub returns-in_err-schedule-clause-read : goal.returns-in_err-schedule-clause-read
+returns-in_err-schedule-clause-read g c =
+    let b = c.args.beside.now in
+    let p = err_from_is_err_and c.from_residual-in_err-schedule.result c.from_residual-in_err-schedule.ensures.1 in
+    rw (p.1, p.2)
+    (schedule_failed (g.D.Read.remaining b.periods) (g.D.Read.remaining b.uses) (g.D.Read.remaining b.schedule) c.args.n (periods_view c.in_ok-periods.periods) c.in_ok-periods.ensures.read c.in_err-schedule.field-0.0 (length c.as_slice-weights.result.now) (ap length c.as_slice-weights.ensures.value) c.in_err-schedule.ensures.read)
+
+pub returns-clause-read : goal.returns-clause-read
+returns-clause-read g c =
+    let b = c.args.beside.now in
+    all_read (g.D.Read.remaining b.periods) (g.D.Read.remaining b.uses) (g.D.Read.remaining b.schedule) c.args.n (periods_view c.in_ok-periods.periods) c.in_ok-periods.ensures.read c.as_slice-columns.result.now c.in_ok-uses.uses.items c.in_ok-schedule.schedule.items (length c.as_slice-weights.result.now) c.as_slice-columns.ensures.value (ap length c.as_slice-weights.ensures.value) c.in_ok-uses.ensures.read c.in_ok-schedule.ensures.read

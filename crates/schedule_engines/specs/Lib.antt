@@ -1,0 +1,12 @@
+-- the texts of periods, of what blocks use, and of a schedule
+pub mod PlanTexts
+-- the production that texts denote, and what a schedule of it comes to
+pub mod Schedules
+-- the lines that tell it
+pub mod ScheduleLines
+-- how a fault prints
+pub mod FaultText
+-- the devices of these texts
+pub mod PlanDevices
+-- the names of all of them
+pub mod Prelude

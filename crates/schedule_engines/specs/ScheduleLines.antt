@@ -1,0 +1,38 @@
+-- The lines of a schedule.
+use Rattle.std.specs.Prelude.{ℕ, zero, Bool, true, false, List, [], ◌∷◌, ◌++◌, codes, decimal, Option}
+use Rattle.std.specs.Io.KnownBytes.{Keeps}
+use Rattle.fixed_worth.specs.Prelude.{ReceivedPrefix, amount_text}
+use Rattle.std.specs.List.{flat_map}
+use Rattle.mine_inputs.specs.declared.engine_fault.EngineFault.{EngineFault}
+use Rattle.mine_inputs.specs.declared.engine_fault.EngineFault.TheVariants as engine
+use Rattle.schedule_value.specs.declared.usage.Over.{Over}
+use Rattle.schedule_value.specs.Judging.{JudgedView}
+
+-- the line of a pair that is broken
+abbrev pub breaks_line : ℕ × ℕ → List ℕ
+breaks_line pair = codes "BREAKS " ++ (decimal pair.0 ++ (codes " " ++ (decimal pair.1 ++ 10 ∷ [])))
+
+abbrev pub breaks_text : List (ℕ × ℕ) → List ℕ
+breaks_text pairs = flat_map breaks_line pairs
+
+-- the line of a period that uses more of a resource than it has
+abbrev pub over_line : Over → List ℕ
+over_line o = codes "OVER " ++ (decimal o.resource ++ (codes " " ++ (decimal o.period ++ (codes " " ++ (amount_text 6 o.used ++ (codes " " ++ (amount_text 6 o.capacity ++ 10 ∷ [])))))))
+
+abbrev pub over_text : List Over → List ℕ
+over_text overs = flat_map over_line overs
+
+-- the lines of a schedule
+abbrev pub schedule_text : JudgedView → List ℕ
+schedule_text v = codes "SCHEDULE " ++ (decimal v.count ++ (codes " " ++ (amount_text 15 v.npv ++ (10 ∷ (codes "BROKEN " ++ (decimal v.broken ++ (10 ∷ (breaks_text v.first ++ over_text v.over))))))))
+
+-- whether no pair is broken, and nowhere is more used than there is
+abbrev pub is_clear : ℕ → List Over → Bool
+is_clear zero [] = true
+is_clear _ _ = false
+
+-- the lines could not be written: for want of memory nothing was, and else a front of them
+abbrev pub LinesFail : Option (List ℕ) → Option (List ℕ) → List ℕ → EngineFault → Type 0
+LinesFail old new lines engine.Memory = Keeps old new
+LinesFail old new lines engine.Device = ReceivedPrefix old new lines
+LinesFail old new lines _ = ⊥

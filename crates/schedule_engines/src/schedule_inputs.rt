@@ -1,0 +1,131 @@
+//! Reads what a schedule is judged by, beside its mine: periods and the schedule itself.
+
+ghost use Rattle.std.specs.Prelude.{◌≡◌, ◌+◌, ◌-◌, ◌^◌, ◌<◌, ◌≤◌, ◌↔◌, ◌⊎◌, length, IfOk, IfSome, MatchResult, IsErrOf};
+ghost use Rattle.mine_inputs.specs.Limits.{IsTooLong, IsWithinLimit};
+ghost use Rattle.mine_inputs.specs.declared.engine_fault.EngineFault.TheVariants as engine;
+ghost use Rattle.periods_file.specs.Periods.{periods_view};
+ghost use Rattle.schedule_engines.specs.declared.schedule_fault.PlanFault.TheVariants as plan;
+ghost use Rattle.schedule_engines.specs.PlanTexts.{PeriodsTextFails, ReadsPeriodsText, ReadsScheduleText, ScheduleTextFails};
+
+use crate::schedule_fault::{PeriodsProblem, PlanFault, ScheduleProblem};
+use fixed_worth::{CountedRead, InputFault, MOST_BLOCKS, MOST_BYTES, read_whole};
+use mine_inputs::EngineFault;
+use periods_file::{Periods, PeriodsFault, read_periods};
+use schedule_file::{ScheduleFault, read_schedule};
+use std::alloc::Global;
+
+/// What a schedule is judged by, beside its mine. It is read in the order of these fields, each to its end.
+#[derive(Drop)]
+pub struct ScheduleInputs<D> {
+    /// What periods weigh and have, and which columns have what blocks use.
+    pub periods: D,
+    /// MineLib's `.blocks`, which has these columns.
+    pub uses: D,
+    /// The period of each block that is dug.
+    pub schedule: D,
+}
+
+// All bytes of an input; this fault where it is too long.
+fn text_from<D: CountedRead>(
+    alloc: Global,
+    from: &mut D,
+    too_long: PlanFault,
+) -> Result<Vec<u8>, PlanFault>
+    requires room { D.failed from.old < 2 ^ 64 - 1 }
+    requires other { ¬ (too_long ≡ plan.Engine engine.Device) }
+    ensures read { IfSome (D.remaining from.old) (λ text. MatchResult result (λ v. v.items ≡ text)
+        (λ e. (e ≡ plan.Engine engine.Memory) ⊎ (e ≡ plan.Engine engine.Device)
+        ⊎ ((e ≡ too_long) × IsTooLong text))) }
+    ensures within { IfOk result (λ v. IsWithinLimit v.items) }
+    ensures device { IsErrOf result (plan.Engine engine.Device)
+        ↔ (D.failed from.new ≡ D.failed from.old + 1) }
+    ensures kept { ¬ IsErrOf result (plan.Engine engine.Device)
+        → D.failed from.new ≡ D.failed from.old }
+{
+    match read_whole(alloc, from, MOST_BYTES) {
+        Ok(text) => Ok(text),
+        Err(InputFault::Device) => Err(PlanFault::Engine(EngineFault::Device)),
+        Err(InputFault::InputTooLong) => Err(too_long),
+        Err(InputFault::NoMemory) => Err(PlanFault::Engine(EngineFault::Memory)),
+    }
+}
+
+// What a text says of periods.
+fn periods_in(alloc: Global, text: &[u8]) -> Result<Periods, PlanFault>
+    requires { IsWithinLimit text.now }
+    ensures read { MatchResult result
+        (λ p. ReadsPeriodsText text.now (periods_view p))
+        (PeriodsTextFails text.now) }
+    ensures few { IfOk result (λ p. (length p.weights.items ≤ 1000) × (length p.resources.items ≤ 8)) }
+    ensures no_device { ¬ IsErrOf result (plan.Engine engine.Device) }
+{
+    match read_periods(alloc, text) {
+        Ok(periods) => Ok(periods),
+        Err(PeriodsFault::NoMemory) => Err(PlanFault::Engine(EngineFault::Memory)),
+        Err(fault) => Err(PlanFault::Periods(PeriodsProblem::Fault(fault))),
+    }
+}
+
+/// What the text of an input says of periods.
+///
+/// # Errors
+/// `Periods` for a text that is too long, or its first fault. `Memory` where memory is refused, `Device` where a read fails.
+pub fn periods_from<D: CountedRead>(alloc: Global, from: &mut D) -> Result<Periods, PlanFault>
+    requires { D.failed from.old < 2 ^ 64 - 1 }
+    ensures read { IfSome (D.remaining from.old) (λ text. MatchResult result
+        (λ p. ReadsPeriodsText text (periods_view p))
+        (PeriodsTextFails text)) }
+    ensures few { IfOk result (λ p. (length p.weights.items ≤ 1000) × (length p.resources.items ≤ 8)) }
+    ensures device { IsErrOf result (plan.Engine engine.Device)
+        ↔ (D.failed from.new ≡ D.failed from.old + 1) }
+    ensures kept { ¬ IsErrOf result (plan.Engine engine.Device)
+        → D.failed from.new ≡ D.failed from.old }
+{
+    let too_long = PlanFault::Periods(PeriodsProblem::InputTooLong);
+    let text = text_from(alloc, from, too_long)?;
+    periods_in(alloc, text.as_slice())
+}
+
+// The period that a text gives each block.
+fn schedule_in(alloc: Global, text: &[u8], n: u32, periods: u32) -> Result<Vec<u32>, PlanFault>
+    requires blocks { n ≤ MOST_BLOCKS }
+    requires within { IsWithinLimit text.now }
+    ensures read { MatchResult result
+        (λ v. ReadsScheduleText n periods text.now v.items)
+        (ScheduleTextFails n periods text.now) }
+    ensures size { IfOk result (λ v. length v.items ≡ n) }
+    ensures no_device { ¬ IsErrOf result (plan.Engine engine.Device) }
+{
+    match read_schedule(alloc, text, n, periods) {
+        Ok(schedule) => Ok(schedule),
+        Err(ScheduleFault::NoMemory) => Err(PlanFault::Engine(EngineFault::Memory)),
+        Err(fault) => Err(PlanFault::Schedule(ScheduleProblem::Fault(fault))),
+    }
+}
+
+/// The period that the text of an input gives each of n blocks; the number of periods for one that isn't dug.
+///
+/// # Errors
+/// `Schedule` for a text that is too long, or the fault of its first faulty line. `Memory` where memory is refused, `Device`
+/// where a read fails.
+pub(crate) fn schedule_from<D: CountedRead>(
+    alloc: Global,
+    from: &mut D,
+    n: u32,
+    periods: u32,
+) -> Result<Vec<u32>, PlanFault>
+    requires blocks { n ≤ MOST_BLOCKS }
+    requires room { D.failed from.old < 2 ^ 64 - 1 }
+    ensures read { IfSome (D.remaining from.old) (λ text. MatchResult result
+        (λ v. ReadsScheduleText n periods text v.items)
+        (ScheduleTextFails n periods text)) }
+    ensures size { IfOk result (λ v. length v.items ≡ n) }
+    ensures device { IsErrOf result (plan.Engine engine.Device)
+        ↔ (D.failed from.new ≡ D.failed from.old + 1) }
+    ensures kept { ¬ IsErrOf result (plan.Engine engine.Device)
+        → D.failed from.new ≡ D.failed from.old }
+{
+    let too_long = PlanFault::Schedule(ScheduleProblem::InputTooLong);
+    let text = text_from(alloc, from, too_long)?;
+    schedule_in(alloc, text.as_slice(), n, periods)
+}
