@@ -5,6 +5,7 @@
 //! own, because `clap` is dear to prove over and nothing else needs it.
 #![tactic(auto)]
 
+mod bound_command;
 mod check_command;
 mod declined;
 mod escaped;
@@ -12,6 +13,7 @@ mod options;
 mod replay_command;
 mod report_command;
 mod request;
+mod schedule_command;
 mod series_options;
 mod shells_command;
 mod slopes_command;
@@ -20,12 +22,14 @@ mod value_command;
 mod version;
 mod wrong_value;
 
+pub use bound_command::BoundArgs;
 pub use check_command::CheckArgs;
 pub use declined::Declined;
 pub use escaped::Escaped;
 pub use options::ModelArgs;
 pub use replay_command::ReplayArgs;
 pub use request::{Request, request_of};
+pub use schedule_command::ScheduleArgs;
 pub use series_options::{SeriesArgs, SeriesCommand};
 pub use slopes_command::{OffsetsArgs, SlopesArgs};
 pub use solve_command::SolveArgs;

@@ -64,6 +64,17 @@ pub const SETTINGS_HELP: &str =
 pub const PRICED_BLOCKS_HELP: &str =
     "The blocks with columns of revenues and costs, or of a mill's charges: MineLib's .blocks";
 
+/// The option of a command over periods that names the blocks which have what is used.
+pub fn uses_option<'a>(alloc: Global) -> Result<Arg<'a>, AllocError> {
+    named_option(
+        alloc,
+        "uses",
+        "FILE",
+        "The blocks with the columns of what they use: MineLib's .blocks; needed with --upit, and otherwise the file of --blocks by default",
+    )
+    .required_unless_present("blocks")
+}
+
 /// What a mine's worths are read from.
 #[derive(Clone, Copy)]
 pub enum ModelArgs<'a> {

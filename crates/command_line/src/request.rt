@@ -1,11 +1,13 @@
 //! Reads the arguments of the program: gives the one request that they make, or why there is none.
 
+use crate::bound_command::{BoundArgs, bound_args, bound_command};
 use crate::check_command::{CheckArgs, check_args, check_command};
 use crate::declined::Declined;
 use crate::escaped::{Escaped, has_control};
 use crate::options::STATUSES;
 use crate::replay_command::{ReplayArgs, replay_args, replay_command};
 use crate::report_command::report_command;
+use crate::schedule_command::{ScheduleArgs, schedule_args, schedule_command};
 use crate::series_options::{SeriesArgs, SeriesCommand, series_args};
 use crate::shells_command::shells_command;
 use crate::slopes_command::{SlopesArgs, slopes_args, slopes_command};
@@ -22,10 +24,14 @@ const ABOUT: &str =
 /// What the arguments ask for.
 #[derive(Clone, Copy)]
 pub enum Request<'a> {
+    /// The worth of every schedule is to be bounded by a certificate.
+    Bound(BoundArgs<'a>),
     /// A certificate is to be checked.
     Check(CheckArgs<'a>),
     /// A run is to be repeated from its trace.
     Replay(ReplayArgs<'a>),
+    /// A schedule is to be judged.
+    Schedule(ScheduleArgs<'a>),
     /// Shells are to be drawn, or reported by benches.
     Series(SeriesArgs<'a>),
     /// Predecessors are to be written by a slope pattern.
@@ -74,11 +80,13 @@ fn escaped_args(alloc: Global, args: &[String]) -> Result<Vec<String>, AllocErro
 fn parsed<'a>(alloc: Global, args: &'a [String]) -> Result<Request<'a>, Error> {
     let matches = pit_command(alloc)?.try_get_matches_from(args)?;
     match matches.subcommand() {
+        Some(("bound", matches)) => Ok(Request::Bound(bound_args(matches))),
         Some(("check", matches)) => Ok(Request::Check(check_args(matches))),
         Some(("replay", matches)) => Ok(Request::Replay(replay_args(matches))),
         Some(("report", matches)) => {
             Ok(Request::Series(series_args(SeriesCommand::Report, matches)))
         }
+        Some(("schedule", matches)) => Ok(Request::Schedule(schedule_args(matches))),
         Some(("shells", matches)) => {
             Ok(Request::Series(series_args(SeriesCommand::Shells, matches)))
         }
@@ -101,6 +109,8 @@ fn pit_command<'a>(alloc: Global) -> Result<Command<'a>, AllocError> {
     let command = with_command(command, shells_command(alloc))?;
     let command = with_command(command, report_command(alloc))?;
     let command = with_command(command, value_command(alloc))?;
+    let command = with_command(command, schedule_command(alloc))?;
+    let command = with_command(command, bound_command(alloc))?;
     with_command(command, replay_command(alloc))
 }
 

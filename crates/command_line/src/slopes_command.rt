@@ -15,7 +15,7 @@ Patterns:
   five                  the block above and the four that share a side with it (1:5)
   nine                  the square of nine blocks above (1:9)
   cone:LEVELS:RUN:RISE  on each of LEVELS levels above, the blocks within level * RUN / RISE blocks of the axis; each number is from 1 to 1000. RUN and RISE count blocks: docs/GUIDE.md says what walls that makes
-  settings              the offsets that the file of --settings lists under `offsets`: [dx, dy, dz] each, from a block to a predecessor; dz counts levels upward and is at least 1";
+  settings              the offsets that the file of --settings lists under `offsets`: [dx, dy, dz] each, from a block to a predecessor; dz counts levels upward and is at least 1. Where it has `slopes` instead, those of the block's own region: `slopes` has a list of offsets for region 0, 1, and so on, and `region` is the number of the column of --blocks that says in which region a block is";
 
 // The pattern that takes the offsets of settings.
 const OF_SETTINGS: &str = "settings";
@@ -25,7 +25,8 @@ const BLOCKS_HELP: &str = "Where the blocks are: MineLib's .blocks";
 const PATTERN_HELP: &str =
     "Which blocks above a block are its predecessors: five, nine, cone:LEVELS:RUN:RISE or settings";
 
-const UP_HELP: &str = "Which way is up: plus, where a greater z is higher (the default), or minus";
+const UP_HELP: &str =
+    "Which way is up: plus, where a greater z is higher, or minus. Without it the settings say it under `up`, and otherwise it is plus";
 
 const SETTINGS_HELP: &str =
     "The file that lists the offsets, a TOML text: needed for --pattern settings, not opened with another pattern";

@@ -6,7 +6,7 @@ use crate::options::{
     named_option, number_option, progress_option, steps_option, text_of, verbose_solving_option,
     with_options, workers_option,
 };
-use clap::{Arg, ArgMatches, Command};
+use clap::{Arg, ArgGroup, ArgMatches, Command};
 use std::alloc::{AllocError, Global};
 
 const ABOUT: &str = "Finds the best pit and writes its certificate";
@@ -19,6 +19,8 @@ const DETAILS: &str = "Finds the best pit and writes its certificate.
 Prints a PITCERT text for `pit check`: the pit, and a flow that proves it. Whatever solver computed the flow, it is checked before anything is written. Prints UNSETTLED where no pit was found within the limits, and REFUSED TooLarge where a number doesn't fit 128 bits (with --method lock-free 63); both have the status 1.
 
 With --trace push-relabel computes the flow, and each of its steps is written to the trace, with which `pit replay` repeats the run. Prints HISTORYFULL, with the status 1, where the run needs more steps than --room has room for.
+
+With --periods it does so for the mine of blocks and periods, in worth alone: `pit bound` takes the certificate.
 
 Methods:
   auto          push-relabel for at most 1000 blocks, and pseudoflow where a number of its run doesn't fit; for more blocks pseudoflow, and up to 10000 push-relabel where that gives no proof. Push-relabel alone where --steps is given
@@ -37,11 +39,20 @@ const PROGRESS_HELP: &str = "Reports on standard error, once a second, how far t
 const TRACE_HELP: &str =
     "Writes each step of push-relabel's run to this file, and replaces what is in it: not an input, and not with --method pseudoflow or lock-free";
 
+const PERIODS_HELP: &str =
+    "Solves the mine of blocks and periods: what periods weigh and have, and the multipliers, a TOML text. Not with --group, --trace or --method lock-free";
+
+const USES_HELP: &str =
+    "With --periods, the blocks with the columns of what they use: needed with --upit, and otherwise the file of --blocks by default";
+
+// What has the uses of blocks: one of these is needed with periods.
+const USED: &str = "used";
+
 const ROOM_HELP: &str =
     "The most steps of a trace, from 1 to 16777216 (1048576 by default); no effect without --trace";
 
 /// The arguments of a request to solve: the files, and where they were given the factor, the method, the kind of amount, the steps, the
-/// workers, the trace and its room, and whether progress is shown and it is told why a file failed.
+/// workers, the trace and its room, the periods and what blocks use, and whether progress is shown and it is told why a file failed.
 #[derive(Clone, Copy)]
 pub struct SolveArgs<'a> {
     pub prec: &'a str,
@@ -53,6 +64,8 @@ pub struct SolveArgs<'a> {
     pub workers: Option<&'a str>,
     pub trace: Option<&'a str>,
     pub room: Option<&'a str>,
+    pub periods: Option<&'a str>,
+    pub uses: Option<&'a str>,
     pub progress: bool,
     pub verbose: bool,
 }
@@ -76,7 +89,20 @@ pub fn solve_command<'a>(alloc: Global) -> Result<Command<'a>, AllocError> {
         .after_help(STATUSES)
         .override_usage(USAGE);
     let command = with_options(command, model_at_factor_options(alloc))?;
-    with_options(command, run_options(alloc))
+    let command = with_options(command, run_options(alloc))?;
+    let command = with_options(command, plan_options(alloc))?;
+    let used = ArgGroup::new(alloc, USED).arg("uses")?;
+    command.group(used.arg("blocks")?.multiple(true))
+}
+
+// The options of the mine of blocks and periods.
+fn plan_options<'a>(alloc: Global) -> Result<Vec<Arg<'a>>, AllocError> {
+    let periods = named_option(alloc, "periods", "FILE", PERIODS_HELP)
+        .requires_arg(USED)?
+        .conflicts_with("group")?
+        .conflicts_with("trace")?;
+    let uses = named_option(alloc, "uses", "FILE", USES_HELP).requires_arg("periods")?;
+    Ok(vec![in alloc; periods, uses]?)
 }
 
 // The options that say how it is solved, bound the run and show it.
@@ -105,6 +131,8 @@ pub fn solve_args<'a>(matches: &ArgMatches<'a>) -> SolveArgs<'a> {
         workers: matches.get_str("workers"),
         trace: matches.get_str("trace"),
         room: matches.get_str("room"),
+        periods: matches.get_str("periods"),
+        uses: matches.get_str("uses"),
         progress: matches.get_flag("progress"),
         verbose: matches.get_flag("verbose"),
     }

@@ -5,6 +5,7 @@ use crate::declined::Declined;
 use crate::escaped::Escaped;
 use crate::replay_command::replay_command;
 use crate::report_command::report_command;
+use crate::schedule_command::schedule_command;
 use crate::series_options::SeriesCommand;
 use crate::shells_command::shells_command;
 use crate::slopes_command::slopes_command;
@@ -23,6 +24,8 @@ pub enum Commanded {
     Solve,
     /// `replay`.
     Replay,
+    /// `schedule`.
+    Schedule,
     /// `value`.
     Value,
     /// `shells` or `report`.
@@ -54,6 +57,8 @@ pub enum NamedOption<'a> {
     ByBlock,
     /// `--method` where `--trace` is given.
     TracedMethod,
+    /// `--method` where `--periods` is given.
+    PlanMethod,
     /// `--group` beside the method without a lock.
     GroupWithoutLock {
         /// The method, as it was given.
@@ -111,6 +116,7 @@ fn command_of<'a>(alloc: Global, command: Commanded) -> Result<Command<'a>, Allo
         Commanded::Slopes => (slopes_command(alloc), "pit slopes"),
         Commanded::Solve => (solve_command(alloc), "pit solve"),
         Commanded::Replay => (replay_command(alloc), "pit replay"),
+        Commanded::Schedule => (schedule_command(alloc), "pit schedule"),
         Commanded::Value => (value_command(alloc), "pit value"),
         Commanded::Series(SeriesCommand::Shells) => (shells_command(alloc), "pit shells"),
         Commanded::Series(SeriesCommand::Report) => (report_command(alloc), "pit report"),
@@ -133,7 +139,9 @@ fn shown(option: NamedOption<'_>) -> &'static str {
         NamedOption::Pattern => "--pattern <PATTERN>",
         NamedOption::Up => "--up <WAY>",
         NamedOption::Factor => "--factor <FACTOR>",
-        NamedOption::Method | NamedOption::TracedMethod => "--method <METHOD>",
+        NamedOption::Method | NamedOption::TracedMethod | NamedOption::PlanMethod => {
+            "--method <METHOD>"
+        }
         NamedOption::Group | NamedOption::GroupWithoutLock { .. } => "--group <GROUP>",
         NamedOption::Steps => "--steps <STEPS>",
         NamedOption::Workers | NamedOption::WorkersWithoutLock { .. } => "--workers <WORKERS>",
@@ -159,6 +167,7 @@ fn taken(command: Commanded, option: NamedOption<'_>) -> &'static str {
         NamedOption::ByBlock =>
             "a file that isn't an input, since the table replaces what is in it",
         NamedOption::TracedMethod => "auto or push-relabel where --trace is given",
+        NamedOption::PlanMethod => "auto, pseudoflow or push-relabel where --periods is given",
         NamedOption::GroupWithoutLock { .. } => "scaled",
         NamedOption::WorkersWithoutLock { .. } => "1 or 2",
     }

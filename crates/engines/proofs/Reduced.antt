@@ -33,7 +33,7 @@ best_moves n from to worth e there back h = record {
 
 pub reduced_decide : ReducedPairsDecide
 reduced_decide m offsets up every reduced n worth e pattern all less =
-    let both = closed_by_either m offsets up reduced pattern less in
+    let both = closed_by_either m (λ b. offsets) up reduced (λ b. pattern.upward) less in
     let there : (d : ℕ → Bool) → IsPit (mine_of_pairs n reduced.pairs worth) d → IsPit (mine_of_pairs n every.pairs worth) d
     = λ d h. pit_of_closed n every.pairs worth d (λ q c. (both d).0 (closed_of_pit n reduced.pairs worth d h) q (all.only q c)) in
     let back : (d : ℕ → Bool) → IsPit (mine_of_pairs n every.pairs worth) d → IsPit (mine_of_pairs n reduced.pairs worth) d
@@ -77,7 +77,7 @@ module _ (m : BlocksView) (offsets : List Offset) (up : Up) (every reduced : Res
   listed_decide worth n e =
       let few = pairs_of_text (prec_text reduced) in
       let many = pairs_of_text (prec_text every) in
-      let both = closed_by_either m offsets up reduced pattern less.slopes in
+      let both = closed_by_either m (λ b. offsets) up reduced (λ b. pattern.upward) less.slopes in
       let there : (d : ℕ → Bool) → IsPit (listed_mine few worth n) d → IsPit (listed_mine many worth n) d
       = λ d h. listed_of_closed many every.pairs worth n d all_read.same (λ q c. (both d).0 (closed_of_listed few reduced.pairs worth n d less_read.same h) q (all.slopes.only q c)) in
       let back : (d : ℕ → Bool) → IsPit (listed_mine many worth n) d → IsPit (listed_mine few worth n) d

@@ -25,7 +25,7 @@ use Rattle.shells.specs.declared.prices_fault.PricesFault.{PricesFault}
 use Rattle.mine_inputs.specs.declared.priced_inputs.ChargeColumns.{ChargeColumns}
 use Rattle.mine_inputs.specs.declared.priced_inputs.ChargeColumns.TheVariants.{Plain, Mill}
 use Rattle.shells.specs.declared.prices_fault.PricesFault.TheVariants as prices_fault
-use Rattle.mine_inputs.specs.Prelude.{price_keys, columns_said, price_columns, cell, costs_at, table_of, ColumnsKnown, PricesRead, SettingsFails, PricesFail, MineTexts, mine_texts, priced_texts, precedence_of, ValuesRead, WorthsRead, mine_of, DenoteMine, PrecFails, ValuesFail, SettingsFail, BlocksFail, TableFails}
+use Rattle.mine_inputs.specs.Prelude.{price_keys, slope_keys, columns_said, price_columns, cell, costs_at, table_of, ColumnsKnown, PricesRead, SettingsFails, PricesFail, MineTexts, mine_texts, priced_texts, precedence_of, ValuesRead, WorthsRead, mine_of, DenoteMine, PrecFails, ValuesFail, SettingsFail, BlocksFail, TableFails}
 use Rattle.engines.specs.Prelude.{block_by, counts_by, IsHeader, Reads, ModelFails, HeaderFails, BodyTextFails, PriceDiffers}
 use Rattle.engines.proofs.Alone.{ok_same, nets_same}
 use Rattle.engines.proofs.Fitting.{no_model_fails}
@@ -45,11 +45,12 @@ values_stand (mine_texts u p) n (problem.Fault f) r h = values_fault u n f r h.1
 values_stand (priced_texts s b p k) n q r h = h
 
 -- what the settings name is one thing
-columns_stand : (settings : List ℕ) (q : Problem SettingsFault) → ColumnsKnown settings → SettingsFails price_keys settings q → ⊥
+columns_stand : (settings : List ℕ) (q : Problem SettingsFault) → ColumnsKnown settings → SettingsFails price_keys slope_keys settings q → ⊥
 columns_stand settings problem.InputTooLong c h = let within = c.within in omega (arith, within, h)
 columns_stand settings (problem.Fault settings_fault.NotToml) c h = no_settings_fault settings _ settings_fault.NotToml c.read (λ e. let z : settings_fault.NotToml ≡ settings_fault.NoMemory = e in cc) h.1
 columns_stand settings (problem.Fault settings_fault.UnknownKey) c h = no_settings_fault settings _ settings_fault.UnknownKey c.read (λ e. let z : settings_fault.UnknownKey ≡ settings_fault.NoMemory = e in cc) h.1
 columns_stand settings (problem.Fault (settings_fault.BadValue key)) c h = no_settings_fault settings _ (settings_fault.BadValue key) c.read (λ e. let z : (settings_fault.BadValue key) ≡ settings_fault.NoMemory = e in cc) h.1
+columns_stand settings (problem.Fault (settings_fault.Unused key)) c h = never _ _ c.used h.1.1
 columns_stand settings (problem.Fault (settings_fault.Missing key)) c h = never _ _ c.said h.1.1
 columns_stand settings (problem.Fault settings_fault.NoMemory) c h = h.1
 

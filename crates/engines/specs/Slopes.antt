@@ -1,31 +1,31 @@
 -- The precedence that offsets give of the blocks of a text, and how the engines of `slopes` end.
-use Rattle.std.specs.Prelude.{ℕ, ◌≤◌, ◌⊎◌, List, [], ◌∷◌, Option, unwrap_or, Result, Ok, Err, Contains}
+use Rattle.std.specs.Prelude.{ℕ, ◌≤◌, ◌⊎◌, List, [], ◌∷◌, cond, Option, Some, None, unwrap_or, Result, Ok, Err, Contains}
 use Rattle.std.specs.Io.KnownBytes.{Appends, Keeps}
 use Rattle.fixed_worth.specs.Device.{ReceivedPrefix}
 use Rattle.blocks_file.specs.Denotes.{BlocksView}
 use Rattle.prec_file.specs.Prelude.{RestsView, prec_text}
 use Rattle.settings_file.specs.declared.keys.Key.{Key}
-use Rattle.settings_file.specs.declared.keys.Key.TheVariants.{Offsets}
-use Rattle.settings_file.specs.declared.settings_fault.SettingsFault.{SettingsFault}
-use Rattle.settings_file.specs.Settings.{SettingsView, settings_of}
+use Rattle.settings_file.specs.declared.keys.Key.TheVariants.{Offsets, Slopes, Region}
+use Rattle.settings_file.specs.Settings.{SettingsView, settings_of, is_said}
 use Rattle.slope.specs.declared.pattern.TheConstants.{MOST_CONE_NUMBER, MOST_OFFSETS}
-use Rattle.slope.specs.Prelude.{AreMoreThan, Offset, AreOffsets, five_offsets, nine_offsets, IsInCone, ListFaultStands, AreSlopes, SlopeFaultStands}
+use Rattle.slope.specs.Prelude.{AreMoreThan, Offset, AreOffsets, five_offsets, nine_offsets, IsInCone, ListFaultStands, AreOwnSlopes, AreSlopes, RegionFaultStands, SlopeFaultStands, own_offsets}
 use Rattle.slope.specs.declared.up.Up.{Up}
 use Rattle.slope.specs.declared.selection.Selection.{Selection}
 use Rattle.slope.specs.declared.pattern_fault.PatternFault.{PatternFault}
 use Rattle.slope.specs.declared.pattern_fault.PatternFault.TheVariants as pattern
 use Rattle.slope.specs.declared.slope_fault.SlopeFault.{SlopeFault}
 use Rattle.slope.specs.declared.slope_fault.SlopeFault.TheVariants as slope
+use Rattle.slope.specs.declared.region_fault.RegionFault.{RegionFault}
+use Rattle.slope.specs.declared.region_fault.RegionFault.TheVariants as regions
 use Rattle.engines.specs.declared.judgement.Verdict.{Verdict}
 use Rattle.engines.specs.declared.judgement.Verdict.TheVariants.{Done, No}
 use Rattle.engines.specs.declared.pattern_choice.PatternChoice.{PatternChoice}
 use Rattle.engines.specs.declared.pattern_choice.PatternChoice.TheVariants.{Five, Nine, Cone}
-use Rattle.mine_inputs.specs.declared.engine_fault.Problem.{Problem}
 use Rattle.mine_inputs.specs.declared.engine_fault.SlopeProblem.{SlopeProblem}
 use Rattle.mine_inputs.specs.declared.engine_fault.SlopeProblem.TheVariants as of
 use Rattle.mine_inputs.specs.declared.engine_fault.EngineFault.{EngineFault}
 use Rattle.mine_inputs.specs.declared.engine_fault.EngineFault.TheVariants as engine
-use Rattle.mine_inputs.specs.Prelude.{ReadsBlocks, BlocksFails, KeysSaid, SettingsFails}
+use Rattle.mine_inputs.specs.Prelude.{ReadsBlocks, BlocksFails, KeysSaid, SettingsFails, region_columns, up_said}
 
 -- ---- which offsets are asked for
 
@@ -54,91 +54,130 @@ abbrev pub ListFails : List Offset → PatternFault → Type 0
 ListFails listed pattern.NoMemory = ⊥
 ListFails listed fault = ListFaultStands listed fault
 
--- the keys that settings need to list offsets
+-- the keys that settings need to give slopes, where they name none by region: slopes, where they name the column of regions, and
+-- otherwise offsets
 abbrev pub offset_keys : SettingsView → List Key
-offset_keys s = Offsets ∷ []
+offset_keys s = cond (is_said s Slopes) [] (cond (is_said s Region) (Slopes ∷ []) (Offsets ∷ []))
 
 -- the offsets that settings list
 abbrev pub listed_offsets : SettingsView → List Offset
 listed_offsets said = unwrap_or said.offsets []
+
+-- which way is up: as an option says, and otherwise as settings do
+abbrev pub up_chosen : Option Up → SettingsView → Up
+up_chosen (Some up) said = up
+up_chosen None said = up_said said
 
 -- What says which offsets a slope has: a pattern that a word names, or the text of settings that list them.
 pub data OffsetsSource : Type 0 where
   named : (choice : PatternChoice) → OffsetsSource
   listed : (settings : List ℕ) → OffsetsSource
 
--- the source is read
-abbrev pub IsSourceRead : OffsetsSource → Type 0
-IsSourceRead (named choice) = Unit {0}
-IsSourceRead (listed settings) = KeysSaid offset_keys settings
-
--- the source isn't read: settings have this fault, and a word has none
-abbrev pub SourceFails : OffsetsSource → Problem SettingsFault → Type 0
-SourceFails (named choice) p = ⊥
-SourceFails (listed settings) p = SettingsFails offset_keys settings p
-
--- the offsets of the source, each once and in order
-abbrev pub AreOffsetsOf : OffsetsSource → List Offset → Type 0
-AreOffsetsOf (named choice) offsets = IsChosen choice offsets
-AreOffsetsOf (listed settings) offsets = AreOffsets (Contains (listed_offsets (settings_of settings))) offsets
-
--- the source gives no pattern
-abbrev pub PatternFails : OffsetsSource → PatternFault → Type 0
-PatternFails (named choice) fault = ChoiceFails choice fault
-PatternFails (listed settings) fault = ListFails (listed_offsets (settings_of settings)) fault
-
 -- ---- the pairs
 
--- The source is read, and the pairs are those that its offsets give of the blocks of a text.
-pub record AreSlopesBy (source : OffsetsSource) (text : List ℕ) (up : Up) (selection : Selection) (rests : RestsView) : Type 0 where
-  pub source_read : IsSourceRead source
+-- The pairs are those that the offsets of a pattern give of the blocks of a text.
+pub record AreSlopesOfPattern (IsPatternOf : List Offset → Type 0) (text : List ℕ) (up : Up) (selection : Selection) (rests : RestsView) : Type 0 where
   pub model : BlocksView
   pub read : ReadsBlocks [] text model
   pub offsets : List Offset
-  pub are : AreOffsetsOf source offsets
+  pub are : IsPatternOf offsets
   pub slopes : AreSlopes model offsets up selection rests
+
+-- The pairs are those that the offsets of each block's own region give of the blocks of a text with these columns.
+pub record AreSlopesOfRegions (slopes : List (List Offset)) (columns text : List ℕ) (up : Up) (selection : Selection) (rests : RestsView) : Type 0 where
+  pub model : BlocksView
+  pub read : ReadsBlocks columns text model
+  pub slopes_are : AreOwnSlopes model (own_offsets slopes model) up selection rests
+
+-- the pairs are those of the slopes that settings name by region, or of the offsets that they list
+abbrev pub AreSlopesSaid : Option (List (List Offset)) → SettingsView → List ℕ → Up → Selection → RestsView → Type 0
+AreSlopesSaid None said text up selection rests = AreSlopesOfPattern (AreOffsets (Contains (listed_offsets said))) text up selection rests
+AreSlopesSaid (Some slopes) said text up selection rests = AreSlopesOfRegions slopes (region_columns said) text up selection rests
+
+-- The source is read, and the pairs are those that its offsets give of the blocks of a text.
+abbrev pub AreSlopesBy : OffsetsSource → List ℕ → Up → Selection → RestsView → Type 0
+AreSlopesBy (named choice) text up selection rests = AreSlopesOfPattern (IsChosen choice) text up selection rests
+AreSlopesBy (listed settings) text up selection rests = KeysSaid offset_keys [] settings × AreSlopesSaid (settings_of settings).slopes (settings_of settings) text up selection rests
+
+-- ---- the faults
 
 -- the offsets give no pairs; want of memory isn't a fault of theirs
 abbrev pub PairsFail : BlocksView → List Offset → Up → Selection → SlopeFault → Type 0
 PairsFail m offsets up selection slope.NoMemory = ⊥
 PairsFail m offsets up selection fault = SlopeFaultStands m offsets up selection fault
 
--- a source gives no pairs of a model: it gives no pattern, or its offsets give none
-abbrev pub SlopeFails : OffsetsSource → BlocksView → Up → Selection → SlopeProblem → Type 0
-SlopeFails source m up selection (of.Pattern fault) = PatternFails source fault
-SlopeFails source m up selection (of.Pairs fault) = (offsets : List Offset) × AreOffsetsOf source offsets × PairsFail m offsets up selection fault
+-- the slopes of regions give no pairs; want of memory isn't a fault of theirs
+abbrev pub RegionsFail : List (List Offset) → BlocksView → Up → Selection → RegionFault → Type 0
+RegionsFail slopes m up selection regions.NoMemory = ⊥
+RegionsFail slopes m up selection fault = RegionFaultStands slopes m up selection fault
+
+-- a pattern gives no pairs of a model: there is none, or its offsets give none
+abbrev pub PatternSlopeFails : (List Offset → Type 0) → (PatternFault → Type 0) → BlocksView → Up → Selection → SlopeProblem → Type 0
+PatternSlopeFails IsPatternOf Refused m up selection (of.Pattern fault) = Refused fault
+PatternSlopeFails IsPatternOf Refused m up selection (of.Pairs fault) = (offsets : List Offset) × IsPatternOf offsets × PairsFail m offsets up selection fault
+PatternSlopeFails IsPatternOf Refused m up selection (of.Regions fault) = ⊥
+
+abbrev pub RegionSlopeFails : List (List Offset) → BlocksView → Up → Selection → SlopeProblem → Type 0
+RegionSlopeFails slopes m up selection (of.Regions fault) = RegionsFail slopes m up selection fault
+RegionSlopeFails slopes m up selection _ = ⊥
+
+-- Why slopes aren't made of the blocks of a text, of which these columns are read.
+abbrev pub BlockSlopesFail : List ℕ → (BlocksView → SlopeProblem → Type 0) → List ℕ → EngineFault → Type 0
+BlockSlopesFail columns SlopeFails text (engine.Blocks p) = BlocksFails columns text p
+BlockSlopesFail columns SlopeFails text (engine.Slope p) = (m : BlocksView) × ReadsBlocks columns text m × SlopeFails m p
+BlockSlopesFail columns SlopeFails text engine.Memory = Unit {0}
+BlockSlopesFail columns SlopeFails text engine.Device = Unit {0}
+BlockSlopesFail columns SlopeFails text _ = ⊥
+
+-- those of a pattern, and those of regions
+abbrev pub PatternSlopesFail : (List Offset → Type 0) → (PatternFault → Type 0) → List ℕ → Up → Selection → EngineFault → Type 0
+PatternSlopesFail IsPatternOf Refused text up selection fault = BlockSlopesFail [] (λ m. PatternSlopeFails IsPatternOf Refused m up selection) text fault
+
+abbrev pub RegionSlopesFail : List (List Offset) → List ℕ → List ℕ → Up → Selection → EngineFault → Type 0
+RegionSlopesFail slopes columns text up selection fault = BlockSlopesFail columns (λ m. RegionSlopeFails slopes m up selection) text fault
+
+-- those of the slopes that settings name by region, or of the offsets that they list
+abbrev pub SlopesSaidFail : Option (List (List Offset)) → SettingsView → List ℕ → Up → Selection → EngineFault → Type 0
+SlopesSaidFail None said text up selection fault = PatternSlopesFail (AreOffsets (Contains (listed_offsets said))) (ListFails (listed_offsets said)) text up selection fault
+SlopesSaidFail (Some slopes) said text up selection fault = RegionSlopesFail slopes (region_columns said) text up selection fault
+
+-- Why an engine answers a fault: it stands, and none before it does. Want of memory and a failing device say nothing of the texts.
+abbrev pub ListedSlopesFail : List ℕ → List ℕ → Up → Selection → EngineFault → Type 0
+ListedSlopesFail settings text up selection (engine.Settings p) = SettingsFails offset_keys [] settings p
+ListedSlopesFail settings text up selection engine.Memory = Unit {0}
+ListedSlopesFail settings text up selection engine.Device = Unit {0}
+ListedSlopesFail settings text up selection fault = KeysSaid offset_keys [] settings × SlopesSaidFail (settings_of settings).slopes (settings_of settings) text up selection fault
+
+abbrev pub SlopesFail : OffsetsSource → List ℕ → Up → Selection → EngineFault → Type 0
+SlopesFail (named choice) text up selection fault = PatternSlopesFail (IsChosen choice) (ChoiceFails choice) text up selection fault
+SlopesFail (listed settings) text up selection fault = ListedSlopesFail settings text up selection fault
 
 -- ---- the engines
 
--- Why an engine answers a fault: it stands, and none before it does. Want of memory and a failing device say nothing of the texts.
-abbrev pub SlopesFail : OffsetsSource → List ℕ → Up → Selection → EngineFault → Type 0
-SlopesFail source text up selection (engine.Settings p) = SourceFails source p
-SlopesFail source text up selection (engine.Blocks p) = IsSourceRead source × BlocksFails [] text p
-SlopesFail source text up selection (engine.Slope p) = IsSourceRead source × ((m : BlocksView) × ReadsBlocks [] text m × SlopeFails source m up selection p)
-SlopesFail source text up selection engine.Memory = Unit {0}
-SlopesFail source text up selection engine.Device = Unit {0}
-SlopesFail source text up selection _ = ⊥
-
--- The engine wrote the precedence file of the pairs.
-pub record WritesSlopes (source : OffsetsSource) (text : List ℕ) (up : Up) (selection : Selection) (old new : Option (List ℕ)) : Type 0 where
+-- The precedence file was written of pairs of which this holds.
+pub record WritesPairs (Are : RestsView → Type 0) (old new : Option (List ℕ)) : Type 0 where
   pub rests : RestsView
-  pub slopes : AreSlopesBy source text up selection rests
+  pub are : Are rests
   pub written : Appends old new (prec_text rests)
 
 -- nothing was written, or a front of that file
-abbrev pub WritesSlopesFront : OffsetsSource → List ℕ → Up → Selection → Option (List ℕ) → Option (List ℕ) → Type 0
-WritesSlopesFront source text up selection old new = Keeps old new ⊎ ((rests : RestsView) × AreSlopesBy source text up selection rests × ReceivedPrefix old new (prec_text rests))
+abbrev pub WritesPairsFront : (RestsView → Type 0) → Option (List ℕ) → Option (List ℕ) → Type 0
+WritesPairsFront Are old new = Keeps old new ⊎ ((rests : RestsView) × Are rests × ReceivedPrefix old new (prec_text rests))
 
 -- what is in the writer at a fault: what was there before, unless a device failed
-abbrev pub SlopesAtFault : OffsetsSource → List ℕ → Up → Selection → Option (List ℕ) → Option (List ℕ) → EngineFault → Type 0
-SlopesAtFault source text up selection old new engine.Device = WritesSlopesFront source text up selection old new
-SlopesAtFault source text up selection old new _ = Keeps old new
+abbrev pub PairsAtFault : (RestsView → Type 0) → Option (List ℕ) → Option (List ℕ) → EngineFault → Type 0
+PairsAtFault Are old new engine.Device = WritesPairsFront Are old new
+PairsAtFault Are old new _ = Keeps old new
 
--- the answer, and what was written with it
+-- the answer, and what was written with it: the file of the pairs, or a fault that stands
+abbrev pub GivesPairs : (RestsView → Type 0) → (EngineFault → Type 0) → Option (List ℕ) → Option (List ℕ) → Result Verdict EngineFault → Type 0
+GivesPairs Are Fails old new (Ok Done) = WritesPairs Are old new
+GivesPairs Are Fails old new (Ok No) = ⊥
+GivesPairs Are Fails old new (Err fault) = Fails fault × PairsAtFault Are old new fault
+
+-- what is answered and written for a source of offsets and a text of blocks
 abbrev pub GivesSlopes : OffsetsSource → List ℕ → Up → Selection → Option (List ℕ) → Option (List ℕ) → Result Verdict EngineFault → Type 0
-GivesSlopes source text up selection old new (Ok Done) = WritesSlopes source text up selection old new
-GivesSlopes source text up selection old new (Ok No) = ⊥
-GivesSlopes source text up selection old new (Err fault) = SlopesFail source text up selection fault × SlopesAtFault source text up selection old new fault
+GivesSlopes source text up selection = GivesPairs (AreSlopesBy source text up selection) (SlopesFail source text up selection)
 
 -- ---- their parts
 
@@ -153,3 +192,9 @@ abbrev pub PairsMakingFail : BlocksView → List Offset → Up → Selection →
 PairsMakingFail m offsets up selection (engine.Slope (of.Pairs fault)) = PairsFail m offsets up selection fault
 PairsMakingFail m offsets up selection engine.Memory = Unit {0}
 PairsMakingFail m offsets up selection _ = ⊥
+
+-- how making the pairs of regions fails
+abbrev pub RegionsMakingFail : List (List Offset) → BlocksView → Up → Selection → EngineFault → Type 0
+RegionsMakingFail slopes m up selection (engine.Slope (of.Regions fault)) = RegionsFail slopes m up selection fault
+RegionsMakingFail slopes m up selection engine.Memory = Unit {0}
+RegionsMakingFail slopes m up selection _ = ⊥

@@ -6,10 +6,10 @@
 
 ghost use Rattle.std.specs.Prelude.{◌≡◌, ◌+◌, ◌-◌, ◌^◌, ◌<◌, ◌≤◌, ◌++◌, length, OnOk, OnErr};
 ghost use Rattle.std.specs.Io.KnownBytes.{Appends};
-ghost use Rattle.std.specs.Prelude.{codes};
+ghost use Rattle.std.specs.Prelude.{codes, decimal};
 ghost use Rattle.fixed_worth.specs.Device.{ReceivedPrefix};
 ghost use Rattle.blocks_file.specs.Records.{blocks_fault_text};
-ghost use Rattle.slope.specs.FaultText.{pattern_fault_text, slope_fault_text};
+ghost use Rattle.slope.specs.FaultText.{pattern_fault_text, region_fault_text, slope_fault_text};
 ghost use Rattle.fixed_worth.specs.FaultText.{at_line};
 ghost use Rattle.upit_file.specs.Records.{upit_fault_text};
 ghost use Rattle.prec_file.specs.Faults.{prec_fault_text};
@@ -31,7 +31,7 @@ use mine_inputs::{CertificateProblem, EngineFault, Problem, SlopeProblem};
 use prec_file::PrecFault;
 use settings_file::{Key, SettingsFault};
 use shells::PricesFault;
-use slope::{PatternFault, SlopeFault};
+use slope::{PatternFault, RegionFault, SlopeFault};
 use trace_file::TraceFault;
 use upit_file::UpitFault;
 
@@ -176,6 +176,7 @@ fn push_settings(line: &mut ShortLine, problem: &Problem<SettingsFault>)
         Problem::Fault(SettingsFault::NotToml) => line.push(b"NotToml"),
         Problem::Fault(SettingsFault::UnknownKey) => line.push(b"UnknownKey"),
         Problem::Fault(SettingsFault::BadValue(key)) => push_key(line, b"BadValue", *key),
+        Problem::Fault(SettingsFault::Unused(key)) => push_key(line, b"Unused", *key),
         Problem::Fault(SettingsFault::Missing(key)) => push_key(line, b"Missing", *key),
         Problem::Fault(SettingsFault::NoMemory) => line.push(b"NoMemory"),
     }
@@ -200,6 +201,7 @@ fn push_slope(line: &mut ShortLine, problem: &SlopeProblem)
     match problem {
         SlopeProblem::Pattern(fault) => push_pattern(line, fault),
         SlopeProblem::Pairs(fault) => push_pairs(line, fault),
+        SlopeProblem::Regions(fault) => push_regions(line, fault),
     }
 }
 
@@ -221,19 +223,43 @@ fn push_pairs(line: &mut ShortLine, fault: &SlopeFault)
     ensures length { length line.new ≤ length line.old + 94 }
 {
     match fault {
-        SlopeFault::SamePlace(first, second) => push_same_place(line, *first, *second),
+        SlopeFault::SamePlace(first, second) => {
+            push_two(line, b"SamePlace(", u64::from(*first), u64::from(*second))
+        }
         SlopeFault::TooMany => line.push(b"TooMany"),
         SlopeFault::NoMemory => line.push(b"NoMemory"),
     }
 }
 
-// Two blocks in parentheses.
-fn push_same_place(line: &mut ShortLine, first: u32, second: u32)
+fn push_regions(line: &mut ShortLine, fault: &RegionFault)
     requires { length line.old ≤ 64 }
-    ensures text { line.new ≡ line.old ++ slope_fault_text (SlopeFault.SamePlace first second) }
+    ensures text { line.new ≡ line.old ++ region_fault_text fault.now }
     ensures length { length line.new ≤ length line.old + 94 }
 {
-    line.push(b"SamePlace(");
+    match fault {
+        RegionFault::SamePlace(first, second) => {
+            push_two(line, b"SamePlace(", u64::from(*first), u64::from(*second))
+        }
+        RegionFault::UnknownRegion(block) => push_at(line, b"UnknownRegion", u64::from(*block)),
+        RegionFault::NotUpward(region, place) => {
+            push_two(line, b"NotUpward(", *region as u64, *place as u64)
+        }
+        RegionFault::TooManyOffsets(region) => push_at(line, b"TooManyOffsets", *region as u64),
+        RegionFault::TooManyRegions => line.push(b"TooManyRegions"),
+        RegionFault::TooMany => line.push(b"TooMany"),
+        RegionFault::NoMemory => line.push(b"NoMemory"),
+    }
+}
+
+// Two numbers in parentheses, after a name with the first of these.
+fn push_two(line: &mut ShortLine, name: &[u8], first: u64, second: u64)
+    requires line { length line.old ≤ 64 }
+    requires name { length name.now ≤ 12 }
+    ensures text { line.new ≡ line.old ++ name.now ++ decimal first ++ codes ", "
+        ++ decimal second ++ codes ")" }
+    ensures length { length line.new ≤ length line.old + 94 }
+{
+    line.push(name);
     line.push_number(u128::from(first));
     line.push(b", ");
     line.push_number(u128::from(second));

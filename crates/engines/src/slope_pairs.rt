@@ -1,20 +1,20 @@
-//! Makes the pattern that is asked for, gives the predecessors of each block of a model by it, and writes them as a
-//! precedence text.
+//! Makes the pattern that is asked for, gives the predecessors of each block of a model by it, or by the slopes of regions,
+//! and writes them as a precedence text.
 
-ghost use Rattle.std.specs.Prelude.{◌≡◌, ◌+◌, ◌-◌, ◌^◌, ◌<◌, Contains, OnOk, IfOk, IfErr, MatchResult, IsErrOf};
+ghost use Rattle.std.specs.Prelude.{◌≡◌, ◌+◌, ◌-◌, ◌^◌, ◌<◌, map, Contains, OnOk, IfOk, IfErr, MatchResult, IsErrOf};
 ghost use Rattle.std.specs.Io.KnownBytes.{Appends};
 ghost use Rattle.fixed_worth.specs.Device.{ReceivedPrefix};
 ghost use Rattle.prec_file.specs.Written.{prec_text, AreNarrow};
 ghost use Rattle.slope.specs.Offsets.{AreOffsets};
-ghost use Rattle.slope.specs.Slopes.{AreSlopes};
-ghost use Rattle.engines.specs.Slopes.{IsChoice, IsChosen, ChoiceFails, ListFails, PatternMakingFails, PairsMakingFail};
+ghost use Rattle.slope.specs.Slopes.{AreOwnSlopes, AreSlopes, own_offsets};
+ghost use Rattle.engines.specs.Slopes.{IsChoice, IsChosen, ChoiceFails, ListFails, PatternMakingFails, PairsMakingFail, RegionsMakingFail};
 
 use crate::pattern_choice::PatternChoice;
 use blocks_file::BlockModel;
 use fixed_worth::CountedWrite;
 use mine_inputs::EngineFault;
 use prec_file::{PrecWriteFault, Predecessors, write_predecessors};
-use slope::{Pattern, Selection, Up, laws, predecessors_of};
+use slope::{Pattern, Selection, Up, laws, predecessors_by_region, predecessors_of};
 use std::alloc::Global;
 
 /// The pattern that is chosen.
@@ -68,6 +68,29 @@ pub fn slopes_of(
     // proof: a block has no more predecessors than a pattern has offsets
     laws::slopes_are_narrow(pattern);
     match predecessors_of(alloc, model, pattern, up, selection) {
+        Ok(predecessors) => Ok(predecessors),
+        Err(fault) => Err(EngineFault::from(fault)),
+    }
+}
+
+/// Who rests on whom among the blocks of a model, by the offsets that are listed for each block's own region.
+///
+/// # Errors
+/// `Slope` with the first fault of `predecessors_by_region`. `Memory` where memory is refused.
+pub fn regions_of(
+    alloc: Global,
+    model: &BlockModel,
+    listed: &[Vec<(i32, i32, i32)>],
+    up: Up,
+    selection: Selection,
+) -> Result<Predecessors, EngineFault>
+    ensures made { MatchResult result
+        (AreOwnSlopes model.now (own_offsets (map (λ w. w.items) listed.now) model.now) up selection)
+        (RegionsMakingFail (map (λ w. w.items) listed.now) model.now up selection) }
+    ensures narrow { IfOk result AreNarrow }
+    ensures no_device { ¬ IsErrOf result EngineFault.Device }
+{
+    match predecessors_by_region(alloc, model, listed, up, selection) {
         Ok(predecessors) => Ok(predecessors),
         Err(fault) => Err(EngineFault::from(fault)),
     }

@@ -245,6 +245,8 @@ fn printed_faults(rt: HostRuntime) -> Result<(), Fail> {
             "Missing(processing)",
         ),
         (SettingsFault::Missing(Key::Mining), "Missing(mining)"),
+        (SettingsFault::Unused(Key::Slopes), "Unused(slopes)"),
+        (SettingsFault::Unused(Key::Up), "Unused(up)"),
         (SettingsFault::NoMemory, "NoMemory"),
     ];
     for (fault, text) in rows {

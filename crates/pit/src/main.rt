@@ -8,20 +8,25 @@ mod progress;
 mod reasons;
 mod series_commands;
 
+use bound_engines::{BoundFault, NodesProblem, PlanAsked, write_nodes_problem};
 use command_line::{
-    Commanded, Declined, OffsetsArgs, ReplayArgs, Request, SeriesArgs, SlopesArgs, SolveArgs,
-    ValueArgs, WrongValue, declined_for, request_of,
+    BoundArgs, Commanded, Declined, OffsetsArgs, ReplayArgs, Request, ScheduleArgs, SeriesArgs,
+    SlopesArgs, SolveArgs, ValueArgs, WrongValue, declined_for, request_of,
 };
 use design_engines::{DesignProblem, ValueFault, write_problem};
 use engines::{EngineFault, Unwatched, Verdict, status, stored_check, write_fault};
 use fixed_worth::Counted;
 use pit_commands::{
-    SolvingAsked, check_files, effort_for_series, factor_asked, listed_slopes_files, pattern_asked,
-    replay_asked, replay_files, slopes_file, solve_files, solving_asked, table_over_an_input,
+    SolvingAsked, bound_files, check_files, effort_for_series, effort_over_periods, factor_asked,
+    listed_slopes_files, pattern_asked, replay_asked, replay_files, schedule_factor_asked,
+    schedule_files, slopes_file, solve_files, solve_plan_files, solving_asked, table_over_an_input,
     up_asked, value_factor_asked, value_files,
 };
 use progress::{Meter, PROGRESS_ALONE, Tells};
 use reasons::{advise_on_workers, tell_choice, tell_slope_reason};
+use schedule_engines::{
+    PeriodsProblem, PlanFault, ScheduleProblem, write_periods_problem, write_schedule_problem,
+};
 use series_commands::series_files;
 use shells::Factor;
 use std::process::ExitCode;
@@ -33,16 +38,22 @@ use std::{env, io};
 // The exit status where the arguments are wrong.
 const USAGE: u8 = 2;
 
-// The exit status where a design is wrong, as any other input.
+// The exit status where a design, periods, a schedule or nodes are wrong, as any other input.
 const FAULTY: u8 = 3;
 
-// How the program ends where no fault of another input than a design stands.
+// How the program ends where no fault of another input than a design, periods, a schedule or their nodes stands.
 #[derive(Clone, Copy)]
 enum Ending {
     // An engine answered.
     Answered(Verdict),
     // A design could not be judged.
     Misdrawn(DesignProblem),
+    // Periods are wrong.
+    Unplanned(PeriodsProblem),
+    // The mine of blocks and periods can't be made.
+    Unexpanded(NodesProblem),
+    // A schedule is wrong.
+    Unscheduled(ScheduleProblem),
     // A help text or the version was printed, or what is wrong with the arguments; with this exit status.
     Printed(u8),
 }
@@ -54,6 +65,18 @@ fn main(rt: HostRuntime) -> ExitCode {
         Ok(Ending::Printed(status)) => ExitCode::from(status),
         Ok(Ending::Misdrawn(problem)) => {
             let _ = write_problem(problem, &mut errors);
+            ExitCode::from(FAULTY)
+        }
+        Ok(Ending::Unplanned(problem)) => {
+            let _ = write_periods_problem(problem, &mut errors);
+            ExitCode::from(FAULTY)
+        }
+        Ok(Ending::Unexpanded(problem)) => {
+            let _ = write_nodes_problem(problem, &mut errors);
+            ExitCode::from(FAULTY)
+        }
+        Ok(Ending::Unscheduled(problem)) => {
+            let _ = write_schedule_problem(problem, &mut errors);
             ExitCode::from(FAULTY)
         }
         Err(fault) => {
@@ -79,12 +102,14 @@ fn run<R: Files + Print + Eprint + Env + Clock + Threads + Wait + Sync + AllocGl
         return Ok(Ending::Answered(stored_check(rt, rt.alloc(), &mut out)?));
     }
     match request_of(rt.alloc(), args.as_slice()) {
+        Ok(Request::Bound(args)) => bound(rt, args),
         Ok(Request::Check(args)) => Ok(Ending::Answered(check_files(rt, args)?)),
         Ok(Request::Replay(args)) => replay(rt, args),
         Ok(Request::Solve(args)) => solve(rt, args),
         Ok(Request::Series(args)) => series(rt, args),
         Ok(Request::Slopes(args)) => slopes(rt, args),
         Ok(Request::Value(args)) => value(rt, args),
+        Ok(Request::Schedule(args)) => schedule(rt, args),
         Err(declined) => printed(rt, &declined),
     }
 }
@@ -94,6 +119,9 @@ fn solve<R: Files + Print + Eprint + Clock + Threads + Wait + Sync + AllocGlobal
     rt: &R,
     args: SolveArgs<'_>,
 ) -> Result<Ending, EngineFault> {
+    if let Some(periods) = args.periods {
+        return solve_plan(rt, args, periods);
+    }
     let solving = match solving_asked(args) {
         Ok(solving) => solving,
         Err(wrong) => return refused(rt, wrong),
@@ -129,6 +157,30 @@ fn solved<R: Files + Print + Eprint + Clock + Threads + Wait + Sync + AllocGloba
     }
 }
 
+// Solves the mine of blocks and periods, and tells how far it is where that is asked for.
+fn solve_plan<R: Files + Print + Eprint + Clock + Threads + Wait + Sync + AllocGlobal>(
+    rt: &R,
+    args: SolveArgs<'_>,
+    periods: &str,
+) -> Result<Ending, EngineFault> {
+    let effort = match effort_over_periods(args) {
+        Ok(effort) => effort,
+        Err(wrong) => return refused(rt, wrong),
+    };
+    let factor = match factor_asked(Commanded::Solve, args.model, args.factor) {
+        Ok(factor) => factor,
+        Err(wrong) => return refused(rt, wrong),
+    };
+    tell_choice(rt, args.verbose, args.method, args.steps);
+    let asked = PlanAsked { factor, effort };
+    bounded(if args.progress {
+        let meter = Meter::new(rt, effort.steps, PROGRESS_ALONE);
+        solve_plan_files(rt, args, periods, asked, &meter)
+    } else {
+        solve_plan_files(rt, args, periods, asked, &Unwatched)
+    })
+}
+
 // Repeats a run over the mine of files from its trace.
 fn replay<R: Files + Print + Eprint + Threads + Sync + AllocGlobal>(
     rt: &R,
@@ -153,6 +205,47 @@ fn value<R: Files + Print + Eprint + Threads + Sync + AllocGlobal>(
         Ok(verdict) => Ok(Ending::Answered(verdict)),
         Err(ValueFault::Design(problem)) => Ok(Ending::Misdrawn(problem)),
         Err(ValueFault::Engine(fault)) => Err(fault),
+    }
+}
+
+// Judges a schedule over the mine of files and its periods.
+fn schedule<R: Files + Print + Eprint + Threads + Sync + AllocGlobal>(
+    rt: &R,
+    args: ScheduleArgs<'_>,
+) -> Result<Ending, EngineFault> {
+    let factor = match schedule_factor_asked(args) {
+        Ok(factor) => factor,
+        Err(wrong) => return refused(rt, wrong),
+    };
+    match schedule_files(rt, args, factor) {
+        Ok(verdict) => Ok(Ending::Answered(verdict)),
+        Err(fault) => unplanned(fault),
+    }
+}
+
+// Bounds the worth of every schedule of the mine of files and its periods.
+fn bound<R: Files + Print + Eprint + Threads + Sync + AllocGlobal>(
+    rt: &R,
+    args: BoundArgs<'_>,
+) -> Result<Ending, EngineFault> {
+    bounded(bound_files(rt, args))
+}
+
+// How the program ends with an answer of the mine of blocks and periods.
+fn bounded(answer: Result<Verdict, BoundFault>) -> Result<Ending, EngineFault> {
+    match answer {
+        Ok(verdict) => Ok(Ending::Answered(verdict)),
+        Err(BoundFault::Nodes(problem)) => Ok(Ending::Unexpanded(problem)),
+        Err(BoundFault::Plan(fault)) => unplanned(fault),
+    }
+}
+
+// How the program ends at a fault of a plan.
+fn unplanned(fault: PlanFault) -> Result<Ending, EngineFault> {
+    match fault {
+        PlanFault::Periods(problem) => Ok(Ending::Unplanned(problem)),
+        PlanFault::Schedule(problem) => Ok(Ending::Unscheduled(problem)),
+        PlanFault::Engine(fault) => Err(fault),
     }
 }
 

@@ -2,7 +2,7 @@
 
 use engines::{EngineFault, Method, SlopeProblem};
 use pit_commands::SolvingAsked;
-use slope::{PatternFault, SlopeFault};
+use slope::{PatternFault, RegionFault, SlopeFault};
 
 /// Tells that steps have chosen push-relabel, where no method is given beside them.
 pub fn tell_choice<R: Eprint>(rt: &R, is_asked: bool, method: Option<&str>, steps: Option<&str>) {
@@ -30,12 +30,33 @@ pub fn tell_slope_reason<R: Eprint>(rt: &R, is_asked: bool, fault: EngineFault) 
         EngineFault::Slope(SlopeProblem::Pattern(PatternFault::TooMany)) => {
             "more than 4096 offsets"
         }
-        EngineFault::Slope(SlopeProblem::Pairs(SlopeFault::TooMany)) => {
-            "the offsets give more than 134217728 pairs"
-        }
+        EngineFault::Slope(
+            SlopeProblem::Pairs(SlopeFault::TooMany) | SlopeProblem::Regions(RegionFault::TooMany),
+        ) => "the offsets give more than 134217728 pairs",
+        EngineFault::Slope(SlopeProblem::Regions(fault)) => return tell_region(rt, is_asked, fault),
         _ => return,
     };
     if is_asked {
         let _ = rt.eprintln(format_args!("reason: {reason}"));
     }
+}
+
+// Tells what is wrong with slopes by region, where the line of the fault doesn't say it.
+fn tell_region<R: Eprint>(rt: &R, is_asked: bool, fault: RegionFault) {
+    if !is_asked {
+        return;
+    }
+    let _ = match fault {
+        RegionFault::UnknownRegion(block) => rt.eprintln(format_args!(
+            "reason: the region of block {block} is no whole number, or slopes has no offsets for it: its first list is that of region 0"
+        )),
+        RegionFault::NotUpward(region, place) => rt.eprintln(format_args!(
+            "reason: offset {place} of region {region}, both counted from 0, doesn't lead up: its third number has to be at least 1"
+        )),
+        RegionFault::TooManyOffsets(region) => {
+            rt.eprintln(format_args!("reason: region {region} has more than 4096 offsets"))
+        }
+        RegionFault::TooManyRegions => rt.eprintln("reason: slopes has more than 64 regions"),
+        _ => Ok(()),
+    };
 }

@@ -2,7 +2,7 @@
 
 ghost use Rattle.std.specs.Prelude.{◌≤◌, IfOk};
 
-use crate::solve_options::wrong;
+use crate::solve_options::{asks_for_lock_free, wrong};
 use async_step::MOST_STEPS;
 use command_line::{Commanded, NamedOption, SeriesArgs, SolveArgs, WrongValue};
 use engines::{Effort, Method, method_named, steps_named, workers_named};
@@ -19,6 +19,19 @@ const USUAL_STEPS: u64 = 1_000_000_000;
 /// The value that names nothing, with its option.
 pub fn effort_to_solve<'a>(args: SolveArgs<'a>, method: Method) -> Result<Effort, WrongValue<'a>> {
     effort_asked(Commanded::Solve, method, args.steps, args.workers)
+}
+
+/// How `solve` solves the mine of blocks and periods: not by a run without a lock.
+///
+/// # Errors
+/// The value that names nothing, with its option.
+pub fn effort_over_periods<'a>(args: SolveArgs<'a>) -> Result<Effort, WrongValue<'a>> {
+    match args.method {
+        Some(method) if asks_for_lock_free(method) => {
+            Err(wrong(Commanded::Solve, NamedOption::PlanMethod, method))
+        }
+        method => effort_to_solve(args, method_asked(Commanded::Solve, method)?),
+    }
 }
 
 /// How much a run of `solve` without a lock may use: it has one worker or two.

@@ -1,8 +1,8 @@
 //! The commands on files, but for those of a series: what the arguments of each ask for, or the value that names nothing that
 //! there is; then each opens all files before any is read, and gives its engine's answer.
 //!
-//! Uses `command_line`, which has the arguments as texts, the engines of `check`, `solve`, `replay`, `value` and `slopes`, which
-//! read names and numbers, and `pit_files` for the files. It promises no more than to be safe: an engine's contract says what it
+//! Uses `command_line`, which has the arguments as texts, the engines of `check`, `solve`, `replay`, `value`, `schedule`,
+//! `bound` and `slopes`, which read names and numbers, and `pit_files` for the files. It promises no more than to be safe: an engine's contract says what it
 //! answers.
 #![tactic(auto)]
 
@@ -14,10 +14,13 @@ mod solve_options;
 mod solving;
 mod solving_args;
 
-pub use effort_args::effort_for_series;
-pub use files::{check_files, listed_slopes_files, replay_files, slopes_file, value_files};
+pub use effort_args::{effort_for_series, effort_over_periods};
+pub use files::{
+    bound_files, check_files, listed_slopes_files, replay_files, schedule_files, slopes_file,
+    value_files,
+};
 pub use series_args::table_over_an_input;
 pub use slopes_args::{pattern_asked, up_asked};
-pub use solve_options::{factor_asked, replay_asked, value_factor_asked};
-pub use solving::solve_files;
+pub use solve_options::{factor_asked, replay_asked, schedule_factor_asked, value_factor_asked};
+pub use solving::{solve_files, solve_plan_files};
 pub use solving_args::{SolvingAsked, solving_asked};

@@ -19,18 +19,17 @@ pub fn pattern_asked<'a>(value: &'a str) -> Result<PatternChoice, WrongValue<'a>
     pattern.ok_or(wrong(Commanded::Slopes, NamedOption::Pattern, value))
 }
 
-/// Which way is up: a greater z, where no option says.
+/// Which way is up, where an option says.
 ///
 /// # Errors
 /// The value that names nothing, with its option.
-pub fn up_asked<'a>(args: SlopesArgs<'a>) -> Result<Up, WrongValue<'a>> {
+pub fn up_asked<'a>(args: SlopesArgs<'a>) -> Result<Option<Up>, WrongValue<'a>> {
     match args.up {
-        Some(value) => up_named(value.as_bytes()).ok_or(wrong(
-            Commanded::Slopes,
-            NamedOption::Up,
-            value,
-        )),
-        None => Ok(Up::PlusZ),
+        Some(value) => match up_named(value.as_bytes()) {
+            Some(up) => Ok(Some(up)),
+            None => Err(wrong(Commanded::Slopes, NamedOption::Up, value)),
+        },
+        None => Ok(None),
     }
 }
 

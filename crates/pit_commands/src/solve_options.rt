@@ -1,14 +1,14 @@
-//! What the arguments of `solve`, `replay` and `value` ask for, or the value that names nothing that there is.
+//! What the arguments of `solve`, `replay`, `value` and `schedule` ask for, or the value that names nothing that there is.
 
-use audit_engines::room_named;
 use command_line::{
-    Commanded, ModelArgs, NamedOption, ReplayArgs, SolveArgs, ValueArgs, WrongValue,
+    Commanded, ModelArgs, NamedOption, ReplayArgs, ScheduleArgs, SolveArgs, ValueArgs, WrongValue,
 };
 use engines::{Method, factor_named, group_named};
 use lock_free_engine::names_lock_free;
 use ordered_group::Group;
 use replay_engines::ReplayAsked;
 use shells::Factor;
+use traced_engine::room_named;
 
 /// The value of an option of a command, which names nothing.
 pub fn wrong<'a>(command: Commanded, option: NamedOption<'a>, value: &'a str) -> WrongValue<'a> {
@@ -68,7 +68,7 @@ pub fn replay_asked<'a>(args: ReplayArgs<'a>) -> Result<ReplayAsked, WrongValue<
     Ok(ReplayAsked { factor, group })
 }
 
-// The factor at which a design is judged, where no option says: revenues in full.
+// The factor at which a design or a schedule is judged, where no option says: revenues in full.
 const FULL: &str = "1000";
 
 /// The factor at which a design is judged.
@@ -78,6 +78,15 @@ const FULL: &str = "1000";
 pub fn value_factor_asked<'a>(args: ValueArgs<'a>) -> Result<Factor, WrongValue<'a>> {
     let value = args.factor.unwrap_or(FULL);
     factor_asked(Commanded::Value, args.model, Some(value))
+}
+
+/// The factor at which a schedule is judged.
+///
+/// # Errors
+/// The value that names nothing, with its option.
+pub fn schedule_factor_asked<'a>(args: ScheduleArgs<'a>) -> Result<Factor, WrongValue<'a>> {
+    let value = args.factor.unwrap_or(FULL);
+    factor_asked(Commanded::Schedule, args.model, Some(value))
 }
 
 // The most steps of a trace, where no option says.

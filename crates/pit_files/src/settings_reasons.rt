@@ -1,7 +1,7 @@
 //! Why settings are refused, told on standard error where the line of the fault doesn't say it.
 
 use command_line::Escaped;
-use settings_file::{Key, SettingsFault, read_settings};
+use settings_file::{Key, Settings, SettingsFault, read_settings};
 use std::alloc::Global;
 use std::sync::atomic::{AtomicU64, Ordering};
 use toml::Table;
@@ -9,7 +9,7 @@ use toml::Table;
 // The most bytes of settings that are kept: more are hardly written by hand.
 const MOST_KEPT: usize = 1 << 20;
 
-const KEYS: [Key; 8] = [
+const KEYS: [Key; 11] = [
     Key::Revenue,
     Key::Cost,
     Key::Tonnes,
@@ -18,6 +18,9 @@ const KEYS: [Key; 8] = [
     Key::Offsets,
     Key::Processing,
     Key::Mining,
+    Key::Slopes,
+    Key::Region,
+    Key::Up,
 ];
 
 /// What was read of settings so far, and where the number of offsets that they list is put.
@@ -47,7 +50,8 @@ impl<'a> KeptText<'a> {
     }
 
     /// Tells what is wrong with the whole text of the settings with this name, if it is no TOML text or has a key that
-    /// settings haven't. The engine meets the same fault, and answers it. Of settings that are right it notes the offsets.
+    /// settings haven't, or one that goes unused. The engine meets the same fault, and answers it. Where a slope is asked
+    /// for, it notes the offsets instead.
     pub fn tell<R: Eprint>(&self, rt: &R, alloc: Global, name: &str) {
         if !self.is_whole {
             return;
@@ -56,11 +60,38 @@ impl<'a> KeptText<'a> {
             Err(SettingsFault::NotToml) => tell_line(rt, alloc, name, &self.bytes),
             Err(SettingsFault::UnknownKey) => tell_key(rt, alloc, name, &self.bytes),
             Err(_) => {}
-            Ok(settings) => {
-                if let (Some(number), Some(listed)) = (self.offsets, settings.offsets()) {
-                    number.store(listed.len() as u64, Ordering::SeqCst);
-                }
-            }
+            Ok(settings) => match self.offsets {
+                Some(number) => number.store(most_offsets(&settings), Ordering::SeqCst),
+                None => tell_unused(rt, name, &settings),
+            },
+        }
+    }
+}
+
+// How many offsets settings list, in the region that has most where they name slopes by region.
+fn most_offsets(settings: &Settings) -> u64 {
+    let mut most = 0;
+    if let Some(listed) = settings.offsets() {
+        most = listed.len();
+    }
+    if let Some(slopes) = settings.slopes() {
+        for listed in slopes {
+            most = most.max(listed.len());
+        }
+    }
+    most as u64
+}
+
+// Tells the first key of slopes by region, of which a command with a precedence file makes no use.
+fn tell_unused<R: Eprint>(rt: &R, name: &str, settings: &Settings) {
+    for key in [Key::Slopes, Key::Region, Key::Up] {
+        if settings.says(key) {
+            let name = Escaped { text: name };
+            let key = key.name();
+            let _ = rt.eprintln(format_args!(
+                "reason: {name} has the key {key}, and who rests on whom is said by --prec: leave slopes, region and up to the settings of slopes --pattern settings, which writes that file"
+            ));
+            return;
         }
     }
 }
@@ -92,7 +123,7 @@ fn tell_key<R: Eprint>(rt: &R, alloc: Global, name: &str, text: &[u8]) {
         let name = Escaped { text: name };
         let key = Escaped { text: key };
         let _ = rt.eprintln(format_args!(
-            "reason: {name} has the key {key}, and settings have revenue, cost, processing, mining, tonnes, factors, report and offsets"
+            "reason: {name} has the key {key}, and settings have revenue, cost, processing, mining, tonnes, factors, report, offsets, slopes, region and up"
         ));
     }
 }

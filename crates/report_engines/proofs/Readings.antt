@@ -12,7 +12,7 @@ use Rattle.shells.specs.Prices.{PricesView, PricesFaultStands, NoRevenueNegative
 use Rattle.mine_inputs.specs.declared.engine_fault.EngineFault.{EngineFault}
 use Rattle.mine_inputs.specs.declared.engine_fault.EngineFault.TheVariants as engine
 use Rattle.mine_inputs.specs.declared.engine_fault.Problem.TheVariants as problem
-use Rattle.mine_inputs.specs.Prelude.{price_keys, columns_said, price_columns, first_columns, table_at, table_of, ReadsBlocks, BlocksFails, BlocksReadFails, ReadsSettingsText, SettingsReadFails, IsMissing, ReadsPrices, ReadsPrec, PrecReadFails, ModelPricesFail}
+use Rattle.mine_inputs.specs.Prelude.{price_keys, slope_keys, columns_said, price_columns, first_columns, table_at, table_of, ReadsBlocks, BlocksFails, BlocksReadFails, ReadsSettingsText, SettingsReadFails, IsMissing, ReadsPrices, ReadsPrec, PrecReadFails, ModelPricesFail}
 use Rattle.mine_inputs.proofs.Priced.{first_columns_are, all_read}
 use Rattle.mine_inputs.proofs.PriceKeys.{prices_and_others, prices_with_others}
 use Rattle.mine_inputs.proofs.PricedAnswers.{key_missing, keys_said, prec_answer}
@@ -24,21 +24,21 @@ use Rattle.engines.proofs.Unread.{never}
 
 -- ---- settings
 
-settings_fail_at : (s : List ℕ) (e : EngineFault) → SettingsReadFails s e → SaidFails s e
+settings_fail_at : (s : List ℕ) (e : EngineFault) → SettingsReadFails slope_keys s e → SaidFails s e
 settings_fail_at s (engine.Settings (problem.Fault (settings_fault.Missing key))) h = absurd (let z : None ≡ Some key = h.1.1 in cc)
 settings_fail_at s engine.Memory h = tt
 settings_fail_at s engine.Device h = tt
 settings_fail_at s (engine.Settings _) h = h
 settings_fail_at s e h = absurd h
 
-pub settings_fail : (o : Option (List ℕ)) (e : EngineFault) → IfSome o (λ s. SettingsReadFails s e) → IfSome o (λ s. SaidFails s e)
+pub settings_fail : (o : Option (List ℕ)) (e : EngineFault) → IfSome o (λ s. SettingsReadFails slope_keys s e) → IfSome o (λ s. SaidFails s e)
 settings_fail None e h = tt
 settings_fail (Some s) e h = settings_fail_at s e h
 
 -- a key is missing
-pub key_is_missing : (o : Option (List ℕ)) (said : SettingsView) (e : EngineFault) → IfSome o (λ s. ReadsSettingsText s said) → IsMissing (report_keys said) said e → IfSome o (λ s. SaidFails s e)
+pub key_is_missing : (o : Option (List ℕ)) (said : SettingsView) (e : EngineFault) → IfSome o (λ s. ReadsSettingsText slope_keys s said) → IsMissing (report_keys said) said e → IfSome o (λ s. SaidFails s e)
 key_is_missing None said e a m = tt
-key_is_missing (Some s) said e a m = subst (SaidFails s) (sym m.1) (key_missing report_keys s said m.0 a m.2)
+key_is_missing (Some s) said e a m = subst (SaidFails s) (sym m.1) (key_missing report_keys slope_keys s said m.0 a m.2)
 
 -- none of the keys of prices is missing, nor of the others
 pub prices_known : (said : SettingsView) → first_missing (report_keys said) said ≡ None → first_missing (price_keys said) said ≡ None
@@ -57,13 +57,13 @@ factors_refused None said e whole m = tt
 factors_refused (Some s) said e whole (inl is) = subst (SaidFails s) (sym is) tt
 factors_refused (Some s) said e whole (inr m) = absurd (never _ m.0 (others_known said whole).1 m.2)
 
-pub said_is : (o : Option (List ℕ)) (said : SettingsView) (columns : ReportColumns) (factors : List ℕ) (factor : ℕ) → IfSome o (λ s. ReadsSettingsText s said) → first_missing (report_keys said) said ≡ None
+pub said_is : (o : Option (List ℕ)) (said : SettingsView) (columns : ReportColumns) (factors : List ℕ) (factor : ℕ) → IfSome o (λ s. ReadsSettingsText slope_keys s said) → first_missing (report_keys said) said ≡ None
     → columns ≡ columns_by said → factors ≡ unwrap_or said.factors [] → factor ≡ factor_by said → IfSome o (λ s. IsSaid s columns factors factor)
 said_is None said columns factors factor a whole c f k = tt
 said_is (Some s) said columns factors factor a whole c f k =
     let same = sym (settings_are s said a.1) in
     record {
-      keys = keys_said report_keys s said a whole;
+      keys = keys_said report_keys slope_keys s said a whole;
       columns_are = c ∙ ap columns_by same;
       factors_are = f ∙ ap (λ (v : SettingsView). unwrap_or v.factors []) same;
       factor_is = k ∙ ap factor_by same;
@@ -111,8 +111,8 @@ module _ (s t : List ℕ) (columns : ReportColumns) (factors : List ℕ) (factor
   model_fails p engine.Device h = tt
   model_fails p e h = absurd h
 
-  settings_told : ReadsSettingsText s (settings_of s)
-  settings_told = (said.keys.within, said.keys.read)
+  settings_told : ReadsSettingsText slope_keys s (settings_of s)
+  settings_told = (said.keys.within, said.keys.read, said.keys.used)
 
   columns_known : first_missing (price_keys (settings_of s)) (settings_of s) ≡ None
   columns_known = prices_known (settings_of s) said.keys.said

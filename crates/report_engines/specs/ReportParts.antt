@@ -7,7 +7,7 @@ use Rattle.shells.specs.Prices.{PricesView, PricesFaultStands}
 use Rattle.mine_inputs.specs.declared.engine_fault.EngineFault.{EngineFault}
 use Rattle.mine_inputs.specs.declared.engine_fault.EngineFault.TheVariants as engine
 use Rattle.mine_inputs.specs.declared.priced_inputs.ChargeColumns.{ChargeColumns}
-use Rattle.mine_inputs.specs.Prelude.{columns_said, column_list, place_beside, first_columns, SettingsFails, ReadsBlocks, BlocksFails}
+use Rattle.mine_inputs.specs.Prelude.{columns_said, column_list, place_beside, first_columns, slope_keys, SettingsFails, ReadsBlocks, BlocksFails}
 use Rattle.shell_engines.specs.SeriesTexts.{factors_said, IsSeriesRead}
 use Rattle.report_engines.specs.declared.report_inputs.ReportColumns.{ReportColumns}
 use Rattle.report_engines.specs.ReportTexts.{report_keys, ReportKeysKnown, report_columns, report_factor}
@@ -43,7 +43,7 @@ pub record IsSaid (settings : List ℕ) (columns : ReportColumns) (factors : Lis
 
 -- why they aren't said
 abbrev pub SaidFails : List ℕ → EngineFault → Type 0
-SaidFails settings (engine.Settings p) = SettingsFails report_keys settings p
+SaidFails settings (engine.Settings p) = SettingsFails report_keys slope_keys settings p
 SaidFails settings engine.Memory = Unit {0}
 SaidFails settings engine.Device = Unit {0}
 SaidFails settings _ = ⊥

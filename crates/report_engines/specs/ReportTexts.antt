@@ -9,7 +9,7 @@ use Rattle.shells.specs.Prices.{PricesFaultStands}
 use Rattle.bench_report.specs.Benches.{ReportedBlocks}
 use Rattle.mine_inputs.specs.declared.engine_fault.EngineFault.{EngineFault}
 use Rattle.mine_inputs.specs.declared.engine_fault.EngineFault.TheVariants as engine
-use Rattle.mine_inputs.specs.Prelude.{IsWithinLimit, BlocksFails, keys_by, price_columns, cell, table_of, KeysSaid, PricesRead, SettingsFails, priced_texts, worth_by, PrecFails}
+use Rattle.mine_inputs.specs.Prelude.{IsWithinLimit, BlocksFails, keys_by, slope_keys, price_columns, cell, table_of, KeysSaid, PricesRead, SettingsFails, priced_texts, worth_by, PrecFails}
 use Rattle.shell_engines.specs.SeriesTexts.{factors_said}
 
 -- the keys that a report needs
@@ -18,7 +18,7 @@ report_keys s = keys_by (names_mill s) (Tonnes ∷ Factors ∷ [])
 
 -- the text of settings has no fault, and says something at each of these keys
 abbrev pub ReportKeysKnown : List ℕ → Type 0
-ReportKeysKnown settings = KeysSaid report_keys settings
+ReportKeysKnown settings = KeysSaid report_keys slope_keys settings
 
 -- the columns of the blocks that settings name: those of prices, then tonnes
 abbrev pub report_columns : SettingsView → List ℕ
@@ -55,7 +55,7 @@ report_blocks n settings text precedence pit = record {
 
 -- why the texts aren't read: each fault stands, and none before it does
 abbrev pub ReportMineFails : List ℕ → List ℕ → List ℕ → EngineFault → Type 0
-ReportMineFails settings text precedence (engine.Settings p) = SettingsFails report_keys settings p
+ReportMineFails settings text precedence (engine.Settings p) = SettingsFails report_keys slope_keys settings p
 ReportMineFails settings text precedence (engine.Blocks p) = ReportKeysKnown settings × BlocksFails (report_columns (settings_of settings)) text p
 ReportMineFails settings text precedence (engine.Prices fault) = ReportBlocksRead settings text × PricesFaultStands (table_of settings text) fault
 ReportMineFails settings text precedence (engine.Prec p) = ReportBlocksRead settings text × ((n : ℕ) × PricesRead settings text n × PrecFails n precedence p)

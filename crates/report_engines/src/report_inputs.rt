@@ -14,8 +14,8 @@ use blocks_file::BlockModel;
 use engines::EngineFault;
 use fixed_worth::CountedRead;
 use mine_inputs::{
-    ChargeColumns, PriceColumns, predecessors_from, price_columns, priced_blocks_from, prices_of,
-    settings_from,
+    ChargeColumns, PriceColumns, predecessors_from, price_columns, priced_blocks_from,
+    priced_settings_from, prices_of,
 };
 use settings_file::{Key, Settings};
 use shell_engines::series_inputs::{SeriesInputs, SeriesMine, factors_of};
@@ -93,7 +93,7 @@ fn said_from<S: CountedRead>(alloc: Global, settings: &mut S) -> Result<Said, En
     ensures kept { ¬ IsErrOf result EngineFault.Device
         → S.failed settings.new ≡ S.failed settings.old }
 {
-    let settings = settings_from(alloc, settings)?;
+    let settings = priced_settings_from(alloc, settings)?;
     let columns = columns_of(&settings)?;
     let factors = factors_of(alloc, &settings)?;
     let factor = factor_of(&settings, factors.as_slice());

@@ -7,7 +7,7 @@ use Rattle.settings_file.specs.Settings.{SettingsView, settings_of, names_mill, 
 use Rattle.shells.specs.Prices.{PricesView}
 use Rattle.mine_inputs.specs.declared.engine_fault.EngineFault.{EngineFault}
 use Rattle.mine_inputs.specs.declared.engine_fault.EngineFault.TheVariants as engine
-use Rattle.mine_inputs.specs.Prelude.{keys_by, SettingsFails, PricedBlocksFail, PricesFail, PricesRead, PrecFails, ArePricesRead}
+use Rattle.mine_inputs.specs.Prelude.{keys_by, slope_keys, SettingsFails, PricedBlocksFail, PricesFail, PricesRead, PrecFails, ArePricesRead}
 
 -- the keys that a series of shells needs
 abbrev pub series_keys : SettingsView → List Key
@@ -29,7 +29,7 @@ pub record IsSeriesRead (settings blocks precedence : List ℕ) (prices : Prices
 
 -- why they aren't read: each fault stands, and none before it does
 abbrev pub SeriesMineFails : List ℕ → List ℕ → List ℕ → EngineFault → Type 0
-SeriesMineFails settings blocks precedence (engine.Settings p) = SettingsFails series_keys settings p
+SeriesMineFails settings blocks precedence (engine.Settings p) = SettingsFails series_keys slope_keys settings p
 SeriesMineFails settings blocks precedence (engine.Blocks p) = KeysKnown settings × PricedBlocksFail settings blocks p
 SeriesMineFails settings blocks precedence (engine.Prices fault) = KeysKnown settings × PricesFail settings blocks fault
 SeriesMineFails settings blocks precedence (engine.Prec p) = KeysKnown settings × ((n : ℕ) × PricesRead settings blocks n × PrecFails n precedence p)

@@ -11,7 +11,7 @@ ghost use Rattle.shell_engines.specs.SeriesTexts.{IsSeriesRead, SeriesMineFails}
 
 use engines::EngineFault;
 use fixed_worth::{CountedRead, MOST_FACTOR};
-use mine_inputs::{missing, predecessors_from, price_columns, prices_from, settings_from};
+use mine_inputs::{missing, predecessors_from, price_columns, priced_settings_from, prices_from};
 use prec_file::Predecessors;
 use settings_file::{Key, Settings};
 use shells::{Factor, Prices};
@@ -95,7 +95,7 @@ pub fn series_mine_from<D: CountedRead>(
     ensures kept { ¬ IsErrOf result EngineFault.Device
         → NoInputFailed inputs.old inputs.new D.failed }
 {
-    let settings = settings_from(alloc, &mut inputs.settings)?;
+    let settings = priced_settings_from(alloc, &mut inputs.settings)?;
     let columns = price_columns(&settings, &[Key::Factors])?;
     let factors = factors_of(alloc, &settings)?;
     let prices = prices_from(alloc, &mut inputs.blocks, columns)?;

@@ -11,50 +11,46 @@ use closure_net::{Net, Port, PortKind};
 use machine_law::{Best, Operation, after_last_port, better};
 use ordered_group::Scaled;
 
-// The operation once the port at this place is passed.
-fn after_port(
-    count: u32,
-    label: u64,
-    have: u64,
-    place: u32,
+// Where a block is in its look over its ports.
+#[derive(Clone, Copy)]
+struct Scan {
+    label: u64, // the block's own
+    have: u64, // its excess
+    place: u32, // of the port
     best: Option<Best<u64>>,
-) -> Operation<u64>
-    requires { place < count }
-    ensures { result ≡ operation_after_port count label have place best }
+}
+
+// The operation once the port at this place is passed.
+fn after_port(count: u32, scan: Scan) -> Operation<u64>
+    requires { scan.place < count }
+    ensures { result ≡ operation_after_port count scan.label scan.have scan.place scan.best }
 {
-    if place + 1 < count {
+    if scan.place + 1 < count {
         Operation::Scan {
-            have,
-            place: place + 1,
+            have: scan.have,
+            place: scan.place + 1,
             read: None,
-            best,
+            best: scan.best,
         }
     } else {
-        after_last_port(label, have, best)
+        after_last_port(scan.label, scan.have, scan.best)
     }
 }
 
 // The operation once a capacity is read.
-fn after_capacity(
-    count: u32,
-    label: u64,
-    have: u64,
-    place: u32,
-    best: Option<Best<u64>>,
-    x: u64,
-) -> Operation<u64>
-    requires { place < count }
-    ensures { result ≡ after_capacity_word count label have place best x }
+fn after_capacity(count: u32, scan: Scan, x: u64) -> Operation<u64>
+    requires { scan.place < count }
+    ensures { result ≡ after_capacity_word count scan.label scan.have scan.place scan.best x }
 {
     if x > 0 {
         Operation::Scan {
-            have,
-            place,
+            have: scan.have,
+            place: scan.place,
             read: Some(x),
-            best,
+            best: scan.best,
         }
     } else {
-        after_port(count, label, have, place, best)
+        after_port(count, scan)
     }
 }
 
@@ -71,51 +67,38 @@ fn beyond(net: &Net<Scaled>, kind: PortKind, x: u64) -> u64
 }
 
 // The operation once a label is read.
-fn after_label(
-    count: u32,
-    label: u64,
-    have: u64,
-    place: u32,
-    best: Option<Best<u64>>,
-    capacity: u64,
-    port: Port,
-    beyond: u64,
-) -> Operation<u64>
-    requires { place < count }
-    ensures { result ≡ operation_after_label count label have place best capacity port beyond }
+fn after_label(count: u32, scan: Scan, capacity: u64, port: Port, beyond: u64) -> Operation<u64>
+    requires { scan.place < count }
+    ensures { result ≡ operation_after_label count scan.label scan.have scan.place scan.best capacity port beyond }
 {
+    let mut lowest = scan.best;
     let new = Best {
         port,
         capacity,
         label: beyond,
     };
-    let mut lowest = best;
     better(&mut lowest, new);
-    after_port(count, label, have, place, lowest)
+    after_port(
+        count,
+        Scan {
+            best: lowest,
+            ..scan
+        },
+    )
 }
 
 // The operation after the first read at a port.
-fn after_look(
-    net: &Net<Scaled>,
-    b: u32,
-    label: u64,
-    have: u64,
-    place: u32,
-    best: Option<Best<u64>>,
-    port: Port,
-    kind: PortKind,
-    x: u64,
-) -> Operation<u64>
+fn after_look(net: &Net<Scaled>, b: u32, scan: Scan, port: Port, x: u64) -> Operation<u64>
     requires known { b < length net.now.worths }
-    requires inside { place < length (ports net.now b) }
-    ensures { result ≡ after_look_word net.now b label have place best port kind x }
+    requires inside { scan.place < length (ports net.now b) }
+    ensures { result ≡ after_look_word net.now b scan.label scan.have scan.place scan.best port port.kind x }
 {
     let count = net.ports(b);
-    match kind {
-        PortKind::Sink => after_capacity(count, label, have, place, best, x),
-        PortKind::Forward => after_label(count, label, have, place, best, 0, port, x),
-        PortKind::Backward => after_capacity(count, label, have, place, best, x),
-        PortKind::Source => after_capacity(count, label, have, place, best, x),
+    match port.kind {
+        PortKind::Sink => after_capacity(count, scan, x),
+        PortKind::Forward => after_label(count, scan, 0, port, x),
+        PortKind::Backward => after_capacity(count, scan, x),
+        PortKind::Source => after_capacity(count, scan, x),
     }
 }
 
@@ -169,12 +152,17 @@ pub fn after(
             best,
         } => {
             let port = net.port(b, place);
+            let scan = Scan {
+                label,
+                have,
+                place,
+                best,
+            };
             match read {
-                None => after_look(net, b, label, have, place, best, port, port.kind, x),
+                None => after_look(net, b, scan, port, x),
                 Some(capacity) => {
-                    let count = net.ports(b);
                     let end = beyond(net, port.kind, x);
-                    after_label(count, label, have, place, best, capacity, port, end)
+                    after_label(net.ports(b), scan, capacity, port, end)
                 }
             }
         }

@@ -1,38 +1,37 @@
-use Rattle.std.proofs.lemmas.Result.{err_from_is_err_and}
-use Rattle.engines.proofs.SlopeAnswers.{missing_answer, blocks_answer, pattern_answer, pairs_answer, written_answer, cut_short}
+use Rattle.fixed_worth.proofs.Common.{◌≡◌, ℕ, ℤ, List, map, Option, None, rules, sym, subst}
+use Rattle.std.specs.Global.{Vec}
+use Rattle.settings_file.specs.Settings.{first_missing}
+use Rattle.slope.specs.Prelude.{Offset}
+use Rattle.slope.specs.declared.up.Up.{Up}
+use Rattle.mine_inputs.specs.SlopedTexts.{columns_for}
+use Rattle.engines.specs.Slopes.{offset_keys}
+use Rattle.engines.proofs.SlopeAnswers.{RegionsGive, PatternGives, listed_missing, listed_regions, listed_pattern}
 use Rattle.engines.proofs.listed_slopes.slopes_from_settings_engine.Goals as goal
 
-pub returns-in_err-offsets-clause-answer : goal.returns-in_err-offsets-clause-answer
-returns-in_err-offsets-clause-answer g c =
-    let p = err_from_is_err_and c.from_residual-in_err-offsets.result c.from_residual-in_err-offsets.ensures.1 in
-    rw (p.1, p.2) (missing_answer (g.S.Read.remaining c.args.settings.now) (g.B.Read.remaining c.args.blocks.now) c.args.up c.args.selection c.in_ok-settings.settings c.in_ok-settings.ensures.read (g.W.Write.contents c.args.out.now) c.in_err-offsets.field-0.0 c.in_err-offsets.ensures.offsets)
+pub returns-in-Some-clause-answer : goal.returns-in-Some-clause-answer
+returns-in-Some-clause-answer g c =
+    rw c.missing.ensures (listed_missing (g.S.Read.remaining c.args.settings.now) (g.B.Read.remaining c.args.blocks.now) c.args.up c.args.selection c.in_ok-settings.settings (g.W.Write.contents c.args.out.now) c.in-Some.key c.in_ok-settings.ensures.read (sym c.in-Some.ensures))
 
-pub returns-in_err-model-clause-answer : goal.returns-in_err-model-clause-answer
-returns-in_err-model-clause-answer g c =
-    let p = err_from_is_err_and c.from_residual-in_err-model.result c.from_residual-in_err-model.ensures.1 in
-    rw (p.1, p.2) (blocks_answer (g.S.Read.remaining c.args.settings.now) (g.B.Read.remaining c.args.blocks.now) c.args.up c.args.selection c.in_ok-settings.settings c.in_ok-settings.ensures.read c.in_ok-offsets.offsets.now c.in_ok-offsets.ensures.offsets
-    (g.W.Write.contents c.args.out.now) c.in_err-model.field-0.0 c.in_err-model.ensures.read)
-
-pub returns-in_err-pattern-clause-answer : goal.returns-in_err-pattern-clause-answer
-returns-in_err-pattern-clause-answer g c =
-    let p = err_from_is_err_and c.from_residual-in_err-pattern.result c.from_residual-in_err-pattern.ensures.1 in
-    rw (p.1, p.2) (pattern_answer (g.S.Read.remaining c.args.settings.now) (g.B.Read.remaining c.args.blocks.now) c.args.up c.args.selection c.in_ok-settings.settings c.in_ok-settings.ensures.read c.in_ok-offsets.offsets.now c.in_ok-offsets.ensures.offsets
-    c.in_ok-model.model c.in_ok-model.ensures.read (g.W.Write.contents c.args.out.now) c.in_err-pattern.field-0.0 c.in_err-pattern.ensures.made)
-
-pub returns-in_err-predecessors-clause-answer : goal.returns-in_err-predecessors-clause-answer
-returns-in_err-predecessors-clause-answer g c =
-    let p = err_from_is_err_and c.from_residual-in_err-predecessors.result c.from_residual-in_err-predecessors.ensures.1 in
-    rw (p.1, p.2) (pairs_answer (g.S.Read.remaining c.args.settings.now) (g.B.Read.remaining c.args.blocks.now) c.args.up c.args.selection c.in_ok-settings.settings c.in_ok-settings.ensures.read c.in_ok-offsets.offsets.now c.in_ok-offsets.ensures.offsets
-    c.in_ok-model.model c.in_ok-model.ensures.read c.in_ok-pattern.pattern c.in_ok-pattern.ensures.made (g.W.Write.contents c.args.out.now) c.in_err-predecessors.field-0.0 c.in_err-predecessors.ensures.made)
-
-pub returns-in_err-write_slopes-clause-answer : goal.returns-in_err-write_slopes-clause-answer
-returns-in_err-write_slopes-clause-answer g c =
-    let p = err_from_is_err_and c.from_residual-in_err-write_slopes.result c.from_residual-in_err-write_slopes.ensures.1 in
-    rw (p.1, p.2) (cut_short (g.S.Read.remaining c.args.settings.now) (g.B.Read.remaining c.args.blocks.now) c.args.up c.args.selection c.in_ok-settings.settings c.in_ok-settings.ensures.read c.in_ok-offsets.offsets.now c.in_ok-offsets.ensures.offsets
-    c.in_ok-model.model c.in_ok-model.ensures.read c.in_ok-pattern.pattern c.in_ok-pattern.ensures.made (g.W.Write.contents c.args.out.now) (g.W.Write.contents c.write_slopes.new.out) c.in_ok-predecessors.predecessors c.in_err-write_slopes.field-0.0 c.in_err-write_slopes.ensures.fault
-    c.in_ok-predecessors.ensures.made c.in_err-write_slopes.ensures.prefix)
+pub returns-in-Some-slopes-clause-answer : goal.returns-in-Some-slopes-clause-answer
+returns-in-Some-slopes-clause-answer g c =
+    let said = c.in_ok-settings.settings in
+    let q = g.B.Read.remaining c.args.blocks.now in
+    let slopes : List (List Offset) = map (λ (w : Vec (ℤ × ℤ × ℤ)). w.items) c.in-Some-slopes.slopes.now in
+    let old = g.W.Write.contents c.args.out.now in
+    let new = g.W.Write.contents c.region_slopes.new.out in
+    let whole : first_missing (offset_keys said) said ≡ None = search (rules, c.lacking.ensures, c.in_default.not-Some) in
+    let R : Option ℕ → Type 0 = λ r. RegionsGive q slopes (columns_for r) c.way_up-up.result c.args.selection old new c.region_slopes.result in
+    let U : Up → Type 0 = λ u. RegionsGive q slopes (columns_for said.region) u c.args.selection old new c.region_slopes.result in
+    listed_regions (g.S.Read.remaining c.args.settings.now) q c.args.up c.args.selection said c.in_ok-settings.ensures.read old new slopes c.region_slopes.result whole (sym c.in-Some-slopes.ensures)
+    (subst U c.way_up-up.ensures (subst R c.region.ensures.value c.region_slopes.ensures.answer))
 
 pub returns-clause-answer : goal.returns-clause-answer
 returns-clause-answer g c =
-    written_answer (g.S.Read.remaining c.args.settings.now) (g.B.Read.remaining c.args.blocks.now) c.args.up c.args.selection c.in_ok-settings.settings c.in_ok-settings.ensures.read c.in_ok-offsets.offsets.now c.in_ok-offsets.ensures.offsets
-    c.in_ok-model.model c.in_ok-model.ensures.read c.in_ok-pattern.pattern c.in_ok-pattern.ensures.made (g.W.Write.contents c.args.out.now) (g.W.Write.contents c.write_slopes.new.out) c.in_ok-predecessors.predecessors c.in_ok-predecessors.ensures.made c.in_ok-write_slopes.ensures.sent
+    let said = c.in_ok-settings.settings in
+    let q = g.B.Read.remaining c.args.blocks.now in
+    let old = g.W.Write.contents c.args.out.now in
+    let new = g.W.Write.contents c.pattern_slopes.new.out in
+    let whole : first_missing (offset_keys said) said ≡ None = search (rules, c.lacking.ensures, c.in_default.not-Some) in
+    let U : Up → Type 0 = λ u. PatternGives q c.offsets_of.result.now u c.args.selection old new c.pattern_slopes.result in
+    listed_pattern (g.S.Read.remaining c.args.settings.now) q c.args.up c.args.selection said c.in_ok-settings.ensures.read old new c.offsets_of.result.now c.pattern_slopes.result whole (sym c.in-None.ensures) c.offsets_of.ensures
+    (subst U c.way_up-up.ensures c.pattern_slopes.ensures.answer)

@@ -1,7 +1,7 @@
 //! Reads the word that says how many steps a trace may have; gives nothing for any other word.
 
 ghost use Rattle.std.specs.Prelude.{◌≡◌};
-ghost use Rattle.audit_engines.specs.RoomWord.{room_of};
+ghost use Rattle.traced_engine.specs.RoomWord.{room_of};
 
 use engines::whole_within;
 use trace_file::MOST_EVENTS;

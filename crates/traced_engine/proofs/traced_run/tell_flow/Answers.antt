@@ -1,8 +1,8 @@
 use Rattle.std.proofs.Common.{inr, refl, subst}
 use Rattle.engines.specs.declared.certification.Uncertified.{Uncertified}
 use Rattle.engines.specs.Prelude.{UncertifiedStands, too_large_line}
-use Rattle.audit_engines.proofs.RunAnswers.{certified, check_overflows, said_no}
-use Rattle.audit_engines.proofs.traced_run.tell_flow.Goals as goal
+use Rattle.traced_engine.proofs.RunAnswers.{certified, check_overflows, said_no}
+use Rattle.traced_engine.proofs.traced_run.tell_flow.Goals as goal
 
 pub returns-in-Err-Refused-clause-answer : goal.returns-in-Err-Refused-clause-answer
 returns-in-Err-Refused-clause-answer g c = λ limit room history audit.

@@ -3,9 +3,9 @@ use Rattle.engines.specs.declared.method.Method.TheVariants.{PushRelabel}
 use Rattle.engines.proofs.Answered.{unsolved, answered}
 use Rattle.mine_inputs.proofs.Failed.{raised, stayed, went}
 use Rattle.mine_inputs.proofs.MineDevices.{mine_once, other_once}
-use Rattle.audit_engines.specs.TracedRuns.{Traces}
-use Rattle.audit_engines.proofs.MineAnswers.{untraced}
-use Rattle.audit_engines.proofs.tracing_engine.solve_traced_engine.Goals as goal
+use Rattle.traced_engine.specs.TracedRuns.{Traces}
+use Rattle.traced_engine.proofs.MineAnswers.{untraced}
+use Rattle.traced_engine.proofs.tracing_engine.solve_traced_engine.Goals as goal
 
 pub returns-in_err-mine-clause-answer : goal.returns-in_err-mine-clause-answer
 returns-in_err-mine-clause-answer g c =

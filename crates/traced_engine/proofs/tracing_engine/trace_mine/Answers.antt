@@ -1,7 +1,7 @@
 use Rattle.std.proofs.Common.{refl, sym, subst}
 use Rattle.ordered_group.specs.declared.groups.Group.{Group}
-use Rattle.audit_engines.specs.TracedRuns.{Traces}
-use Rattle.audit_engines.proofs.tracing_engine.trace_mine.Goals as goal
+use Rattle.traced_engine.specs.TracedRuns.{Traces}
+use Rattle.traced_engine.proofs.tracing_engine.trace_mine.Goals as goal
 
 pub returns-in-Worth-clause-answer : goal.returns-in-Worth-clause-answer
 returns-in-Worth-clause-answer g c = λ texts read at.

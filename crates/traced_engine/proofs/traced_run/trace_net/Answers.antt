@@ -1,6 +1,6 @@
 use Rattle.std.proofs.lemmas.Result.{err_from_is_err_and}
-use Rattle.audit_engines.proofs.RunAnswers.{cut, history_of, told, trace_cut, traced, unwritten}
-use Rattle.audit_engines.proofs.traced_run.trace_net.Goals as goal
+use Rattle.traced_engine.proofs.RunAnswers.{cut, history_of, told, trace_cut, traced, unwritten}
+use Rattle.traced_engine.proofs.traced_run.trace_net.Goals as goal
 
 pub returns-in_err-write_trace-in-Ok-clause-answer : goal.returns-in_err-write_trace-in-Ok-clause-answer
 returns-in_err-write_trace-in-Ok-clause-answer g c =

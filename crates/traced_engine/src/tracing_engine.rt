@@ -6,7 +6,7 @@ ghost use Rattle.mine_inputs.specs.ReadMines.{AreRead};
 ghost use Rattle.engines.specs.Readings.{IsGroupNamed};
 ghost use Rattle.mine_inputs.specs.MineInputs.{ForTexts, CanCount, NoneFailed, OneFailed};
 ghost use Rattle.mine_inputs.specs.Mines.{MineTexts, price_wanted};
-ghost use Rattle.audit_engines.specs.TracedRuns.{Traces};
+ghost use Rattle.traced_engine.specs.TracedRuns.{Traces};
 
 use crate::traced_asked::TracedAsked;
 use crate::traced_outputs::TracedOutputs;

@@ -5,7 +5,7 @@ ghost use Rattle.std.specs.Prelude.{◌≡◌, ◌+◌, ◌-◌, ◌^◌, ◌<�
 ghost use Rattle.machine_law.specs.declared.events.Event.{Event};
 ghost use Rattle.certificate_file.specs.ReadBack.{IsPrice};
 ghost use Rattle.workers.specs.Auditing.{IsAudit};
-ghost use Rattle.audit_engines.specs.TracedRuns.{TellsRun, TracesNet, no_flow_line};
+ghost use Rattle.traced_engine.specs.TracedRuns.{TellsRun, TracesNet, no_flow_line};
 
 use crate::traced_outputs::TracedOutputs;
 use check_pit::Price;

@@ -18,7 +18,7 @@ use Rattle.mine_inputs.specs.declared.engine_fault.EngineFault.TheVariants as en
 use Rattle.engines.specs.Prelude.{IsRefusedFlow, SendsCertificate, SendsLine, certificate_text}
 use Rattle.engines.proofs.Answered.{keeps_self}
 use Rattle.engines.proofs.RefusedRuns.{refused_for_size}
-use Rattle.audit_engines.specs.TracedRuns.{CheckOverflowsAfter, IsNoOfRun, TellsRun, TracesNet, no_flow_line}
+use Rattle.traced_engine.specs.TracedRuns.{CheckOverflowsAfter, IsNoOfRun, TellsRun, TracesNet, no_flow_line}
 
 -- ---- histories
 

@@ -14,7 +14,7 @@ use Rattle.mine_inputs.specs.Prelude.{AreRead, of_model, MineTexts, price_wanted
 use Rattle.engines.specs.Prelude.{IsGroupNamed, IsNetBy, Solves}
 use Rattle.engines.proofs.Answered.{keeps_self}
 use Rattle.engines.proofs.Solutions.{certificate_is, unmade}
-use Rattle.audit_engines.specs.TracedRuns.{IsCertificateOfRun, TracesNet, TraceAtFault, Traces}
+use Rattle.traced_engine.specs.TracedRuns.{IsCertificateOfRun, TracesNet, TraceAtFault, Traces}
 
 -- ---- nothing was written
 

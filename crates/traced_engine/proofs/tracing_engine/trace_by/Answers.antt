@@ -2,9 +2,9 @@ use Rattle.fixed_worth.proofs.Common.{subst, err_from_is_err_and}
 use Rattle.certificate_file.specs.declared.header.Price.{Price}
 use Rattle.mine_inputs.proofs.MinesRead.{read_as}
 use Rattle.engines.proofs.Solutions.{net_by}
-use Rattle.audit_engines.specs.TracedRuns.{TracesNet}
-use Rattle.audit_engines.proofs.MineAnswers.{traced, unmade_traced}
-use Rattle.audit_engines.proofs.tracing_engine.trace_by.Goals as goal
+use Rattle.traced_engine.specs.TracedRuns.{TracesNet}
+use Rattle.traced_engine.proofs.MineAnswers.{traced, unmade_traced}
+use Rattle.traced_engine.proofs.tracing_engine.trace_by.Goals as goal
 
 pub returns-in_err-net-clause-answer : goal.returns-in_err-net-clause-answer
 returns-in_err-net-clause-answer g c = λ texts read at named.

@@ -1,0 +1,83 @@
+//! The command `schedule`: its options and help, and what its arguments ask for: the files of a schedule, of its periods and
+//! of its mine.
+
+use crate::options::{
+    ModelArgs, STATUSES, file_arg, file_option, model_args, model_options, number_option, text_of,
+    uses_option, verbose_option, with_options,
+};
+use clap::{Arg, ArgMatches, Command};
+use std::alloc::{AllocError, Global};
+
+const ABOUT: &str = "Judges a schedule: what is it worth in its periods, and can it be dug?";
+
+const USAGE: &str =
+    "pit schedule --prec <FILE> (--upit <FILE> --uses <FILE> | --blocks <FILE> --settings <FILE>) --periods <FILE> [OPTIONS] <SCHEDULE>";
+
+const DETAILS: &str =
+    "Judges a schedule: in which period each block is dug. It is feasible where BROKEN has 0 and no line OVER comes; otherwise the status is 1.
+
+Answers:
+  SCHEDULE count npv               how many blocks it digs, and what they are worth, each at the weight of its period
+  BROKEN pairs                     so many times a block needs one that is dug later or never
+  BREAKS block predecessor         the first 20 of those
+  OVER resource period used capacity
+                                   the period uses more of the resource than it has: resources and periods count from 0
+
+It is exact: a sum that doesn't fit can't come.";
+
+const SCHEDULE_HELP: &str =
+    "The schedule, a line for each block that is dug: its number and its period, both from 0 on";
+
+const PERIODS_HELP: &str =
+    "What periods weigh, which columns have what blocks use of resources, and what each period has: a TOML text";
+
+const FACTOR_HELP: &str =
+    "The share of the revenues that counts, in thousandths, from 0 to 10000, with --blocks; 1000 by default";
+
+/// The files of a schedule, of its periods and of its mine, where they were given the factor and the blocks that have the
+/// uses, and whether it is told why a file failed.
+#[derive(Clone, Copy)]
+pub struct ScheduleArgs<'a> {
+    pub prec: &'a str,
+    pub model: ModelArgs<'a>,
+    pub periods: &'a str,
+    pub uses: Option<&'a str>,
+    pub factor: Option<&'a str>,
+    pub schedule: &'a str,
+    pub verbose: bool,
+}
+
+/// The command.
+pub fn schedule_command<'a>(alloc: Global) -> Result<Command<'a>, AllocError> {
+    let command = Command::new(alloc, "schedule")
+        .about(ABOUT)
+        .long_about(DETAILS)
+        .after_help(STATUSES)
+        .override_usage(USAGE);
+    let command = with_options(command, model_options(alloc))?;
+    with_options(command, plan_options(alloc))
+}
+
+// The files of periods, of uses and of the schedule, at what factor it is judged, and whether it is told why a file failed.
+fn plan_options<'a>(alloc: Global) -> Result<Vec<Arg<'a>>, AllocError> {
+    let periods = file_option(alloc, "periods", PERIODS_HELP);
+    let uses = uses_option(alloc)?;
+    let factor = number_option(alloc, "factor", "FACTOR", FACTOR_HELP)
+        .requires_arg("blocks")?
+        .conflicts_with("upit")?;
+    let schedule = file_arg(alloc, "schedule", "SCHEDULE", SCHEDULE_HELP);
+    Ok(vec![in alloc; periods, uses, factor, schedule, verbose_option(alloc)]?)
+}
+
+/// The arguments that were given.
+pub fn schedule_args<'a>(matches: &ArgMatches<'a>) -> ScheduleArgs<'a> {
+    ScheduleArgs {
+        prec: text_of(matches, "prec"),
+        model: model_args(matches),
+        periods: text_of(matches, "periods"),
+        uses: matches.get_str("uses"),
+        factor: matches.get_str("factor"),
+        schedule: text_of(matches, "schedule"),
+        verbose: matches.get_flag("verbose"),
+    }
+}
