@@ -1,0 +1,1 @@
+"""Mistakes that the prover has to refuse, and what tries them."""

@@ -1,0 +1,124 @@
+"""The tests of pitplan, the planner's side in Python: python/tests, by Debian's own Python and packages, its Debian package in a
+fresh Debian, and damaged studies."""
+import os
+import re
+import subprocess
+import tempfile
+from concurrent.futures import ThreadPoolExecutor
+
+import machine
+from scripts import debian
+
+PYTHON = "/usr/bin/python3"
+AT_ONCE = 4  # tests of browsers, Slurm and large models take up to 1.5 GB each
+
+
+def packages(top):
+    """Debian's packages that pitplan and its tests need, by python/packages."""
+    lines = (top / "python" / "packages").read_text().splitlines()
+    return [line.strip() for line in lines if line.strip() and not line.startswith("#")]
+
+
+def missing(names):
+    """Those of the packages that aren't installed."""
+    said = subprocess.run(
+        ["dpkg-query", "-W", "-f", "${Package} ${db:Status-Status}\n", *names],
+        stdout=subprocess.PIPE,
+        stderr=subprocess.DEVNULL,
+        text=True,
+    ).stdout
+    there = {line.split()[0] for line in said.splitlines() if line.endswith(" installed")}
+    return [name for name in names if name not in there]
+
+
+def installed(top):
+    """Installs what is missing where that may be done, else says by which command; whether all is there."""
+    lacking = missing(packages(top))
+    if not lacking:
+        return True
+    command = ["apt-get", "install", "-y", "--no-install-recommends", *lacking]
+    if os.geteuid() != 0:
+        print("the tests of pitplan need Debian's packages: sudo " + " ".join(command))
+        return False
+    quiet = {
+        "stdout": subprocess.DEVNULL,
+        "env": {**os.environ, "DEBIAN_FRONTEND": "noninteractive"},
+    }
+    if subprocess.run(command, **quiet).returncode:
+        subprocess.run(["apt-get", "update"], **quiet)
+        subprocess.run(command, **quiet)
+    lacking = missing(lacking)
+    if lacking:
+        print("apt-get can't install " + " ".join(lacking))
+    return not lacking
+
+
+def try_all(top, pit):
+    """Runs the tests, with those on a one-node Slurm, Snakemake and Dask, and gives how many passed and failed. What they write is taken away.
+
+    Each processor takes one file of tests after another: those of a file share a model, a browser or a Slurm.
+    """
+    if not os.access(pit, os.X_OK):
+        print("no program at %s" % pit)
+        return 0, 1
+    if not installed(top):
+        return 0, 1
+    with tempfile.TemporaryDirectory(prefix="pitplan-tests.", ignore_cleanup_errors=True) as room:
+        side_by_side = ["-n", str(min(AT_ONCE, machine.processors())), "--dist", "loadfile"]
+        words = [
+            PYTHON,
+            "-m",
+            "pytest",
+            "-q",
+            *side_by_side,
+            "-p",
+            "no:cacheprovider",
+            "--basetemp=" + os.path.join(room, "t"),
+            "tests",
+        ]
+        ran = subprocess.run(
+            words,
+            cwd=top / "python",
+            env={**os.environ, "PIT": str(pit), "TMPDIR": room},
+            stdin=subprocess.DEVNULL,
+            stdout=subprocess.PIPE,
+            stderr=subprocess.STDOUT,
+            text=True,
+        )
+    counts = {
+        word: int(number)
+        for number, word in re.findall(
+            r"(\d+) (passed|failed|error|errors)\b", ran.stdout.strip().rsplit("\n", 1)[-1]
+        )
+    }
+    passed, failed = counts.get("passed", 0), counts.get("failed", 0) + counts.get(
+        "error", 0
+    ) + counts.get("errors", 0)
+    if ran.returncode:
+        print(ran.stdout)
+    return passed, max(failed, int(ran.returncode != 0))
+
+
+def try_packaged(top, pit):
+    """The same tests, and beside them, since it waits for downloads and disks, the Debian package in a fresh Debian."""
+    if not installed(top):  # mmdebstrap is one of them
+        return 0, 1
+    with ThreadPoolExecutor(1) as beside:
+        packaged = beside.submit(debian.try_all, pit)
+        counts = [try_all(top, pit), packaged.result()]
+    return sum(passed for passed, _ in counts), sum(failed for _, failed in counts)
+
+
+def large_table(top, pit):
+    """Gives the desk a table of 300 MB."""
+    words = [PYTHON, "-m", "pytest", "-q", "-s", "-p", "no:cacheprovider"]
+    around = {**os.environ, "PIT": str(pit), "DEEP": "1"}
+    ran = subprocess.run([*words, "tests/desk/test_large_table.py"], cwd=top / "python", env=around)
+    return int(ran.returncode == 0), int(ran.returncode != 0)
+
+
+def fuzz(top, minutes, seed):
+    """Throws damaged studies at pitplan for so many minutes: each is answered by a result or a message, never by a traceback."""
+    words = [PYTHON, "tests/support/fuzz_studies.py", str(10**9), str(60 * minutes), str(seed)]
+    well = subprocess.run(words, cwd=top / "python", stdin=subprocess.DEVNULL).returncode == 0
+    return int(well), int(not well)

@@ -1,0 +1,139 @@
+"""Judges schedules of mines that are made up: `pit schedule` of the built program against this reader, which shares no line with
+it and counts in whole numbers by docs/FORMATS.md alone.
+
+Mines have five blocks and three periods, two resources and capacities that bind; schedules are made up too, most of them nearly
+in order, so that feasible ones and each kind of infeasible one come.
+"""
+import os
+import random
+import tempfile
+from collections import namedtuple
+from concurrent.futures import ThreadPoolExecutor
+from pathlib import Path
+
+from program.refused_calls import run
+
+BLOCKS, PERIODS, RESOURCES = 5, 3, 2
+WORDS = "schedule --prec m.prec --upit m.upit --uses m.blocks --periods p.toml s.txt".split()
+
+# Worths in millionths, pairs, weights in millionths, uses in millionths by resource, capacities in whole units by resource, and the period of
+# each block that is dug.
+Plan = namedtuple("Plan", "worths pairs weights uses capacities periods")
+
+
+def decimal(number, places):
+    """A number of which 10^places make one, as the program prints it."""
+    whole, fraction = divmod(abs(number), 10**places)
+    digits = ("%0*d" % (places, fraction)).rstrip("0")
+    return "%s%d%s" % ("-" if number < 0 else "", whole, "." + digits if digits else "")
+
+
+def made_up(seed):
+    """A production and a schedule of it."""
+    chance = random.Random(seed)
+    pairs = sorted(
+        {
+            (b, chance.randrange(b + 1, BLOCKS))
+            for b in range(BLOCKS - 1)
+            for _ in range(chance.randrange(3))
+        }
+    )
+    weights = sorted((chance.randrange(1_000_001) for _ in range(PERIODS)), reverse=True)
+    uses = [[chance.randrange(3_000_001) for _ in range(BLOCKS)] for _ in range(RESOURCES)]
+    capacities = [[chance.randrange(12) for _ in range(PERIODS)] for _ in range(RESOURCES)]
+    periods = {}
+    for b in reversed(range(BLOCKS)):  # a predecessor has a higher number
+        least = max((periods.get(p, PERIODS) for c, p in pairs if c == b), default=0)
+        period = (
+            chance.randrange(least, PERIODS + 1)
+            if chance.randrange(4)
+            else chance.randrange(PERIODS + 1)
+        )
+        if period < PERIODS:
+            periods[b] = period
+    return Plan(
+        [chance.randrange(-(10**7), 10**7) for _ in range(BLOCKS)],
+        pairs,
+        weights,
+        uses,
+        capacities,
+        periods,
+    )
+
+
+def judged(plan):
+    """The status and the lines that must come."""
+    npv = sum(plan.worths[b] * 1000 * plan.weights[t] for b, t in plan.periods.items())
+    broken = [
+        (b, p)
+        for b, p in plan.pairs
+        if b in plan.periods and plan.periods.get(p, PERIODS) > plan.periods[b]
+    ]
+    used = [
+        [
+            sum(plan.uses[r][b] for b, t in plan.periods.items() if t == period)
+            for period in range(PERIODS)
+        ]
+        for r in range(RESOURCES)
+    ]
+    over = [
+        (r, t)
+        for r in range(RESOURCES)
+        for t in range(PERIODS)
+        if used[r][t] > plan.capacities[r][t] * 10**6
+    ]
+    lines = ["SCHEDULE %d %s" % (len(plan.periods), decimal(npv, 15)), "BROKEN %d" % len(broken)]
+    lines += ["BREAKS %d %d" % pair for pair in broken]
+    lines += [
+        "OVER %d %d %s %d" % (r, t, decimal(used[r][t], 6), plan.capacities[r][t]) for r, t in over
+    ]
+    return 1 if broken or over else 0, "\n".join(lines) + "\n"
+
+
+def written(plan, folder):
+    """Writes the files of a plan, the schedule's lines by falling numbers."""
+    above = {b: [p for c, p in plan.pairs if c == b] for b in range(BLOCKS)}
+    (folder / "m.prec").write_text(
+        "".join("%d %d %s\n" % (b, len(ps), " ".join(map(str, ps))) for b, ps in above.items())
+    )
+    values = "".join("%d %s\n" % (b, decimal(worth, 6)) for b, worth in enumerate(plan.worths))
+    (folder / "m.upit").write_text("NBLOCKS: %d\nOBJECTIVE_FUNCTION:\n%s" % (BLOCKS, values))
+    (folder / "m.blocks").write_text(
+        "".join(
+            "%d 0 0 %d %s\n" % (b, b, " ".join(decimal(row[b], 6) for row in plan.uses))
+            for b in range(BLOCKS)
+        )
+    )
+    (folder / "p.toml").write_text(
+        "weights = %s\nresources = %s\ncapacities = %s\n"
+        % (plan.weights, list(range(RESOURCES)), plan.capacities)
+    )
+    (folder / "s.txt").write_text(
+        "".join("%d %d\n" % (b, t) for b, t in sorted(plan.periods.items(), reverse=True))
+    )
+
+
+def wrong(program, seed):
+    """What the program says wrongly of a plan; nothing where all is right."""
+    plan = made_up(seed)
+    with tempfile.TemporaryDirectory() as folder:
+        written(plan, Path(folder))
+        status, output, errors = run(program, WORDS, folder)
+    want = judged(plan)
+    return (
+        ""
+        if (status, output.decode()) == want and not errors
+        else "%s where %s must come: %s" % ((status, output), want, errors)
+    )
+
+
+def try_all(program):
+    """Tries every plan, and gives how many were judged as they must be and how many not."""
+    seeds = range(200)
+    with ThreadPoolExecutor(len(os.sched_getaffinity(0))) as pool:
+        results = list(pool.map(lambda seed: wrong(program, seed), seeds))
+    for seed, line in zip(seeds, results):
+        if line:
+            print("schedule %d: %s" % (seed, line[:300]))
+    failed = sum(map(bool, results))
+    return len(results) - failed, failed
