@@ -1,4 +1,5 @@
-"""The planner's side of `pit`: from a table of blocks and slope angles to proved pits, tables and pictures.
+"""The planner's side of `pit`: from a table of blocks and slope angles to proved pits, tables and
+pictures::
 
     import pitplan as pp
     model  = pp.read_table("mine.csv", size=(20, 20, 10))
@@ -6,9 +7,10 @@
     shells = study.shells(pp.factors(0.3, 1.2, 0.05))
     shells.table(); shells.benches(); shells.of_blocks()
 
-This package computes no best pit. Each that it shows is one that `pit shells` states, which is proved to state none but the best; or,
-where certificates were asked for, the PIT lines of one that `pit check` has accepted. The digests of its files still hold, and its
-worth, added up again from the planner's own table, is `pit`'s to the last digit.
+This package computes no best pit. Each that it shows is one that `pit shells` states, which is
+proved to state none but the best; or, where certificates were asked for, the PIT lines of one that
+`pit check` has accepted. The digests of its files still hold, and its worth, added up again from
+the planner's own table, is `pit`'s to the last digit.
 """
 from __future__ import annotations
 

@@ -1,5 +1,6 @@
 """The package is typed throughout, and its functions are as short as CONTRIBUTING says."""
 import ast
+import re
 import subprocess
 import sys
 from pathlib import Path
@@ -66,22 +67,23 @@ def test_functions_take_few_arguments():
     assert not many, many
 
 
-def public():
-    """Functions of modules and methods of classes, without those within others, and without names that begin with _."""
-    for path in sorted((PYTHON / "pitplan").rglob("*.py")):
-        tree = ast.parse(path.read_text())
-        for owner in (tree, *(node for node in tree.body if isinstance(node, ast.ClassDef))):
-            yield from (
-                (path, node)
-                for node in owner.body
-                if isinstance(node, ast.FunctionDef) and not node.name.startswith("_")
-            )
+def unused(text):
+    """The names that a file imports and doesn't use, but for what it hands on or loads by intent."""
+    tree, lines = ast.parse(text), text.splitlines()
+    used = {node.id for node in ast.walk(tree) if isinstance(node, ast.Name)}
+    used |= {node.value for node in ast.walk(tree) if isinstance(node, ast.Constant)}  # __all__
+    for node in ast.walk(tree):
+        is_import = isinstance(node, (ast.Import, ast.ImportFrom))
+        if is_import and not re.search("noqa.*F401|__future__", lines[node.lineno - 1]):
+            for each in node.names:
+                name = (each.asname or each.name).split(".")[0]
+                if each.asname != each.name and name not in used:
+                    yield name
 
 
-def test_public_functions_say_what_they_do():
-    silent = [
-        f"{path.name}: {node.name}"
-        for path, node in public()
-        if not ast.get_docstring(node) and length(node) > 4
-    ]
-    assert not silent, silent
+def test_no_import_is_unused():
+    folders = ("python", "tools", "tests", "bench", "examples")
+    files = [path for folder in folders for path in (PYTHON.parent / folder).rglob("*.py")]
+    found = {str(path): list(unused(path.read_text())) for path in files}
+    assert not {name: names for name, names in found.items() if names}
+    assert list(unused("import os, re as re\nfrom sys import path")) == ["os", "path"]

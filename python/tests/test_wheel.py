@@ -68,7 +68,8 @@ def test_it_holds_the_package_and_nothing_else(wheel):
         for path in (TOP / "python" / "pitplan").rglob("*")
         if path.is_file() and path.parent.name != "__pycache__"
     }
-    assert names == there and "pitplan/views/page.html" in names
+    assert names == there
+    assert "pitplan/views/page.html" in names
 
 
 def test_it_works_where_it_is_installed(installed):
@@ -76,7 +77,9 @@ def test_it_works_where_it_is_installed(installed):
 
     assert said(installed, "--version") == (0, f"pitplan {__version__}\n")
     status, told = said(installed, "doctor")
-    assert status == 0 and f"in {installed}/lib" in told and told.endswith("all is well\n"), told
+    assert status == 0, told
+    assert f"in {installed}/lib" in told, told
+    assert told.endswith("all is well\n"), told
     status, told = said(
         installed, _PITPLAN_COMPLETE="complete_bash", COMP_WORDS="pitplan she", COMP_CWORD="1"
     )

@@ -1,4 +1,5 @@
-"""What an auditor gets: all that the numbers rest on, with two scripts that check it again without this package."""
+"""What an auditor gets: all that the numbers rest on, with two scripts that check it again without
+this package."""
 from __future__ import annotations
 
 import glob
@@ -19,15 +20,16 @@ from ..study.folder import READ
 from ..base.files import made_whole, sweep
 from ..table.csv_text import Dialect
 from ..table.spreadsheets import write_table
+from .schedule_files import OF_SCHEDULE, write_schedule
 
 if TYPE_CHECKING:
     from ..study.shells import Shells
     from ..study.study import Study
 
 SUMS = "SHA256SUMS"
-SCRIPTS = ("recheck.py", "plainly.py")
-KEPT = ("factor", "count", "worth", "certificate", "pit", "seconds", "host")
-README = """A bundle of pitplan %(version)s: the ultimate pits of %(table)s, and all that they rest on.
+_SCRIPTS = ("recheck.py", "plainly.py")
+_KEPT = ("factor", "count", "worth", "certificate", "pit", "seconds", "host")
+_README = """A bundle of pitplan %(version)s: the ultimate pits of %(table)s, and all that they rest on.
 
     python3 recheck.py /path/to/pit              checks all of it again, by Python's standard library and a pit that you trust
     python3 recheck.py --plainly /path/to/pit    and each certificate by plainly.py too, which shares nothing with pit: slow
@@ -59,12 +61,13 @@ docs/AUDIT.md of the repository of pit says what each check shows, line by line.
 """
 
 
-def write(
+def write_bundle(
     shells: Shells,
     folder: str | Path,
-    told: Path,
+    plan: Path,
     dialect: Dialect,
     rates: dict[str, Any] | None = None,
+    terms: dict[str, Any] | None = None,
 ) -> str:
     """Writes a bundle, in a folder of its own that is renamed when it is whole.
 
@@ -74,22 +77,26 @@ def write(
         Checked as they are read: files whose digests don't hold aren't bundled.
     folder : str or Path
         The new folder.
-    told : Path
+    plan : Path
         The study.toml.
     dialect : Dialect
         How the table is written.
     rates : dict, optional
         For `Shells.table`.
+    terms : dict, optional
+        The values of [schedule]: the plan by years that was found by them is in the bundle too.
 
     Returns
     -------
     str
-        The sha256 of its SHA256SUMS: sent to the auditor by another way, it stands for all of the bundle.
+        The sha256 of its SHA256SUMS: sent to the auditor by another way, it stands for all of the
+        bundle.
 
     Raises
     ------
     PlanError
-        Where the folder is there already, or the study was made of no file, or its table isn't there any more.
+        Where the folder is there already, or the study was made of no file, or its table isn't
+        there any more.
     """
     folder, study = Path(folder), shells.study
     if folder.exists():
@@ -104,17 +111,19 @@ def write(
     shells = shells.with_certificates()
     sweep(folder.parent, f".{glob.escape(folder.name)}.*")
     with made_whole(folder, is_study=False) as work:
-        name = f"table/{plain_name(table.name)}"
-        copy_files(study, work, {told: "study.toml", table: name})
+        name = f"table/{_plain_name(table.name)}"
+        _copy_files(study, work, {plan: "study.toml", table: name})
         manifest = study.manifest | {
             "source": study.manifest["source"] | {"table": name}
         }  # no path of the planner's machine
         (work / "model" / "manifest.json").write_text(json.dumps(manifest, indent=1))
-        write_certificates(shells, work)
+        _write_certificates(shells, work)
         write_tables(shells, work, rates or {})
         (work / "facts.json").write_text(json.dumps(facts_of(study, name, dialect), indent=1))
+        has_schedule = terms is not None and write_schedule(shells, work, terms, rates or {})
         (work / "README.txt").write_text(
-            README % {"version": __version__, "table": Path(name).name}
+            _README % {"version": __version__, "table": Path(name).name}
+            + (OF_SCHEDULE if has_schedule else "")
         )
         names = sorted(
             path.relative_to(work).as_posix() for path in work.rglob("*") if path.is_file()
@@ -123,16 +132,16 @@ def write(
         return sha256(work / SUMS)
 
 
-def plain_name(name: str) -> str:
+def _plain_name(name: str) -> str:
     """A file's name of letters, digits, points and lines alone: it stands in a list, and is typed.
 
-    >>> plain_name("mine 7 (final).csv")
+    >>> _plain_name("mine 7 (final).csv")
     'mine_7__final_.csv'
     """
     return re.sub(r"[^\w.-]", "_", name, flags=re.ASCII).lstrip(".-") or "table.csv"
 
 
-def copy_files(study: Study, work: Path, more: dict[Path, str]) -> None:
+def _copy_files(study: Study, work: Path, more: dict[Path, str]) -> None:
     """The planner's two files, those of the model that `pit` reads, and the scripts."""
     for part in ("model", "table", "tables", "certificates"):
         (work / part).mkdir()
@@ -144,19 +153,19 @@ def copy_files(study: Study, work: Path, more: dict[Path, str]) -> None:
         copies[study.where / part] = f"model/{part}"
     for source, name in copies.items():
         shutil.copyfile(source, work / name)
-    for name in SCRIPTS:
+    for name in _SCRIPTS:
         (work / name).write_text(
             resources.files(__package__).joinpath(name).read_text("utf-8"), "utf-8"
         )
 
 
-def write_certificates(shells: Shells, work: Path) -> None:
+def _write_certificates(shells: Shells, work: Path) -> None:
     """The certificates, and what `pit check` said of them."""
     verdicts = []
     for verdict in shells.verdicts:
         name = f"certificates/f{verdict['factor']:05d}.cert.gz"
         shutil.copyfile(shells.study.place(verdict["factor"]) / "best.cert.gz", work / name)
-        entry: dict[str, object] = {key: value for key, value in verdict.items() if key in KEPT}
+        entry: dict[str, object] = {key: value for key, value in verdict.items() if key in _KEPT}
         entry["file"] = name
         verdicts.append(entry)
     (work / "verdicts.json").write_text(json.dumps(verdicts, indent=1))

@@ -1,25 +1,31 @@
 #!/usr/bin/env python3
-"""Checks a certificate of a pit without `pit`: slowly, by Python's standard library alone (3.9 or later).
+"""Checks a certificate of a pit without `pit`: slowly, by Python's standard library alone (3.9 or
+later).
 
     python3 plainly.py --prec FILE (--upit FILE | --blocks FILE --settings FILE) CERTIFICATE ..
 
-The answer to each is a line as `pit check` prints it: ACCEPTED count worth (status 0), REFUSED why (1), or fault:
-certificate why (3); the status of several is the greatest. The model is read once. A certificate whose name ends in .gz is
-unpacked as it is read.
+The answer to each is a line as `pit check` prints it: ACCEPTED count worth (status 0), REFUSED why
+(1), or fault: certificate why (3); the status of several is the greatest. The model is read once. A
+certificate whose name ends in .gz is unpacked as it is read.
 
-What ACCEPTED says, over the model that these files denote: the pit holds each predecessor of each of its blocks, and no
-such set of blocks is worth more. The proof is the flow of the certificate. Ore gives no more than it is worth, waste takes
-no more than it costs, and each block passes on what it gets. So the ore of any pit pays its own waste at least out of this
-flow, and no pit is worth more than all ore less the flow; this pit is worth that.
+What ACCEPTED says, over the model that these files denote: the pit holds each predecessor of each
+of its blocks, and no such set of blocks is worth more. The proof is the flow of the certificate.
+Ore gives no more than it is worth, waste takes no more than it costs, and each block passes on what
+it gets. So the ore of any pit pays its own waste at least out of this flow, and no pit is worth
+more than all ore less the flow; this pit is worth that.
 
 This file was written from docs/FORMATS.md of pit, and has no line in common with it.
 """
 from __future__ import annotations
 
+import sys
+
+if __name__ == "__main__" and not (sys.flags.isolated or getattr(sys.flags, "safe_path", False)):
+    del sys.path[0]  # no file beside this one is run for one of Python's library
+
 import argparse
 import gzip
 import re
-import sys
 from array import array
 from collections.abc import Iterator, Sequence
 from fractions import Fraction
@@ -52,13 +58,14 @@ class Fault(Exception):
 UNREADABLE = (Wrong, OSError, EOFError, UnicodeDecodeError)
 
 
-def opened(name: str) -> IO[bytes]:
+def open_file(name: str) -> IO[bytes]:
     return cast(IO[bytes], gzip.open(name, "rb")) if name.endswith(".gz") else open(name, "rb")
 
 
 def records(name: str) -> Iterator[tuple[int, list[bytes]]]:
-    """The lines of a file of the model that have a record: the number of the line, and its fields."""
-    with opened(name) as file:
+    """The lines of a file of the model that have a record: the number of the line, and its
+    fields."""
+    with open_file(name) as file:
         number = 0
         while True:
             line = file.readline(LINE + 2)
@@ -98,7 +105,8 @@ def millionths(field: bytes, where: str) -> int:
 
 
 def read_settings(name: str) -> list[int]:
-    """The columns of a priced model, of lines KEY = NUMBER; other keys of pit's settings aren't looked at."""
+    """The columns of a priced model, of lines KEY = NUMBER; other keys of pit's settings aren't
+    looked at."""
     found: dict[str, int] = {}
     with open(name, encoding="utf-8") as file:
         for line in file:
@@ -200,7 +208,8 @@ class Predecessors:
 
 
 def worths_of(price: list[bytes], table: list[list[int]], values: list[int] | None) -> list[int]:
-    """What each block is worth, in billionths, by the price line of a certificate: exact whole numbers."""
+    """What each block is worth, in billionths, by the price line of a certificate: exact whole
+    numbers."""
     if values is not None:
         if price != [b"OBJECTIVE"]:
             raise Fault("WrongPrice")
@@ -227,7 +236,7 @@ class Certificate:
     """The lines of a certificate, one after the other, with the faults that FORMATS names."""
 
     def __init__(self, name: str) -> None:
-        self.file, self.number = opened(name), 0
+        self.file, self.number = open_file(name), 0
 
     def line(self) -> list[bytes]:
         """The words of the next line."""
@@ -392,13 +401,16 @@ def spelled(nanos: int) -> str:
 
 
 class Model:
-    """The files of a model, read: what its blocks are worth, by values or by a table of prices, and their predecessors."""
+    """The files of a model, read: what its blocks are worth, by values or by a table of prices, and
+    their predecessors."""
 
-    def __init__(self, told: argparse.Namespace) -> None:
-        self.values = read_values(told.upit) if told.upit else None
-        self.table = [] if told.upit else read_blocks(told.blocks, read_settings(told.settings))
+    def __init__(self, options: argparse.Namespace) -> None:
+        self.values = read_values(options.upit) if options.upit else None
+        self.table = (
+            [] if options.upit else read_blocks(options.blocks, read_settings(options.settings))
+        )
         self.count = len(self.values) if self.values is not None else len(self.table[0])
-        self.rests = Predecessors(told.prec, self.count)
+        self.rests = Predecessors(options.prec, self.count)
 
 
 def answer(model: Model, name: str) -> tuple[str, int]:
@@ -434,18 +446,18 @@ def attempted(model: Model, name: str) -> tuple[str, int]:
 
 def main() -> int:
     """Judges the certificates that the words name, and gives the exit status."""
-    reading = argparse.ArgumentParser(description=__doc__.split("\n")[0])
+    reading = argparse.ArgumentParser(description=__doc__.split("\n\n")[0])
     reading.add_argument("--prec", required=True)
     for name in ("upit", "blocks", "settings"):
         reading.add_argument("--" + name)
     reading.add_argument("certificates", nargs="+", metavar="certificate")
-    told = reading.parse_args()
-    if bool(told.upit) == bool(told.blocks) or bool(told.blocks) != bool(told.settings):
+    options = reading.parse_args()
+    if bool(options.upit) == bool(options.blocks) or bool(options.blocks) != bool(options.settings):
         reading.error("either --upit, or --blocks and --settings")
     worst = 0
     try:
-        model = Model(told)
-        for name in told.certificates:
+        model = Model(options)
+        for name in options.certificates:
             line, status = attempted(model, name)
             print(line, flush=True)
             worst = max(worst, status)

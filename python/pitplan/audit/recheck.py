@@ -1,13 +1,20 @@
 #!/usr/bin/env python3
-"""Checks this bundle again, by Python's standard library (3.11 or later) and a `pit` that you trust.
+"""Checks this bundle again, by Python's standard library (3.11 or later) and a `pit` that you
+trust.
 
     python3 recheck.py [--plainly] [PIT]
 
-PIT is the program. Default: `pit` on the path. With --plainly each certificate is checked by plainly.py too, which shares
-nothing with pit and is slow. A line begins with ok, WRONG, or look (what wasn't looked at, and you should); the last line is
-the verdict. Exit status: 0 all that was looked at holds, 1 something is WRONG.
+PIT is the program. Default: `pit` on the path. With --plainly each certificate is checked by
+plainly.py too, which shares nothing with pit and is slow. A line begins with ok, WRONG, or look
+(what wasn't looked at, and you should); the last line is the verdict. Exit status: 0 all that was
+looked at holds, 1 something is WRONG.
 """
 from __future__ import annotations
+
+import sys
+
+if __name__ == "__main__" and not (sys.flags.isolated or getattr(sys.flags, "safe_path", False)):
+    del sys.path[0]  # no file beside this one is run for one of Python's library
 
 import ast
 import csv
@@ -18,14 +25,13 @@ import json
 import math
 import re
 import subprocess
-import sys
 import tomllib
 import unicodedata
 import zlib
 from collections import Counter, defaultdict
 from collections.abc import Callable, Collection, Iterator, Mapping
 from decimal import Decimal
-from functools import cache
+from functools import cache, cached_property
 from itertools import zip_longest
 from pathlib import Path
 from typing import Any, BinaryIO, NamedTuple
@@ -47,6 +53,8 @@ GRADES = {
     "ppm": 1.0,
     "mg/kg": 1.0,
     "ppb": 0.001,
+    "oz/st": 31.1034768 / 0.90718474,
+    "lb/st": 453.59237 / 0.90718474,
 }  # grams in a tonne
 SERIES = {"from": 0.30, "to": 1.20, "step": 0.05}  # where study.toml says no factors
 PRICES = {
@@ -56,11 +64,18 @@ PRICES = {
     "lb": 453.59237,
     "oz": 31.1034768,
     "dmtu": 10_000.0,
+    "st": 907_184.74,
+    "stu": 9_071.8474,
 }  # grams in a unit
+UNITS = {
+    "weight": {"t": 1.0, "st": 0.90718474},
+    "length": {"m": 1.0, "ft": 0.3048},
+}  # in tonnes and metres
 FAR, LONGEST = (
     1e100,
     2000,
 )  # how far from 0 a number of a file may be, and how many letters a formula may have
+ROUNDED = 1e-6  # degrees: so little is what arithmetic leaves
 MOST = 10**18  # millionths that `pit` reads for a block
 UNWORKABLE = (
     ArithmeticError,
@@ -121,6 +136,15 @@ def is_rounding(value: Any) -> bool:
     return is_number(value, 1 / MICRO, MOST / MICRO) and Decimal(str(value)) * MICRO % 1 == 0
 
 
+def has_ramp(value: Any) -> bool:
+    """Whether this says what a ramp in a wall is."""
+    keys = {"width", "grade", "height"}
+    return is_table(value, lambda number: is_number(number, 1e-9, 1e9)) and set(value) in (
+        {*keys, "turns"},
+        {*keys, "around"},
+    )
+
+
 def one_of(*words: str) -> Kind:
     """One of these words."""
     return Kind(
@@ -163,6 +187,7 @@ OFFSETS = Kind(
         and offset[2] > 0,
     ),
 )
+SLOPES = Kind("for each region " + OFFSETS.must, lambda value: is_list(value, OFFSETS.holds))
 
 # The keys of each section of study.toml that are looked at, and what each may be; likewise of the other files.
 STUDY: dict[str, dict[str, Kind]] = {
@@ -175,6 +200,15 @@ STUDY: dict[str, dict[str, Kind]] = {
         "missing": one_of("refuse", "air", "rock"),
         "widen": WHOLE,
         "regularise": IS_SO,
+        "units": Kind(
+            'a table with weight, "t" or "st", and length, "m" or "ft"',
+            lambda value: is_table(value, is_word)
+            and all(key in UNITS and word in UNITS[key] for key, word in value.items()),
+        ),
+        "tonnes": Kind(
+            f"a number, or a formula of at most {LONGEST:,} letters",
+            lambda value: is_number(value) or is_word(value),
+        ),
     },
     "economics": {
         "metals": Kind(
@@ -190,7 +224,12 @@ STUDY: dict[str, dict[str, Kind]] = {
         ),
         "rounding": Kind("a number of at least 0.000001, with at most six decimals", is_rounding),
         "currency": WORD,
+        "exchange": Kind(
+            "a table of numbers above 0",
+            lambda value: is_table(value, lambda rate: is_number(rate, 1e-30)),
+        ),
         "forbid": WORDS,
+        "waste_classes": WORDS,
     },
     "slopes": {
         "angles": ANGLES,
@@ -199,6 +238,10 @@ STUDY: dict[str, dict[str, Kind]] = {
             "a table of angles, each " + ANGLES.must, lambda value: is_table(value, is_angles)
         ),
         "safe": IS_SO,
+        "ramp": Kind(
+            "a table of width, grade, height, and turns or around, each above 0; or such a table for each region",
+            lambda value: has_ramp(value) or is_table(value, has_ramp),
+        ),
     },
     "shells": {
         "factors": Kind(
@@ -218,6 +261,7 @@ METAL = {
     "recovery": AMOUNT,
     "payable": SHARE,
     "selling": COST,
+    "currency": WORD,
 }
 NEEDED = ("metals", "mining", "processing", "name", "grade", "price")
 GRID = {
@@ -247,10 +291,8 @@ FACTS = {
     "currency": WORD,
     "has_sub_blocks": IS_SO,
     "columns": Kind(
-        "the names of the columns x, y and z, and of tonnes or density",
-        lambda value: is_table(value, is_word)
-        and {"x", "y", "z"} <= set(value)
-        and not {"tonnes", "density"}.isdisjoint(value),
+        "the names of the columns x, y and z, and of others",
+        lambda value: is_table(value, is_word) and {"x", "y", "z"} <= set(value),
     ),
 }
 MANIFEST = {
@@ -276,6 +318,10 @@ VERDICT = {
         and re.fullmatch(r"-?\d{1,100}(\.\d{1,9})?", value) is not None,
     ),
 }
+PART, ORE = (
+    "topography",
+    "ore",
+)  # of the columns: percents of a block that are rock, of its tonnes that are ore
 AT = Kind("a whole number from 0 to 65,535", lambda value: is_whole(value, 0, 65_535))
 COLUMNS = {"revenue": AT, "processing": AT, "mining": AT, "tonnes": AT}
 
@@ -299,7 +345,7 @@ def shown(value: Any) -> str:
 
 
 def looked_at(
-    where: str, told: Any, kinds: Mapping[str, Kind], needed: Collection[str]
+    where: str, table: Any, kinds: Mapping[str, Kind], needed: Collection[str]
 ) -> dict[str, Any]:
     """A table of a file, each of whose values is one that its key may have.
 
@@ -308,17 +354,17 @@ def looked_at(
     Bad
         Where one isn't, or isn't there: the file, the key, what it is and what it has to be.
     """
-    if not isinstance(told, dict):
-        raise Bad(f"{where.rstrip(':,')} is {shown(told)}, and has to be a table")
+    if not isinstance(table, dict):
+        raise Bad(f"{where.rstrip(':,')} is {shown(table)}, and has to be a table")
     for key, kind in kinds.items():
-        if key in told and not kind.holds(told[key]):
-            raise Bad(f"{where} {key} is {shown(told[key])}, and has to be {kind.must}")
-        if key not in told and key in needed:
+        if key in table and not kind.holds(table[key]):
+            raise Bad(f"{where} {key} is {shown(table[key])}, and has to be {kind.must}")
+        if key not in table and key in needed:
             raise Bad(f"{where} {key} isn't there, and has to be {kind.must}")
-    return told
+    return table
 
 
-class Told:
+class Report:
     """Prints the lines, and counts them."""
 
     def __init__(self) -> None:
@@ -333,7 +379,8 @@ class Told:
         return holds
 
     def attempt(self, what: str, step: Callable[..., Any], *words: Any) -> Any:
-        """Makes a step; whatever goes wrong in it is a line, and the steps behind it are made all the same."""
+        """Makes a step; whatever goes wrong in it is a line, and the steps behind it are made all
+        the same."""
         try:
             return step(*words)
         except Exception as error:
@@ -348,6 +395,11 @@ def reason(error: Exception) -> str:
     if isinstance(error, OSError) and error.strerror:
         return f"{str(error.filename or '').removeprefix(f'{HERE}/')}: {error.strerror}"
     return str(error) if isinstance(error, Bad) else f"{type(error).__name__}: {error}"
+
+
+def share_text(factor: int) -> str:
+    """A factor in thousandths, as its share of the price."""
+    return f"{factor / THOUSAND:g}"
 
 
 def free_memory() -> int:
@@ -372,7 +424,8 @@ def digest_of(path: Path) -> str:
 
 
 def within(name: str) -> Path:
-    """A file of the bundle by its name; a name that leads out of the bundle is none. Nor is a pipe or a device, which may never end."""
+    """A file of the bundle by its name; a name that leads out of the bundle is none. Nor is a pipe
+    or a device, which may never end."""
     path = HERE / name
     if (
         "\0" in name
@@ -387,7 +440,7 @@ def within(name: str) -> Path:
     return path
 
 
-def check_digests(told: Told) -> None:
+def check_digests(report: Report) -> None:
     """Each file is listed and is the one that was listed."""
     listed: dict[str, str] = {}
     *lines, behind = text_of(SUMS, "text").split(
@@ -401,9 +454,9 @@ def check_digests(told: Told) -> None:
             raise Bad(f"a second line for {found[2]}")
         listed[found[2]] = found[1]
     for name, digest in listed.items():
-        told.attempt(
+        report.attempt(
             f"sha256 of {name}",
-            lambda: told.check(digest_of(within(name)) == digest, f"sha256 of {name}"),
+            lambda: report.check(digest_of(within(name)) == digest, f"sha256 of {name}"),
         )
     there = {
         path.relative_to(HERE).as_posix()
@@ -411,7 +464,7 @@ def check_digests(told: Told) -> None:
         if not path.is_dir() or path.is_symlink()
     }
     for name in sorted(there - set(listed) - {SUMS}):
-        told.check(False, f"{name} isn't listed in {SUMS}")
+        report.check(False, f"{name} isn't listed in {SUMS}")
 
 
 def text_of(name: str, kind: str) -> str:
@@ -466,14 +519,6 @@ def verdicts_of() -> list[dict[str, Any]]:
     ]
 
 
-def offsets_of(name: str) -> list[list[int]]:
-    """The offsets that a file of the model lists."""
-    found: list[list[int]] = looked_at(
-        f"model/{name}:", toml_of(f"model/{name}"), {"offsets": OFFSETS}, ["offsets"]
-    )["offsets"]
-    return found
-
-
 def millionths(text: str) -> int:
     """An amount of .blocks in millionths, exactly."""
     found = Decimal(text) * MICRO
@@ -501,6 +546,7 @@ class Blocks:
                 rows[int(fields[0])] = fields[1:]
         if sorted(rows) != list(range(len(rows))):
             raise Bad("the blocks aren't numbered from 0 on")
+        self.rows = rows
         self.places, self.amounts, self.tonnes = (
             list[tuple[int, ...]](),
             list[tuple[int, int, int]](),
@@ -522,6 +568,11 @@ class Blocks:
             except Bad as error:
                 raise Bad(f"block {b}: {error}") from None
 
+    def field(self, block: int, column: int) -> str | None:
+        """What a block has in a column; None where it has fewer."""
+        row = self.rows[block]
+        return row[3 + column] if 3 + column < len(row) else None
+
     def worth(self, block: int, factor: int) -> int:
         """What a block is worth at a factor in thousandths, in billionths."""
         revenue, processing, mining = self.amounts[block]
@@ -535,7 +586,8 @@ def spelled(nanos: int) -> str:
 
 
 def pieces(file: BinaryIO, most: int, what: str = "a certificate of this model") -> Iterator[bytes]:
-    """What a packed file has, in pieces; one that unpacks to more than `most` bytes, which is more than it can have, isn't read on."""
+    """What a packed file has, in pieces; one that unpacks to more than `most` bytes, which is more
+    than it can have, isn't read on."""
     with gzip.open(file, "rb") as unpacked:
         while data := unpacked.read(PIECE):
             most -= len(data)
@@ -545,8 +597,9 @@ def pieces(file: BinaryIO, most: int, what: str = "a certificate of this model")
 
 
 class Judged(NamedTuple):
-    """A certificate: what `pit check` says, the digest of the bytes that it was given, their PIT lines, and what the header says
-    (of how many blocks the mine is, and at which factor in thousandths)."""
+    """A certificate: what `pit check` says, the digest of the bytes that it was given, their PIT
+    lines, and what the header says (of how many blocks the mine is, and at which factor in
+    thousandths)."""
 
     said: str
     digest: str
@@ -603,33 +656,35 @@ def judged(pit: str, path: Path, most: int) -> Judged:
     return Judged(said, digest.hexdigest(), list(map(int, held)), of, factor)
 
 
-def check_pits(told: Told, pit: str, blocks: Blocks, is_plain: bool) -> list[int]:
-    """Each certificate, and that its pit lies within the next. Returns the first factor whose pit has each block, 0 where none
-    has it."""
+def check_pits(report: Report, pit: str, blocks: Blocks, is_plain: bool) -> list[int]:
+    """Each certificate, and that its pit lies within the next. Returns the first factor whose pit
+    has each block, 0 where none has it."""
     most = LINE * (3 * len(blocks.places) + pairs_listed() + 10)
     shell, below, last = [0] * len(blocks.places), set[int](), -1
     verdicts = verdicts_of()
     plain = plainly([within(verdict["file"]) for verdict in verdicts]) if is_plain else []
     for verdict, line in zip_longest(verdicts, plain):
         factor = verdict["factor"]
-        at = f"factor {factor / THOUSAND:g}"
-        found = told.attempt(f"the certificate at {at}", judged, pit, within(verdict["file"]), most)
+        at = f"factor {share_text(factor)}"
+        found = report.attempt(
+            f"the certificate at {at}", judged, pit, within(verdict["file"]), most
+        )
         if factor <= last:
-            told.check(False, f"{at} comes after {last / THOUSAND:g}")
+            report.check(False, f"{at} comes after {share_text(last)}")
         if not found or factor <= last:
             continue
         there = [block for block in found.held if block < len(shell)]
         if len(there) < len(found.held):
-            told.check(
+            report.check(
                 False,
                 f"the pit at {at} has {len(found.held) - len(there):,} blocks that the model hasn't",
             )
-        check_pit(told, blocks, verdict, found._replace(held=there), line)
+        check_pit(report, blocks, verdict, found._replace(held=there), line)
         now = set(there)
         if last >= 0:
-            told.check(
+            report.check(
                 below <= now,
-                f"the pit at {last / THOUSAND:g} lies within that at {factor / THOUSAND:g}",
+                f"the pit at {share_text(last)} lies within that at {share_text(factor)}",
             )
         for block in now - below:
             shell[block] = shell[block] or factor
@@ -638,19 +693,20 @@ def check_pits(told: Told, pit: str, blocks: Blocks, is_plain: bool) -> list[int
 
 
 def check_pit(
-    told: Told, blocks: Blocks, verdict: dict[str, Any], found: Judged, plain: str | None
+    report: Report, blocks: Blocks, verdict: dict[str, Any], found: Judged, plain: str | None
 ) -> None:
-    """A certificate: its digest, its factor, `pit check`, what plainly.py says of it if that was asked, and its blocks added up. Without the factor a pit that is worth the
-    same at another one, as the pit of no block, could stand for a best pit that it isn't."""
-    factor, at = verdict["factor"], f"factor {verdict['factor'] / THOUSAND:g}"
+    """A certificate: its digest, its factor, `pit check`, what plainly.py says of it if that was
+    asked, and its blocks added up. Without the factor a pit that is worth the same at another one,
+    as the pit of no block, could stand for a best pit that it isn't."""
+    factor, at = verdict["factor"], f"factor {share_text(verdict['factor'])}"
     wanted = f"ACCEPTED {verdict['count']} {verdict['worth']}"
-    told.check(
+    report.check(
         found.digest == verdict["certificate"],
         f"the certificate at {at} is the one whose pit is shown",
     )
-    its = "no factor" if found.factor is None else f"factor {found.factor / THOUSAND:g}"
-    told.check(found.factor == factor, f"the certificate at {at} is of {its}")
-    told.check(
+    its = "no factor" if found.factor is None else f"factor {share_text(found.factor)}"
+    report.check(found.factor == factor, f"the certificate at {at} is of {its}")
+    report.check(
         found.said == wanted,
         f"pit check at {at}: {found.said}"
         + (
@@ -660,26 +716,26 @@ def check_pit(
         ),
     )
     if plain is not None:
-        told.check(plain == wanted, f"plainly.py at {at}: {plain}")
+        report.check(plain == wanted, f"plainly.py at {at}: {plain}")
     worth = spelled(sum(blocks.worth(block, factor) for block in found.held))
-    told.check(
+    report.check(
         worth == verdict["worth"] and len(found.held) == verdict["count"],
         f"its {len(found.held):,} blocks add up to {worth}",
     )
 
 
-def check_series(told: Told) -> None:
+def check_series(report: Report) -> None:
     """There is a pit for each factor of study.toml, and a certificate for each pit, and no more."""
     verdicts, wanted = verdicts_of(), series(study_of("shells", "factors").get("factors", SERIES))
     ours, theirs = [verdict["factor"] for verdict in verdicts], [
-        f"{factor / THOUSAND:g}" for factor in wanted
+        share_text(factor) for factor in wanted
     ]
-    told.check(
+    report.check(
         ours == wanted and bool(ours),
         f"the pits are those at the {len(wanted):,} factors of study.toml: {', '.join(theirs)}",
     )
     there = sorted(path.relative_to(HERE).as_posix() for path in (HERE / "certificates").iterdir())
-    told.check(
+    report.check(
         there == sorted(verdict["file"] for verdict in verdicts),
         "each certificate is that of one pit",
     )
@@ -760,7 +816,7 @@ class Table:
     """
 
     def __init__(self, facts: dict[str, Any], absent: list[str]) -> None:
-        self.facts, self.told, self.absent = (
+        self.facts, self.dialect, self.absent = (
             facts,
             facts["dialect"],
             [mark.strip() for mark in absent],
@@ -773,7 +829,7 @@ class Table:
         self.name: str = facts["table"]
         self.names, filled = self.read()
         self.rows, self.passed = (
-            {i: row for i, row in filled.items() if (i >= self.told["skip"]) == is_block}
+            {i: row for i, row in filled.items() if (i >= self.dialect["skip"]) == is_block}
             for is_block in (True, False)
         )
         self.at = {name: i for i, name in enumerate(self.names)}
@@ -782,7 +838,7 @@ class Table:
 
     def read(self) -> tuple[list[str], dict[int, list[str]]]:
         """The names of the header line, and the cells of each row that isn't blank."""
-        path, encoding = within(self.name), self.told["encoding"]
+        path, encoding = within(self.name), self.dialect["encoding"]
         is_packed = path.suffix.lower() == ".gz"
         if is_packed:
             with open(path, "rb") as packed:
@@ -796,7 +852,7 @@ class Table:
             with gzip.open(path, "rt", 9, encoding, newline="") if is_packed else open(
                 path, encoding=encoding, newline=""
             ) as file:
-                rows = csv.reader(file, delimiter=self.told["separator"], skipinitialspace=True)
+                rows = csv.reader(file, delimiter=self.dialect["separator"], skipinitialspace=True)
                 names = [name.strip() or f"column {i + 1}" for i, name in enumerate(next(rows, []))]
                 return names, {
                     i: row for i, row in enumerate(rows) if any(cell.strip() for cell in row)
@@ -827,7 +883,7 @@ class Table:
         cell = word.strip()
         if cell in self.absent:
             return 0.0
-        plain = cell.replace(self.told["decimal"], ".")
+        plain = cell.replace(self.dialect["decimal"], ".")
         if not NUMBER.fullmatch(plain):
             raise Bad(
                 f"{self.name}, row {row + 2}, column {column}: the cell is {shown(cell)}, and has to be a number"
@@ -841,12 +897,13 @@ class Table:
         return all(
             not cell
             or cell in self.absent
-            or NUMBER.fullmatch(cell.replace(self.told["decimal"], "."))
+            or NUMBER.fullmatch(cell.replace(self.dialect["decimal"], "."))
             for cell in cells
         )
 
     def sizes(self, row: int) -> list[float]:
-        """How long a row's block is along the model's axes, by its own columns where there are such."""
+        """How long a row's block is along the model's axes, by its own columns where there are
+        such."""
         columns, size = self.facts["columns"], self.facts["grid"]["size"]
         return [
             Table.number(self, row, columns[key]) if key in columns else float(length)
@@ -867,8 +924,9 @@ class Table:
 
 
 class AddedUp(Table):
-    """The planner's table with its sub-blocks added up again: each whole block stands in its first row, with the means of its numbers, weighted
-    by tonnes, and of words and codes what most of its tonnes have.
+    """The planner's table with its sub-blocks added up again: each whole block stands in its first
+    row, with the means of its numbers, weighted by tonnes, and of words and codes what most of its
+    tonnes have.
 
     Attributes
     ----------
@@ -894,10 +952,20 @@ class AddedUp(Table):
         for row in self.rows:
             at[tuple(round(step) for step in local_steps(self, row, facts))].append(row)
         self.of = {rows[0]: rows for rows in at.values()}
-        self.weight = {row: Table.tonnes(self, row) for row in self.rows}
+
+    @cached_property
+    def weight(self) -> dict[int, float]:
+        """What each row weighs, by its columns unless `weigh_by` says otherwise."""
+        return {row: Table.tonnes(self, row) for row in self.rows}
+
+    def weigh_by(self, tonnes: Callable[[int], float]) -> None:
+        """From now on sub-blocks weigh what a function says, and the column of their tonnes is one
+        as any other."""
+        self.weighed, self.weight = None, {row: tonnes(row) for row in self.rows}
 
     def fault(self) -> str | None:
-        """What is wrong with the sub-blocks: one that lies over a side of its block, or more in a block than it holds."""
+        """What is wrong with the sub-blocks: one that lies over a side of its block, or more in a
+        block than it holds."""
         size = self.facts["grid"]["size"]
         for first, rows in self.of.items():
             filled = 0.0
@@ -947,7 +1015,8 @@ class AddedUp(Table):
         )
 
     def number(self, row: int, column: str) -> float:
-        """Of a block: the sum of tonnes, its own place and size, what most of its tonnes have of a column of codes, and else the mean by tonnes."""
+        """Of a block: the sum of tonnes, its own place and size, what most of its tonnes have of a
+        column of codes, and else the mean by tonnes."""
         rows = self.of[row]
         if column in self.lengths:
             return float(self.facts["grid"]["size"][self.lengths[column]])
@@ -1005,7 +1074,8 @@ def raised(a: float, b: float) -> float:
 
 
 class Formula:
-    """A formula of study.toml, worked out for one row at a time: numbers, words, columns, operators and five functions."""
+    """A formula of study.toml, worked out for one row at a time: numbers, words, columns, operators
+    and five functions."""
 
     BINARY: dict[type, Callable[[Any, Any], Any]] = {
         ast.Add: lambda a, b: a + b,
@@ -1035,8 +1105,17 @@ class Formula:
         ast.Not: lambda a: not a,
     }
 
-    def __init__(self, text: str, cell: Callable[[str], Any]) -> None:
-        self.tree, self.cell = parsed(text), cell
+    def __init__(
+        self, text: str, cell: Callable[[str], Any], off: dict[str, float] | None = None
+    ) -> None:
+        self.tree, self.cell, self.off = parsed(text), cell, off or {}
+
+    def compared(self, op: ast.cmpop, a: Any, b: Any, parts: tuple[ast.expr, ast.expr]) -> bool:
+        """One comparison; names of `off` may be so much less or more than they are."""
+        off = max(self.off.get(ast.unparse(part), 0.0) for part in parts)
+        if off and abs(a - b) <= off:
+            return isinstance(op, (ast.GtE, ast.LtE, ast.Eq))
+        return bool(self.ORDER[type(op)](a, b))
 
     def value(self, node: ast.expr | None = None) -> Any:
         """What a part of the formula is for the row that `cell` reads."""
@@ -1050,11 +1129,14 @@ class Formula:
         if isinstance(node, ast.UnaryOp) and type(node.op) in self.UNARY:
             return self.UNARY[type(node.op)](self.value(node.operand))
         if isinstance(node, ast.Compare) and all(type(op) in self.ORDER for op in node.ops):
+            parts = (node.left, *node.comparators)
             sides = [
-                side.strip() if isinstance(side, str) else side
-                for side in map(self.value, (node.left, *node.comparators))
+                side.strip() if isinstance(side, str) else side for side in map(self.value, parts)
             ]
-            return all(self.ORDER[type(op)](a, b) for op, a, b in zip(node.ops, sides, sides[1:]))
+            return all(
+                self.compared(op, sides[i], sides[i + 1], (parts[i], parts[i + 1]))
+                for i, op in enumerate(node.ops)
+            )
         if isinstance(node, ast.BoolOp):
             return (all if isinstance(node.op, ast.And) else any)(
                 [self.value(side) for side in node.values]
@@ -1084,19 +1166,23 @@ def yes_or_no(value: Any) -> bool:
 
 
 class Worked(NamedTuple):
-    """What the table and [economics] make of a block: what it brings if it is treated, what treating and what digging it cost, its tonnes,
-    and of each metal of a block that the mill takes the grade in place and what is recovered."""
+    """What the table and [economics] make of a block: what it brings if it is treated, what
+    treating and what digging it cost, its tonnes, those of its ore, and of each metal of a block
+    that the mill takes the grade in place and what is recovered.
+    """
 
     revenue: float
     processing: float
     mining: float
     tonnes: float
+    ore: float
     grades: dict[str, float]
     metals: dict[str, float]
 
 
 class OfRows(NamedTuple):
-    """What the table says row by row: the list of offsets that each block has, what each is made of, and which blocks `forbid` keeps."""
+    """What the table says row by row: the list of offsets that each block has, what each is made
+    of, and which blocks `forbid` keeps."""
 
     regions: list[int | None]
     worked: list[Worked | None]
@@ -1106,12 +1192,30 @@ class OfRows(NamedTuple):
 class Economics:
     """[economics] of study.toml, worked out again for each row of the table."""
 
-    def __init__(self, told: dict[str, Any], table: Table, facts: dict[str, Any]) -> None:
-        self.told, self.table, self.columns = told, table, facts["columns"]
-        self.of_parts = Economics(told, table.parts, facts) if isinstance(table, AddedUp) else None
-        self.rounding = float(told.get("rounding", 1))
+    def __init__(self, plan: dict[str, Any], table: Table, facts: dict[str, Any]) -> None:
+        self.plan, self.table, self.columns = plan, table, facts["columns"]
+        self.of_parts = Economics(plan, table.parts, facts) if isinstance(table, AddedUp) else None
+        self.rounding = float(plan.get("rounding", 1))
+        model = study_of("model", "tonnes", "units")
+        units = model.get("units", {})
+        self.in_tonnes = UNITS["weight"][units.get("weight", "t")]  # one unit of weight
+        self.of_cube = UNITS["length"][units.get("length", "m")] ** 3 / self.in_tonnes
+        self.weight: str | float | None = model.get("tonnes")
+        if self.weight is None and {"tonnes", "density"}.isdisjoint(self.columns):
+            raise Bad("facts.json: columns names none of tonnes and density, and [model] no tonnes")
+        if isinstance(table, AddedUp) and ORE in self.columns:
+            raise Bad("sub-blocks are ore in part, which pitplan refuses")
         self.has_words: dict[str, bool] = {}
-        for i, metal in enumerate(told["metals"], 1):
+        self.is_weighing = False
+        self.sum_of: Callable[[int], float] | None = None  # what sub-blocks weigh by themselves
+        if (
+            isinstance(table, AddedUp)
+            and self.of_parts
+            and (self.weight is not None or PART in self.columns)
+        ):
+            table.weigh_by(self.of_parts.tonnes)
+            self.sum_of = table.tonnes
+        for i, metal in enumerate(plan["metals"], 1):
             table.asked(f"study.toml: [economics] metals, number {i},", "grade", metal["grade"])
 
     def rock(self, row: int) -> str:
@@ -1120,12 +1224,34 @@ class Economics:
         )
 
     def tonnes(self, row: int) -> float:
-        """Of a block."""
-        return self.table.tonnes(row)
+        """Of a block: as the formula of [model] says, or as its columns do; of it the part that is
+        rock. Of sub-blocks the sum of what each weighs so."""
+        if self.sum_of is not None:
+            return self.sum_of(row)
+        if self.weight is None:
+            found = self.table.tonnes(row) * (1.0 if "tonnes" in self.columns else self.of_cube)
+        elif isinstance(self.weight, str):
+            found = self.formula("tonnes", self.weight, row, finite)
+        else:
+            found = float(self.weight)
+        return found * self.part(row, PART)
+
+    def part(self, row: int, of: str) -> float:
+        """A part of a block, by the percent of its column; no cell stands for "not estimated"
+        there."""
+        if of not in self.columns:
+            return 1.0
+        column = self.columns[of]
+        if self.table.word(row, column).strip() in self.table.absent:
+            raise Bad(f"{self.table.name}, row {row + 2}, column {column}: there is no percent")
+        found = self.table.number(row, column) / 100
+        if not 0 <= found <= 1 + 1e-9:
+            raise Bad(f"{self.table.name}, row {row + 2}, column {column}: that is no percent")
+        return found
 
     def cell(self, row: int, name: str) -> Any:
-        """What a formula gets for a column. Python reads some letters of a plain word as others that look alike, as the sign of micro as a
-        Greek mu."""
+        """What a formula gets for a column. Python reads some letters of a plain word as others
+        that look alike, as the sign of micro as a Greek mu."""
         if name not in self.table.at:
             name = next(
                 (
@@ -1149,19 +1275,23 @@ class Economics:
                 if word or word in self.table.absent
                 else math.nan
             )
-        if name in ("rock", "tonnes"):
+        if name == "rock" or name == "tonnes" and not self.is_weighing:
             return self.rock(row) if name == "rock" else self.tonnes(row)
         raise Bad(f"it names {shown(name)}, which is no column of {self.table.name}")
 
     def formula(self, key: str, text: str, row: int, kind: Callable[[Any], Any]) -> Any:
         """What the formula of a key gives for a row, as `kind` makes it of that."""
+        section = "model" if key == "tonnes" else "economics"
+        self.is_weighing = section == "model"  # which can't rest on its own answer
         try:
             return kind(Formula(text, lambda name: self.cell(row, name)).value())
         except (Bad, *UNWORKABLE) as error:
             why = error if isinstance(error, Bad) else "it is no formula, or it counts with words"
             raise Bad(
-                f"study.toml: [economics] {key} is {shown(text)}, and has to be a formula that can be worked out; for row {row + 2} of {self.table.name} it can't be: {why}"
+                f"study.toml: [{section}] {key} is {shown(text)}, and has to be a formula that can be worked out; for row {row + 2} of {self.table.name} it can't be: {why}"
             ) from None
+        finally:
+            self.is_weighing = False
 
     def amount(self, key: str, given: Any, row: int) -> float:
         """A number, a column, a formula, or a number by rock."""
@@ -1176,37 +1306,58 @@ class Economics:
         return float(given)
 
     def is_fenced(self, row: int) -> bool:
-        """Whether a formula of forbid keeps the block of a row, or one of its sub-blocks; it keeps no air, which has no tonnes."""
+        """Whether a formula of forbid keeps the block of a row, or one of its sub-blocks; it keeps
+        no air, which has no tonnes."""
         if self.of_parts and isinstance(self.table, AddedUp):
             return any(map(self.of_parts.is_fenced, self.table.of[row]))
         return self.tonnes(row) > 0 and any(
-            self.formula("forbid", text, row, yes_or_no) for text in self.told.get("forbid", ())
+            self.formula("forbid", text, row, yes_or_no) for text in self.plan.get("forbid", ())
         )
+
+    def is_of_waste(self, row: int) -> bool:
+        """Whether the block of a row is of a class that counts as waste. In a column of numbers 3
+        and 3.0 are the same class; an empty cell is of class none."""
+        wasted = self.plan.get("waste_classes", ())
+        if not wasted:
+            return False
+        if "class" not in self.columns:
+            raise Bad(
+                "study.toml: [economics] has waste_classes, and facts.json has no column of classes"
+            )
+        cell = self.cell(row, self.columns["class"])
+        if isinstance(cell, float):
+            cell = "" if math.isnan(cell) else f"{cell:.0f}" if cell.is_integer() else str(cell)
+        return (cell or "none") in wasted
 
     def of_row(self, row: int) -> Worked:
         """What the block of a row comes to."""
-        told, tonnes = self.told, self.tonnes(row)
+        plan, tonnes = self.plan, self.tonnes(row)
+        ore = tonnes * self.part(row, ORE)
         grades, metals = dict[str, float](), dict[str, float]()
-        takes = told.get("mill") is None or self.rock(row) in told["mill"]
-        kept = told.get("mining_recovery", 1.0)
+        takes = (
+            plan.get("mill") is None or self.rock(row) in plan["mill"]
+        ) and not self.is_of_waste(row)
+        kept = plan.get("mining_recovery", 1.0)
         revenue = selling = 0.0
-        for metal in told["metals"] if takes else ():
+        for metal in plan["metals"] if takes else ():
             content = GRADES[metal.get("grade_unit", "%")] / PRICES[metal.get("price_unit", "t")]
+            content *= self.in_tonnes
             grades[metal["name"]] = grade = self.table.number(row, metal["grade"])
             metals[metal["name"]] = units = (
-                tonnes
+                ore
                 * kept
                 * grade
                 * content
                 * self.amount("recovery", metal.get("recovery", 1.0), row)
             )
-            revenue += units * metal["price"] * metal.get("payable", 1.0)
-            selling += units * metal.get("selling", 0.0)
+            rate = self.rate_of(metal)
+            revenue += units * (metal["price"] * rate) * metal.get("payable", 1.0)
+            selling += units * (metal.get("selling", 0.0) * rate)
         treating = (
-            tonnes
+            ore
             * kept
-            * (1 + told.get("dilution", 0.0))
-            * self.amount("processing", told["processing"], row)
+            * (1 + plan.get("dilution", 0.0))
+            * self.amount("processing", plan["processing"], row)
             + selling
             if takes
             else 0.0
@@ -1214,11 +1365,23 @@ class Economics:
         return Worked(
             revenue,
             treating,
-            tonnes * self.amount("mining", told["mining"], row),
+            tonnes * self.amount("mining", plan["mining"], row),
             tonnes,
+            ore,
             grades,
             metals,
         )
+
+    def rate_of(self, metal: dict[str, Any]) -> float:
+        """What a unit of a metal's currency is worth in that of the study."""
+        ours = self.plan.get("currency", "$")
+        currency = metal.get("currency", ours)
+        if currency == ours:
+            return 1.0
+        rates = self.plan.get("exchange", {})
+        if currency not in rates:
+            raise Bad(f"study.toml: [economics] exchange says nothing of {shown(currency)}")
+        return float(rates[currency])
 
     def is_near(self, ours: float, theirs: int) -> bool:
         """Whether an amount in millionths is the nearest multiple of `rounding`."""
@@ -1230,7 +1393,8 @@ class Economics:
 
 
 def codes_of(economics: dict[str, Any], by: str | None) -> set[str]:
-    """The columns that stand for codes: those that `by`, a comparison or `forbid` names, without the grades of metals."""
+    """The columns that stand for codes: those that `by`, a comparison or `forbid` names, without
+    the grades of metals."""
 
     def names(tree: ast.AST) -> set[str]:
         nodes = list(ast.walk(tree))
@@ -1266,12 +1430,22 @@ def codes_of(economics: dict[str, Any], by: str | None) -> set[str]:
     found = set().union(
         *map(names, compared), *(names(tree_of(text)) for text in economics.get("forbid", ()))
     )
-    return (found - {metal["grade"] for metal in economics["metals"]}) | ({by} if by else set())
+    return (
+        (found | names(tree_of(by or "0"))) - {metal["grade"] for metal in economics["metals"]}
+    ) | ({by} if by else set())
 
 
-def slope_files() -> list[str]:
-    """The files of offsets, one for each slope."""
-    return [f"slope-{i}.toml" for i in range(len(list((HERE / "model").glob("slope-*.toml"))))]
+def slopes_listed() -> tuple[list[list[list[int]]], int | None]:
+    """The offsets of each region, and the column of model/mine.blocks that says in which a block
+    is."""
+    table = looked_at(
+        "model/slopes.toml:",
+        toml_of("model/slopes.toml"),
+        {"slopes": SLOPES, "region": AT},
+        ["slopes"],
+    )
+    column: int | None = table.get("region")
+    return table["slopes"], column
 
 
 def pairs_listed() -> int:
@@ -1288,11 +1462,12 @@ def pairs_listed() -> int:
     return found
 
 
-def check_facts(told: Told, blocks: Blocks, facts: dict[str, Any]) -> None:
-    """What facts.json and model/manifest.json say of the other files is so, and is what study.toml asks for."""
+def check_facts(report: Report, blocks: Blocks, facts: dict[str, Any]) -> None:
+    """What facts.json and model/manifest.json say of the other files is so, and is what study.toml
+    asks for."""
     manifest, model = manifest_of(), study_of("model", "size", "rotation", "columns", "z")
     table, grid = digest_of(within(facts["table"])), facts["grid"]
-    told.check(
+    report.check(
         table == facts["sha256"] == manifest["source"]["sha256"],
         "the table is the one that the model was built from",
     )
@@ -1300,47 +1475,50 @@ def check_facts(told: Told, blocks: Blocks, facts: dict[str, Any]) -> None:
         name: digest for name, digest in manifest["files"].items() if name != "blocks.npz"
     }  # pitplan's own, not bundled
     bad = [name for name, digest in listed.items() if digest_of(within(f"model/{name}")) != digest]
-    told.check(
+    report.check(
         not bad and {"mine.blocks", "mine.prec", "settings.toml"} <= set(listed),
         "the files of model/ are those that were built"
         + (f": not so for {', '.join(bad)}" if bad else ""),
     )
-    offsets = [offsets_of(name) for name in slope_files()]
+    offsets, _ = slopes_listed()
     regions = ["default", *study_of("slopes", "regions").get("regions", {})]
-    told.check(
+    report.check(
         offsets == list(manifest["offsets"].values()) and list(manifest["offsets"]) == regions,
         f"the lists of offsets are those of the {len(regions):,} slopes of study.toml",
     )
     pairs = pairs_listed()
-    told.check(
+    report.check(
         len(blocks.places) == facts["blocks"] == manifest["blocks"]
         and pairs == facts["pairs"] == manifest["pairs"],
         f"the model has {len(blocks.places):,} blocks and {pairs:,} pairs",
     )
     asked = {"size": model.get("size", grid["size"]), "rotation": model.get("rotation", 0.0)}
     columns = {**facts["columns"], **model.get("columns", {})}
-    told.check(
+    report.check(
         asked == {key: grid[key] for key in asked}
         and columns == facts["columns"]
         and facts["depth"] == (model.get("z") == "depth"),
         "the grid and the columns are those of [model] in study.toml",
     )
     currency = study_of("economics", "currency").get("currency", "$")
-    told.check(currency == facts["currency"] == manifest["currency"], f"amounts are in {currency}")
+    report.check(
+        currency == facts["currency"] == manifest["currency"], f"amounts are in {currency}"
+    )
 
 
-def check_table(told: Told, blocks: Blocks, facts: dict[str, Any]) -> OfRows | None:
-    """Each block's place, tonnes and amounts are those of its row of the planner's table, or of its sub-blocks added up again. Gives what
-    the rows say, None where they aren't those of the blocks."""
+def check_table(report: Report, blocks: Blocks, facts: dict[str, Any]) -> OfRows | None:
+    """Each block's place, tonnes and amounts are those of its row of the planner's table, or of its
+    sub-blocks added up again. Gives what the rows say, None where they aren't those of the
+    blocks."""
     model = study_of("model", "absent", "missing", "widen", "regularise")
-    told.say(
+    report.say(
         "look",
         "the columns that were taken: "
         + ", ".join(f"{key} = {name}" for key, name in facts["columns"].items()),
     )
-    table = table_of(told, facts, model)
+    table = table_of(report, facts, model)
     economics = Economics(economics_of(), table, facts)
-    check_passed(told, table, facts)
+    check_passed(report, table, facts)
     rows = [line.row - 2 for line in numbering()]
     known = [row for row in rows if row >= 0]
     wanted, what = (
@@ -1352,7 +1530,7 @@ def check_table(told: Told, blocks: Blocks, facts: dict[str, Any]) -> OfRows | N
             list(table.of),
             f"the {len(table.rows):,} rows of the table are {len(table.of):,} blocks, each in its first row",
         )
-    if not told.check(len(rows) == len(blocks.places) and sorted(known) == sorted(wanted), what):
+    if not report.check(len(rows) == len(blocks.places) and sorted(known) == sorted(wanted), what):
         return None
     steps: dict[str, Callable[[int, int], bool]] = {
         "place": lambda b, row: is_placed(table, row, blocks.places[b], facts),
@@ -1361,7 +1539,7 @@ def check_table(told: Told, blocks: Blocks, facts: dict[str, Any]) -> OfRows | N
     }
     for what, is_right in steps.items():
         bad = [row for b, row in enumerate(rows) if row >= 0 and not is_right(b, row)]
-        told.check(
+        report.check(
             not bad,
             f"the {what} of each block is that of its row"
             + (f": not so for {len(bad):,}, the first is row {bad[0] + 2}" if bad else ""),
@@ -1370,25 +1548,28 @@ def check_table(told: Told, blocks: Blocks, facts: dict[str, Any]) -> OfRows | N
     is_asked = model.get("widen", 0) != 0 or model.get("missing", "refuse") != "refuse"
     strange = [] if is_asked else added_without_need(blocks, rows)
     if strange:
-        told.check(
+        report.check(
             False,
             f"{len(strange):,} blocks have no row, and study.toml asks for none (widen, missing)",
         )
     return OfRows(
-        regions_of(table, rows), check_amounts(told, economics, blocks, rows, set(fenced)), fenced
+        regions_of(table, rows, economics, blocks),
+        check_amounts(report, economics, blocks, rows, set(fenced)),
+        fenced,
     )
 
 
-def table_of(told: Told, facts: dict[str, Any], model: dict[str, Any]) -> Table:
+def table_of(report: Report, facts: dict[str, Any], model: dict[str, Any]) -> Table:
     """The planner's table, with its sub-blocks added up where it has such."""
     absent = model.get("absent", [])
     if not facts["has_sub_blocks"]:
         return Table(facts, absent)
-    told.check(model.get("regularise") is True, "study.toml asks for sub-blocks to be added up")
+    report.check(model.get("regularise") is True, "study.toml asks for sub-blocks to be added up")
     codes = codes_of(economics_of(), study_of("slopes", "by").get("by"))
+    codes |= {facts["columns"][key] for key in ("class",) if key in facts["columns"]}
     table = AddedUp(facts, absent, codes)
     fault = table.fault()
-    told.check(
+    report.check(
         fault is None,
         "each sub-block lies within its block, and none fill more than that"
         + (f": {fault}" if fault else ""),
@@ -1397,8 +1578,8 @@ def table_of(told: Told, facts: dict[str, Any], model: dict[str, Any]) -> Table:
 
 
 def added_without_need(blocks: Blocks, rows: list[int]) -> list[int]:
-    """The blocks without a row that aren't air above the ground, which slopes lead through beside a cliff: that has no tonnes, brings
-    nothing and costs nothing."""
+    """The blocks without a row that aren't air above the ground, which slopes lead through beside a
+    cliff: that has no tonnes, brings nothing and costs nothing."""
     ground: dict[tuple[int, ...], int] = {}
     for place, row in zip(blocks.places, rows):
         if row >= 0:
@@ -1415,15 +1596,20 @@ def added_without_need(blocks: Blocks, rows: list[int]) -> list[int]:
     ]
 
 
-def regions_of(table: Table, rows: list[int]) -> list[int | None]:
-    """Which list of offsets each block has: that of the region that its row names, by the order of [slopes] regions; 0, that of
-    `angles`, for all others; None of blocks without a row. In a column of numbers 1 and 1.0 are the same region.
+def regions_of(
+    table: Table, rows: list[int], economics: Economics, blocks: Blocks
+) -> list[int | None]:
+    """Which list of offsets each block has: that of the region that its row names, by the order of
+    [slopes] regions; 0, that of `angles`, for all others; None of blocks without a row. In a column
+    of numbers 1 and 1.0 are the same region.
     """
     slopes = study_of("slopes", "by", "regions")
     names = list(slopes.get("regions", {}))
     if not names:
         return [0] * len(rows)
     by = slopes.get("by", "")
+    if by and by not in (*table.at, *table.facts["columns"]) and not by.isidentifier():
+        return regions_by_formula(by, names, rows, economics, blocks)
     by = by if by in table.at else table.facts["columns"].get(by, by)
     table.asked("study.toml: [slopes]", "by", by)
     cells = {table.word(row, by).strip() for row in rows if row >= 0}
@@ -1436,7 +1622,7 @@ def regions_of(table: Table, rows: list[int]) -> list[int | None]:
         number = (
             0.0
             if cell in table.absent
-            else float(cell.replace(table.told["decimal"], "."))
+            else float(cell.replace(table.dialect["decimal"], "."))
             if is_numbers and cell
             else math.nan
         )
@@ -1445,21 +1631,57 @@ def regions_of(table: Table, rows: list[int]) -> list[int | None]:
     return [of_cell[table.word(row, by).strip()] if row >= 0 else None for row in rows]
 
 
-def check_passed(told: Told, table: Table, facts: dict[str, Any]) -> None:
-    """Lines of descriptions between the header and the first block; a line with three coordinates is a block."""
+def regions_by_formula(
+    by: str, names: list[str], rows: list[int], economics: Economics, blocks: Blocks
+) -> list[int | None]:
+    """As `regions_of`, by a formula over a block's row, its elevation, and how far its centre lies
+    below the highest block of its column that weighs something."""
+    top: dict[tuple[int, ...], int] = {}
+    for place, tonnes in zip(blocks.places, blocks.tonnes):
+        if tonnes > 0:
+            top[place[:2]] = max(place[2], top.get(place[:2], -1))
+    grid, found = facts_of()["grid"], list[int | None]()
+    lowest, height = grid["origin"][2], grid["size"][2]
+
+    def word_of(row: int, own: dict[str, float]) -> str:
+        def cell(name: str) -> Any:
+            is_own = name in own and name not in economics.table.at
+            return own[name] if is_own else economics.cell(row, name)
+
+        try:
+            off = {name: 1e-3 * height for name in own if name not in economics.table.at}
+            word = Formula(by, cell, off).value()
+        except (Bad, *UNWORKABLE) as error:
+            raise Bad(
+                f"study.toml: [slopes] by is {shown(by)}, which can't be worked out for row {row + 2} of {economics.table.name}: {error}"
+            ) from None
+        is_whole_number = isinstance(word, float) and word.is_integer()
+        return f"{word:.0f}" if is_whole_number else str(word).strip()
+
+    for row, place in zip(rows, blocks.places):
+        deep = (top.get(place[:2], -1) - place[2] + 0.5) * height
+        own = {"elevation": lowest + place[2] * height, "below_ground": deep}
+        word = word_of(row, own) if row >= 0 else ""
+        found.append(None if row < 0 else 1 + names.index(word) if word in names else 0)
+    return found
+
+
+def check_passed(report: Report, table: Table, facts: dict[str, Any]) -> None:
+    """Lines of descriptions between the header and the first block; a line with three coordinates
+    is a block."""
     names = [facts["columns"][key] for key in "xyz"]
     blocks = [
         i
         for i, row in table.passed.items()
         if all(
-            NUMBER.fullmatch(row[at].strip().replace(table.told["decimal"], "."))
+            NUMBER.fullmatch(row[at].strip().replace(table.dialect["decimal"], "."))
             if (at := table.at[name]) < len(row)
             else False
             for name in names
         )
     ]
     if table.passed:
-        told.check(
+        report.check(
             not blocks,
             f"{len(table.passed):,} lines below the header are descriptions and no blocks"
             + (f": not so in row {blocks[0] + 2}" if blocks else ""),
@@ -1467,8 +1689,8 @@ def check_passed(told: Told, table: Table, facts: dict[str, Any]) -> None:
 
 
 class Numbered(NamedTuple):
-    """A line of tables/blocks.csv: the number of a block, its row (as a spreadsheet counts it; 0 where it was added), and its shell as
-    a factor in thousandths, 0 where it has none."""
+    """A line of tables/blocks.csv: the number of a block, its row (as a spreadsheet counts it; 0
+    where it was added), and its shell as a factor in thousandths, 0 where it has none."""
 
     block: str
     row: int
@@ -1488,10 +1710,11 @@ def numbering() -> list[Numbered]:
 
 
 def check_amounts(
-    told: Told, economics: Economics, blocks: Blocks, rows: list[int], fenced: set[int]
+    report: Report, economics: Economics, blocks: Blocks, rows: list[int], fenced: set[int]
 ) -> list[Worked | None]:
-    """What each block brings and costs, by the table and [economics]; gives it, None of blocks without a row. Those of `fenced` may not
-    be dug, and digging one costs more than the mine brings."""
+    """What each block brings and costs, by the table and [economics]; gives it, None of blocks
+    without a row. Those of `fenced` may not be dug, and digging one costs more than the mine
+    brings."""
     bad, most = [], 2 * sum(amounts[0] for amounts in blocks.amounts)
     worked = [economics.of_row(row) if row >= 0 else None for row in rows]
     for b, (row, ours) in enumerate(zip(rows, worked)):
@@ -1511,19 +1734,19 @@ def check_amounts(
         if bad
         else ""
     )
-    told.check(
+    report.check(
         not bad,
         "what each block brings and costs, worked out again from the table and study.toml, is what pit was given"
         + more,
     )
     if fenced:
-        told.say(
+        report.say(
             "ok",
             f"{len(fenced):,} blocks may not be dug by forbid, and cost more than the whole mine brings",
         )
     added = sum(row < 0 for row in rows)
     if added:
-        told.say(
+        report.say(
             "look",
             f"{added:,} blocks have no row (widen, missing, air beside steep ground): they bring nothing, and what digging them costs isn't worked out again",
         )
@@ -1531,7 +1754,8 @@ def check_amounts(
 
 
 def local_steps(table: Table, row: int, facts: dict[str, Any]) -> list[float]:
-    """Where a row's coordinates are on the grid, in blocks from its first along the model's axes."""
+    """Where a row's coordinates are on the grid, in blocks from its first along the model's
+    axes."""
     grid, columns = facts["grid"], facts["columns"]
     east, north, up = (Table.number(table, row, columns[key]) for key in "xyz")
     east, north, up = (
@@ -1559,7 +1783,8 @@ def centre_of(place: tuple[int, ...], facts: dict[str, Any]) -> tuple[float, ...
 
 
 def is_placed(table: Table, row: int, place: tuple[int, ...], facts: dict[str, Any]) -> bool:
-    """Whether a row's coordinates are those of a place of the grid, to 0.06 of a block; of sub-blocks, whether they lie nearest to it."""
+    """Whether a row's coordinates are those of a place of the grid, to 0.06 of a block; of
+    sub-blocks, whether they lie nearest to it."""
     if isinstance(table, AddedUp):
         return all(
             tuple(round(step) for step in local_steps(table, part, facts)) == place
@@ -1592,10 +1817,12 @@ class Sum:
             self.rock + blocks.tonnes[b],
         )
         if revenue > processing:
-            self.ore += blocks.tonnes[b]
+            self.ore += blocks.tonnes[b] * (
+                worked.ore / worked.tonnes if worked and worked.tonnes else 1.0
+            )
             if worked:
                 for name, grade in worked.grades.items():
-                    self.graded[name] += grade * worked.tonnes
+                    self.graded[name] += grade * worked.ore
                     self.metal[name] += worked.metals[name]
 
     def join(self, other: Sum) -> None:
@@ -1611,8 +1838,9 @@ class Sum:
             self.metal[name] += other.metal[name]
 
     def is_line(self, line: Line, is_pit: bool, feed: float, metals: list[str]) -> bool:
-        """Whether a line of a table, of a pit or of a bench, has these blocks, tonnes and worth, of these metals the amounts and the grades,
-        and of a pit the mill's feed and the strip ratio. `mine.blocks` has tonnes to three decimals.
+        """Whether a line of a table, of a pit or of a bench, has these blocks, tonnes and worth, of
+        these metals the amounts and the grades, and of a pit the mill's feed and the strip ratio.
+        `mine.blocks` has tonnes to three decimals.
         """
         off = 6e-4 * self.blocks
         sums = {
@@ -1651,7 +1879,8 @@ def is_close(found: float, value: float, far: float) -> bool:
 
 
 class Line(NamedTuple):
-    """A line of a table of the bundle: its file, its number there, and its cells by the names of the header line."""
+    """A line of a table of the bundle: its file, its number there, and its cells by the names of
+    the header line."""
 
     file: str
     at: int
@@ -1712,7 +1941,7 @@ def bench_sums(
 
 
 def check_tables(
-    told: Told,
+    report: Report,
     blocks: Blocks,
     facts: dict[str, Any],
     shell: list[int],
@@ -1722,7 +1951,7 @@ def check_tables(
     lines_of = numbering()
     is_counted = [line.block for line in lines_of] == [str(b) for b in range(len(shell))]
     bad = [n for n, (ours, line) in enumerate(zip(shell, lines_of), 2) if ours != line.shell]
-    told.check(
+    report.check(
         is_counted and not bad,
         "tables/blocks.csv has the number and the shell of each block"
         + (f": not so in line {bad[0]}" if bad else ""),
@@ -1745,7 +1974,7 @@ def check_tables(
         or not pits[verdict["factor"]].is_line(line, True, feed, metals)
     ]
     of = ", the grades and the metals" if worked else ""
-    told.check(
+    report.check(
         len(lines) == len(verdicts) and not bad,
         f"tables/pit_by_pit.csv has the blocks, the tonnes, the worths{of} of each pit"
         + (f": not so in line {bad[0]}" if bad else ""),
@@ -1759,90 +1988,138 @@ def check_tables(
         for n, (key, line) in enumerate(zip(keys, lines), 2)
         if key not in benches or not benches[key].is_line(line, False, feed, metals)
     ]
-    told.check(
+    report.check(
         sorted(keys) == sorted(benches) and not bad,
         f"tables/benches.csv has the blocks, the tonnes, the worth{of} of each bench and shell"
         + (f": not so in line {bad[0]}" if bad else ""),
     )
 
 
-def of_region(
-    lines: tuple[bytes, ...], regions: list[int | None] | None, block: int
-) -> tuple[bytes, ...]:
-    """The lines that `pit slopes` gives a block by the list of its region; by any of the lists where its region isn't known."""
-    at = regions[block] if regions is not None else None
-    return lines if at is None else lines[at : at + 1]
-
-
-def check_slopes(told: Told, pit: str, regions: list[int | None] | None) -> None:
-    """Each block's predecessors are those that `pit slopes` gives it by the list of offsets of its region; by any of the lists where
-    its region isn't known."""
-    lists = slope_files()
+def check_slopes(
+    report: Report, pit: str, blocks: Blocks, regions: list[int | None] | None
+) -> None:
+    """The predecessors are those that `pit slopes` gives by the lists of model/slopes.toml, each
+    block by that of its region in model/mine.blocks, and a block that has a row of the table is in
+    the region of that row."""
+    lists, column = slopes_listed()
     words = [
-        pit,
-        "slopes",
-        "--blocks",
-        str(within("model/mine.blocks")),
-        "--pattern",
-        "settings",
-        "--settings",
+        *(pit, "slopes", "--blocks", str(within("model/mine.blocks"))),
+        *("--pattern", "settings", "--settings", str(within("model/slopes.toml"))),
     ]
-    runs = [
-        subprocess.Popen([*words, str(within(f"model/{name}"))], stdout=subprocess.PIPE)
-        for name in lists
-    ]
-    try:
-        with open(within("model/mine.prec"), "rb") as file:
-            found = enumerate(zip_longest(file, *(run.stdout or () for run in runs)))
-            bad = next(
-                (
-                    n
-                    for n, lines in found
-                    if None in lines or lines[0] not in of_region(lines[1:], regions, n)
-                ),
-                None,
-            )
-    finally:
-        for run in runs:
+    with subprocess.Popen(words, stdout=subprocess.PIPE) as run:
+        try:
+            with open(within("model/mine.prec"), "rb") as file:
+                found = enumerate(zip_longest(file, run.stdout or ()))
+                bad = next((n for n, (line, made) in found if line != made), None)
+        finally:
             run.kill()
-            run.wait()
-    of = (
-        ""
-        if len(lists) == 1
-        else ", whichever of these"
-        if regions is None
-        else ", for its region that of these"
-    )
-    told.check(
+    report.check(
         bad is None,
-        f"each block's predecessors are those that pit slopes gives it by model/{', '.join(lists)}{of}"
+        "each block's predecessors are those that pit slopes gives it by model/slopes.toml"
         + (f": not so in line {bad + 1}" if bad is not None else ""),
     )
-    if len(lists) > 1 and not regions:
-        told.say("look", "whether each block is in the region that it should be in")
-    tell_walls(told, lists)
+    if column is not None:
+        check_regions(report, blocks, regions, column)
+    tell_walls(report, lists)
 
 
-def tell_walls(told: Told, lists: list[str]) -> None:
-    """How far the walls that the offsets build are from the angles of study.toml: the planner's bounds aren't known here, so it is the
-    auditor's to judge; but with `safe` no wall is steeper."""
-    grid, slopes = facts_of()["grid"], study_of("slopes", "angles", "regions", "safe")
+def check_regions(
+    report: Report, blocks: Blocks, regions: list[int | None] | None, column: int
+) -> None:
+    """Each block is in the region of slopes that its row names."""
+    if not regions:
+        report.say("look", "whether each block is in the region that it should be in")
+        return
+    known = ((b, region) for b, region in enumerate(regions) if region is not None)
+    astray = next((b for b, region in known if blocks.field(b, column) != str(region)), None)
+    report.check(
+        astray is None,
+        "each block is in the region of slopes that its row names"
+        + (f": not so block {astray}" if astray is not None else ""),
+    )
+
+
+def tell_walls(report: Report, lists: list[list[list[int]]]) -> None:
+    """How far the walls that the offsets build are from the angles of study.toml: the planner's
+    bounds aren't known here, so it is the auditor's to judge; but with `safe` no wall is
+    steeper."""
+    grid, slopes = facts_of()["grid"], study_of("slopes", "angles", "regions", "safe", "ramp")
     asked = {"default": slopes.get("angles", 45.0), **slopes.get("regions", {})}
-    for name, (region, angles) in zip(lists, asked.items()):
-        errors = [
-            built - wanted
-            for built, wanted in zip(built_angles(offsets_of(name), grid), asked_angles(angles))
-        ]
-        steeper, flatter = max(0.0, *errors), max(0.0, *(-error for error in errors))
-        what = f"the slopes of {region}: a deep wall of model/{name} is at most {steeper:.2f} degrees steeper and {flatter:.2f} flatter than study.toml asks"
-        if slopes.get("safe") and steeper > 0.005:
-            told.check(False, f"{what}, by safe = true never steeper")
+    for offsets, (region, between) in zip(lists, asked.items()):
+        angles = with_ramp(between, slopes.get("ramp", {}), region)
+        steeper, flatter = wall_errors(offsets, grid, Asked.of(angles))
+        what = f"the slopes of {region}: a deep wall of model/slopes.toml is at most {degrees(steeper)} degrees steeper and {degrees(flatter)} flatter than study.toml asks"
+        if slopes.get("safe") and steeper > ROUNDED:
+            report.check(False, f"{what}, by safe = true never steeper")
         else:
-            told.say("look", what)
+            report.say("look", what)
 
 
-def built_angles(offsets: list[list[int]], grid: dict[str, Any]) -> list[float]:
-    """Degrees of a deep wall at each whole bearing: over many levels a pit opens to the hull of its offsets, each divided by its level."""
+def with_ramp(angles: Any, ramp: dict[str, Any], region: str) -> Any:
+    """The overall angles of a region whose walls have these between ramps: over the ramp's height
+    each of its passes takes its width."""
+    own: dict[str, float] = ramp if has_ramp(ramp) else ramp.get(region, {})
+    if not own:
+        return angles
+    height = own["height"]
+    passes = own["turns"] if "turns" in own else height / own["grade"] / own["around"]
+
+    def overall(angle: float) -> float:
+        plan = height / math.tan(math.radians(angle)) + passes * own["width"]
+        return math.degrees(math.atan(height / plan))
+
+    if isinstance(angles, list):
+        return [[bearing, overall(angle)] for bearing, angle in angles]
+    return overall(angles)
+
+
+def degrees(value: float) -> str:
+    """Degrees with two decimals, or with as many as show that they aren't 0."""
+    return f"{value:.2f}" if value <= ROUNDED or value >= 0.005 else f"{value:.6f}"
+
+
+class Asked(NamedTuple):
+    """The angles of study.toml: pairs of a bearing and degrees, ascending; between two of them the
+    angle changes evenly."""
+
+    pairs: list[tuple[float, float]]
+
+    @classmethod
+    def of(cls, angles: Any) -> Asked:
+        """A number, or a list of bearings with an angle for each."""
+        if not isinstance(angles, list):
+            return cls([(0.0, float(angles))])
+        return cls(sorted({(float(bearing) % 360, float(angle)) for bearing, angle in angles}))
+
+    def at(self, bearing: float) -> float:
+        """The degrees at a bearing."""
+        bearing %= 360
+        low = max((pair for pair in self.pairs if pair[0] <= bearing), default=self.pairs[-1])
+        high = min((pair for pair in self.pairs if pair[0] > bearing), default=self.pairs[0])
+        gap = (high[0] - low[0]) % 360
+        return low[1] + (high[1] - low[1]) * ((bearing - low[0]) % 360) / gap if gap else low[1]
+
+    def leans(self) -> set[float]:
+        """By how much the angle rises for each degree of bearing, between one pair and the next."""
+        after = self.pairs[1:] + self.pairs[:1]
+        return {
+            (angle - before) / ((bearing - start) % 360 or 360)
+            for (start, before), (bearing, angle) in zip(self.pairs, after)
+        }
+
+
+def wall_errors(
+    offsets: list[list[int]], grid: dict[str, Any], asked: Asked
+) -> tuple[float, float]:
+    """By how many degrees a deep wall is at most steeper and at most flatter than asked, of all
+    bearings.
+
+    Over many levels a pit opens to the hull of its offsets, each divided by its level. An edge of
+    the hull is d out for each metre of height where it is nearest; at an angle a from there its
+    wall stands at atan(cos a / d), which rises by -d sin a / (d^2 + cos^2 a) for each degree. So
+    the error is greatest or least at a corner, at a bearing that study.toml names, or where this is
+    the lean of what is asked.
+    """
     (x, y, z), turn = grid["size"], math.radians(grid["rotation"])
     flat = [(i * x / (k * z), j * y / (k * z)) for i, j, k in offsets]
     points = sorted(
@@ -1852,18 +2129,33 @@ def built_angles(offsets: list[list[int]], grid: dict[str, Any]) -> list[float]:
         }
     )
     corners = [*half_hull(points), *half_hull(points[::-1])]
-    found = []
-    for bearing in range(360):
-        east, north, out = math.sin(math.radians(bearing)), math.cos(math.radians(bearing)), 0.0
-        for (a, b), (c, d) in zip(corners, corners[1:] + corners[:1]):
-            left, right = a * north - b * east, c * north - d * east
-            if (
-                left * right <= 0 and left != right
-            ):  # the edge crosses the bearing: so far out for a metre of height
-                share = left / (left - right)
-                out = max(out, (a + (c - a) * share) * east + (b + (d - b) * share) * north)
-        found.append(math.degrees(math.atan2(1.0, out)))
-    return found
+    bearings = [math.degrees(math.atan2(east, north)) for east, north in corners]
+    bearings += [bearing for bearing, _ in asked.pairs]
+    for (a, b), (c, d) in zip(corners, corners[1:] + corners[:1]):
+        long = math.hypot(c - a, d - b)
+        out = abs(a * d - b * c) / long if long else 0.0
+        if not out:
+            continue
+        foot = -(a * (c - a) + b * (d - b)) / long**2
+        nearest = math.degrees(math.atan2(a + (c - a) * foot, b + (d - b) * foot))
+        for lean in asked.leans():
+            rise = lean * (out**2 + 1)
+            sine = -2 * rise / (out + math.sqrt(out**2 + 4 * lean * rise))
+            if abs(sine) < 1:
+                bearings.append(nearest + math.degrees(math.asin(sine)))
+    errors = [built_angle(corners, bearing) - asked.at(bearing) for bearing in bearings]
+    return max(0.0, *errors), max(0.0, *(-error for error in errors))
+
+
+def built_angle(corners: list[tuple[float, float]], bearing: float) -> float:
+    """Degrees of a deep wall at a bearing; 90 where the hull doesn't reach there."""
+    east, north, out = math.sin(math.radians(bearing)), math.cos(math.radians(bearing)), 0.0
+    for (a, b), (c, d) in zip(corners, corners[1:] + corners[:1]):
+        left, right = a * north - b * east, c * north - d * east
+        if left * right <= 0 and left != right:  # the edge crosses the bearing: so far out
+            share = left / (left - right)
+            out = max(out, (a + (c - a) * share) * east + (b + (d - b) * share) * north)
+    return math.degrees(math.atan2(1.0, out))
 
 
 def half_hull(points: list[tuple[float, float]]) -> list[tuple[float, float]]:
@@ -1878,29 +2170,13 @@ def half_hull(points: list[tuple[float, float]]) -> list[tuple[float, float]]:
     return found[:-1]
 
 
-def asked_angles(told: Any) -> list[float]:
-    """Degrees that study.toml asks for at each whole bearing; between two bearings the angle changes evenly."""
-    pairs = (
-        sorted((float(bearing) % 360, float(angle)) for bearing, angle in told)
-        if isinstance(told, list)
-        else [(0.0, float(told))]
-    )
-    found = []
-    for bearing in range(360):
-        low = max((pair for pair in pairs if pair[0] <= bearing), default=pairs[-1])
-        high = min((pair for pair in pairs if pair[0] > bearing), default=pairs[0])
-        gap = (high[0] - low[0]) % 360
-        found.append(
-            low[1] + (high[1] - low[1]) * ((bearing - low[0]) % 360) / gap if gap else low[1]
-        )
-    return found
-
-
-def check_all(told: Told, pit: str, is_plain: bool) -> None:
+def check_all(report: Report, pit: str, is_plain: bool) -> None:
     """All steps, in the order of what rests on what."""
-    told.attempt(SUMS, check_digests, told)
-    facts, blocks = told.attempt("facts.json", facts_of), told.attempt("model/mine.blocks", Blocks)
-    said = told.attempt(
+    report.attempt(SUMS, check_digests, report)
+    facts, blocks = report.attempt("facts.json", facts_of), report.attempt(
+        "model/mine.blocks", Blocks
+    )
+    said = report.attempt(
         f"{pit} --version",
         lambda: subprocess.run([pit, "--version"], stdout=subprocess.PIPE, text=True).stdout.split(
             "\n"
@@ -1909,25 +2185,33 @@ def check_all(told: Told, pit: str, is_plain: bool) -> None:
     if facts is None or blocks is None or said is None:
         return
     here = [line for line in said if line]
-    told.say(
+    report.say(
         "ok" if here == facts["pit"] else "look",
         f"the program here is {', '.join(here)}; the bundle was made by {', '.join(facts['pit'])}",
     )
-    told.attempt("facts.json, model/manifest.json", check_facts, told, blocks, facts)
-    found = told.attempt("the table", check_table, told, blocks, facts)
-    told.attempt("the slopes", check_slopes, told, pit, found.regions if found else None)
-    told.attempt("the factors", check_series, told)
-    shell = told.attempt("verdicts.json", check_pits, told, pit, blocks, is_plain)
+    report.attempt("facts.json, model/manifest.json", check_facts, report, blocks, facts)
+    found = report.attempt("the table", check_table, report, blocks, facts)
+    report.attempt(
+        "the slopes", check_slopes, report, pit, blocks, found.regions if found else None
+    )
+    report.attempt("the factors", check_series, report)
+    shell = report.attempt("verdicts.json", check_pits, report, pit, blocks, is_plain)
     if shell is not None and found and found.fenced:
         dug = [b for b in found.fenced if shell[b]]
-        told.check(
+        report.check(
             not dug,
             "no pit has a block that forbid keeps"
             + (f": not so for {len(dug):,}, the first is block {dug[0]}" if dug else ""),
         )
     if shell is not None:
-        told.attempt(
-            "the tables", check_tables, told, blocks, facts, shell, found.worked if found else None
+        report.attempt(
+            "the tables",
+            check_tables,
+            report,
+            blocks,
+            facts,
+            shell,
+            found.worked if found else None,
         )
 
 
@@ -1939,19 +2223,19 @@ def main() -> int:
         return 2
     if isinstance(sys.stdout, io.TextIOWrapper):
         sys.stdout.reconfigure(errors="replace")
-    told = Told()
-    check_all(told, words[0] if words else "pit", "--plainly" in sys.argv)
+    report = Report()
+    check_all(report, words[0] if words else "pit", "--plainly" in sys.argv)
     try:
         print(
             f"sha256 of {SUMS}: {digest_of(within(SUMS))} (compare it with the one that you were told)"
         )
     except (Bad, OSError):
         pass
-    bad, looks = told.count["WRONG"], told.count["look"]
+    bad, looks = report.count["WRONG"], report.count["look"]
     print(
-        f"{bad} of {told.count.total()} things are WRONG"
+        f"{bad} of {report.count.total()} things are WRONG"
         if bad
-        else f"everything that was looked at holds: {told.count['ok']} things"
+        else f"everything that was looked at holds: {report.count['ok']} things"
         + (f"; {looks} lines begin with look, and are yours to judge" if looks else "")
     )
     return 1 if bad else 0

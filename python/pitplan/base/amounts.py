@@ -1,4 +1,5 @@
-"""Amounts of money as whole numbers, so that sums are exact: what this package adds up is `pit`'s worth to the last digit."""
+"""Amounts of money as whole numbers, so that sums are exact: what this package adds up is `pit`'s
+worth to the last digit."""
 from __future__ import annotations
 
 from dataclasses import dataclass, field, replace
@@ -14,14 +15,15 @@ from .errors import PlanError
 THOUSAND = 1000  # a factor is in thousandths
 MOST = Decimal(10) ** 12  # the most that `pit` reads for a block
 LARGEST_FACTOR = 10_000  # that `pit` takes, in thousandths
-PIECE = (
-    1 << 15
-)  # blocks whose worths are added up at a time: what stays near the processor takes a third of the time
-HALF = 31  # bits of a number that are added up apart from those above them
+# blocks whose worths are added up at a time: what stays near the processor takes a third of the
+# time
+_PIECE = 1 << 15
+_HALF = 31  # bits of a number that are added up apart from those above them
 
 
 def rounding_of(rounding: float | str | Decimal) -> Decimal:
-    """What amounts are rounded to, exactly: 1 is whole units of currency, 0.01 hundredths, 1000 thousands.
+    """What amounts are rounded to, exactly: 1 is whole units of currency, 0.01 hundredths, 1000
+    thousands.
 
     Raises
     ------
@@ -34,7 +36,10 @@ def rounding_of(rounding: float | str | Decimal) -> Decimal:
         raise PlanError(f"rounding = {rounding!r} is no number") from None
     if not found.is_finite() or not 0 < found <= MOST or found != round(found, 6):
         raise PlanError(
-            f"rounding = {rounding} has to be above 0 and at most {MOST:,}, with at most six decimals",
+            (
+                f"rounding = {rounding} has to be above 0 and at most {MOST:,}, with at most six"
+                " decimals"
+            ),
             try_this="rounding = 1",
         )
     return found
@@ -47,7 +52,8 @@ class Priced:
     Attributes
     ----------
     revenue, processing, mining : int arrays of shape (blocks,)
-        At factor 1000: what a block brings if it is treated, what treating it costs, and what digging it costs.
+        At factor 1000: what a block brings if it is treated, what treating it costs, and what
+        digging it costs.
     rounding : Decimal
     metal : dict of float arrays
         The metal that is recovered of each block if it is treated, in the unit of its price.
@@ -56,9 +62,12 @@ class Priced:
     feed : float
         Tonnes that the mill gets for each tonne of ore in place.
     forbidden : bool array of shape (blocks,)
-        Which blocks may not be dug: `mining` has a price for them that keeps them from every pit. Default: none.
+        Which blocks may not be dug: `mining` has a price for them that keeps them from every pit.
+        Default: none.
     unfenced : int array of shape (forbidden blocks,), or empty
         What digging each of these would cost. Empty where a study was built before this was kept.
+    part : float array of shape (blocks,), or None
+        The part of each block's tonnes that is ore and may go to the mill. Default: all of it.
     """
 
     revenue: Ints
@@ -70,6 +79,7 @@ class Priced:
     feed: float = 1.0
     forbidden: Bools = field(default_factory=lambda: np.zeros(0, bool))
     unfenced: Ints = field(default_factory=lambda: np.zeros(0, np.int64))
+    part: Floats | None = None
 
     def __post_init__(self) -> None:
         if not len(self.forbidden):
@@ -88,6 +98,7 @@ class Priced:
             metal={name: amounts[:count] for name, amounts in self.metal.items()},
             grade={name: grades[:count] for name, grades in self.grade.items()},
             forbidden=self.forbidden[:count],
+            part=None if self.part is None else self.part[:count],
         )
 
     def thousandths(self, factor: int) -> Ints:
@@ -109,16 +120,19 @@ class Priced:
     def check_room(self, factor: int) -> None:
         """Raises PlanError where a product at a factor doesn't fit 64 bits."""
         largest = max(
-            furthest(self.revenue) * max(factor, THOUSAND),
-            furthest(self.processing) * THOUSAND,
-            furthest(self.mining) * THOUSAND,
+            _furthest(self.revenue) * max(factor, THOUSAND),
+            _furthest(self.processing) * THOUSAND,
+            _furthest(self.mining) * THOUSAND,
         )
         if largest >= 1 << 61:
             larger = self.rounding
             while largest * float(self.rounding / larger) >= 1 << 61:
                 larger *= 10
             raise PlanError(
-                f"an amount of {largest / THOUSAND * float(self.rounding):g} for one block is too large to count with in units of {self.rounding:f}",
+                (
+                    f"an amount of {largest / THOUSAND * float(self.rounding):g} for one block is"
+                    f" too large to count with in units of {self.rounding:f}"
+                ),
                 try_this=f"rounding = {larger.normalize():f} in [economics]",
             )
 
@@ -131,12 +145,14 @@ class Priced:
         return worth
 
     def worth(self, factor: int) -> Floats:
-        """What each block is worth at a factor (in thousandths), in units of currency, of shape (blocks,): for pictures and tables."""
+        """What each block is worth at a factor (in thousandths), in units of currency, of shape
+        (blocks,): for pictures and tables."""
         worth: Floats = self.thousandths(factor) * (float(self.rounding) / THOUSAND)
         return worth
 
     def worth_unfenced(self, factor: int) -> Floats:
-        """As `worth`; a block that may not be dug is worth what it would be if it might, or not a number where that wasn't kept."""
+        """As `worth`; a block that may not be dug is worth what it would be if it might, or not a
+        number where that wasn't kept."""
         found = self.worth(factor)
         if not self.forbidden.any():
             return found
@@ -154,6 +170,12 @@ class Priced:
         milled: Bools = self.revenue * factor > self.processing * THOUSAND
         return milled
 
+    def ore_of(self, tonnes: Floats, factor: int) -> Floats:
+        """The tonnes of each block that go to the mill at a factor (in thousandths), once it is
+        dug; `tonnes` are those of the blocks."""
+        found: Floats = tonnes * self.milled(factor)
+        return found if self.part is None else found * self.part
+
     def worth_of(self, blocks: Bools, factor: int) -> str:
         """What a set of blocks is worth at a factor, exactly, spelled as `pit` spells a worth.
 
@@ -164,7 +186,7 @@ class Priced:
             In thousandths.
         """
         self.check_room(factor)
-        parts = (slice(at, at + PIECE) for at in range(0, len(self), PIECE))
+        parts = (slice(at, at + _PIECE) for at in range(0, len(self), _PIECE))
         return self.spelled(
             sum(exact_sum(self.of_part(part, factor) * blocks[part]) for part in parts)
         )
@@ -174,17 +196,18 @@ class Priced:
         return spelled(Decimal(thousandths) * self.rounding / THOUSAND)
 
 
-def furthest(values: Ints) -> int:
+def _furthest(values: Ints) -> int:
     """How far from 0 whole numbers go."""
     return max(int(values.max(initial=0)), -int(values.min(initial=0)))
 
 
 def exact_sum(values: Ints) -> int:
-    """The sum of whole numbers as Python's whole number: it is never rounded and never overflows, for up to 2^31 of them."""
+    """The sum of whole numbers as Python's whole number: it is never rounded and never overflows,
+    for up to 2^31 of them."""
     high = int(
-        (values >> HALF).sum(dtype=np.int64)
+        (values >> _HALF).sum(dtype=np.int64)
     )  # of a number below 0 too: it is high times 2^31 and low, from 0 on
-    return (high << HALF) + int((values & (1 << HALF) - 1).sum(dtype=np.int64))
+    return (high << _HALF) + int((values & (1 << _HALF) - 1).sum(dtype=np.int64))
 
 
 def spelled(value: Decimal) -> str:

@@ -9,6 +9,7 @@ import numpy.typing as npt
 Array = npt.NDArray[Any]
 Bools = npt.NDArray[np.bool_]
 Ints = npt.NDArray[np.int64]
+Indices = npt.NDArray[np.int32]  # of blocks or rows, -1 where there is none
 Shorts = npt.NDArray[np.int16]
 Levels = npt.NDArray[np.uint16]  # of a bench, or how many are dug
 Floats = npt.NDArray[np.float64]

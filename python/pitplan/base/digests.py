@@ -1,12 +1,14 @@
-"""Digests of files. A file that this process has digested is read again only where it may have changed since.
+"""Digests of files. A file that this process has digested is read again only where it may have
+changed since.
 
-Whether it may have is told by what the system keeps of it: device, inode, size, and the times of its last writing and of its last
-change. The last of these is set at every write, rename and change of times, and no program can set it back. A change within
-the grain of that clock would not show, so a digest is kept only of a file that had been left alone for `SETTLED` before it was read.
+Whether it may have is told by what the system keeps of it: device, inode, size, and the times of
+its last writing and of its last change. The last of these is set at every write, rename and change
+of times, and no program can set it back. A change within the grain of that clock would not show, so
+a digest is kept only of a file that had been left alone for `SETTLED` before it was read.
 
-What this doesn't see is what no such time tells: a write through a mapping of the file that was begun before the digest, bytes that a
-disk has lost, and what another machine writes within the seconds for which a network file system keeps its old times. A
-new process reads every file.
+What this doesn't see is what no such time tells: a write through a mapping of the file that was
+begun before the digest, bytes that a disk has lost, and what another machine writes within the
+seconds for which a network file system keeps its old times. A new process reads every file.
 """
 from __future__ import annotations
 
@@ -20,8 +22,9 @@ PIECE = 1 << 20
 SETTLED = 2_000_000_000  # nanoseconds: the coarsest grain of a file system that is about (FAT)
 
 
-class Stamp(NamedTuple):
-    """What the system keeps of a file, that differs once the file has changed; times in nanoseconds."""
+class _Stamp(NamedTuple):
+    """What the system keeps of a file, that differs once the file has changed; times in
+    nanoseconds."""
 
     device: int
     inode: int
@@ -30,13 +33,15 @@ class Stamp(NamedTuple):
     changed: int
 
 
-_known: dict[Path, tuple[Stamp, str]] = {}
+_known: dict[Path, tuple[_Stamp, str]] = {}
 
 
-def stamp_of(path: Path) -> Stamp:
+def stamp_of(path: Path) -> _Stamp:
     """The stamp of a file as it is now."""
-    told = path.stat()
-    return Stamp(told.st_dev, told.st_ino, told.st_size, told.st_mtime_ns, told.st_ctime_ns)
+    status = path.stat()
+    return _Stamp(
+        status.st_dev, status.st_ino, status.st_size, status.st_mtime_ns, status.st_ctime_ns
+    )
 
 
 def sha256(path: Path) -> str:
@@ -49,7 +54,8 @@ def sha256(path: Path) -> str:
 
 
 def sha256_unless_known(path: Path) -> str:
-    """The SHA-256 of a file, in hexadecimal; not read again where this process has read it and its stamp is as it was."""
+    """The SHA-256 of a file, in hexadecimal; not read again where this process has read it and its
+    stamp is as it was."""
     name = Path(os.path.abspath(path))
     stamp, now = stamp_of(name), time.time_ns()
     known, digest = _known.get(name, (None, ""))

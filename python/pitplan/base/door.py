@@ -1,4 +1,5 @@
-"""Public names of a package that are imported when they are asked for, so that a command loads what it needs and no more."""
+"""Public names of a package that are imported when they are asked for, so that a command loads what
+it needs and no more."""
 from __future__ import annotations
 
 import importlib
@@ -6,10 +7,10 @@ import sys
 from collections.abc import Callable, Mapping
 from typing import Any
 
-Door = tuple[Callable[[str], Any], Callable[[], list[str]], list[str]]
+_Door = tuple[Callable[[str], Any], Callable[[], list[str]], list[str]]
 
 
-def door(package: str, where: Mapping[str, str], also: Mapping[str, str] | None = None) -> Door:
+def door(package: str, where: Mapping[str, str], also: Mapping[str, str] | None = None) -> _Door:
     """What a package has as its `__getattr__`, `__dir__` and `__all__`.
 
     Parameters
@@ -17,7 +18,8 @@ def door(package: str, where: Mapping[str, str], also: Mapping[str, str] | None 
     package : str
         Its name.
     where : mapping
-        The names that each of its modules gives, with blanks between them; under "" modules that are public themselves.
+        The names that each of its modules gives, with blanks between them; under "" modules that
+        are public themselves.
     also : mapping, optional
         Modules by another name than their own.
     """

@@ -1,11 +1,12 @@
-"""An error as the terminal shows it: what is wrong, the line of study.toml that it concerns, further wrong cells, and what to try."""
+"""An error as the terminal shows it: what is wrong, the line of study.toml that it concerns,
+further wrong cells, and what to try."""
 from __future__ import annotations
 
 from pathlib import Path
 
 from .errors import PlanError, in_a_line
 
-WIDEST = 160  # letters of a line of study.toml that are shown
+_WIDEST = 160  # letters of a line of study.toml that are shown
 
 
 def lines_of(error: PlanError, study_toml: Path | None = None) -> list[str]:
@@ -20,7 +21,7 @@ def lines_of(error: PlanError, study_toml: Path | None = None) -> list[str]:
     found = [
         error.said,
         *(
-            [f"  {study_toml.name}:{place[0]}: {shortened(place[1].strip())}"]
+            [f"  {study_toml.name}:{place[0]}: {_shortened(place[1].strip())}"]
             if study_toml and place
             else []
         ),
@@ -34,18 +35,21 @@ def lines_of(error: PlanError, study_toml: Path | None = None) -> list[str]:
 
 
 def place_of(error: PlanError, study_toml: Path | None) -> tuple[int, str] | None:
-    """The line of study.toml that an error concerns, and its number; None where it concerns none, or the file can't be read."""
+    """The line of study.toml that an error concerns, and its number; None where it concerns none,
+    or the file can't be read."""
     if not error.key or study_toml is None:
         return None
     from .study_lines import line_of
 
     try:
-        return line_of(study_toml.read_text("utf-8-sig"), error.key)
+        place = line_of(study_toml.read_text("utf-8-sig"), error.key)
+        is_of_table = error.row is not None and place is not None and place[1].startswith("[")
+        return None if is_of_table else place  # of a cell the header of [model] says nothing
     except (OSError, UnicodeDecodeError, ImportError):
         return None
 
 
-def shortened(text: str) -> str:
+def _shortened(text: str) -> str:
     """A line without its end where it is long."""
     text = in_a_line(text)
-    return text if len(text) <= WIDEST else text[: WIDEST - 2] + ".."
+    return text if len(text) <= _WIDEST else text[: _WIDEST - 2] + ".."

@@ -1,4 +1,5 @@
-"""What went wrong, in the planner's terms: which table, row and column, which key of study.toml, what stands there, and what to try."""
+"""What went wrong, in the planner's terms: which table, row and column, which key of study.toml,
+what stands there, and what to try."""
 from __future__ import annotations
 
 import difflib
@@ -9,9 +10,9 @@ from dataclasses import dataclass
 from typing import Any, Union
 
 STOPPED = "stopped; what is done is kept, and the same command goes on from there"
-KeyPath = tuple[
-    Union[str, int], ...
-]  # of study.toml: ("economics", "metals", "copper", "price"); a metal is named, or numbered where it has no name of its own
+# of study.toml: ("economics", "metals", "copper", "price"); a metal is named, or numbered where it
+# has no name of its own
+KeyPath = tuple[Union[str, int], ...]
 MOST_CELLS = 20  # wrong cells of a column that are told at a time
 
 
@@ -24,26 +25,41 @@ class Remedy:
     key : KeyPath
         The section and the key that are set.
     value : Any
-        What a TOML file has there; for a list that may have other words already, what is added to it (`adds`).
+        What a TOML file has there; for a list that may have other words already, what is added to
+        it (`adds`).
     when : str
-        The condition under which it is right, as "if that stands for ..": what a person has to judge. "" where there is none.
+        The condition under which it is right, as "if that stands for ..": what a person has to
+        judge. "" where there is none.
     adds : bool
+    has : tuple of str
+        Of a list that is added to: the words that it has already, which the text keeps.
+    other : Any
+        What is right where `when` doesn't hold, if that is known: else None.
     """
 
     key: KeyPath
     value: Any
     when: str = ""
     adds: bool = False
+    has: tuple[str, ...] = ()
+    other: Any = None
+
+    def as_data(self) -> dict[str, Any]:
+        """It as JSON has it."""
+        told = {"value": self.value, "when": self.when, "adds": self.adds, "other": self.other}
+        return {"key": list(self.key), **told}
 
     def __str__(self) -> str:
-        return f"{self.key[-1]} = {spelled(self.value)} in [{self.key[0]}]" + (
+        value = list(dict.fromkeys([*self.has, *self.value])) if self.adds else self.value
+        return f"{self.key[-1]} = {spelled(value)} in [{self.key[0]}]" + (
             f", {self.when}" if self.when else ""
         )
 
 
 @dataclass(frozen=True)
 class Cell:
-    """A further wrong cell of an error's column: its row below the header line, from 0, and what stands there."""
+    """A further wrong cell of an error's column: its row below the header line, from 0, and what
+    stands there."""
 
     row: int
     text: str
@@ -59,7 +75,8 @@ class PlanError(Exception):
     table, column : optional
         The file or the section of ``study.toml``, and the column or key.
     row : int, optional
-        The row below the header line, counted from 0. It is told as a spreadsheet counts it: the header line is row 1.
+        The row below the header line, counted from 0. It is told as a spreadsheet counts it: the
+        header line is row 1.
     try_this : str or Remedy, optional
         What to change. A `Remedy` can be put right by a program, too.
     key : KeyPath, optional
@@ -69,6 +86,8 @@ class PlanError(Exception):
     ----------
     cells : tuple of Cell
         The next wrong cells of the same column.
+    swap : tuple of two str or None
+        A word in that key's value, and what seems to be meant in its place.
     said : str
         The error in one line, without what to try.
     remedy : Remedy or None
@@ -85,6 +104,7 @@ class PlanError(Exception):
         key: KeyPath = (),
     ) -> None:
         self.what, self.table, self.row, self.column, self.key = what, table, row, column, key
+        self.swap: tuple[str, str] | None = None
         self.cells: tuple[Cell, ...] = ()
         self.remedy = try_this if isinstance(try_this, Remedy) else None
         self.try_this = None if try_this is None else str(try_this)
@@ -112,6 +132,11 @@ class PlanError(Exception):
         self.cells = tuple(cells)
         return self
 
+    def with_swap(self, swap: tuple[str, str] | None) -> PlanError:
+        """The same error, with a word of its key's value and what seems to be meant."""
+        self.swap = swap
+        return self
+
     def each(self) -> list[PlanError]:
         """The errors that this one tells: itself, unless it is `Several`."""
         return [self]
@@ -126,14 +151,7 @@ class PlanError(Exception):
             "column": None if self.column is None else str(self.column),
             "key": list(self.key),
             "try": self.try_this,
-            "remedy": None
-            if self.remedy is None
-            else {
-                "key": list(self.remedy.key),
-                "value": self.remedy.value,
-                "when": self.remedy.when,
-                "adds": self.remedy.adds,
-            },
+            "remedy": self.remedy and self.remedy.as_data(),
             "cells": [{"row": cell.row + 2, "text": cell.text} for cell in self.cells],
         }
 
@@ -143,7 +161,8 @@ class NotAccepted(PlanError):
 
 
 class Disagreement(PlanError):
-    """A check of this package's own contradicts what `pit` said, so nothing of the run is kept or shown."""
+    """A check of this package's own contradicts what `pit` said, so nothing of the run is kept or
+    shown."""
 
 
 class MachineError(PlanError):
@@ -158,7 +177,8 @@ NO, WRONG, MACHINE, ENDED = 1, 3, 4, 130
 
 
 def exit_status(error: BaseException) -> int:
-    """The exit status of a command that ends by an error: 1 no, 3 a file is wrong, 4 the machine, 130 stopped."""
+    """The exit status of a command that ends by an error: 1 no, 3 a file is wrong, 4 the machine,
+    130 stopped."""
     if isinstance(error, SystemExit):
         return error.code if isinstance(error.code, int) else int(error.code is not None)
     if isinstance(getattr(error, "exit_code", None), int):  # of click's own
@@ -218,7 +238,8 @@ class Gathered:
         self.errors: list[PlanError] = []
 
     def add(self, errors: Iterable[PlanError]) -> None:
-        """Keeps errors that weren't raised. One that is there already is kept once: a cell may be wrong for two keys."""
+        """Keeps errors that weren't raised. One that is there already is kept once: a cell may be
+        wrong for two keys."""
         for error in errors:
             error.table = error.table or self.table
             if str(error) not in map(str, self.errors):
@@ -234,9 +255,21 @@ class Gathered:
             self.add(error.each())
 
     def tell(self) -> None:
-        """Raises what was gathered: one error as it is, more as `Several`; nothing where there is none."""
+        """Raises what was gathered: one error as it is, more as `Several`; nothing where there is
+        none."""
         if self.errors:
             raise self.errors[0] if len(self.errors) == 1 else Several(self.errors)
+
+
+@contextmanager
+def in_table(table: object) -> Iterator[None]:
+    """Errors raised within that name a row and no table are of this table."""
+    try:
+        yield
+    except PlanError as error:
+        for each in {*error.each(), error}:
+            each.table = each.table or (table if each.row is not None else None)
+        raise
 
 
 @contextmanager
@@ -274,7 +307,8 @@ def spelled(value: Any) -> str:
         return (
             "{ "
             + ", ".join(
-                f"{name if name.isidentifier() and name.isascii() else spelled(name)} = {spelled(part)}"
+                f"{name if name.isidentifier() and name.isascii() else spelled(name)} ="
+                f" {spelled(part)}"
                 for name, part in value.items()
             )
             + " }"
@@ -301,6 +335,12 @@ def meant(word: str, known: Iterable[str]) -> str:
     if near is not None:
         return f"; is {near!r} meant?"
     return f"; there are {', '.join(names[:40])}" if names else "; there are none"
+
+
+def swap_of(word: str, names: Iterable[str]) -> tuple[str, str] | None:
+    """A word, and the name that looks most like it; None where none does."""
+    near = near_to(word, [str(name) for name in names])
+    return None if near is None else (word, near)
 
 
 def near_to(word: str, names: Sequence[str]) -> str | None:

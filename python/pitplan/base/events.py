@@ -1,17 +1,18 @@
-"""What a command does, as JSON lines beside its words: for faces other than a terminal, and for `pitplan status`.
+"""What a command does, as JSON lines beside its words: for faces other than a terminal, and for
+`pitplan status`.
 
-They are written to the file that ``PITPLAN_EVENTS`` in the environment names, and to ``log/last.jsonl`` of the study, where they are
-those of the last command that had it. Each line has ``time`` (seconds since 1970) and ``event``:
+They are written to the file that ``PITPLAN_EVENTS`` in the environment names, and to
+``log/last.jsonl`` of the study, where they are those of the last command that had it. Each line has
+``time`` (seconds since 1970) and ``event``:
 
     begin   command (list of words), pid, host
+    wait    what: who has the study, before this command waits for its turn
     step    what, of what is begun
-    pit     factor (thousandths), state (solving, proved, done, killed), share (0 to 1), of (how many pits were asked for)
-    task    task (its words), done (how many are), of
-    look    what, try
-    error   as `errors.PlanError.as_data`, and line, of study.toml
-    said    what: a line of the command's answer
-    table   title, names (of its columns), rows (lists of words): a table of the command's answer
-    end     status: the exit status
+    pit factor (thousandths), state (solving, proved, done, killed), share (0 to 1), of (how many
+    pits were asked for) task task (its words), done (how many are), of look what, try error as
+    `errors.PlanError.as_data`, and line, of study.toml said what: a line of the command's answer
+    table title, names (of its columns), rows (lists of words): a table of the command's answer end
+    status: the exit status
 """
 from __future__ import annotations
 
@@ -28,25 +29,25 @@ from typing import IO, Any
 from .errors import PlanError
 
 FILE = "PITPLAN_EVENTS"  # in the environment: the file that gets the lines
-LAST = Path("log", "last.jsonl")  # of a study: the lines of the last command that had it
+_LAST = Path("log", "last.jsonl")  # of a study: the lines of the last command that had it
 
 
 @dataclass
-class Sinks:
+class _Sinks:
     """The files that are written to, of this process."""
 
     opened: list[IO[str]] = field(default_factory=list)
 
 
-SINKS = Sinks()
+_SINKS = _Sinks()
 
 
 def event(kind: str, **data: Any) -> None:
     """Writes a line to each file. What can't be written is left out: nobody's pit depends on it."""
     named = os.environ.pop(FILE, None)  # processes that this one starts don't write there
     if named:
-        also(Path(named), "a")
-    if SINKS.opened:
+        _also(Path(named), "a")
+    if _SINKS.opened:
         line = (
             json.dumps(
                 {"time": round(time.time(), 3), "event": kind, **data},
@@ -55,15 +56,15 @@ def event(kind: str, **data: Any) -> None:
             )
             + "\n"
         )
-        for sink in SINKS.opened:
+        for sink in _SINKS.opened:
             with suppress(OSError, ValueError):
                 sink.write(line)
 
 
-def also(path: Path, mode: str = "w") -> None:
+def _also(path: Path, mode: str = "w") -> None:
     """Writes to a file, too, from now on; each line at once."""
     with suppress(OSError):
-        SINKS.opened.append(
+        _SINKS.opened.append(
             open(path, mode, encoding="utf-8", errors="backslashreplace", buffering=1)
         )
 
@@ -75,16 +76,17 @@ def begin() -> None:
 
 @contextmanager
 def of_study(folder: Path) -> Iterator[Callable[[int, PlanError | None], None]]:
-    """Writes to a study's own file, too, as long as a command has the study. The function that it gives says there how the command ends."""
-    others, SINKS.opened = SINKS.opened, []
-    if (folder / LAST).parent.is_dir():
-        also(folder / LAST)
-    own = list(SINKS.opened)
+    """Writes to a study's own file, too, as long as a command has the study. The function that it
+    gives says there how the command ends."""
+    others, _SINKS.opened = _SINKS.opened, []
+    if (folder / _LAST).parent.is_dir():
+        _also(folder / _LAST)
+    own = list(_SINKS.opened)
     begin()
-    SINKS.opened = [*others, *own]
+    _SINKS.opened = [*others, *own]
 
     def ends(status: int, wrong: PlanError | None = None) -> None:
-        SINKS.opened = own
+        _SINKS.opened = own
         if wrong:
             error(wrong)
         end(status)
@@ -92,16 +94,16 @@ def of_study(folder: Path) -> Iterator[Callable[[int, PlanError | None], None]]:
     try:
         yield ends
     finally:
-        SINKS.opened = others
+        _SINKS.opened = others
 
 
 def end(status: int) -> None:
     """Says how the command ended, and closes the files."""
     event("end", status=status)
-    for sink in SINKS.opened:
+    for sink in _SINKS.opened:
         with suppress(OSError):
             sink.close()
-    SINKS.opened = []
+    _SINKS.opened = []
 
 
 def look(text: str) -> None:
@@ -112,7 +114,7 @@ def look(text: str) -> None:
 
 def error(found: PlanError, study_toml: Path | None = None) -> None:
     """Says each error, with the number of its line of study.toml, where it has one."""
-    if SINKS.opened:
+    if _SINKS.opened:
         from .error_text import place_of
 
         for each in found.each():
@@ -121,11 +123,12 @@ def error(found: PlanError, study_toml: Path | None = None) -> None:
 
 
 def of_last_run(folder: Path) -> list[dict[str, Any]]:
-    """The events of the last command that had a study; a line that is cut off, as where the machine went down, is left out."""
-    return list(lines_of(folder / LAST))
+    """The events of the last command that had a study; a line that is cut off, as where the machine
+    went down, is left out."""
+    return list(_lines_of(folder / _LAST))
 
 
-def lines_of(path: Path) -> Iterator[dict[str, Any]]:
+def _lines_of(path: Path) -> Iterator[dict[str, Any]]:
     """The events of a file."""
     with suppress(OSError), open(path, encoding="utf-8") as file:
         for line in file:

@@ -11,43 +11,54 @@ from contextlib import contextmanager, suppress
 from pathlib import Path
 
 from .errors import MachineError
+from .within import refuse_outside
 
 ROOM = "make room on the disk, and start the same command again: what is done is kept"
 FULL = (errno.ENOSPC, errno.EDQUOT)  # a disk has no room, or its user's share of it
-RENAME_ATTEMPTS = 10  # where other processes put theirs in the same place
+_RENAME_ATTEMPTS = 10  # where other processes put theirs in the same place
 
 
 @contextmanager
 def whole_file(target: str | os.PathLike[str]) -> Iterator[Path]:
-    """A file to write, which is renamed to `target` at the end; whatever goes wrong before, `target` stays as it was.
+    """A file to write, which is renamed to `target` at the end; whatever goes wrong before,
+    `target` stays as it was.
 
-    It lies in a folder of its own beside the target and has the target's name, since some libraries go by the name's ending
-    and some write more files beside it.
+    It lies in a folder of its own beside the target and has the target's name, since some libraries
+    go by the name's ending and some write more files beside it.
 
     Raises
     ------
+    PlanError
+        Where it lies outside of the folder of `--within`.
     OSError
-        Where it can't be written or renamed; it names the file also where the system doesn't, as on a full disk.
+        Where it can't be written or renamed; it names the file also where the system doesn't, as on
+        a full disk.
     """
     path = Path(target)
+    refuse_outside(path.parent, "written")
     path.parent.mkdir(parents=True, exist_ok=True)
+    place = f".{path.name}."
     try:
-        with tempfile.TemporaryDirectory(prefix=f".{path.name}.", dir=path.parent) as work:
+        with tempfile.TemporaryDirectory(prefix=place, dir=path.parent) as work:
             part = Path(work) / path.name
             yield part
             os.replace(part, path)
     except OSError as error:
-        error.filename = error.filename or str(path)
+        if error.filename is None or str(error.filename).startswith(str(path.with_name(place))):
+            error.filename = str(path)
         raise
 
 
 @contextmanager
 def made_whole(place: Path, is_study: bool = True) -> Iterator[Path]:
-    """A folder to write in, that is renamed to `place` at the end; whatever goes wrong before, `place` stays as it was.
+    """A folder to write in, that is renamed to `place` at the end; whatever goes wrong before,
+    `place` stays as it was.
 
-    Its name says the host and the process, for `sweep`. Within a study (`is_study`) it has its parent's mode, so that who works in
-    the one works in the other, but others never write there; elsewhere it is as the umask says.
+    Its name says the host and the process, for `sweep`. Within a study (`is_study`) it has its
+    parent's mode, so that who works in the one works in the other, but others never write there;
+    elsewhere it is as the umask says.
     """
+    refuse_outside(place.parent, "written")
     place.parent.mkdir(parents=True, exist_ok=True)
     work = place.with_name(f".{place.name}.{mark()}{secrets.token_hex(4)}")
     work.mkdir()
@@ -66,11 +77,12 @@ def made_whole(place: Path, is_study: bool = True) -> Iterator[Path]:
 
 
 def put(work: Path, place: Path) -> None:
-    """Renames a folder to `place`, in place of what is there. Where another process puts its own there at the same moment, one of
-    them wins. Where this process is killed between its two renames, `sweep` puts back what was there.
+    """Renames a folder to `place`, in place of what is there. Where another process puts its own
+    there at the same moment, one of them wins. Where this process is killed between its two
+    renames, `sweep` puts back what was there.
     """
     older = work.with_name(work.name + ".old")
-    for left in reversed(range(RENAME_ATTEMPTS)):
+    for left in reversed(range(_RENAME_ATTEMPTS)):
         try:
             with suppress(FileNotFoundError):
                 os.rename(place, older)
@@ -100,8 +112,8 @@ def mark() -> str:
 
 
 def sweep(folder: Path, names: str = ".f*") -> None:
-    """Takes away what processes of this machine that are no more have left half done. What one of them had moved aside, and put
-    nothing in its place, comes back."""
+    """Takes away what processes of this machine that are no more have left half done. What one of
+    them had moved aside, and put nothing in its place, comes back."""
     for half in folder.glob(names):
         parts = half.name.removesuffix(".old").rsplit(".", 3)
         if len(parts) == 4 and parts[1] == host() and not os.path.exists(f"/proc/{parts[2]}"):

@@ -1,7 +1,9 @@
-"""The JSON files that stand in a study: each value is one that its key may have, or the file is damaged.
+"""The JSON files that stand in a study: each value is one that its key may have, or the file is
+damaged.
 
-A study's folder may come from anybody. So what is read there is held against what this package writes, before it is used: a name that
-leads out of its folder, a number in a list's place, or NaN is told with the file's name.
+A study's folder may come from anybody. So what is read there is held against what this package
+writes, before it is used: a name that leads out of its folder, a number in a list's place, or NaN
+is told with the file's name.
 """
 from __future__ import annotations
 
@@ -16,7 +18,7 @@ from .amounts import LARGEST_FACTOR
 from .errors import PlanError
 
 Holds = Callable[[Any], bool]
-MOST = 1 << 53  # a count that a float holds too
+_MOST = 1 << 53  # a count that a float holds too
 
 
 class Damaged(PlanError):
@@ -46,7 +48,7 @@ def read(path: Path, kinds: Mapping[str, Holds], try_this: str) -> dict[str, Any
         return Damaged(f"{path} is damaged{what}", try_this=try_this)
 
     try:
-        found = json.loads(path.read_text("utf-8"), parse_constant=no_constant)
+        found = json.loads(path.read_text("utf-8"), parse_constant=_no_constant)
     except (ValueError, RecursionError):  # no JSON, or no text
         raise refused("") from None
     if not isinstance(found, dict):
@@ -59,7 +61,7 @@ def read(path: Path, kinds: Mapping[str, Holds], try_this: str) -> dict[str, Any
     return found
 
 
-def no_constant(word: str) -> NoReturn:
+def _no_constant(word: str) -> NoReturn:
     """Refuses NaN and Infinity, which JSON hasn't and Python reads."""
     raise ValueError(word)
 
@@ -83,7 +85,7 @@ def is_digest(value: Any) -> bool:
 
 
 def is_count(value: Any) -> bool:
-    return isinstance(value, int) and not isinstance(value, bool) and 0 <= value <= MOST
+    return isinstance(value, int) and not isinstance(value, bool) and 0 <= value <= _MOST
 
 
 def is_number(value: Any) -> bool:
@@ -91,7 +93,7 @@ def is_number(value: Any) -> bool:
     return (
         isinstance(value, (int, float))
         and not isinstance(value, bool)
-        and abs(value) <= MOST
+        and abs(value) <= _MOST
         and math.isfinite(value)
     )
 

@@ -1,10 +1,13 @@
-"""How many processors and how much memory a process may use, by the system and by the control groups that a container or a scheduler sets.
+"""How many processors and how much memory a process may use, by the system and by the control
+groups that a container or a scheduler sets.
 
-Linux has two versions of control groups, and a machine may have both. Of either the group of this process and each group above it may have
-limits; a container that sees its own groups alone has them at the top. Memory that only holds pages of files isn't taken: the system gives
-it away where it is needed.
+Linux has two versions of control groups, and a machine may have both. Of either the group of this
+process and each group above it may have limits; a container that sees its own groups alone has them
+at the top. Memory that only holds pages of files isn't taken: the system gives it away where it is
+needed.
 
-The scripts of this repository use this module too, by ``tools/machine.py``, so it needs nothing but Python's own.
+The scripts of this repository use this module too, by ``tools/machine.py``, so it needs nothing but
+Python's own.
 """
 from __future__ import annotations
 
@@ -12,14 +15,14 @@ import os
 import re
 from pathlib import Path
 
-GROUPS = Path("/sys/fs/cgroup")
-OWN = Path("/proc/self/cgroup")
-MEMORY = Path("/proc/meminfo")
+_GROUPS = Path("/sys/fs/cgroup")
+_OWN = Path("/proc/self/cgroup")
+_MEMORY = Path("/proc/meminfo")
 UNKNOWN = 6_000_000_000  # bytes, where neither the system nor a group says anything
-TWO = ""  # where version 2 stands beside the controllers of version 1
+_TWO = ""  # where version 2 stands beside the controllers of version 1
 
 
-def text_of(file: Path) -> str:
+def _text_of(file: Path) -> str:
     """What a file has; nothing where it can't be read."""
     try:
         return file.read_text()
@@ -27,21 +30,21 @@ def text_of(file: Path) -> str:
         return ""
 
 
-def number_in(text: str, pattern: str) -> int | None:
+def _number_in(text: str, pattern: str) -> int | None:
     """The number that the first group of a pattern finds in a text."""
     found = re.search(pattern, text, re.M)
     return int(found[1]) if found else None
 
 
-def folders(controller: str, groups: Path = GROUPS, own: Path = OWN) -> list[Path]:
+def _folders(controller: str, groups: Path = _GROUPS, own: Path = _OWN) -> list[Path]:
     """The folders of this process's group and of those above it, from the top down.
 
     Parameters
     ----------
     controller : str
-        Of version 1, as "memory"; `TWO` for version 2.
+        Of version 1, as "memory"; `_TWO` for version 2.
     """
-    lines = [line.split(":", 2) for line in text_of(own).splitlines() if line.count(":") >= 2]
+    lines = [line.split(":", 2) for line in _text_of(own).splitlines() if line.count(":") >= 2]
     path = next(
         (
             path
@@ -55,40 +58,43 @@ def folders(controller: str, groups: Path = GROUPS, own: Path = OWN) -> list[Pat
     return [top.joinpath(*parts[:count]) for top in tops for count in range(len(parts) + 1)]
 
 
-def processors(groups: Path = GROUPS, own: Path = OWN) -> int:
-    """How many processors this process may keep busy: those that it may run on, or the whole ones of its quota, at least one."""
+def processors(groups: Path = _GROUPS, own: Path = _OWN) -> int:
+    """How many processors this process may keep busy: those that it may run on, or the whole ones
+    of its quota, at least one."""
     found = [len(os.sched_getaffinity(0))]
-    for folder in folders(TWO, groups, own):
-        quota = re.match(r"(\d+) (\d+)", text_of(folder / "cpu.max"))
+    for folder in _folders(_TWO, groups, own):
+        quota = re.match(r"(\d+) (\d+)", _text_of(folder / "cpu.max"))
         found += [int(quota[1]) // int(quota[2])] if quota and int(quota[2]) else []
-    for folder in folders("cpu", groups, own):
+    for folder in _folders("cpu", groups, own):
         share, period = (
-            number_in(text_of(folder / name), r"^(\d+)")
+            _number_in(_text_of(folder / name), r"^(\d+)")
             for name in ("cpu.cfs_quota_us", "cpu.cfs_period_us")
         )
         found += [share // period] if share and period else []
     return max(1, min(found))
 
 
-def free_memory(groups: Path = GROUPS, own: Path = OWN, memory: Path = MEMORY) -> int:
-    """How many bytes of memory this process may still take: what is free on the machine, and what its groups' limits leave."""
-    free = number_in(text_of(memory), r"^MemAvailable:\s+(\d+)")
+def free_memory(groups: Path = _GROUPS, own: Path = _OWN, memory: Path = _MEMORY) -> int:
+    """How many bytes of memory this process may still take: what is free on the machine, and what
+    its groups' limits leave."""
+    free = _number_in(_text_of(memory), r"^MemAvailable:\s+(\d+)")
     found = [free * 1024] if free is not None else []
-    for folder in folders(TWO, groups, own):
+    for folder in _folders(_TWO, groups, own):
         for name in ("memory.max", "memory.high"):
-            found += left_of(folder / name, folder / "memory.stat", ("anon", "shmem"))
-    for folder in folders("memory", groups, own):
-        found += left_of(
+            found += _left_of(folder / name, folder / "memory.stat", ("anon", "shmem"))
+    for folder in _folders("memory", groups, own):
+        found += _left_of(
             folder / "memory.limit_in_bytes", folder / "memory.stat", ("total_rss", "total_shmem")
         )
     return max(0, min(found, default=UNKNOWN))
 
 
-def left_of(limit: Path, held: Path, taken: tuple[str, ...]) -> list[int]:
-    """What a group's limit leaves, by the kinds of memory that count as taken; nothing where there is no limit."""
-    most, stat = number_in(text_of(limit), r"^(\d+)"), text_of(held)
+def _left_of(limit: Path, held: Path, taken: tuple[str, ...]) -> list[int]:
+    """What a group's limit leaves, by the kinds of memory that count as taken; nothing where there
+    is no limit."""
+    most, stat = _number_in(_text_of(limit), r"^(\d+)"), _text_of(held)
     return (
         []
         if most is None
-        else [most - sum(number_in(stat, rf"^{kind} (\d+)") or 0 for kind in taken)]
+        else [most - sum(_number_in(stat, rf"^{kind} (\d+)") or 0 for kind in taken)]
     )

@@ -6,16 +6,18 @@ import shlex
 import shutil
 from pathlib import Path
 
-TYPED = "PITPLAN_TYPED"  # in the environment: how this program was called, also for the processes that it starts
+# in the environment: how this program was called, also for the processes that it starts
+_TYPED = "PITPLAN_TYPED"
 
 
 def remember(called: str) -> None:
-    """Keeps how this program was called: by its name where the path leads to it, else by the path that was typed."""
+    """Keeps how this program was called: by its name where the path leads to it, else by the path
+    that was typed."""
     on_path = shutil.which("pitplan")
     if Path(called).name == "pitplan" and not (
         on_path and os.path.exists(called) and os.path.samefile(on_path, called)
     ):
-        os.environ.setdefault(TYPED, called)
+        os.environ.setdefault(_TYPED, called)
 
 
 def command(name: str, study: str | os.PathLike[str] = ".", *more: str) -> str:
@@ -34,4 +36,4 @@ def command(name: str, study: str | os.PathLike[str] = ".", *more: str) -> str:
     "pitplan vary 'my mine' price=-20..20"
     """
     folder = [] if Path(study) == Path(".") else [str(study)]
-    return shlex.join([os.environ.get(TYPED, "pitplan"), name, *folder, *more])
+    return shlex.join([os.environ.get(_TYPED, "pitplan"), name, *folder, *more])

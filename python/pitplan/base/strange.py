@@ -3,7 +3,7 @@ from __future__ import annotations
 
 from dataclasses import dataclass
 
-from .errors import KeyPath
+from .errors import KeyPath, Remedy
 
 
 @dataclass(frozen=True)
@@ -18,12 +18,15 @@ class Strange:
         What to type, or what to look at.
     key : KeyPath
         The key of study.toml that it concerns; () where none does.
+    remedy : Remedy or None
+        The change of study.toml that `try_this` says, where it is one alone.
     """
 
     seen: str
     expected: str
     try_this: str
     key: KeyPath = ()
+    remedy: Remedy | None = None
 
     def __str__(self) -> str:
         return (

@@ -7,17 +7,18 @@ from typing import Any
 
 from .errors import KeyPath
 
-MARK = "\u241e"  # what no study.toml has
+_MARK = "\u241e"  # what no study.toml has
 
 
 def line_of(text: str, path: KeyPath) -> tuple[int, str] | None:
-    """The line of a key: its number, from 1, and what stands there. Of a key that isn't there, the line of the table that it would
-    stand in; None where that isn't there either, or the text is no TOML.
+    """The line of a key: its number, from 1, and what stands there. Of a key that isn't there, the
+    line of the table that it would stand in; None where that isn't there either.
 
-    tomlkit keeps no positions, but it writes a document again line by line: the first line that changes with the value is the one.
+    tomlkit keeps no positions, but it writes a document again line by line: the first line that
+    changes with the value is the one.
 
-    >>> line_of('[model]\\nsize = [20, 20,\\n  x]', ("model", "size")) is None
-    True
+    >>> line_of('[model]\\nsize = [20, 20,\\n  x]', ("model", "size"))  # no TOML
+    (2, 'size = [20, 20,')
     >>> line_of('[economics]\\nmetals = [\\n  { name = "gold", price = 1 },\\n]', ("economics", "metals", "gold", "price"))
     (3, '  { name = "gold", price = 1 },')
     """
@@ -25,10 +26,14 @@ def line_of(text: str, path: KeyPath) -> tuple[int, str] | None:
     from tomlkit.exceptions import TOMLKitError
 
     lines = text.splitlines()
+    try:
+        tomlkit.parse(text)
+    except (TOMLKitError, ValueError, RecursionError):
+        return _line_by_words(lines, path)
     for end in range(len(path), 0, -1):
         try:
             document = tomlkit.parse(text)
-            at = header_line(lines, path[:end], document) or marked_line(
+            at = _header_line(lines, path[:end], document) or _marked_line(
                 lines, path[:end], document
             )
         except (TOMLKitError, LookupError, TypeError, ValueError, AttributeError, StopIteration):
@@ -38,20 +43,41 @@ def line_of(text: str, path: KeyPath) -> tuple[int, str] | None:
     return None
 
 
-def header_line(lines: Sequence[str], path: KeyPath, document: Any) -> int | None:
-    """The number of the line [name] of a table that has one."""
+def _line_by_words(lines: Sequence[str], path: KeyPath) -> tuple[int, str] | None:
+    """The same where the text is no TOML: the line after the section's header that begins with the
+    key, or in which a metal has its name."""
+    start = next((i for i, line in enumerate(lines) if _is_header(line, path[:1])), None)
+    if start is None:
+        return None
+    end = next(
+        (i for i in range(start + 1, len(lines)) if re.match(r"\s*\[\w", lines[i])), len(lines)
+    )
+    marks = [rf"\s*[\"']?{re.escape(str(step))}[\"']?\s*[=:]" for step in path[1:2]]
+    marks += [rf".*[\"']{re.escape(str(step))}[\"']" for step in path[2:3]]
+    for mark in reversed(marks):
+        for i in range(start + 1, end):
+            if re.match(mark, lines[i]):
+                return i + 1, lines[i].rstrip()
+    return start + 1, lines[start].rstrip()
+
+
+def _is_header(line: str, path: KeyPath) -> bool:
+    """Whether a line is the header [name] of a table."""
     names = r"\s*\.\s*".join(rf"[\"']?{re.escape(str(step))}[\"']?" for step in path)
+    return re.match(rf"\s*\[\s*{names}\s*\]", line) is not None
+
+
+def _header_line(lines: Sequence[str], path: KeyPath, document: Any) -> int | None:
+    """The number of the line [name] of a table that has one."""
     is_there = isinstance(value_at(document, path), Mapping)
     return (
-        next(
-            (i for i, line in enumerate(lines, 1) if re.match(rf"\s*\[\s*{names}\s*\]", line)), None
-        )
+        next((i for i, line in enumerate(lines, 1) if _is_header(line, path)), None)
         if is_there
         else None
     )
 
 
-def marked_line(lines: Sequence[str], path: KeyPath, document: Any) -> int | None:
+def _marked_line(lines: Sequence[str], path: KeyPath, document: Any) -> int | None:
     """The number of the first line that changes where a mark is put in place of the value."""
     from tomlkit import dumps
 
@@ -59,7 +85,7 @@ def marked_line(lines: Sequence[str], path: KeyPath, document: Any) -> int | Non
     table = value_at(document, path[:-1])
     step = step_of(table, path[-1])
     table[step]
-    table[step] = MARK
+    table[step] = _MARK
     return (
         next(
             (
@@ -82,7 +108,8 @@ def value_at(document: Any, path: KeyPath) -> Any:
 
 
 def step_of(table: Any, step: str | int) -> str | int:
-    """How a table or a list calls a part: of a list of tables by its place, where a name is given."""
+    """How a table or a list calls a part: of a list of tables by its place, where a name is
+    given."""
     if isinstance(table, Mapping) or isinstance(step, int):
         return step
     return next(

@@ -1,4 +1,5 @@
-"""How amounts are shown to a reader: in thousands or millions where they are large, with separators."""
+"""How amounts are shown to a reader: in thousands or millions where they are large, with
+separators."""
 from __future__ import annotations
 
 import math
@@ -6,7 +7,9 @@ from collections.abc import Iterable
 from dataclasses import dataclass
 from typing import Any
 
-PREFIXES = ((1e9, "G", "thousand million"), (1e6, "M", "million"), (1e3, "k", "thousand"))
+from .units import WEIGHTS
+
+_PREFIXES = ((1e9, "G", "thousand million"), (1e6, "M", "million"), (1e3, "k", "thousand"))
 
 
 @dataclass(frozen=True)
@@ -16,18 +19,50 @@ class Scale:
     divisor: float
     unit: str
 
+    def text(self, value: float, sign: str = "") -> str:
+        """An amount with separators and two decimals; nothing where there is none. With the sign +
+        a gain has its sign, too.
+
+        >>> Scale(1e3, "kt").text(1234567), Scale(1e3, "kt").text(float("nan"))
+        ('1,234.57', '')
+        """
+        return "" if value != value else f"{value / self.divisor:{sign},.2f}"
+
+    def said(self, value: float) -> str:
+        """An amount with its unit."""
+        return f"{self.text(value)} {self.unit}"
+
 
 def scale_of(amounts: Any, unit: str) -> Scale:
-    """The scale at which the greatest of some amounts has two to five digits before the point: t, kt, Mt; $, thousand $, .."""
+    """The scale at which the greatest of some amounts has two to five digits before the point: t,
+    kt, Mt; $, thousand $, .."""
+    return _scale(_greatest(amounts) / 10, unit, _PREFIXES)
+
+
+def printed_scale(amounts: Any, unit: str) -> Scale:
+    """The scale of what commands print: millions, or where none of some amounts comes to one
+    thousands, and below these the unit itself.
+
+    >>> printed_scale([12e9, 5.0], "t").unit, printed_scale([4e5], "$").unit
+    ('Mt', 'thousand $')
+    """
+    return _scale(_greatest(amounts), unit, _PREFIXES[1:])
+
+
+def _scale(most: float, unit: str, prefixes: tuple[tuple[float, str, str], ...]) -> Scale:
+    """The first of some scales that an amount comes to."""
+    for divisor, letter, word in prefixes:
+        if most >= divisor:
+            return Scale(divisor, letter + unit if unit in WEIGHTS else f"{word} {unit}")
+    return Scale(1.0, unit)
+
+
+def _greatest(amounts: Any) -> float:
+    """The greatest of some amounts, by how far it is from 0."""
     import numpy as np  # a command that shows no amounts needs none of it
 
     values = np.abs(np.asarray(amounts, float))
-    values = values[np.isfinite(values)]
-    most = float(values.max()) if len(values) else 0.0
-    for divisor, letter, word in PREFIXES:
-        if most >= 10 * divisor:
-            return Scale(divisor, letter + unit if unit == "t" else f"{word} {unit}")
-    return Scale(1.0, unit)
+    return float(values[np.isfinite(values)].max(initial=0.0))
 
 
 def amount_text(value: float, scale: Scale) -> str:
@@ -38,17 +73,53 @@ def amount_text(value: float, scale: Scale) -> str:
 
 
 def lengths(values: Iterable[float]) -> list[str]:
-    """Lengths or elevations of one column, with as many decimals as the one that needs most, at most two; a dash where there is none.
+    """Lengths or elevations of one column, with as many decimals as the one that needs most, at
+    most two; a dash where there is none.
 
     >>> lengths([1000.0, 1007.5, float("nan")]), lengths([20.0, 1040.0])
     (['1,000.0', '1,007.5', '-'], ['20', '1,040'])
     """
     found = [float(value) for value in values]
-    there = [value for value in found if math.isfinite(value)]
-    places = next(
-        (n for n in (0, 1) if all(abs(value - round(value, n)) < 0.005 for value in there)), 2
-    )
+    places = _places(found)
     return [f"{value:,.{places}f}" if math.isfinite(value) else "-" for value in found]
+
+
+def length_text(value: float, parted: str = ",") -> str:
+    """A length or an elevation alone: with at most two decimals, and one where it isn't whole
+    hundredths, as metres made into feet; `parted` stands between thousands.
+
+    >>> length_text(98.425197), length_text(1006.25), length_text(1040.0)
+    ('98.4', '1,006.25', '1,040')
+    """
+    return f"{value:,.{_places([value])}f}".replace(",", parted)
+
+
+def _places(values: Iterable[float]) -> int:
+    """The decimals of lengths: 0, 1 or 2, where they are as round as that, and else 1."""
+    there = [value for value in values if math.isfinite(value)]
+    off = ((0, 0.005), (1, 0.005), (2, 1e-4))
+    return next((n for n, least in off if all(abs(v - round(v, n)) < least for v in there)), 1)
+
+
+def grade_places(values: Any, least: int = 0, digits: int = 4) -> int:
+    """How many decimals the grades of one column have: so many that the greatest has some digits
+    that count, and no fewer than `least`.
+
+    >>> grade_places([0.0291, 0.004]), grade_places([1.31, 0.4]), grade_places([0.0291], 3, 3)
+    (5, 3, 4)
+    """
+    there = [abs(float(value)) for value in values if math.isfinite(value)]
+    most = max(there, default=0.0)
+    return max(least, digits - 1 - math.floor(math.log10(most)) if most else 3, 0)
+
+
+def counted(count: int, what: str) -> str:
+    """A number of things.
+
+    >>> counted(1, "look"), counted(5000, "look")
+    ('1 look', '5,000 looks')
+    """
+    return f"{count:,} {what}" if count == 1 else f"{count:,} {what}s"
 
 
 def factor_text(thousandths: int) -> str:
@@ -70,3 +141,17 @@ def separated(number: str) -> str:
     whole, point, places = number.partition(".")
     sign, digits = ("-", whole[1:]) if whole.startswith("-") else ("", whole)
     return f"{sign}{int(digits):,}{point}{places}"
+
+
+def alike(numbers: Iterable[str]) -> list[str]:
+    """Exact numbers of one column, with zeros behind those that have fewer decimals than another.
+
+    >>> alike(["3,576.5", "12"])
+    ['3,576.5', '12.0']
+    """
+    found = list(numbers)
+    most = max((len(text.partition(".")[2]) for text in found), default=0)
+    return [
+        text + ("" if "." in text or not most else ".") + "0" * (most - len(text.partition(".")[2]))
+        for text in found
+    ]

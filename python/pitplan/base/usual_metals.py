@@ -21,7 +21,7 @@ METALS = {
     "pt": ("platinum", "g/t", "oz", 950),
 }
 # What a column's name says of its unit.
-UNITS = {
+_UNITS = {
     "ppb": "ppb",
     "ppm": "ppm",
     "gpt": "g/t",
@@ -31,7 +31,7 @@ UNITS = {
     "percent": "%",
     "kgt": "kg/t",
 }
-NAMES = {
+_NAMES = {
     "cobre": "copper",
     "cuivre": "copper",
     "cu": "copper",
@@ -57,7 +57,10 @@ NAMES = {
     "platino": "platinum",
     "pt": "platinum",
 }
-STEADY = (
+# By their signs, and by their names.
+_KNOWN = METALS | {found[0]: found for found in METALS.values()}
+_KNOWN |= {word: _KNOWN[name] for word, name in _NAMES.items()}
+_STEADY = (
     "copper",
     "gold",
     "silver",
@@ -71,13 +74,14 @@ STEADY = (
 
 
 def metal_of(column: str) -> tuple[str, str, str, float] | None:
-    """The usual metal, units and price of a column's name, as CU_PCT, au_gpt, AUPPB, "Ag (g/t)" or ley_zn."""
+    """The usual metal, units and price of a column's name, as CU_PCT, au_gpt, AUPPB, "Ag (g/t)",
+    ley_zn or "gold gpt"."""
     words = re.split(r"[^a-z0-9]+", column.lower())
     bare = [
-        word.removesuffix(next((unit for unit in UNITS if word.endswith(unit)), ""))
+        word.removesuffix(next((unit for unit in _UNITS if word.endswith(unit)), ""))
         for word in words
     ]
-    return next((METALS[word] for word in (*words, *bare) if word in METALS), None)
+    return next((_KNOWN[word] for word in (*words, *bare) if word in _KNOWN), None)
 
 
 def unit_of(column: str) -> str | None:
@@ -91,9 +95,9 @@ def unit_of(column: str) -> str | None:
     words = re.split(r"[^a-z0-9]+", name)
     return spelt or next(
         (
-            UNITS[unit]
+            _UNITS[unit]
             for word in words
-            for unit in UNITS
+            for unit in _UNITS
             if word == unit or word.endswith(unit) and word.removesuffix(unit) in METALS
         ),
         None,
@@ -102,12 +106,12 @@ def unit_of(column: str) -> str | None:
 
 def usual_price(metal: str) -> float | None:
     """What a gram of a metal usually costs in dollars; None where that isn't known."""
-    name = NAMES.get(metal.lower(), metal.lower())
+    name = _NAMES.get(metal.lower(), metal.lower())
     return next(
         (
             price / PRICES[unit]
             for called, _, unit, price in METALS.values()
-            if called == name and name in STEADY
+            if called == name and name in _STEADY
         ),
         None,
     )

@@ -9,15 +9,19 @@ from typing import TYPE_CHECKING, Optional
 import typer
 from rich.markup import escape
 
+from ..base import events
 from ..base.errors import PlanError
 from ..base.next_command import command
+from ..base.within import refuse_outside
 from ..table.study_keys import keys_of
 from .console import STUDY, app, described, err, print_columns, say, warn
 
 if TYPE_CHECKING:
+    import pandas as pd
     from rich.status import Status
 
     from ..base.amounts import Priced
+    from ..base.arrays import Bools
     from ..base.strange import Strange
     from ..model.model import Model
     from ..slopes.slopes import Begun
@@ -38,7 +42,10 @@ def init(
         "--column",
         "-c",
         metavar="KEY=NAME",
-        help=f"What a column is, as x=este, where its name isn't a usual one. May be given several times. KEY is one of {', '.join(keys_of('model')['columns'].choices)}.",
+        help=(
+            "What a column is, as x=este, where its name isn't a usual one. May be given several"
+            f" times. KEY is one of {', '.join(keys_of('model')['columns'].choices)}."
+        ),
     ),
     encoding: Optional[str] = typer.Option(
         None, "--encoding", help="Of the table where it isn't UTF-8, as cp1252."
@@ -47,10 +54,10 @@ def init(
 ) -> None:
     """Look at a table of blocks, and write a study.toml for it."""
     from ..base.files import whole_file
-    from ..study.first_look import look_at, written
+    from ..study.first_look import look_at, unused_grades, written
     from ..study.building import near
 
-    look = look_at(table, dict(map(named, column)), encoding)
+    look = look_at(table, dict(map(_named, column)), encoding)
     folder = folder or Path(table.name.removesuffix(".gz").removesuffix(".csv"))
     path = folder / "study.toml"
     if path.exists() and not is_forced:
@@ -62,6 +69,7 @@ def init(
         raise PlanError(
             f"{folder} is a file, and a study is a folder", try_this="--study names another folder"
         )
+    refuse_outside(folder, "written")
     folder.mkdir(parents=True, exist_ok=True)
     with whole_file(path) as part:
         part.write_text(written(look, near(table, folder)))
@@ -76,14 +84,15 @@ def init(
             + (f", turned by {look.rotation:g} degrees" if look.rotation else "")
             + (", with sub-blocks" if look.has_sub_blocks else "")
         )
-    for note in look.notes:
+    for note in [*look.notes, *unused_grades(look)]:
         warn(note, "  ")
     say(
-        f"{path} is written: put your own prices, costs and slopes there, then: {command('build', folder)}"
+        f"{path} is written: put your own prices, costs and slopes there, then:"
+        f" {command('build', folder)}"
     )
 
 
-def named(said: str) -> tuple[str, str]:
+def _named(said: str) -> tuple[str, str]:
     """A key and the name of its column, from KEY=NAME."""
     key, sign, name = said.partition("=")
     if not sign:
@@ -94,52 +103,61 @@ def named(said: str) -> tuple[str, str]:
 @app.command()
 def build(folder: Path = STUDY) -> None:
     """Read the table, work out what each block brings and costs, and make the slopes."""
+    import numpy as np
+
     from ..base.amounts import THOUSAND
 
-    from ..slopes.looks import looks
+    from ..study.looks import looks
     from ..study.building import Building
     from ..study.study import Study
-    from .slopes import key_of, print_patterns
+    from .slopes import key_of, print_patterns, print_regions
 
-    told = described(folder)
+    plan = described(folder)
     with err.status("reading the table"):
-        model = told.read_model()
+        model = plan.read_model()
     say(
-        f"{told.table.name}: {len(model):,} blocks of {' x '.join(f'{v:g}' for v in model.grid.size)} on a grid of {' x '.join(map(str, model.grid.shape))}"
+        f"{plan.table.name}: {len(model):,} blocks of"
+        f" {' x '.join(f'{v:g}' for v in model.grid.size)} on a grid of"
+        f" {' x '.join(map(str, model.grid.shape))}"
     )
     for note in model.notes:
         say("  " + note)
     with err.status("prices and slopes") as status:
         Building(
-            told.path.parent,
+            plan.path.parent,
             model,
-            told.economics,
-            told.slopes,
-            keys=told.digest,
-            begun=of_region(status),
+            plan.economics,
+            plan.slopes,
+            keys=plan.digest,
+            begun=_of_region(status),
         ).write()
-        study = Study(told.path.parent, named=folder)
-        study.priced.check_room(max(told.factors, default=THOUSAND))
+        study = Study(plan.path.parent, named=folder)
+        study.priced.check_room(max(plan.factors, default=THOUSAND))
     for note in study.model.notes[len(model.notes) :]:
         say("  " + note)
     print_tonnage(study.model, study.priced, study.manifest["metals"])
-    if told.economics.forbid:
-        part = int(told.economics.partly_forbidden(model).sum())
+    print_classes(study, {"": np.ones(len(study.model), bool)}, "in place, by resource class")
+    if plan.economics.forbid:
+        part = int(plan.economics.partly_forbidden(model).sum())
         say(
-            f"{int(study.priced.forbidden.sum()):,} of {len(model):,} blocks may not be dug, by forbid"
+            f"{int(study.priced.forbidden.sum()):,} of {len(model):,} blocks may not be dug, by"
+            " forbid"
             + (f"; of {part:,} of them it holds for some sub-blocks alone" if part else "")
         )
-    tell_strange(looks(model, study.priced.first(len(model)), told))
-    print_patterns(told.slopes, study.model.grid)
-    set_aside(study, key_of(told.slopes, study.model.grid))
-    print_size(study, told)
+    print_regions(plan.slopes, model)
+    tell_strange(looks(model, study.priced.first(len(model)), plan))
+    print_patterns(plan.slopes, study.model.grid, study.model.units.length)
+    _set_aside(study, key_of(plan.slopes, study.model.grid))
+    _print_size(study, plan)
 
 
-def of_region(status: Status) -> Begun:
-    """Says which region's slopes are begun: on a terminal in place of the line before, else a line for each, for logs."""
+def _of_region(status: Status) -> Begun:
+    """Says which region's slopes are begun: on a terminal in place of the line before, else a line
+    for each, for logs."""
 
     def heard(name: str, at: int, count: int) -> None:
         said = f"slopes of {name}, {at} of {count}"
+        events.event("step", what=said)
         if err.is_terminal:
             status.update(escape(said))
         else:
@@ -148,8 +166,9 @@ def of_region(status: Status) -> Begun:
     return heard
 
 
-def set_aside(study: Study, walls: str) -> None:
-    """Puts the tables and pictures of the model before out of the way of the new one's, and says so."""
+def _set_aside(study: Study, walls: str) -> None:
+    """Puts the tables and pictures of the model before out of the way of the new one's, and says
+    so."""
     from ..study import older
 
     folder = study.folder / "out"
@@ -158,25 +177,53 @@ def set_aside(study: Study, walls: str) -> None:
         say(f"{folder / older.OLDER} has what was written of the model before: {', '.join(moved)}")
     for name in changed:
         warn(
-            f"{folder / name} is of the model before; it was changed since it was written, so it stays there"
+            f"{folder / name} is of the model before; it was changed since it was written, so it"
+            " stays there"
         )
 
 
 def print_tonnage(model: Model, priced: Priced, metals: Mapping[str, Mapping[str, str]]) -> None:
     """The grade-tonnage line of each rock."""
-    from ..model.tonnage import by_rock
+    from ..model.tonnage import TITLE, by_rock
 
-    lines = by_rock(model, priced, metals)
-    columns = [
-        list(map(str, lines[lines.columns[0]])),
-        *(cells_of(lines[name].tolist()) for name in lines.columns[1:]),
-    ]
-    print_columns(
-        "in place, at the full price; metals as recovered",
-        list(map(str, lines.columns)),
-        list(zip(*columns)),
-        words=1,
+    _print_lines(TITLE, by_rock(model, priced, metals), 1)
+
+
+def print_classes(
+    study: Study, sets: Mapping[str, Bools], title: str, base: int | None = None
+) -> None:
+    """What each set of blocks has of each resource class, where the table has classes; a set alone needs no name."""
+    from ..base.amounts import THOUSAND
+    from ..model.tonnage import by_class
+
+    if study.classes is None:
+        return
+    lines = by_class(
+        study.model, study.priced, study.manifest["metals"], study.classes, sets, base or THOUSAND
     )
+    _print_lines(title, lines if any(sets) else lines.drop(columns="of"), 2 if any(sets) else 1)
+
+
+def print_rock_of_classes(
+    study: Study, found: pd.DataFrame, words: Mapping[str, Sequence[str]], title: str
+) -> None:
+    """The rock of each resource class by the rows of a table with the columns of `Classes.rock_of`, where there are classes; `words` are the
+    first columns."""
+    from ..model.tonnage import cells_of
+
+    if study.classes is None:
+        return
+    names, mega = study.classes.names, f"M{study.model.units.weight}"
+    rock = [cells_of((found[f"class_{name}_rock_t"] / 1e6).tolist()) for name in names]
+    heads = [*words, *(f"{name} {mega}" for name in names)]
+    print_columns(title, heads, list(zip(*words.values(), *rock)), words=len(words))
+
+
+def _print_lines(title: str, lines: pd.DataFrame, words: int) -> None:
+    """A table of which the first columns are words, and the others tonnes, grades and metals."""
+    from ..model.tonnage import texts_of
+
+    print_columns(title, *texts_of(lines, words), words=words)
 
 
 def tell_strange(found: Sequence[Strange]) -> None:
@@ -185,37 +232,17 @@ def tell_strange(found: Sequence[Strange]) -> None:
         warn(str(what))
 
 
-def cells_of(values: Sequence[int | float]) -> list[str]:
-    """The numbers of a column as a table shows them, all with as many decimals: 3 where the greatest is below 100, one less for each
-    digit more, and none for whole numbers. What is no number is an empty cell.
-
-    >>> cells_of([178.4, 52.12, float("nan")]), cells_of([5041, 12])
-    (['178.40', '52.12', ''], ['5,041', '12'])
-    """
-    if all(isinstance(value, int) for value in values):
-        return [f"{value:,}" for value in values]
-    greatest = max((abs(value) for value in values if value == value), default=0.0)
-    places = next(
-        (
-            places
-            for places, most in ((3, 100), (2, 1_000), (1, 10_000))
-            if round(greatest, places) < most
-        ),
-        0,
-    )
-    return ["" if value != value else f"{value:,.{places}f}" for value in values]
-
-
-def print_size(study: Study, told: StudyFile) -> None:
+def _print_size(study: Study, plan: StudyFile) -> None:
     """The first guess of what a pit will take."""
     from ..study.workers import guess_of, workers_for
 
     guess = guess_of(study)
-    count = len(told.factors)
+    count = len(plan.factors)
     workers = workers_for(study)
     say(
-        f"{guess.pairs:,} pairs of a block and a predecessor. A pit will take about {guess.memory / 1e6:,.0f} MB and {duration(guess.seconds)}; "
-        f"all {count}, {workers} at a time, {duration(guess.seconds * count / workers)}"
+        f"{guess.pairs:,} pairs of a block and a predecessor. A pit will take about"
+        f" {guess.memory / 1e6:,.0f} MB and {duration(guess.seconds)}; all {count}, {workers} at a"
+        f" time, {duration(guess.seconds * count / workers)}"
     )
     say(f"built in {study.folder}; then: {command('shells', study.named)}")
 

@@ -12,16 +12,20 @@ def bundle(
     target: Path = typer.Argument(..., metavar="DIR", help="The new folder."), folder: Path = STUDY
 ) -> None:
     """All that the numbers rest on, with scripts that check it again: for an auditor."""
-    from ..audit.bundle import write
+    from ..audit.bundle import write_bundle
     from .shells import with_certificates
 
-    told = described(folder)
+    plan = described(folder)
     with err.status("the pits are read again"):
         shells, rates = shells_of(folder)
     shells = with_certificates(shells)
     with err.status("files are copied, and their digests taken"):
-        digest = write(shells, target, told.path, told.keys.dialect(told.table), rates)
+        dialect, terms = plan.keys.dialect(plan.table), plan.values["schedule"]
+        digest = write_bundle(shells, target, plan.path, dialect, rates, terms)
     say(
-        f"{target}: {len(shells)} proved pits, with all that they rest on; python3 {target}/recheck.py PIT checks it again"
+        f"{target}: {len(shells)} proved pits, with all that they rest on; python3"
+        f" {target}/recheck.py PIT checks it again"
     )
+    if (target / "schedule").is_dir():
+        say(f"the plan by years is in it: python3 {target}/recheck_schedule.py checks it again")
     say(f"tell the auditor by another way: sha256 of SHA256SUMS is\n{digest}")

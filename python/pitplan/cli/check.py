@@ -2,6 +2,7 @@
 from __future__ import annotations
 
 import time
+from collections.abc import Mapping
 from pathlib import Path
 from typing import TYPE_CHECKING, NoReturn
 
@@ -9,6 +10,7 @@ import typer
 
 from ..base.errors import ENDED, Gathered, PlanError
 from ..base.next_command import command
+from ..base.units_shown import counted
 from . import console
 from .build import print_tonnage, tell_strange
 from .console import STUDY, app, err, say
@@ -16,8 +18,9 @@ from .console import STUDY, app, err, say
 if TYPE_CHECKING:
     from ..study.check import Checked
 
-EVERY = 0.3  # seconds between two looks whether a file was saved
-COMPASS = {"north": 0, "east": 90, "south": 180, "west": 270}
+_EVERY = 0.3  # seconds between two looks whether a file was saved
+_MOST_COLUMNS = 12  # whose cells are counted in a line
+_COMPASS = {"north": 0, "east": 90, "south": 180, "west": 270}
 
 
 @app.command()
@@ -32,17 +35,17 @@ def check(
     """Say what is wrong with a study, all of it at once, and what looks wrong. Takes seconds; builds nothing."""
     if is_watching:
         try:
-            watch(folder)
+            _watch(folder)
         except KeyboardInterrupt:  # nothing was begun that could be kept
             err.print("stopped")
             raise typer.Exit(ENDED) from None
-    checked, found = once(folder), Gathered()
+    checked, found = _once(folder), Gathered()
     found.add(checked.errors)
     found.tell()
-    say(f"{ending(checked)}; then: {command('build', folder)}")
+    say(f"{_ending(checked)}; then: {command('build', folder)}")
 
 
-def ending(found: Checked) -> str:
+def _ending(found: Checked) -> str:
     """What a check came to, in words."""
     if found.errors:
         return counted(len(found.errors), "error")
@@ -50,19 +53,24 @@ def ending(found: Checked) -> str:
     return f"no errors; {looks} to decide on" if found.looks else "nothing is wrong"
 
 
-def counted(count: int, what: str) -> str:
-    """A number of things.
+def _not_estimated(cells: Mapping[str, int]) -> str:
+    """How many cells of which columns count as 0, by `absent`.
 
-    >>> counted(1, "look"), counted(5, "look")
-    ('1 look', '5 looks')
+    >>> _not_estimated({"CU": 1, "AU": 1200})
+    'not estimated, by absent: 1 cell of CU, 1,200 cells of AU'
     """
-    return f"{count} {what}" if count == 1 else f"{count} {what}s"
+    parts = [f"{counted(count, 'cell')} of {name}" for name, count in cells.items()]
+    more = len(parts) - _MOST_COLUMNS
+    return f"not estimated, by absent: {', '.join(parts[:_MOST_COLUMNS])}" + (
+        f", and of {counted(more, 'further column')}" if more > 0 else ""
+    )
 
 
-def once(folder: Path) -> Checked:
+def _once(folder: Path) -> Checked:
     """Checks a study, shows what there is to show, and gives what was found."""
     from ..study.check import check
     from ..study.study_file import path_of
+    from .slopes import print_regions
 
     console.study_toml = path_of(folder)
     with err.status("reading study.toml and the table"):
@@ -74,13 +82,17 @@ def once(folder: Path) -> Checked:
         )
         for note in model.notes:
             say("  " + note)
+        if model.absent_cells:
+            say("  " + _not_estimated(model.absent_cells))
     if parts and parts.slopes and model is not None:
         for name in parts.slopes.names:
             wall = parts.slopes.wall(name, model.grid.size, model.grid.rotation)
             say(
                 f"  walls of {name}, as seen from the pit's middle: "
-                + ", ".join(f"{way} {wall.slope(bearing):.4g}" for way, bearing in COMPASS.items())
+                + ", ".join(f"{way} {wall.slope(bearing):.4g}" for way, bearing in _COMPASS.items())
             )
+        if not any(error.key[:1] == ("slopes",) for error in found.errors):
+            print_regions(parts.slopes, model)
     if model is not None and found.priced is not None and parts and parts.economics:
         print_tonnage(
             model,
@@ -94,34 +106,34 @@ def once(folder: Path) -> Checked:
     return found
 
 
-def watch(folder: Path) -> NoReturn:
+def _watch(folder: Path) -> NoReturn:
     """Checks a study whenever it is saved, until ctrl-C."""
     seen = None
     while True:
-        now = stamps(folder)
+        now = _stamps(folder)
         if now != seen:
             seen = now
             say(time.strftime("%H:%M:%S"))
-            found = once(folder)
+            found = _once(folder)
             for error in found.errors:
                 console.tell(error)
-            say(f"{ending(found)}; ctrl-C ends")
-        time.sleep(EVERY)
+            say(f"{_ending(found)}; ctrl-C ends")
+        time.sleep(_EVERY)
 
 
-def stamps(folder: Path) -> list[tuple[int, int] | None]:
+def _stamps(folder: Path) -> list[tuple[int, int] | None]:
     """When study.toml and the table were written last, and their sizes; None of a file that isn't there."""
-    from ..study.study_file import parts_of, path_of, toml_of
+    from ..study.study_file import parts_of_file, path_of
 
     path, table = path_of(folder), None
     try:
-        table = parts_of(path, toml_of(folder)).table
+        table = parts_of_file(folder).table
     except PlanError:
         pass
-    return [stamp(path), stamp(table) if table else None]
+    return [_stamp(path), _stamp(table) if table else None]
 
 
-def stamp(path: Path) -> tuple[int, int] | None:
+def _stamp(path: Path) -> tuple[int, int] | None:
     """When a file was written last, and its size; None where it isn't there."""
     try:
         found = path.stat()

@@ -1,19 +1,21 @@
-"""Factors that a planner names on the command line, and their pits."""
+"""Factors and designs that a planner names on the command line, and their pits."""
 from __future__ import annotations
 
+from collections.abc import Sequence
 from pathlib import Path
-from typing import TYPE_CHECKING
+from typing import TYPE_CHECKING, NamedTuple
 
 from ..base.errors import PlanError
 from ..base.next_command import command
 from ..base.units_shown import share_text
 from ..study.shells import Shells, series_of, thousandths
 from ..study.study import Study
-from .console import err, opened
+from .console import err, open_study, say
 
 if TYPE_CHECKING:
     from ..plans.compare import Comparison
     from ..plans.design import Design
+    from ..plans.phases import Phases
 
 
 def shares_of(text: str) -> list[int]:
@@ -47,11 +49,64 @@ def pits_at(folder: Path, series: list[int]) -> Shells:
     PlanError
         Where one hasn't been run: with the nearest that have.
     """
-    study = opened(folder)
+    study = open_study(folder)
     for factor in series:
         if not study.verdict(factor):
-            raise not_run(study, factor)
+            raise _not_run(study, factor)
     return Shells(study, series)
+
+
+def pushbacks_at(folder: Path, factors: str) -> Phases:
+    """The pushbacks that end at some factors, a list with commas; it is told whether they are those
+    that `phases` widened.
+
+    Raises
+    ------
+    PlanError
+        Where a pit hasn't been run, or there is no such pushback.
+    """
+    from ..plans.last_pushbacks import again
+
+    shells = pits_at(folder, shares_of(factors))
+    with err.status("pushbacks are cut"):
+        found, which = again(shells)
+    say(which)
+    return found
+
+
+class DesignOptions(NamedTuple):
+    """The options that name a design: one of a file of ids, of a surface, of either, and a
+    column."""
+
+    ids: Path | None = None
+    surface: Path | None = None
+    file: Path | None = None
+    column: str | None = None
+    value: str | None = None
+    layers: Sequence[str] = ()
+
+
+def design_of(study: Study, options: DesignOptions, encoding: str | None) -> Design:
+    """The design that options name. `encoding` is that of the study's table.
+
+    Raises
+    ------
+    PlanError
+        Where it can't be read, or isn't one of this model.
+    """
+    from ..plans.design import by_column, by_file, by_ids_of, by_surface, with_sub_blocks
+
+    ids, surface, file, column, value, layers = options
+    is_surface = surface or file and file.suffix.lower() == ".dxf"
+    with err.status("the design is read"):
+        model = study.model if is_surface else with_sub_blocks(study)
+        if ids:
+            return by_ids_of(model, ids, encoding)
+        if surface:
+            return by_surface(model, surface, layers, encoding)
+        if file:
+            return by_file(model, file, layers, encoding)
+        return by_column(model, str(column), value)
 
 
 def beside(study: Study, design: Design, factor: float) -> Comparison:
@@ -66,7 +121,7 @@ def beside(study: Study, design: Design, factor: float) -> Comparison:
 
     wanted = thousandths(factor)
     if not study.verdict(wanted):
-        raise not_run(study, wanted)
+        raise _not_run(study, wanted)
     if not study.certified(wanted):
         from .shells import with_certificates
 
@@ -75,7 +130,7 @@ def beside(study: Study, design: Design, factor: float) -> Comparison:
         return compare(study, design, wanted)
 
 
-def not_run(study: Study, factor: int) -> PlanError:
+def _not_run(study: Study, factor: int) -> PlanError:
     """The error of a pit that isn't there."""
     there = [
         int(path.name[1:])
@@ -92,5 +147,8 @@ def not_run(study: Study, factor: int) -> PlanError:
     return PlanError(
         f"the pit at factor {share_text(factor)} hasn't been run; the nearest that have are "
         + ", ".join(share_text(found) for found in near),
-        try_this=f"one of these; or put it into factors in [shells] of study.toml, then: {command('shells', study.named)}",
+        try_this=(
+            "one of these; or put it into factors in [shells] of study.toml, then:"
+            f" {command('shells', study.named)}"
+        ),
     )

@@ -8,13 +8,12 @@ from typing import TYPE_CHECKING, Any, List, Optional
 
 import typer
 from ..base.errors import PlanError
-from ..base.units_shown import share_text
-from .console import STUDY, app, described, err, opened, results, say
+from ..base.units_shown import length_text, printed_scale, share_text
+from .build import print_classes
+from .console import STUDY, app, described, err, open_study, results, say
 
 if TYPE_CHECKING:
-    from ..model.model import Model
     from ..plans.compare import Comparison
-    from ..plans.design import Design
     from ..study.study import Study
 
 
@@ -50,21 +49,18 @@ def compare(
     ),
 ) -> None:
     """Put a designed pit beside the proved best one: does it keep the slopes, what is it worth, how far from the bound. Status 1 where it breaks the slopes, or digs what may not be dug."""
-    from ..plans.design import with_sub_blocks
-    from .chosen import beside
+    from .chosen import DesignOptions, beside, design_of
 
-    study = opened(folder)
-    with err.status("the design is read"):
-        model = study.model if surface else with_sub_blocks(study)
-        design = design_of(
-            model, ids, (column, value), (surface, layer), described(folder).keys.encoding
-        )
-    found = beside(study, design, factor)
+    if sum(given is not None for given in (ids, column, surface)) != 1:
+        raise PlanError("a design is given by one of --ids FILE, --column NAME and --surface FILE")
+    study = open_study(folder)
+    options = DesignOptions(ids=ids, surface=surface, layers=layer, column=column, value=value)
+    found = beside(study, design_of(study, options, described(folder).keys.encoding), factor)
     with err.status("tables and plans are written"):
-        target = write(study, found, bench)
-    tell(study, found)
+        target = _write_comparison(study, found, bench)
+    _tell(study, found)
     say(
-        f"{target}: summary.json, benches.csv"
+        f"{target}: summary.json, benches.csv, reserves.csv"
         + ("" if found.is_closed else ", pairs.csv, walls.csv, repair.csv")
         + ", plans"
     )
@@ -75,35 +71,20 @@ def compare(
         raise typer.Exit(1)
 
 
-def design_of(
-    model: Model,
-    ids: Path | None,
-    column: tuple[str | None, str | None],
-    surface: tuple[Path | None, list[str]],
-    encoding: str | None,
-) -> Design:
-    """The design that is asked for; exactly one. `encoding` is that of the table of blocks."""
-    from ..plans.design import by_column, by_ids_of, by_surface
-
-    if sum(given is not None for given in (ids, column[0], surface[0])) != 1:
-        raise PlanError("a design is given by one of --ids FILE, --column NAME and --surface FILE")
-    if ids is not None:
-        return by_ids_of(model, ids, encoding)
-    if surface[0] is not None:
-        return by_surface(model, surface[0], surface[1], encoding)
-    return by_column(model, str(column[0]), column[1])
-
-
-def write(study: Study, found: Comparison, elevations: list[float]) -> Path:
+def _write_comparison(study: Study, found: Comparison, elevations: list[float]) -> Path:
     """Writes all that was found into a folder of its own."""
     from ..base.files import whole_file
+    from ..plans.compare import by_way
     from ..table.spreadsheets import write_table
     from ..views.compare_plan import plan, widest_bench
     from ..views.pictures import save
 
     target = results(study) / ("compare-" + re.sub(r"[^\w.-]+", "_", found.design.name))
     target.mkdir(exist_ok=True)
-    tables: dict[str, Any] = {"benches.csv": found.benches}
+    tables: dict[str, Any] = {
+        "benches.csv": found.benches,
+        "reserves.csv": by_way(study, found.design.held, found.optimum, found.factor),
+    }
     if found.repair:
         b = study.model.blocks[found.repair.held & ~found.design.held]
         tables |= {
@@ -118,7 +99,7 @@ def write(study: Study, found: Comparison, elevations: list[float]) -> Path:
     with whole_file(target / "summary.json") as part:
         part.write_text(json.dumps(summary(study, found), indent=1) + "\n")
     for elevation in elevations or ([widest_bench(found)] if len(found.benches) else []):
-        save(plan(study.model, found, elevation), target / f"plan-{elevation:.10g}.png")
+        save(plan(study.model, found, elevation), target / f"plan-{length_text(elevation, '')}.png")
     return target
 
 
@@ -129,7 +110,7 @@ def summary(study: Study, found: Comparison) -> dict[str, Any]:
         study.model.blocks.tonnes.to_numpy(float),
         found.design.held & study.priced.forbidden,
     )
-    told: dict[str, Any] = {
+    facts: dict[str, Any] = {
         "design": found.design.name,
         "notes": found.design.notes,
         "factor": found.factor / 1000,
@@ -151,32 +132,40 @@ def summary(study: Study, found: Comparison) -> dict[str, Any]:
         "pit": study.manifest["pit"],
     }
     if found.repair:
-        told["repair"] = {
+        facts["repair"] = {
             "blocks": found.repair.blocks,
             "tonnes": found.repair.tonnes,
             "worth": found.repair.worth,
             "gap": found.repair.gap,
         }
-        told["broken_pairs"] = len(found.pairs)
-    return told
+        facts["broken_pairs"] = len(found.pairs)
+    return facts
 
 
-def tell(study: Study, found: Comparison) -> None:
+def _tell(study: Study, found: Comparison) -> None:
     """The comparison on the screen."""
     from ..plans.compare_words import forbidden_lines, money, verdict_lines
 
-    currency, held = study.currency, found.design.held
+    currency, held, units = study.currency, found.design.held, study.model.units
     tonnes = study.model.blocks.tonnes.to_numpy(float)
+    design, best = tonnes[held].sum(), tonnes[found.optimum].sum()
+    rock = printed_scale([design, best], units.weight)
     lines = [
-        f"{found.design.name}: {int(held.sum()):,} blocks, {tonnes[held].sum() / 1e6:,.2f} Mt, worth {money(found.worth, currency)} at factor {share_text(found.factor)}",
+        f"{found.design.name}: {int(held.sum()):,} blocks, {rock.said(design)}, worth {money(found.worth, currency)} at factor {share_text(found.factor)}",
         *(f"  {note}" for note in found.design.notes),
         *forbidden_lines(study, held),
-        f"best pit: {int(found.optimum.sum()):,} blocks, {tonnes[found.optimum].sum() / 1e6:,.2f} Mt, worth {money(found.bound, currency)}: no pit that keeps the slopes is worth more",
-        *verdict_lines(found, currency),
+        f"best pit: {int(found.optimum.sum()):,} blocks, {rock.said(best)}, worth {money(found.bound, currency)}: no pit that keeps the slopes is worth more",
+        *verdict_lines(found, currency, units),
     ]
     b = found.benches
     lines.append(
-        f"left by the design {b.left_t.sum() / 1e6:,.2f} Mt ({b.left_ore_t.sum() / 1e6:,.2f} Mt of ore), beyond the best pit {b.over_t.sum() / 1e6:,.2f} Mt ({b.over_ore_t.sum() / 1e6:,.2f} Mt of ore)"
+        f"left by the design {rock.said(b.left_t.sum())} ({rock.said(b.left_ore_t.sum())} of ore), beyond the best pit {rock.said(b.over_t.sum())} ({rock.said(b.over_ore_t.sum())} of ore)"
     )
     for line in lines:
         say(line)
+    print_classes(
+        study,
+        {found.design.name: held, "best pit": found.optimum},
+        "by resource class",
+        found.factor,
+    )

@@ -1,6 +1,7 @@
 """What all commands share: the application, where they print, and how they find a study."""
 from __future__ import annotations
 
+import os
 import sys
 from collections.abc import Sequence
 from dataclasses import dataclass
@@ -32,7 +33,7 @@ if TYPE_CHECKING:
     from ..study.study_file import StudyFile
 
 
-class InOrder(TyperGroup):
+class _InOrder(TyperGroup):
     """The commands as they were registered, and not by the alphabet."""
 
     def list_commands(self, ctx: click.Context) -> list[str]:
@@ -48,18 +49,24 @@ class InOrder(TyperGroup):
 
 
 app = typer.Typer(
-    cls=InOrder,
+    cls=_InOrder,
     add_completion=True,
     no_args_is_help=True,
     pretty_exceptions_enable=False,
     rich_markup_mode=None,
     context_settings={"help_option_names": ["-h", "--help"]},
-    help="From a planner's table of blocks to proved pits, tables and pictures. Every best pit that it shows is proved by `pit`.",
-    epilog="Exit status: 0 done; 1 no, where pit check refuses or a check of pitplan fails; 2 wrong words; 3 a file is wrong; 4 the machine (memory, disk); 130 stopped.",
+    help=(
+        "From a planner's table of blocks to proved pits, tables and pictures. Every best pit that"
+        " it shows is proved by `pit`."
+    ),
+    epilog=(
+        "Exit status: 0 done; 1 no, where pit check refuses or a check of pitplan fails; 2 wrong"
+        " words; 3 a file is wrong; 4 the machine (memory, disk); 130 stopped."
+    ),
 )
 
 
-class Told(Console):
+class _Messages(Console):
     """A console whose steps are events, too."""
 
     def status(self, status: RenderableType, **more: Any) -> Status:
@@ -75,17 +82,28 @@ class Wants:
 
 
 wants = Wants()
+# Off a terminal a table is as wide as COLUMNS says, and else as most of them need.
+_WIDE = 160
 out = Console(
-    width=None if sys.stdout.isatty() else 160, soft_wrap=not sys.stdout.isatty(), highlight=False
+    width=None if sys.stdout.isatty() or os.environ.get("COLUMNS", "").isdigit() else _WIDE,
+    soft_wrap=not sys.stdout.isatty(),
+    highlight=False,
 )
-err = Told(stderr=True, highlight=False)
+err = _Messages(stderr=True, highlight=False)
 study_toml: Path | None = None  # that was read last, whose lines errors show
 STUDY: Any = typer.Argument(
     Path("."), help="The folder of the study, with its study.toml.", show_default="this folder"
 )
+# beside an option --column that names the column of a design
+COLUMN_VALUE: Any = typer.Option(
+    None,
+    "--value",
+    show_default=False,
+    help="With --column: the cell of the rows that it takes. Default: any number above 0, or yes.",
+)
 
 
-def tell_version(is_asked: bool) -> None:
+def _tell_version(is_asked: bool) -> None:
     if is_asked:
         out.print(f"pitplan {__version__}")
         raise typer.Exit
@@ -94,7 +112,7 @@ def tell_version(is_asked: bool) -> None:
 @app.callback()
 def before_any_command(
     version: bool = typer.Option(
-        False, "--version", help="Print the version.", is_eager=True, callback=tell_version
+        False, "--version", help="Print the version.", is_eager=True, callback=_tell_version
     ),
     no_wait: bool = typer.Option(
         False, "--no-wait", help="End where another command has the study, and don't wait for it."
@@ -103,7 +121,7 @@ def before_any_command(
         None,
         "--within",
         metavar="FOLDER",
-        help="Refuse studies, tables, designs and realisations outside this folder.",
+        help="Read and write nothing outside this folder: no study, table, design or realisations, and no result.",
     ),
 ) -> None:
     """Options that stand before the command's name."""
@@ -148,8 +166,9 @@ def print_columns(
     words: int = 0,
     has_total: bool = False,
 ) -> None:
-    """Prints a table of texts; the first `words` columns stand left, and a total below a gap. Where the screen is narrow the headings go over several
-    lines, the gaps shrink, and what has no room stands in a part of its own below, beside the first columns; no figure and no word is cut off.
+    """Prints a table of texts; the first `words` columns stand left, and a total below a gap. Where
+    the screen is narrow the headings go over several lines, the gaps shrink, and what has no room
+    stands in a part of its own below, beside the first columns; no figure and no word is cut off.
     """
     from rich.box import SIMPLE_HEAD
     from rich.table import Table
@@ -188,7 +207,7 @@ def described(folder: Path) -> StudyFile:
     return found
 
 
-def opened(folder: Path) -> Study:
+def open_study(folder: Path) -> Study:
     """The study as it was built.
 
     Raises
@@ -196,24 +215,13 @@ def opened(folder: Path) -> Study:
     PlanError
         Where it wasn't built, or study.toml or the table has changed since.
     """
-    from ..base.digests import sha256_unless_known
     from ..study.study import Study
 
-    told = described(folder)
-    study = Study(told.path.parent, named=folder)
+    plan = described(folder)
+    study = Study(plan.path.parent, named=folder)
     if study.table is not None:
         refuse_outside(study.table)
-    if study.manifest["keys"] != told.digest:
-        raise PlanError(
-            f"{told.path} has changed since the study was built", try_this=command("build", folder)
-        )
-    source = study.manifest["source"]
-    if source and told.table.is_file() and sha256_unless_known(told.table) != source["sha256"]:
-        raise PlanError(
-            "the table has changed since the study was built",
-            table=told.table,
-            try_this=command("build", folder),
-        )
+    study.refuse_changed(plan.path, plan.digest, plan.table)
     return study
 
 
@@ -227,19 +235,23 @@ def shells_of(folder: Path) -> tuple[Shells, dict[str, float]]:
     """
     from ..study.shells import Shells
 
-    told = described(folder)
-    study = opened(folder)
-    missing = [factor for factor in told.factors if not study.verdict(factor)]
+    plan = described(folder)
+    study = open_study(folder)
+    missing = [factor for factor in plan.factors if not study.verdict(factor)]
     if missing:
         raise PlanError(
-            f"{len(missing)} of {len(told.factors)} pits haven't been run, the first at factor {share_text(missing[0])}",
+            (
+                f"{len(missing)} of {len(plan.factors)} pits haven't been run, the first at factor"
+                f" {share_text(missing[0])}"
+            ),
             try_this=command("shells", folder),
         )
-    return Shells(study, told.factors), told.rates
+    return Shells(study, plan.factors), plan.rates
 
 
 def results(study: Study) -> Path:
-    """The folder for tables and pictures, made where it isn't there. What is written there from now on is noted as of this model."""
+    """The folder for tables and pictures, made where it isn't there. What is written there from now
+    on is noted as of this model."""
     from ..study import older
 
     folder = study.folder / "out"

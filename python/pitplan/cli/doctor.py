@@ -6,7 +6,7 @@ from rich.markup import escape
 
 from .console import app, out
 
-COLOURS = {"ok": "green", "look": "yellow", "MISSING": "red", "WRONG": "red"}
+_COLOURS = {"ok": "green", "look": "yellow", "MISSING": "red", "WRONG": "red"}
 
 
 @app.command()
@@ -16,7 +16,7 @@ def doctor() -> None:
 
     bad = 0
     for found in findings():
-        out.print(f"[{COLOURS[found.kind]}]{found.kind:8}[/]" + escape(found.what), soft_wrap=True)
+        out.print(f"[{_COLOURS[found.kind]}]{found.kind:8}[/]" + escape(found.what), soft_wrap=True)
         if found.try_this:
             out.print(f"  try: {escape(found.try_this)}", soft_wrap=True)
         bad += found.is_bad

@@ -11,15 +11,15 @@ from pathlib import Path
 import click
 from rich.markup import escape
 
-from ..base import events
+from ..base import events, stops
 from ..base.errors import (
-    ENDED as STOPPED,
+    ENDED,
     MACHINE,
     NO,
     WRONG,
     PlanError,
     exit_status,
-    STOPPED as SAYS_STOPPED,
+    STOPPED,
 )
 from ..base.later import lazily
 from ..base.next_command import remember
@@ -36,46 +36,54 @@ ORDER = (
     "plot",
     "page",
     "phases",
+    "schedule",
     "export",
     "compare",
     "risk",
     "vary",
+    "report",
     "submit",
     "status",
     "task",
     "bundle",
     "schema",
+    "desk",
     "doctor",
 )  # of a working day, for --help
-SHARED = (
+_SHARED = (
     "main",
     "console",
     "chosen",
     "taking_turns",
 )  # modules of this package that have no command
-__all__ = ["MACHINE", "NO", "STOPPED", "WRONG", "main"]
+__all__ = ["ENDED", "MACHINE", "NO", "WRONG", "main"]
 
 
 def load_commands() -> None:
     """Imports every module of commands; each registers its own."""
     for module in pkgutil.iter_modules([str(Path(__file__).parent)]):
-        if module.name not in SHARED:
+        if module.name not in _SHARED:
             importlib.import_module(f"{__package__}.{module.name}")
     for it in app.registered_commands:  # typer says "[default: None]" of what has no default
         for parameter in inspect.signature(it.callback).parameters.values() if it.callback else ():
             if getattr(parameter.default, "default", 0) in (None, ...):
                 parameter.default.show_default = False
     app.registered_commands.sort(
-        key=lambda c: ORDER.index(c.callback.__name__)
-        if c.callback and c.callback.__name__ in ORDER
-        else len(ORDER)
+        key=lambda c: (
+            ORDER.index(c.callback.__name__)
+            if c.callback and c.callback.__name__ in ORDER
+            else len(ORDER)
+        )
     )
 
 
-def remedy(error: OSError) -> str:
+def _remedy(error: OSError) -> str:
     """What to try where the system refuses a file."""
     if error.errno in (errno.EACCES, errno.EPERM, errno.EROFS):
-        return f"\n  try: a folder that you may write in: {escape(str(Path(error.filename or '.').parent))} is none"
+        return (
+            "\n  try: a folder that you may write in:"
+            f" {escape(str(Path(error.filename or '.').parent))} is none"
+        )
     return (
         "\n  try: make room on that disk; what is done is kept"
         if error.errno in (errno.ENOSPC, errno.EDQUOT)
@@ -84,17 +92,19 @@ def remedy(error: OSError) -> str:
 
 
 def main() -> None:
-    """Runs a command. Exit status: 0 done, 1 no, 2 wrong words, 3 a file is wrong, 4 the machine, 130 stopped."""
+    """Runs a command. Exit status: 0 done, 1 no, 2 wrong words, 3 a file is wrong, 4 the machine,
+    130 stopped."""
     try:
-        run()
+        _run()
     except SystemExit as ended:
         events.end(exit_status(ended))
         raise
 
 
-def run() -> None:
+def _run() -> None:
     """Runs a command, and says how it failed. Ends the process by its exit status."""
     try:
+        stops.hear()
         remember(sys.argv[0])
         events.begin()
         lazily("pandas")  # the first pits can be looked for while it is loaded
@@ -112,16 +122,20 @@ def run() -> None:
         tell(error)
         sys.exit(exit_status(error))
     except (KeyboardInterrupt, click.Abort):
-        err.print(SAYS_STOPPED)
-        sys.exit(STOPPED)
+        err.print(STOPPED)
+        sys.exit(ENDED)
     except MemoryError:
         err.print(
-            "[red]error:[/red] memory was refused\n  try: fewer --workers, or a machine with more memory"
+            "[red]error:[/red] memory was refused\n  try: fewer --workers, or a machine with more"
+            " memory"
         )
         sys.exit(MACHINE)
     except OSError as error:
         err.print(
-            f"[red]error:[/red] {escape(str(error.filename or ''))}: {escape(str(error.strerror))}{remedy(error)}",
+            (
+                f"[red]error:[/red] {escape(str(error.filename or ''))}:"
+                f" {escape(str(error.strerror))}{_remedy(error)}"
+            ),
             soft_wrap=True,
         )
         sys.exit(MACHINE)

@@ -5,8 +5,18 @@ from pathlib import Path
 from typing import TYPE_CHECKING, Any, Optional
 
 import typer
-from rich.markup import escape
 
+from ..base.errors import PlanError
+from ..base.units_shown import (
+    Scale,
+    counted,
+    grade_places,
+    length_text,
+    lengths,
+    printed_scale,
+    share_text,
+)
+from .build import print_classes
 from .console import STUDY, app, err, print_columns, results, say, warn
 
 if TYPE_CHECKING:
@@ -14,7 +24,7 @@ if TYPE_CHECKING:
 
     from ..plans.phases import Phases
 
-WORST = 3  # thin benches of a pushback that are named
+_WORST = 3  # thin benches of a pushback that are named
 
 
 @app.command()
@@ -27,15 +37,34 @@ def phases(
         None,
         "--mining-width",
         min=0.0,
-        help="The least width that machines need, in metres: where a pushback is thinner is told by bench.",
+        help="The least width that machines need, in the unit of the coordinates: where a pushback is thinner is told by bench.",
+    ),
+    widen: Optional[float] = typer.Option(
+        None,
+        "--widen",
+        min=0.0,
+        help="Make each pushback this wide, in the unit of the coordinates, by blocks of the next pit that it takes in, or that it leaves for it.",
     ),
 ) -> None:
     """Cut the mine into pushbacks: rock, ore, grade, metal, strip ratio and worth of each, bench by bench."""
+    from ..plans.last_pushbacks import keep
     from ..plans.phases import Phases
+    from ..plans.widening import Widening
     from ..table.spreadsheets import write_table
     from .chosen import pits_at, shares_of
 
-    found = Phases(pits_at(folder, shares_of(factors)), mining_width)
+    if widen is not None and mining_width is not None:
+        raise PlanError(
+            "--widen and --mining-width are one width", try_this=f"--widen {widen:g} alone"
+        )
+    if widen is not None and not widen > 0:
+        raise PlanError(f"--widen is {widen:g}, and has to be above 0", try_this="--widen 40")
+    width = mining_width if widen is None else widen
+    found = Phases(pits_at(folder, shares_of(factors)), width)
+    if widen is not None:
+        with err.status("pushbacks are widened"):
+            mines = Widening(found.shells, widen).mines
+        found = Phases(found.shells, widen, mines)
     benches = found.benches()
     table = found.table(benches=benches)
     target = results(found.shells.study)
@@ -43,45 +72,88 @@ def phases(
         ("phases.csv", table),
         ("phase_benches.csv", benches),
         ("phase_blocks.csv", found.of_blocks()[found.pushback > 0]),
+        ("phase_reserves.csv", found.reserves()),
     ):
         write_table(frame, target / name)
-    show(found, table)
-    tell_narrow(found, benches, target / "phase_benches.csv")
+    keep(found, target)
+    _show(found, table)
+    print_classes(
+        found.shells.study,
+        {f"pushback {k}": found.pushback == k for k in range(1, len(found) + 1)},
+        "pushbacks by resource class",
+    )
+    if found.mines is not None:
+        _tell_widened(found)
+    _tell_narrow(found, benches, target / "phase_benches.csv")
+    _tell_files(found, target)
+
+
+def _tell_files(found: Phases, target: Path) -> None:
+    """The files, and what is proved of the mine after each pushback."""
     say(
-        f"{target}: phases.csv, phase_benches.csv, phase_blocks.csv. After each pushback the mine is a proved pit; in which order benches are dug is the scheduler's"
+        f"{target}: phases.csv, phase_benches.csv, phase_reserves.csv, phase_blocks.csv."
+        f" After each pushback {found.after}; in which order benches are dug is the scheduler's"
     )
 
 
-def show(found: Phases, table: pd.DataFrame) -> None:
+def _show(found: Phases, table: pd.DataFrame) -> None:
     """The pushbacks on the screen, and all of them together."""
     manifest = found.shells.study.manifest
-    metals = manifest["metals"]
+    metals, units = manifest["metals"], found.shells.study.model.units
+    places = {name: grade_places(table[f"grade_{name}"], 3, 3) for name in metals}
+    total = _total_of(table, metals)
+    rock = printed_scale([total["ore_t"], total["waste_t"]], units.weight)
+    money = printed_scale([*table["worth"], total["worth"]], manifest["currency"])
     names = (
         "pushback",
         "factor",
-        "from m",
-        "to m",
-        "ore Mt",
-        "waste Mt",
+        f"from {units.length}",
+        f"to {units.length}",
+        f"ore {rock.unit}",
+        f"waste {rock.unit}",
         "strip",
         *(f"{name} {unit['grade_unit']}" for name, unit in metals.items()),
         *(f"{name} {unit['price_unit']}" for name, unit in metals.items()),
         "worth",
-        "thinnest m",
+        f"thinnest {units.length}",
         "at bench",
     )
     lines = [
         [
             str(row["pushback"]),
             f"{row['factor']:g}",
-            f"{row['top']:,.10g}",
-            f"{row['bottom']:,.10g}",
-            *amounts(row, metals),
-            f"{row['width']:,.10g}",
-            f"{row['width_bench']:,.10g}",
+            top,
+            bottom,
+            *_amounts(row, metals, places, (rock, money)),
+            width,
+            bench,
         ]
-        for row in table.to_dict("records")
+        for row, top, bottom, width, bench in zip(
+            table.to_dict("records"),
+            *(lengths(table[name]) for name in ("top", "bottom", "width", "width_bench")),
+        )
     ]
+    lines.append(
+        [
+            "all",
+            "",
+            length_text(table.top.max()),
+            length_text(table.bottom.min()),
+            *_amounts(total, metals, places, (rock, money)),
+            "",
+            "",
+        ]
+    )
+    print_columns(
+        f"pushbacks, worths in {money.unit} at the full price",
+        names,
+        lines,
+        has_total=True,
+    )
+
+
+def _total_of(table: pd.DataFrame, metals: dict[str, Any]) -> dict[str, float]:
+    """What all pushbacks have together."""
     ore, waste = float(table.ore_t.sum()), float(table.waste_t.sum())
     total = {
         "ore_t": ore,
@@ -96,68 +168,83 @@ def show(found: Phases, table: pd.DataFrame) -> None:
             else float("nan"),
             f"metal_{name}": float(table[f"metal_{name}"].sum()),
         }
-    lines.append(
-        [
-            "all",
-            "",
-            f"{table.top.max():,.10g}",
-            f"{table.bottom.min():,.10g}",
-            *amounts(total, metals),
-            "",
-            "",
-        ]
-    )
-    print_columns(
-        f"pushbacks, worths in million {manifest['currency']} at the full price",
-        names,
-        lines,
-        has_total=True,
-    )
+    return total
 
 
-def amounts(row: dict[str, Any], metals: dict[str, Any]) -> list[str]:
-    """The cells of a row from ore to worth."""
+def _amounts(
+    row: dict[str, Any],
+    metals: dict[str, Any],
+    places: dict[str, int],
+    scales: tuple[Scale, Scale],
+) -> list[str]:
+    """The cells of a row from ore to worth; `places` are the decimals of grades, `scales` those of
+    rock and of money."""
+    rock, money = scales
 
-    def told(value: float, places: int) -> str:
+    def text(value: float, places: int) -> str:
         return "" if value != value else f"{value:,.{places}f}"
 
     return [
-        told(row["ore_t"] / 1e6, 2),
-        told(row["waste_t"] / 1e6, 2),
-        told(row["strip"], 2),
-        *(told(row[f"grade_{name}"], 3) for name in metals),
-        *(told(row[f"metal_{name}"], 0) for name in metals),
-        told(row["worth"] / 1e6, 2),
+        rock.text(row["ore_t"]),
+        rock.text(row["waste_t"]),
+        text(row["strip"], 2),
+        *(text(row[f"grade_{name}"], places[name]) for name in metals),
+        *(text(row[f"metal_{name}"], 0) for name in metals),
+        money.text(row["worth"]),
     ]
 
 
-def counted(blocks: Any) -> str:
-    """A number of blocks in words."""
-    return f"{int(blocks):,} {'block' if blocks == 1 else 'blocks'}"
+def _tell_widened(found: Phases) -> None:
+    """What each widened pushback took in and left, and what `pit value` says of the mine after it, beside the two proved pits."""
+    from ..base.amounts import THOUSAND
+    from ..plans.compare_words import money
+    from ..plans.widening import judged
+    from ..study.shells import Shells
+    from .shells import with_certificates
+
+    shells, study = found.shells, found.shells.study
+    units = study.model.units
+    factor = THOUSAND if study.verdict(THOUSAND) else shells.factors[-1]
+    with_certificates(Shells(study, [factor]))
+    mines = list(found.mines or [])[:-1]
+    said = judged(study, mines, factor)
+    tonnes, at = study.model.blocks["tonnes"].to_numpy(float), share_text(factor)
+    rock = printed_scale([tonnes[shells.holds(len(shells) - 1)].sum()], units.weight)
+    pits = [
+        money(study.priced.worth_of(shells.holds(i), factor), study.currency)
+        for i in range(len(shells))
+    ]
+    for i, (mine, each) in enumerate(zip(mines, said)):
+        more, less = mine & ~shells.holds(i), shells.holds(i) & ~mine
+        say(
+            f"pushback {i + 1} widened to {found.mining_width:g} {units.length}: {counted(int(more.sum()), 'block')} of the next pit taken in ({rock.said(tonnes[more].sum())}), "
+            f"{counted(int(less.sum()), 'block')} left for it ({rock.said(tonnes[less].sum())})\n"
+            f"  pit value says {each.said}, worth {money(each.worth, study.currency)} at factor {at}; the pits beside it are worth {pits[i]} "
+            f"(factor {share_text(shells.factors[i])}) and {pits[i + 1]} (factor {share_text(shells.factors[i + 1])})"
+        )
 
 
-def tell_narrow(found: Phases, benches: pd.DataFrame, file: Path) -> None:
+def _tell_narrow(found: Phases, benches: pd.DataFrame, file: Path) -> None:
     """Names the worst benches of each pushback that are thinner than the mining width, and the file that has all."""
     if found.mining_width is None:
         return
-    thin = benches[benches.narrow_blocks > 0]
+    thin, units = benches[benches.narrow_blocks > 0], found.shells.study.model.units
     if not len(thin):
-        say(f"every pushback is at least {found.mining_width:g} m wide on every bench")
+        say(f"every pushback is at least {found.mining_width:g} {units.length} wide on every bench")
+    rock = printed_scale([benches.rock_t.sum()], units.weight)
     for (pushback, factor), part in thin.groupby(["pushback", "factor"]):
-        warn(
-            f"pushback {pushback} (factor {factor:g}) is thinner than {found.mining_width:g} m on {len(part)} "
-            f"{'bench' if len(part) == 1 else 'benches'}, {counted(part.narrow_blocks.sum())}, {part.narrow_t.sum() / 1e6:,.2f} Mt:"
+        narrow = (
+            f"pushback {pushback} (factor {factor:g}) {'is' if found.mines is None else 'stays'} thinner than {found.mining_width:g} {units.length} on {len(part)} "
+            f"{'bench' if len(part) == 1 else 'benches'}, {counted(int(part.narrow_blocks.sum()), 'block')}, {rock.said(part.narrow_t.sum())}:"
         )
         worst = part.sort_values(
             ["width", "narrow_blocks"], ascending=[True, False], kind="stable"
-        ).head(WORST)
+        ).head(_WORST)
         named = ", ".join(
-            f"{row.bench:,.10g} ({row.width:g} m, {counted(row.narrow_blocks)})"
+            f"{length_text(row.bench)} ({length_text(row.width)} {units.length}, {counted(int(row.narrow_blocks), 'block')})"
             for row in worst.itertuples()
         )
-        err.print(
-            escape(
-                "  " + (named if len(part) <= WORST else f"{named} are the worst; {file} has all")
-            ),
-            soft_wrap=True,
+        warn(
+            f"{narrow}\n  {named}"
+            + ("" if len(part) <= _WORST else f" are the worst; {file} has all")
         )

@@ -7,13 +7,16 @@ from typing import TYPE_CHECKING, List, Optional
 
 import typer
 from ..base.errors import PlanError
-from .console import STUDY, app, described, results, say, shells_of
+from ..base.units_shown import length_text
+from .console import COLUMN_VALUE, STUDY, app, described, results, say, shells_of
+from .schedule import last_of
 
 if TYPE_CHECKING:
     from matplotlib.figure import Figure
 
-    from ..model.model import Model
-    from ..plans.design import Design
+    from ..plans.compare import Comparison
+    from ..study.shells import Shells
+    from .chosen import DesignOptions
 
 
 @app.command()
@@ -49,28 +52,28 @@ def plot(
         help="Draw heights so many times longer, in sections. Default: 1, or more in a flat model.",
     ),
 ) -> None:
-    """Draw the pit-by-pit graph, a plan and a section; or the plans and sections that are asked for: bench, north, east, row and column may be given several times."""
+    """Draw the pit-by-pit graph, a plan and a section; or the plans and sections that are asked
+    for: bench, north, east, row and column may be given several times."""
     from ..views import pictures
 
     (shells, rates), style = shells_of(folder), pictures.Style(colour, pit, exaggerate)
     asked: list[tuple[str, Figure]] = []
     for at in bench:
-        asked.append((f"plan-{at:.10g}", pictures.plan(shells, at, style)))
+        asked.append((_named("plan", at), pictures.plan(shells, at, style)))
     for at in north:
-        asked.append((f"section-north-{at:.10g}", pictures.section(shells, north=at, style=style)))
+        asked.append((_named("section-north", at), pictures.section(shells, north=at, style=style)))
     for at in east:
-        asked.append((f"section-east-{at:.10g}", pictures.section(shells, east=at, style=style)))
+        asked.append((_named("section-east", at), pictures.section(shells, east=at, style=style)))
     for index in row:
         asked.append((f"section-row-{index}", pictures.section(shells, row=index, style=style)))
     for index in column:
-        name = f"section-column-{index}"
-        asked.append((name, pictures.section(shells, column=index, style=style)))
+        drawn = pictures.section(shells, column=index, style=style)
+        asked.append((f"section-column-{index}", drawn))
     if not asked:
         level, middle = pictures.middle_of(shells, style)
-        table, study = shells.table(1000, **rates), shells.study
         asked = [
-            ("pit-by-pit", pictures.pit_by_pit(table, study.currency, study.model.name)),
-            (f"plan-{level:.10g}", pictures.plan(shells, level, style)),
+            ("pit-by-pit", _graph_of(shells, rates)),
+            (_named("plan", level), pictures.plan(shells, level, style)),
             (f"section-row-{middle}", pictures.section(shells, row=middle, style=style)),
         ]
     ending = "" if colour == "shell" else "-" + re.sub(r"[^\w.-]+", "_", colour)
@@ -80,6 +83,37 @@ def plot(
         say(str(path))
 
 
+def _named(what: str, at: float) -> str:
+    """What the picture of a place is called."""
+    return f"{what}-{length_text(at, '')}"
+
+
+def _graph_of(shells: Shells, rates: dict[str, float]) -> Figure:
+    """The pit-by-pit graph, in the study's own units."""
+    from ..views import pictures
+
+    study = shells.study
+    table = shells.table(1000, **rates)
+    return pictures.pit_by_pit(table, study.currency, weight=study.model.units.weight)
+
+
+def _compared(
+    folder: Path, shells: Shells, options: DesignOptions, factor: float
+) -> Comparison | None:
+    """A design beside the best pit at a factor; None where no design is asked for.
+
+    Raises PlanError where two are.
+    """
+    from .chosen import beside, design_of
+
+    if options.file and options.column:
+        raise PlanError("a design is given by one of --design FILE and --column NAME")
+    if not options.file and not options.column:
+        return None
+    made = design_of(shells.study, options, described(folder).keys.encoding)
+    return beside(shells.study, made, factor)
+
+
 @app.command()
 def page(
     folder: Path = STUDY,
@@ -87,13 +121,18 @@ def page(
         None,
         "--phases",
         show_default=False,
-        help="Show pushbacks too: the factors of the pits that end them, ascending, as 0.5,0.75,1.0.",
+        help=(
+            "Show pushbacks too: the factors of the pits that end them, ascending, as 0.5,0.75,1.0."
+        ),
     ),
     design: Optional[Path] = typer.Option(
         None,
         "--design",
         show_default=False,
-        help="Show a designed pit beside the best one too: a DXF with faces, a CSV of points x, y, z, or ids in a table or a text.",
+        help=(
+            "Show a designed pit beside the best one too: a DXF with faces, a CSV of points x, y,"
+            " z, or ids in a table or a text."
+        ),
     ),
     layer: List[str] = typer.Option(
         [], "--layer", help="With --design: a layer of the DXF. Default: all."
@@ -102,58 +141,37 @@ def page(
         None,
         "--column",
         show_default=False,
-        help="In place of --design: the column of the study's table that says which rows the design takes.",
+        help=(
+            "In place of --design: the column of the study's table that says which rows the design"
+            " takes."
+        ),
     ),
-    value: Optional[str] = typer.Option(
-        None,
-        "--value",
-        show_default=False,
-        help="With --column: the cell of the rows that it takes. Default: any number above 0, or yes.",
-    ),
+    value: Optional[str] = COLUMN_VALUE,
     factor: float = typer.Option(
         1.0,
         "--factor",
         help="The pit that the design is compared with, by its factor of the price.",
     ),
+    is_schedule: bool = typer.Option(
+        False,
+        "--schedule",
+        help="Show the mine at the end of each year too, as `schedule` found it last.",
+    ),
     title: Optional[str] = typer.Option(
         None, show_default=False, help="The heading. Default: the table's name."
     ),
 ) -> None:
-    """Write one HTML file with pits in three dimensions, sections, plans and tables: pits by factor, pushbacks, a design beside the best pit. It needs no network."""
-    from ..plans.design import with_sub_blocks
-    from ..plans.phases import Phases
+    """Write one HTML file with pits in three dimensions, sections, plans and tables: pits by
+    factor, pushbacks, a design beside the best pit, a schedule by years. It needs no network."""
     from ..views import page as pages
-    from .chosen import beside, pits_at, shares_of
+    from .chosen import DesignOptions, pushbacks_at
 
     shells, rates = shells_of(folder)
-    cut = Phases(pits_at(folder, shares_of(phases))) if phases else None
-    if design and column:
-        raise PlanError("a design is given by one of --design FILE and --column NAME")
-    found = None
-    if design or column:
-        encoding = described(folder).keys.encoding
-        is_surface = design is not None and design.suffix.lower() == ".dxf"
-        model = shells.study.model if is_surface else with_sub_blocks(shells.study)
-        made = design_of(model, design, (column, value), layer, encoding)
-        found = beside(shells.study, made, factor)
-    path = pages.write(
-        shells, results(shells.study) / "pits.html", shells.table(1000, **rates), title, cut, found
-    )
+    cut = pushbacks_at(folder, phases) if phases else None
+    options = DesignOptions(file=design, layers=layer, column=column, value=value)
+    found = _compared(folder, shells, options, factor)
+    path = results(shells.study) / "pits.html"
+    years = last_of(folder) if is_schedule else None
+    views = pages.views_of(shells, shells.table(1000, **rates), cut, found, years)
+    pages.write_views(path, shells.study, views, pages.heading(shells, title))
     say(f"{path}: {path.stat().st_size / 1e6:.1f} MB, opens in any browser")
-
-
-def design_of(
-    model: Model,
-    file: Path | None,
-    column: tuple[str | None, str | None],
-    layers: list[str],
-    encoding: str | None,
-) -> Design:
-    """The design of a file or of a column. `encoding` is that of the table of blocks."""
-    from ..plans.design import by_column, by_file
-
-    return (
-        by_file(model, file, layers, encoding)
-        if file
-        else by_column(model, str(column[0]), column[1])
-    )

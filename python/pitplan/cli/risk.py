@@ -13,12 +13,14 @@ import typer
 from ..base import events
 from ..base.errors import PlanError
 from ..base.next_command import command
+from ..base.units_shown import printed_scale
+from .build import print_rock_of_classes
 from .console import (
     STUDY,
     app,
     described,
     err,
-    opened,
+    open_study,
     print_columns,
     results,
     say,
@@ -31,11 +33,12 @@ if TYPE_CHECKING:
 
     from ..plans.risk import Risk, Setup
     from ..plans.task_line import Task
+    from ..schedule.plan import Schedule
     from ..study.study import Study
     from ..tasks.local import Heard
 
-ALONE = "1"  # the factors where none are said
-NEAR = 0.02  # of the table's mean grade: by how much that of realisations may differ untold
+_ALONE = "1"  # the factors where none are said
+_NEAR = 0.02  # of the table's mean grade: by how much that of realisations may differ untold
 
 
 @app.command()
@@ -43,11 +46,28 @@ def risk(
     folder: Path = STUDY,
     realisations: Optional[Path] = typer.Option(
         None,
-        help="An .npy (realisations x rows of the table), or a CSV with a column for each. Not needed to go on.",
+        help=(
+            "An .npy (realisations x rows of the table), or a CSV with a column for each. Not"
+            " needed to go on."
+        ),
     ),
-    factors: str = typer.Option(ALONE, help="Shares of the price, as 0.8,1,1.2."),
+    factors: str = typer.Option(_ALONE, help="Shares of the price, as 0.8,1,1.2."),
     metal: Optional[str] = typer.Option(
         None, help="Whose grades these are. Default: the first metal."
+    ),
+    is_schedule: bool = typer.Option(
+        False,
+        "--schedule",
+        help=(
+            "What the schedule that `schedule` found last is worth under each realisation, beside"
+            " a bound of the schedules of that realisation, in place of pits."
+        ),
+    ),
+    gap: float = typer.Option(
+        0.5, "--gap", min=0.0, help="With --schedule: end each within so many percent of its bound."
+    ),
+    minutes: float = typer.Option(
+        5.0, "--minutes", min=0.0, help="With --schedule: end each after so many minutes."
     ),
     later: bool = typer.Option(
         False,
@@ -60,15 +80,52 @@ def risk(
         help="Realisations at a time. Default: as many as processors and free memory allow.",
     ),
 ) -> None:
-    """Find the proved pit of each realisation of the grades, and how likely each block is. Goes on where it was stopped."""
-    from ..plans.risk import Risk, prepare, setup_of, tasks
+    """Find the proved pit of each realisation of the grades, and how likely each block is. Goes on
+    where it was stopped."""
+    from ..plans.risk import tasks
 
-    study = opened(folder)
+    study = open_study(folder)
+    setup = _asked_for(study, folder, realisations, factors, metal)
+    _tell_means(study, setup)
+    if is_schedule:
+        _risk_of_schedule(study, folder, (gap, minutes), later, workers)
+        return
+    if later:
+        say(
+            f"{len(setup.digests)} realisations at"
+            f" {len(setup.factors)} factor{'s' * (len(setup.factors) > 1)}; then:"
+            f" {command('submit', folder)}, and {command('risk', folder)} for the tables"
+        )
+        return
+    tell_slurm(study, tasks(study))
+    do_all(study, tasks(study), workers)
+    _show_pits(study)
+
+
+def _show_pits(study: Study) -> None:
+    """The tables, the pictures and the screen, of the pits that are there."""
+    from ..plans.risk import Risk
+
+    with _doing("the pits are read and added up again"):
+        found = Risk(study)
+    factor = 1000 if 1000 in found.factors else found.factors[-1]
+    with _doing("the pits of each likelihood are priced, and all is written"):
+        pits = _write_risk(found, factor)
+    _print_risk(found, factor, pits)
+    _warn_of_edges(found)
+
+
+def _asked_for(
+    study: Study, folder: Path, realisations: Optional[Path], factors: str, metal: Optional[str]
+) -> Setup:
+    """The realisations that are asked for, or were last."""
+    from ..plans.risk import prepare, setup_of
+
     if realisations is not None:
-        series = series_said(factors)
-        told = described(folder)
+        series = _series_said(factors)
+        plan = described(folder)
         with err.status("the realisations are looked through"):
-            prepare(study, told.economics, realisations, series, metal, told.keys)
+            prepare(study, plan.economics, realisations, series, metal, plan.keys)
     setup = setup_of(study)
     if setup is None:
         raise PlanError(
@@ -76,26 +133,76 @@ def risk(
             try_this=command("risk", folder, "--realisations", "FILE"),
         )
     if realisations is None:
-        refuse_another(setup, factors, metal, folder)
-    tell_means(study, setup)
+        _refuse_another(setup, factors, metal, folder)
+    return setup
+
+
+def _risk_of_schedule(
+    study: Study,
+    folder: Path,
+    limits: tuple[float, float],
+    later: bool,
+    workers: Optional[int],
+) -> None:
+    """The study's schedule under each realisation; `limits` are a gap in percent and minutes."""
+    from ..schedule import realised
+    from .schedule import last_of
+
+    plan = described(folder)
+    found = last_of(folder)
+    realised.prepare(study, found, plan.values["schedule"], plan.rates, *limits)
+    tasks = realised.tasks(study)
     if later:
-        say(
-            f"{len(setup.digests)} realisations at {len(setup.factors)} factor{'s' * (len(setup.factors) > 1)}; then: {command('submit', folder)}, and {command('risk', folder)} for the tables"
-        )
+        again = command("risk", folder, "--schedule")
+        say(f"{len(tasks)} schedules; then: {command('submit', folder)}, and {again} for the table")
         return
-    tell_slurm(study, tasks(study))
-    do_all(study, tasks(study), workers)
-    with doing("the pits are read and added up again"):
-        found = Risk(study)
-    factor = 1000 if 1000 in found.factors else found.factors[-1]
-    with doing("the pits of each likelihood are priced, and all is written"):
-        pits = write_risk(found, factor)
-    print_risk(found, factor, pits)
-    warn_of_edges(found)
+    tell_slurm(study, tasks)
+    do_all(study, tasks, workers)
+    _write_risk_of_schedule(study, found)
+
+
+def _write_risk_of_schedule(study: Study, schedule: Schedule) -> None:
+    """The table by realisation, and its spread on the screen."""
+    from ..schedule import realised
+    from ..table.spreadsheets import write_table
+
+    found = realised.table(study)
+    write_table(found, results(study) / "risk_schedule.csv")
+    money = printed_scale(found[["npv", "bound"]], study.currency)
+    shares = {"least": 0.0, "p10": 0.1, "p50": 0.5, "p90": 0.9, "most": 1.0}
+    lines = [
+        (
+            what,
+            *(money.text(found[name].quantile(share)) for share in shares.values()),
+            money.text(found[name].mean()),
+        )
+        for name, what in (
+            ("npv", "the schedule"),
+            ("own", "one with the grades known"),
+            ("bound", "bound of all these"),
+            ("unknown", "bound less the schedule"),
+        )
+    ]
+    print_columns(
+        f"npv under {len(found)} realisations, in {money.unit}",
+        ("of each realisation", *shares, "mean"),
+        lines,
+        words=1,
+    )
+    say(
+        f"by the table's own grades the schedule is worth {money.said(float(schedule.npv))}; not"
+        f" knowing the grades costs at most {money.said(found.unknown.mean())} on the mean"
+    )
+    if found.over.max() > 0:
+        warn(
+            f"under {int((found.over > 0).sum()):,} of them a period has more feed than the mill's"
+            f" rate, up to {found.over.max():.1%}: it is counted as milled, in the bound too"
+        )
+    say(f"{results(study)}: risk_schedule.csv")
 
 
 @contextmanager
-def doing(text: str) -> Iterator[None]:
+def _doing(text: str) -> Iterator[None]:
     """Shows what is done for some time, and off a terminal, as in a scheduler's log, in a line."""
     if not err.is_terminal:
         print(text, file=sys.stderr, flush=True)
@@ -103,7 +210,7 @@ def doing(text: str) -> Iterator[None]:
         yield
 
 
-def series_said(factors: str) -> list[int]:
+def _series_said(factors: str) -> list[int]:
     """The factors that --factors says, in thousandths."""
     from ..study.shells import series_of
 
@@ -115,12 +222,13 @@ def series_said(factors: str) -> list[int]:
         ) from None
 
 
-def refuse_another(setup: Setup, factors: str, metal: Optional[str], folder: Path) -> None:
-    """Refuses factors and a metal that aren't those which the realisations were given with: to go on takes neither."""
+def _refuse_another(setup: Setup, factors: str, metal: Optional[str], folder: Path) -> None:
+    """Refuses factors and a metal that aren't those which the realisations were given with: to go
+    on takes neither."""
     from ..plans.risk import spelled_factor
 
     grades = {str(m["name"]): str(m["grade"]) for m in setup.economics["metals"]}
-    if (factors == ALONE or series_said(factors) == setup.factors) and (
+    if (factors == _ALONE or _series_said(factors) == setup.factors) and (
         metal is None or grades.get(metal) == setup.column
     ):
         return
@@ -128,7 +236,7 @@ def refuse_another(setup: Setup, factors: str, metal: Optional[str], folder: Pat
         name for name, grade in grades.items() if grade == setup.column
     )
     more = [
-        *(["--factors", factors] if factors != ALONE else []),
+        *(["--factors", factors] if factors != _ALONE else []),
         *(["--metal", metal] if metal is not None else []),
     ]
     raise PlanError(
@@ -137,7 +245,7 @@ def refuse_another(setup: Setup, factors: str, metal: Optional[str], folder: Pat
     )
 
 
-def tell_means(study: Study, setup: Setup) -> None:
+def _tell_means(study: Study, setup: Setup) -> None:
     """Says where the realisations aren't true to the table on the mean."""
     from ..plans.risk import NOT_ALIKE, means
 
@@ -145,16 +253,21 @@ def tell_means(study: Study, setup: Setup) -> None:
         found = means(study, setup)
     if found.apart:
         warn(
-            f"realisation {', '.join(map(str, found.apart[:9]))}{', ..' * (len(found.apart) > 9)} of {len(setup.digests)} has nothing to do with the table, row by row (a correlation of less than {NOT_ALIKE:g}); "
-            "a realisation varies around the estimate\n  try: its rows in the order of the table's"
+            "realisation"
+            f" {', '.join(map(str, found.apart[:9]))}{', ..' * (len(found.apart) > 9)} of"
+            f" {len(setup.digests)} has nothing to do with the table, row by row (a correlation of"
+            f" less than {NOT_ALIKE:g}); a realisation varies around the estimate\n  try: its rows"
+            " in the order of the table's"
         )
-    if not abs(found.share) > NEAR:
+    if not abs(found.share) > _NEAR:
         return
     by = f"{abs(found.share):.1%} " if found.table > 0 else ""
     warn(
-        f"the realisations' mean grade of {found.metal} is {found.realisations:.4g} {found.unit}, {by}{'above' if found.share > 0 else 'below'} the table's "
-        f"{found.table:.4g} {found.unit}, by tonnes over {found.rows:,} rows: so their worths differ from the plan's, which is neither upside nor risk\n"
-        "  try: realisations whose mean is the table's, or a table whose mean is theirs"
+        f"the realisations' mean grade of {found.metal} is {found.realisations:.4g} {found.unit},"
+        f" {by}{'above' if found.share > 0 else 'below'} the table's"
+        f" {found.table:.4g} {found.unit}, by tonnes over {found.rows:,} rows: so their worths"
+        " differ from the plan's, which is neither upside nor risk\n  try: realisations whose mean"
+        " is the table's, or a table whose mean is theirs"
     )
 
 
@@ -174,8 +287,9 @@ def tell_slurm(study: Study, tasks: list[Task]) -> None:
     )
     if count:
         warn(
-            f"{count:,} of these tasks {'waits or runs' if count == 1 else 'wait or run'} in Slurm, and {'is' if count == 1 else 'are'} done here too\n"
-            f"  try: ctrl-C, and the same command once {command('status', study.named)} says that all is done"
+            f"{count:,} of these tasks {'waits or runs' if count == 1 else 'wait or run'} in Slurm,"
+            f" and {'is' if count == 1 else 'are'} done here too\n  try: ctrl-C, and the same"
+            f" command once {command('status', study.named)} says that all is done"
         )
 
 
@@ -190,7 +304,7 @@ def do_all(study: Study, tasks: list[Task], workers: Optional[int]) -> None:
     count = processes_for(study, workers)
     warn_of_room(workers, count)
     if not err.is_terminal:
-        deaths = run_local(study, left, count, heard(lines()))
+        deaths = run_local(study, left, count, _heard(_lines()))
     else:
         from rich.progress import (
             BarColumn,
@@ -210,23 +324,23 @@ def do_all(study: Study, tasks: list[Task], workers: Optional[int]) -> None:
         ) as bars:
             bar = bars.add_task(f"tasks, {count} at a time", total=len(left))
             deaths = run_local(
-                study, left, count, heard(lambda task, done, of: bars.update(bar, completed=done))
+                study, left, count, _heard(lambda task, done, of: bars.update(bar, completed=done))
             )
     if deaths:
         warn(f"a process was ended {deaths} times, and started again: was memory short?")
 
 
-def heard(listener: Heard) -> Heard:
+def _heard(listener: Heard) -> Heard:
     """A listener whose tasks are events, too."""
 
-    def told(task: Task, done: int, of: int) -> None:
+    def progress(task: Task, done: int, of: int) -> None:
         events.event("task", task=str(task), done=done, of=of)
         listener(task, done, of)
 
-    return told
+    return progress
 
 
-def lines() -> Heard:
+def _lines() -> Heard:
     """A line for each task that is done, for logs."""
     began = time.time()
     return lambda task, done, of: print(
@@ -236,7 +350,7 @@ def lines() -> Heard:
     )
 
 
-def write_risk(found: Risk, factor: int) -> pd.DataFrame:
+def _write_risk(found: Risk, factor: int) -> pd.DataFrame:
     """The tables, and a section and a page by likelihood at a factor; gives `Risk.pits` at it."""
     from ..table.spreadsheets import write_table
     from ..views import page
@@ -254,8 +368,9 @@ def write_risk(found: Risk, factor: int) -> pd.DataFrame:
     return pits
 
 
-def warn_of_edges(found: Risk) -> None:
-    """Says of the smallest factor at which realisations' pits touch the model's side or reach its floor, of how many they are."""
+def _warn_of_edges(found: Risk) -> None:
+    """Says of the smallest factor at which realisations' pits touch the model's side or reach its
+    floor, of how many they are."""
     from ..plans.risk import spelled_factor
     from ..study.edges import FLOOR, SIDE
 
@@ -264,45 +379,51 @@ def warn_of_edges(found: Risk) -> None:
         if at is not None:
             most = int(counts[at].max())
             warn(
-                f"at factor {spelled_factor(found.factors[at])} the pit of {int((counts[at] > 0).sum()):,} of {found.count:,} realisations {what.format(f'up to {most:,} blocks there')}\n  try: {hint}"
+                f"at factor {spelled_factor(found.factors[at])} the pit of"
+                f" {int((counts[at] > 0).sum()):,} of {found.count:,} realisations"
+                f" {what.format(f'up to {most:,} blocks there')}\n  try: {hint}"
             )
 
 
-def print_risk(found: Risk, factor: int, pits: pd.DataFrame) -> None:
-    """The spread over the realisations on the screen, and the pit of a likelihood that is worth most on the mean."""
+def _print_risk(found: Risk, factor: int, pits: pd.DataFrame) -> None:
+    """The spread over the realisations on the screen, and the pit of a likelihood that is worth
+    most on the mean."""
     from ..plans.risk import spelled_factor
 
-    currency = found.study.currency
+    table = found.table()
+    worths = [f"worth_{name}" for name in ("p10", "p50", "p90", "mean")]
+    rocks = [f"rock_t_{name}" for name in ("p10", "p50", "p90")]
+    money = printed_scale(table[worths], found.study.currency)
+    rock = printed_scale(table[rocks], found.study.model.units.weight)
     lines = [
         (
-            f"{row.factor:.3f}",
-            *(
-                f"{v / 1e6:,.2f}"
-                for v in (
-                    row.worth_p10,
-                    row.worth_p50,
-                    row.worth_p90,
-                    row.worth_mean,
-                    row.rock_t_p10,
-                    row.rock_t_p50,
-                    row.rock_t_p90,
-                )
-            ),
+            f"{row['factor']:.3f}",
+            *(money.text(row[name]) for name in worths),
+            *(rock.text(row[name]) for name in rocks),
         )
-        for row in found.table().itertuples()
+        for row in table.to_dict("records")
     ]
     print_columns(
-        f"{found.count} realisations, million {currency} and Mt; a tenth of them lies below p10",
+        f"{found.count} realisations, {money.unit} and {rock.unit}; a tenth of them lies below p10",
         ("factor", "worth p10", "p50", "p90", "mean", "rock p10", "p50", "p90"),
         lines,
+    )
+    print_rock_of_classes(
+        found.study,
+        pits,
+        {"likelihood": [f"{share:.0%}" for share in pits.likelihood]},
+        f"rock of each pit by likelihood at factor {spelled_factor(factor)}, by resource class",
     )
     if found.factors != [1000]:
         say("each worth is at its factor's own price")
     most = pits.worth_mean.idxmax()
     say(
-        f"at factor {spelled_factor(factor)}: of the {len(pits)} pits by likelihood that of at least {pits.likelihood[most]:.0%}, {pits.blocks[most]:,} blocks, is worth most on the mean, "
-        f"{pits.worth_mean[most] / 1e6:,.2f} million; each realisation's own best pit, {pits.best_mean[most] / 1e6:,.2f}"
+        f"at factor {spelled_factor(factor)}: of the {len(pits)} pits by likelihood that of at"
+        f" least {pits.likelihood[most]:.0%}, {pits.blocks[most]:,} blocks, is worth most on the"
+        f" mean, {money.said(pits.worth_mean[most])}; each realisation's own best pit,"
+        f" {money.text(pits.best_mean[most])}"
     )
     say(
-        f"{results(found.study)}: risk.csv, risk_runs.csv, likelihood.csv, likelihood_pits.csv, likelihood.png, likelihood.html"
+        f"{results(found.study)}: risk.csv, risk_runs.csv, likelihood.csv, likelihood_pits.csv,"
+        " likelihood.png, likelihood.html"
     )

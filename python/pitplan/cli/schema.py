@@ -8,7 +8,8 @@ from .console import app
 
 @app.command()
 def schema() -> None:
-    """Print a JSON Schema of study.toml, by which an editor completes its keys and marks what is wrong."""
+    """Print a JSON Schema of study.toml, by which an editor completes its keys and marks what is
+    wrong."""
     from ..study.study_reference import schema
 
     print(json.dumps(schema(), indent=1, ensure_ascii=False))

@@ -13,14 +13,14 @@ import typer
 from ..base import events
 from ..base.errors import PlanError
 from ..base.next_command import command
-from ..base.units_shown import share_text
-from .build import tell_strange
+from ..base.units_shown import counted, grade_places, printed_scale, share_text
+from .build import print_classes, tell_strange
 from .console import (
     STUDY,
     app,
     described,
     err,
-    opened,
+    open_study,
     print_columns,
     results,
     say,
@@ -32,7 +32,7 @@ if TYPE_CHECKING:
     import pandas as pd
 
     from ..study.shells import Shells
-    from ..study.runs import Told
+    from ..study.runs import FactorProgress
 
 
 @app.command()
@@ -44,22 +44,32 @@ def shells(
     certificates: bool = typer.Option(
         False,
         "--certificates",
-        help="Find each pit by itself, with a certificate that pit check accepts: slower. Later ones are added to pits that are there.",
+        help=(
+            "Find each pit by itself, with a certificate that pit check accepts: slower. Later ones"
+            " are added to pits that are there."
+        ),
     ),
 ) -> None:
     """Find the proved pit at each factor, and the tables. Goes on where it was stopped."""
-    from ..slopes.looks import of_rates
+    from ..base.amounts import THOUSAND
+    from ..study.looks import of_rates
     from ..study.workers import workers_for
 
-    told, study = described(folder), opened(folder)
+    plan, study = described(folder), open_study(folder)
     count = workers_for(study, workers)
     warn_of_room(workers, count)
-    with shown(told.factors, count) as listener:
-        found = study.shells(told.factors, count, listener, certificates)
-    table = found.table(**told.rates)
-    write_tables(found, table, told.keys.decimal)
-    print_table(found, table)
-    tell_strange(list(of_rates(study.model, study.priced, told.rates)))
+    with _shown(plan.factors, count) as listener:
+        found = study.shells(plan.factors, count, listener, certificates)
+    table = found.table(**plan.rates)
+    write_tables(found, table, plan.keys.decimal)
+    _print_table(found, table)
+    at = found.factors.index(THOUSAND) if THOUSAND in found.factors else len(found) - 1
+    print_classes(
+        found.study,
+        {"": found.holds(at)},
+        f"the pit at factor {share_text(found.factors[at])} by resource class",
+    )
+    tell_strange(list(of_rates(study.model, study.priced, plan.rates)))
     warn_of_edges(found)
 
 
@@ -71,7 +81,7 @@ def with_certificates(found: Shells) -> Shells:
     if not left:
         return found
     count = workers_for(found.study)
-    with shown(left, count) as listener:
+    with _shown(left, count) as listener:
         return found.with_certificates(
             count,
             lambda factor, what, share: listener(factor, what, share) if factor in left else None,
@@ -79,23 +89,23 @@ def with_certificates(found: Shells) -> Shells:
 
 
 @contextmanager
-def shown(factors: list[int], workers: int) -> Iterator[Told]:
-    """Shows how far the runs are: on a terminal a bar with the time left and a line for each that runs, else a line for each
-    that is done."""
+def _shown(factors: list[int], workers: int) -> Iterator[FactorProgress]:
+    """Shows how far the runs are: on a terminal a bar with the time left and a line for each that
+    runs, else a line for each that is done."""
     if not err.is_terminal:
-        yield heard(lines(len(factors)), len(factors))
+        yield _heard(_lines(len(factors)), len(factors))
         return
     from rich.progress import BarColumn, Progress, TextColumn, TimeRemainingColumn
 
     with Progress(
         TextColumn("{task.description}"),
         BarColumn(),
-        TextColumn("{task.fields[told]}"),
+        TextColumn("{task.fields[text]}"),
         TimeRemainingColumn(),
         console=err,
         transient=True,
     ) as bars:
-        every = bars.add_task(f"pits, {workers} at a time", total=float(len(factors)), told="")
+        every = bars.add_task(f"pits, {workers} at a time", total=float(len(factors)), text="")
         lanes: dict[int, int] = {}
         shares: dict[int, float] = {}
 
@@ -105,9 +115,11 @@ def shown(factors: list[int], workers: int) -> Iterator[Told]:
             bars.update(
                 every,
                 completed=sum(shares.values()),
-                told=f"{done} of {len(factors)}"
-                if what != "proved"
-                else f"{sum(value > 0 for value in shares.values())} of {len(factors)} proved",
+                text=(
+                    f"{done} of {len(factors)}"
+                    if what != "proved"
+                    else f"{sum(value > 0 for value in shares.values())} of {len(factors)} proved"
+                ),
             )
             if what == "proved":
                 return  # one run for all factors: no line for each
@@ -116,29 +128,30 @@ def shown(factors: list[int], workers: int) -> Iterator[Told]:
                     bars.remove_task(lanes.pop(factor))  # type: ignore[arg-type]
             elif factor not in lanes:
                 lanes[factor] = bars.add_task(
-                    f"  factor {share_text(factor)}", total=1.0, told=what
+                    f"  factor {share_text(factor)}", total=1.0, text=what
                 )
             else:
-                bars.update(lanes[factor], completed=share, told=what if share < 1 else "checking")  # type: ignore[arg-type]
+                now = what if share < 1 else "checking"
+                bars.update(lanes[factor], completed=share, text=now)  # type: ignore[arg-type]
 
-        yield heard(listener, len(factors))
+        yield _heard(listener, len(factors))
 
 
-def heard(listener: Told, of: int) -> Told:
+def _heard(listener: FactorProgress, of: int) -> FactorProgress:
     """A listener whose pits are events, too: each hundredth of its way."""
     last: dict[int, tuple[str, int]] = {}
 
-    def told(factor: int, what: str, share: float) -> None:
+    def progress(factor: int, what: str, share: float) -> None:
         now = what, int(100 * share)
         if last.get(factor) != now:
             last[factor] = now
             events.event("pit", factor=factor, state=what, share=round(share, 2), of=of)
         listener(factor, what, share)
 
-    return told
+    return progress
 
 
-def lines(total: int) -> Told:
+def _lines(total: int) -> FactorProgress:
     """A line for each factor that is proved or done, for logs."""
     began, there = time.time(), set[int]()
 
@@ -148,7 +161,10 @@ def lines(total: int) -> Told:
             there.add(factor)
         if is_new or what == "killed":
             print(
-                f"factor {share_text(factor)} {what}: {len(there)} of {total} after {time.time() - began:.0f} s",
+                (
+                    f"factor {share_text(factor)} {what}: {len(there)} of {total} after"
+                    f" {time.time() - began:.0f} s"
+                ),
                 file=sys.stderr,
                 flush=True,
             )
@@ -157,7 +173,8 @@ def lines(total: int) -> Told:
 
 
 def write_tables(found: Shells, table: pd.DataFrame, decimal: str | None = None) -> None:
-    """Pit by pit, bench by bench, and the planner's own table with a column more; `decimal` is its mark of a decimal, where study.toml says it."""
+    """Pit by pit, bench by bench, and the planner's own table with a column more; `decimal` is its
+    mark of a decimal, where study.toml says it."""
     from ..table.spreadsheets import write_table
     from ..views.export import table_back
 
@@ -168,21 +185,24 @@ def write_tables(found: Shells, table: pd.DataFrame, decimal: str | None = None)
     try:
         rows = table_back.write(found, folder / name, decimal)
         say(
-            f"{folder / name}: the table with a column more, pit_shell, that {rows:,} of its rows have"
+            f"{folder / name}: the table with a column more, pit_shell, that {rows:,} of its rows"
+            " have"
         )
     except PlanError as error:
         write_table(found.of_blocks(), folder / "blocks.csv")
         warn(f"{error}\n{folder / 'blocks.csv'} has the shell of each block by its id instead")
 
 
-def print_table(found: Shells, table: pd.DataFrame) -> None:
+def _print_table(found: Shells, table: pd.DataFrame) -> None:
     """The pit-by-pit table on the screen; all of its columns are in the file."""
     currency, metals = found.study.currency, found.study.manifest["metals"]
+    rock = printed_scale(table[["ore_t", "waste_t"]], found.study.model.units.weight)
+    money = printed_scale(table[["worth_at_base", "npv_best", "npv_worst"]], currency)
     names = (
         "factor",
         "blocks",
-        "ore Mt",
-        "waste Mt",
+        f"ore {rock.unit}",
+        f"waste {rock.unit}",
         "strip",
         *(f"{name} {unit['grade_unit']}" for name, unit in metals.items()),
         "worth",
@@ -190,10 +210,11 @@ def print_table(found: Shells, table: pd.DataFrame) -> None:
         "worst case",
         "years",
     )
+    places = {name: grade_places(table[f"grade_{name}"], 3, 3) for name in metals}
     lines = []
     for row in table.to_dict("records"):
         grades = [
-            "" if row[f"grade_{name}"] != row[f"grade_{name}"] else f"{row[f'grade_{name}']:.3f}"
+            "" if (value := row[f"grade_{name}"]) != value else f"{value:.{places[name]}f}"
             for name in metals
         ]
         strip = "" if row["strip"] != row["strip"] else f"{row['strip']:.2f}"
@@ -201,30 +222,33 @@ def print_table(found: Shells, table: pd.DataFrame) -> None:
             (
                 f"{row['factor']:.3f}",
                 f"{row['blocks']:,}",
-                f"{row['ore_t'] / 1e6:,.2f}",
-                f"{row['waste_t'] / 1e6:,.2f}",
+                rock.text(row["ore_t"]),
+                rock.text(row["waste_t"]),
                 strip,
                 *grades,
-                f"{row['worth_at_base'] / 1e6:,.2f}",
-                f"{row['npv_best'] / 1e6:,.2f}",
-                f"{row['npv_worst'] / 1e6:,.2f}",
+                money.text(row["worth_at_base"]),
+                money.text(row["npv_best"]),
+                money.text(row["npv_worst"]),
                 f"{row['years']:.1f}",
             )
         )
-    print_columns(f"pit by pit, worths in million {currency} at the full price", names, lines)
+    print_columns(f"pit by pit, worths in {money.unit} at the full price", names, lines)
     say(
-        f"{found.study.folder / 'out'}: pit_by_pit.csv, benches.csv. Each pit is proved; the discounted cases are two simple orders, no schedule"
+        f"{found.study.folder / 'out'}: pit_by_pit.csv, benches.csv. Each pit is proved; the"
+        " discounted cases are two simple orders, no schedule"
     )
     if found.certified == len(found):
         say("each pit has a certificate, which pit check has accepted")
     else:
         say(
-            f"each pit is as pit shells states it, which is proved to state none but the best; certificates: {command('shells', found.study.named)} --certificates"
+            "each pit is as pit shells states it, which is proved to state none but the best;"
+            f" certificates: {command('shells', found.study.named)} --certificates"
         )
 
 
 def warn_of_edges(found: Shells) -> None:
-    """Says of the smallest pit that touches the model's side, and of the smallest that reaches its floor, where that is."""
+    """Says of the smallest pit that touches the model's side, and of the smallest that reaches its
+    floor, where that is."""
     from ..study.edges import FLOOR, SIDE
 
     for count, (what, hint) in ((found.touches_edge, SIDE), (found.reaches_floor, FLOOR)):
@@ -233,7 +257,7 @@ def warn_of_edges(found: Shells) -> None:
         )
         if first:
             last = count(len(found.factors) - 1)
-            blocks = f"{first[1]:,} {'block' if first[1] == 1 else 'blocks'} there" + (
+            blocks = f"{counted(first[1], 'block')} there" + (
                 f", {last:,} at factor {share_text(found.factors[-1])}"
                 if first[0] != found.factors[-1]
                 else ""

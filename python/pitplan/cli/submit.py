@@ -2,28 +2,40 @@
 from __future__ import annotations
 
 import shlex
+from enum import Enum
 from pathlib import Path
 from typing import TYPE_CHECKING, Optional
 
 import typer
-from ..base.errors import MachineError, PlanError
+from ..base.errors import MachineError
 from ..base.next_command import command
-from .console import STUDY, app, described, opened, say, warn
+from ..base.units_shown import counted
+from .console import STUDY, app, described, open_study, say, warn
 
 if TYPE_CHECKING:
     from ..plans.task_line import Task
     from ..study.study import Study
     from ..tasks.engines import Handed
 
-ENGINES = ("local", "slurm", "snakemake")
-SHOWN = 5  # failures that are told
+_SHOWN = 5  # failures that are told
+
+
+class _Engine(str, Enum):
+    """Who starts tasks."""
+
+    LOCAL = "local"
+    SLURM = "slurm"
+    SNAKEMAKE = "snakemake"
+
+    def __str__(self) -> str:
+        return self.value
 
 
 @app.command()
 def submit(
     folder: Path = STUDY,
-    engine: str = typer.Option(
-        "local",
+    engine: _Engine = typer.Option(
+        _Engine.LOCAL,
         help="local: processes of this machine; slurm: a job array; snakemake: a Snakefile for other schedulers.",
     ),
     dry: bool = typer.Option(
@@ -41,37 +53,35 @@ def submit(
     """Hand in what isn't done yet of shells, realisations and what-ifs. What failed is handed in again, and nothing else."""
     from ..tasks.engines import Limits
 
-    if engine not in ENGINES:
-        raise PlanError(
-            f"--engine {engine}: there is none of that name", try_this=", ".join(ENGINES)
-        )
-    study = opened(folder)
-    tasks = to_hand_in(study, described(folder).factors, again)
+    study = open_study(folder)
+    tasks = _to_hand_in(study, described(folder).factors, again)
     if not tasks:
         say("nothing to hand in: every task is done or in hand")
     elif dry:
-        show(study, tasks, engine, Limits(minutes, at_once))
-    elif engine == "local":
+        _show(study, tasks, engine, Limits(minutes, at_once))
+    elif engine is _Engine.LOCAL:
         from .risk import do_all
 
         do_all(study, tasks, workers)
-        say(f"{counted(tasks)} done")
-    elif engine == "slurm":
+        say(f"{counted(len(tasks), 'task')} done")
+    elif engine is _Engine.SLURM:
         from ..tasks.engines import submit_slurm
 
         say(
-            f"{counted(tasks)} handed in as job {', '.join(submit_slurm(study, tasks, Limits(minutes, at_once)))}; then: {command('status', folder)}"
+            f"{counted(len(tasks), 'task')} handed in as job {', '.join(submit_slurm(study, tasks, Limits(minutes, at_once)))}; then: {command('status', folder)}"
         )
     else:
         from ..tasks.engines import snakemake_lines, write_snakefile
 
         written = write_snakefile(study, tasks)
-        say(f"{counted(tasks)} in {written / 'Snakefile'}; in the folder {study.folder}, on")
+        say(
+            f"{counted(len(tasks), 'task')} in {written / 'Snakefile'}; in the folder {study.folder}, on"
+        )
         for where, line in snakemake_lines(written).items():
             say(f"  {where}: {line}")
 
 
-def to_hand_in(study: Study, factors: list[int], again: bool) -> list[Task]:
+def _to_hand_in(study: Study, factors: list[int], again: bool) -> list[Task]:
     """The tasks that are neither done nor running nor waiting; with `again` also those that seem to run on other machines."""
     from ..base.files import host
     from ..tasks.status import FAILED, RUNNING, TO_DO, states
@@ -87,7 +97,7 @@ def to_hand_in(study: Study, factors: list[int], again: bool) -> list[Task]:
     ]
     if elsewhere and not again:
         warn(
-            f"{counted([state.task for state in elsewhere])} running {', '.join(sorted({state.words for state in elsewhere}))}; if that machine died: --again"
+            f"{counted(len(elsewhere), 'task')} running {', '.join(sorted({state.words for state in elsewhere}))}; if that machine died: --again"
         )
     return [
         state.task
@@ -96,18 +106,14 @@ def to_hand_in(study: Study, factors: list[int], again: bool) -> list[Task]:
     ]
 
 
-def counted(tasks: list[Task]) -> str:
-    return "1 task" if len(tasks) == 1 else f"{len(tasks):,} tasks"
-
-
-def show(study: Study, tasks: list[Task], engine: str, limits: object) -> None:
+def _show(study: Study, tasks: list[Task], engine: _Engine, limits: object) -> None:
     """What would be handed in."""
     from ..tasks.engines import Limits, megabytes, slurm_script
 
-    say(f"{counted(tasks)} of {megabytes(study):,} MB each would be handed in:")
+    say(f"{counted(len(tasks), 'task')} of {megabytes(study):,} MB each would be handed in:")
     for task in tasks:
         say(f"  pitplan task {shlex.quote(str(study.folder))} {task}")
-    if engine == "slurm":
+    if engine is _Engine.SLURM:
         assert isinstance(limits, Limits)
         say(slurm_script(study, min(len(tasks), 1000), "submit/N", limits))
 
@@ -115,13 +121,13 @@ def show(study: Study, tasks: list[Task], engine: str, limits: object) -> None:
 @app.command()
 def status(folder: Path = STUDY) -> None:
     """Show what is done, running, waiting and failed, and how long the rest will take."""
-    from ..study.last_run import told
+    from ..study.last_run import last_line
     from ..tasks.engines import in_slurm
     from ..tasks.status import FAILED, RUNNING, STATES, seconds_left, states
     from ..tasks.task import wanted
     from .build import duration
 
-    study = opened(folder)
+    study = open_study(folder)
     in_hand: dict[Task, Handed] = {}
     try:
         in_hand = in_slurm(study)
@@ -143,15 +149,15 @@ def status(folder: Path = STUDY) -> None:
             f"certificates: of {kept} of {len(there)} shells; the others are as pit shells states them"
         )
     failed = [state for state in found if state.state == FAILED]
-    for state in failed[:SHOWN]:
+    for state in failed[:_SHOWN]:
         say(f"  failed: {state.task}: {state.words}")
-    if len(failed) > SHOWN:
-        say(f"  and {len(failed) - SHOWN} more")
-    for state in [state for state in found if state.state == RUNNING][:SHOWN]:
+    if len(failed) > _SHOWN:
+        say(f"  and {len(failed) - _SHOWN} more")
+    for state in [state for state in found if state.state == RUNNING][:_SHOWN]:
         say(f"  running: {state.task}, {state.words}")
     left = seconds_left(study, found)
     if left:
         say(f"the rest will take about {duration(left)}, by what is done")
-    last = told(study.folder)
+    last = last_line(study.folder)
     if last:
         say(last)

@@ -2,7 +2,7 @@
 from __future__ import annotations
 
 import functools
-from collections.abc import Callable
+from collections.abc import Callable, Mapping
 from pathlib import Path
 from typing import Any
 
@@ -10,6 +10,7 @@ import typer
 
 from ..base import events
 from ..base.errors import PlanError, exit_status
+from ..base.within import refuse_study
 from ..study.turns import turn
 from .console import Wants, err, wants
 
@@ -21,45 +22,55 @@ WRITERS = (
     "plot",
     "page",
     "phases",
+    "schedule",
     "export",
     "compare",
     "risk",
     "vary",
+    "report",
     "submit",
     "bundle",
 )
 
 
-DONE = 0
+_DONE = 0
 
 
 def take_turns(app: typer.Typer) -> None:
     """Lets each command that writes into a study have it to itself while it runs."""
     for command in app.registered_commands:
         if command.callback is not None and command.callback.__name__ in WRITERS:
-            command.callback = alone(command.callback)
+            command.callback = _alone(command.callback)
 
 
-def alone(command: Callable[..., Any], given: Wants = wants) -> Callable[..., Any]:
+def _named_study(said: Mapping[str, Any]) -> Path:
+    """The study that a command was given: by an argument of its own, or by the one of its words that is no change."""
+    words = [word for word in said.get("words") or () if "=" not in word]
+    return Path(said.get("folder") or (words[0] if words else "."))
+
+
+def _waiting(who: str) -> None:
+    """Says who has the study that a command waits for."""
+    events.event("wait", what=who)
+    err.print(f"waiting: {who}", markup=False, soft_wrap=True)
+
+
+def _alone(command: Callable[..., Any], given: Wants = wants) -> Callable[..., Any]:
     """A command that has its study to itself, and leaves in it what it told."""
 
     @functools.wraps(command)
     def run(*args: Any, **said: Any) -> Any:
         from ..study.study_file import path_of
 
-        folder = path_of(Path(said.get("folder", "."))).parent
-        with turn(
-            folder,
-            events.words(),
-            given.waits,
-            lambda who: err.print(f"waiting: {who}", markup=False, soft_wrap=True),
-        ), events.of_study(folder) as ends:
+        folder = path_of(_named_study(said)).parent
+        refuse_study(folder)
+        with turn(folder, events.words(), given.waits, _waiting), events.of_study(folder) as ends:
             try:
                 found = command(*args, **said)
             except BaseException as wrong:
                 ends(exit_status(wrong), wrong if isinstance(wrong, PlanError) else None)
                 raise
-            ends(found if isinstance(found, int) else DONE, None)
+            ends(found if isinstance(found, int) else _DONE, None)
             return found
 
     return run

@@ -8,26 +8,34 @@ from typing import Any, List
 
 import typer
 
+from ..base.stops import stop
+from ..base.within import refuse_study
 from .console import app, say
 
-STOPPED = 130
+_STOPPED = 130
 
-WORDS: Any = typer.Argument(
+_WORDS: Any = typer.Argument(
     ...,
-    help="run SCENARIO FACTOR, or realisation NUMBER FACTORS; factors in thousandths. - reads such lines from the standard input.",
+    help=(
+        "run SCENARIO FACTOR, realisation NUMBER FACTORS, schedule SCENARIO 1000 or realised NUMBER 1000; factors in thousandths. - reads such"
+        " lines from the standard input."
+    ),
 )
 
 
 @app.command()
 def task(
-    folder: Path = typer.Argument(..., help="The folder of the study."), words: List[str] = WORDS
+    folder: Path = typer.Argument(..., help="The folder of the study."), words: List[str] = _WORDS
 ) -> None:
-    """Find the pits of one task, for clusters. Does nothing where they are there; may be started anywhere, twice, and after a crash."""
+    """Find the pits of one task, for clusters. Does nothing where they are there; may be started
+    anywhere, twice, and after a crash."""
     from ..plans.task_line import task_of
     from ..tasks.local import serve
-    from ..tasks.task import Tasks, told
+    from ..tasks.task import Tasks, done_line
 
-    signal.signal(signal.SIGTERM, stopped)
+    # how a scheduler ends a task: what is half done is taken away, as after ctrl-C
+    signal.signal(signal.SIGTERM, stop)
+    refuse_study(folder)
     tasks = Tasks(folder)
     if words == ["-"]:
         try:
@@ -38,12 +46,7 @@ def task(
                 task_of,
             )
         except KeyboardInterrupt:
-            sys.exit(STOPPED)  # who started this one says so
+            sys.exit(_STOPPED)  # who started this one says so
         return
     found = task_of(words)
-    say(told(found, tasks.do(found)))
-
-
-def stopped(signal_number: int, frame: object) -> None:
-    """SIGTERM is how a scheduler ends a task: what is half done is taken away, as after ctrl-C."""
-    raise KeyboardInterrupt
+    say(done_line(found, tasks.do(found)))

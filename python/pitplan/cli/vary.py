@@ -1,6 +1,8 @@
 """`pitplan vary`: what-ifs."""
 from __future__ import annotations
 
+import math
+from collections.abc import Iterator
 from pathlib import Path
 from typing import TYPE_CHECKING, Any, List, Optional, Tuple
 
@@ -8,22 +10,41 @@ import typer
 
 from ..base.errors import PlanError
 from ..base.next_command import command
-from .console import app, described, err, opened, print_columns, results, say, warn
+from ..base.units_shown import printed_scale
+from .build import print_rock_of_classes
+from .console import app, described, err, open_study, print_columns, results, say, warn
 
 if TYPE_CHECKING:
     import pandas as pd
 
-WORDS: Any = typer.Argument(
+    from ..plans.task_line import Task
+    from ..plans.vary import Change
+    from ..study.pit_by_pit import Rates
+    from ..study.study import Study
+    from ..study.study_file import StudyFile
+
+_WORDS: Any = typer.Argument(
     None,
     metavar="[STUDY] [CHANGES]...",
-    help="The folder of the study (default: this one), and changes, as price=-20..20 recovery=-5..5 mining=-10..10 processing=-10..10 (percent of themselves) slope=-3..3 (degrees). Default: the changes of the last run.",
+    help="The folder of the study (default: this one), and changes, as price=-20..20 price:gold=-10..10 recovery=-5..5 recovery:gold=-5..5 mining=-10..10 processing=-10..10 mining_rate=-10..10 mill_rate=-10..10 (percent of themselves) slope=-3..3 (degrees) discount=-2..2 (points: from 8 % to 10 % a year are 2); with --schedule also sink=-1..1 (benches). Default: the changes of the last run.",
 )
 
 
 @app.command()
 def vary(
-    words: List[str] = WORDS,
+    words: List[str] = _WORDS,
     factor: float = typer.Option(1.0, help="Share of the price."),
+    is_schedule: bool = typer.Option(
+        False,
+        "--schedule",
+        help="A plan by years for each change, beside a bound of its own, in place of a pit.",
+    ),
+    gap: float = typer.Option(
+        0.5, "--gap", min=0.0, help="With --schedule: end each within so many percent of its bound."
+    ),
+    minutes: float = typer.Option(
+        5.0, "--minutes", min=0.0, help="With --schedule: end each after so many minutes."
+    ),
     later: bool = typer.Option(
         False, "--later", help="Build what is needed and find no pit yet: pitplan submit does."
     ),
@@ -31,87 +52,212 @@ def vary(
         None, min=1, help="Pits at a time. Default: as many as processors and free memory allow."
     ),
 ) -> None:
-    """Find the proved pit with one thing changed at a time, and which of them moves the worth most."""
-    from ..plans.vary import asked_of, changes_of, prepare, tasks
-    from ..study.shells import thousandths
+    """Find the proved pit with one thing changed at a time, and which of them moves the worth most, and the npv."""
     from .risk import do_all, tell_slurm
 
-    folder, changes = folder_and_changes(words or [])
-    study = opened(folder)
+    folder, changes = _folder_and_changes(words or [])
+    study = open_study(folder)
+    if is_schedule:
+        if factor != 1.0:
+            raise PlanError("a schedule is of the full price: --schedule goes without --factor")
+        tasks = _schedules_asked(study, folder, changes, (gap, minutes))
+    else:
+        tasks = _pits_asked(study, folder, changes, factor)
+    if later:
+        again = command("vary", folder, *(["--schedule"] if is_schedule else []))
+        what = "schedules" if is_schedule else "pits"
+        say(f"{len(tasks)} {what}; then: {command('submit', folder)}, and {again} for the table")
+        return
+    tell_slurm(study, tasks)
+    do_all(study, tasks, workers)
+    if is_schedule:
+        _write_schedules(study)
+    else:
+        _write_what_ifs(study, _rates_of(described(folder)))
+
+
+def _pits_asked(study: Study, folder: Path, changes: List[str], factor: float) -> list[Task]:
+    """The tasks of the what-ifs that are asked for, or were last."""
+    from ..plans.vary import asked_of, changes_of, prepare, tasks
+    from ..study.shells import thousandths
+
     if changes:
-        told = described(folder)
+        plan = described(folder)
         with err.status("the model of each change is built"):
-            prepare(study, told.economics, told.slopes, changes_of(changes), thousandths(factor))
+            prepare(
+                study,
+                plan.economics,
+                plan.slopes,
+                changes_of(changes),
+                thousandths(factor),
+                _rates_of(plan),
+            )
     if asked_of(study) is None:
         raise PlanError(
             "no what-ifs were asked for over the model that stands there",
             try_this=command("vary", folder, "price=-20..20", "recovery=-5..5", "slope=-3..3"),
         )
-    if later:
-        say(
-            f"{len(tasks(study))} pits; then: {command('submit', folder)}, and {command('vary', folder)} for the table"
+    return list(dict.fromkeys(tasks(study)))
+
+
+def _schedules_asked(
+    study: Study, folder: Path, changes: List[str], limits: Tuple[float, float]
+) -> list[Task]:
+    """The tasks of the schedules that are asked for, or were last; `limits` are a gap in percent
+    and minutes.
+
+    Raises PlanError where [schedule] or the rates of study.toml have changed since they were.
+    """
+    from ..plans.vary import changes_of
+    from ..schedule.what_ifs import KNOWN, Asked, must_be_asked, prepare, tasks
+
+    plan = described(folder)
+    told, rates = plan.values["schedule"], plan.rates
+    if changes:
+        wanted = changes_of(changes, KNOWN)
+        each = [(change.what, change.by) for change in wanted]
+        with err.status("the model of each change is built"):
+            asked = Asked(study.key, each, told, rates, *limits)
+            prepare(study, plan.economics, plan.slopes, wanted, asked)
+    asked = must_be_asked(study)
+    if (asked.told, asked.rates) != (told, rates):
+        raise PlanError(
+            "the rates or [schedule] of study.toml aren't those that these schedules were asked for"
+            " with",
+            try_this=command("vary", folder, "--schedule", "discount=-2..2", "price=-10..10"),
         )
-        return
-    tell_slurm(study, tasks(study))
-    do_all(study, list(dict.fromkeys(tasks(study))), workers)
-    write_what_ifs(study)
+    return tasks(study)
 
 
-def folder_and_changes(words: List[str]) -> Tuple[Path, List[str]]:
+def _write_schedules(study: Study) -> None:
+    """The table of schedules, their chart, and the table on the screen."""
+    from ..plans.vary import called
+    from ..schedule.what_ifs import table, tornado
+    from ..table.spreadsheets import write_table
+    from ..views.pictures import save
+
+    with err.status("pit judges each schedule"):
+        found, folder = table(study), results(study)
+    write_table(found, folder / "vary_schedule.csv")
+    save(tornado(found, study.currency), folder / "tornado-schedule.png")
+    rock = printed_scale(found["rock_t"], study.model.units.weight)
+    money = printed_scale(found[["npv", "bound"]], study.currency)
+    print_columns(
+        f"a schedule for each, in {money.unit}; no schedule of its row brings more than its bound",
+        ("what", "by", "blocks", f"rock {rock.unit}", "years")
+        + ("npv", "npv difference", "bound", "bound difference", "below it"),
+        [
+            (
+                called(row["what"]) if change else "as planned",
+                f"{change.by:+g}{change.unit}" if change else "",
+                f"{row['blocks']:,}",
+                rock.text(row["rock_t"]),
+                f"{row['years']}",
+                money.text(row["npv"]),
+                money.text(row["npv_difference"], "+") if change else "",
+                money.text(row["bound"]),
+                money.text(row["bound_difference"], "+") if change else "",
+                f"{math.ceil(row['gap'] * 100) / 100:.2f} %",  # never less than it is
+            )
+            for row, change in zip(found.to_dict("records"), _changes_in(found))
+        ],
+        words=1,
+    )
+    say(f"{folder}: vary_schedule.csv, tornado-schedule.png")
+
+
+def _rates_of(plan: StudyFile) -> Rates:
+    """The rates and the discount of study.toml; None where it says none."""
+    from ..study.pit_by_pit import Rates
+
+    found = plan.rates
+    return Rates(
+        found.get("mining_rate"), found.get("mill_rate"), found.get("discount", Rates().discount)
+    )
+
+
+def _folder_and_changes(words: List[str]) -> Tuple[Path, List[str]]:
     """The folder of the study, which is the word without =, and the changes."""
     folders = [word for word in words if "=" not in word]
     if len(folders) > 1:
         raise PlanError(
-            f"{folders[1]!r} is no change", try_this="price=-20..20 recovery=-5..5 slope=-3..3"
+            f"{folders[1]!r} is no change",
+            try_this="price=-20..20 recovery=-5..5 slope=-3..3, each change with = and without blanks",
         )
     return Path(folders[0] if folders else "."), [word for word in words if "=" in word]
 
 
-def write_what_ifs(study: Any) -> None:
-    """The table, the chart, and the table on the screen."""
-    from ..plans.vary import UNITS, table, tornado
+def _write_what_ifs(study: Study, rates: Rates) -> None:
+    """The table, the charts, and the table on the screen."""
+    from ..plans.vary import called, table, tornado
     from ..table.spreadsheets import write_table
     from ..views.pictures import save
 
-    found, folder = table(study), results(study)
+    found, folder = table(study, rates), results(study)
     currency = study.currency
     write_table(found, folder / "vary.csv")
     save(tornado(found, currency), folder / "tornado.png")
+    rock = printed_scale(found["rock_t"], study.model.units.weight)
+    money = printed_scale(found[["worth", "npv"]], currency)
     lines = []
-    for row in found.itertuples():
-        by = f"{row.by:+g}{UNITS[row.what]}" if row.what in UNITS else ""
+    for row, change in zip(found.itertuples(), _changes_in(found)):
+        moves = change is not None and not change.keeps_pit
         lines.append(
             (
-                row.what if by else "as planned",
-                by,
+                called(change.what) if change else "as planned",
+                f"{change.by:+g}{change.unit}" if change else "",
                 f"{row.blocks:,}",
-                f"{row.rock_t / 1e6:,.2f}",
-                f"{row.worth / 1e6:,.2f}",
-                f"{row.difference / 1e6:+,.2f}" if by else "",
+                rock.text(row.rock_t),
+                money.text(row.worth),
+                money.text(row.difference, "+") if moves else "",
+                money.text(row.npv),
+                money.text(row.npv_difference, "+") if change else "",
             )
         )
     print_columns(
-        f"a proved pit for each, worths in million {currency}",
-        ("what", "by", "blocks", "rock Mt", "worth", "difference"),
+        f"a proved pit for each, worths in {money.unit}; npv: that pit bench after bench, discounted",
+        (
+            "what",
+            "by",
+            "blocks",
+            f"rock {rock.unit}",
+            "worth",
+            "difference",
+            "npv",
+            "npv difference",
+        ),
         lines,
         words=1,
     )
+    print_rock_of_classes(
+        study,
+        found,
+        {"what": [line[0] for line in lines], "by": [line[1] for line in lines]},
+        "rock of each pit by resource class",
+    )
     say(f"{folder}: vary.csv, tornado.png")
-    warn_of_edges(found)
+    _warn_of_edges(found)
 
 
-def warn_of_edges(found: pd.DataFrame) -> None:
+def _changes_in(found: pd.DataFrame) -> Iterator[Change | None]:
+    """The change of each row; None of the study itself."""
+    from ..plans.task_line import BASE
+    from ..plans.vary import Change
+
+    for row in found.itertuples():
+        yield None if row.what == BASE else Change(row.what, row.by)
+
+
+def _warn_of_edges(found: pd.DataFrame) -> None:
     """Says which what-ifs have a pit that touches the model's side or reaches its floor."""
-    from ..plans.vary import UNITS
     from ..study.edges import FLOOR, SIDE
 
+    own = [change is None or not change.keeps_pit for change in _changes_in(found)]
+    found = found[own]
     for name, (what, hint) in (("side_blocks", SIDE), ("floor_blocks", FLOOR)):
         there = found[found[name] > 0]
         if len(there):
-            named = [
-                f"{row.what} {row.by:+g}{UNITS[row.what]}" if row.what in UNITS else "as planned"
-                for row in there.itertuples()
-            ]
+            named = [str(change or "as planned") for change in _changes_in(there)]
             many = (
                 f"of {len(there):,} of these {len(found):,} what-ifs"
                 if len(there) > 3

@@ -22,18 +22,23 @@ from ..base.errors import (
     PlanError,
     Remedy,
     about,
+    in_table,
     meant,
     near_to,
     spelled,
+    swap_of,
 )
 from ..base.units import metal_in_a_tonne
 from ..table.column_names import AIR
+from ..table.csv_text import not_estimated
 from ..table.formula import names_in, worked_out
 from ..table.study_keys import METALS, of_percent, refuse_wrong
+from .classes import of_waste
 from .model import Model
 from .subblocks import coded
+from .weights import ore_part
 
-BARE = re.compile(r"[A-Za-z0-9_-]+")  # a key of TOML that needs no quotes
+_BARE = re.compile(r"[A-Za-z0-9_-]+")  # a key of TOML that needs no quotes
 # A number, a column of the table, a formula over columns, or a number by rock with "other" for the rest.
 Amount = Union[float, str, Mapping[str, float]]
 
@@ -54,11 +59,13 @@ class Metal:
     recovery : number, column, formula, or mapping by rock
         The share of the metal in the mill's feed that is recovered, from 0 to 1.
     payable : float
-        The share of the price that is paid, from 0 to 1: what the smelter keeps and what is owed as a share of the
-        price (a royalty) taken off.
+        The share of the price that is paid, from 0 to 1: what the smelter keeps and what is owed as
+        a share of the price (a royalty) taken off.
     selling : float
-        What selling a unit of metal costs, whatever its price: counted as a cost of processing, so no factor scales it. A penalty
-        element has a price of 0 and its charge here.
+        What selling a unit of metal costs, whatever its price: counted as a cost of processing, so
+        no factor scales it. A penalty element has a price of 0 and its charge here.
+    currency : str, optional
+        Of price and selling, where it isn't that of the study: one that `Economics.exchange` has.
     """
 
     name: str
@@ -69,6 +76,7 @@ class Metal:
     recovery: Amount = 1.0
     payable: float = 1.0
     selling: float = 0.0
+    currency: str | None = None
 
     def __post_init__(self) -> None:
         refuse_wrong(
@@ -76,13 +84,14 @@ class Metal:
         )
 
     def content(self) -> float:
-        """Units of metal, as the price counts them, in a tonne at a grade of 1."""
+        """Units of metal, as the price counts them, in a metric tonne at a grade of 1."""
         return metal_in_a_tonne(self.name, self.grade_unit, self.price_unit)
 
 
 @dataclass(frozen=True)
-class Read:
-    """What the keys of [economics] say of each block, in arrays of shape (blocks,): grades and recoveries by metal, costs a tonne."""
+class _Read:
+    """What the keys of [economics] say of each block, in arrays of shape (blocks,): grades and
+    recoveries by metal, costs a tonne."""
 
     to_mill: Bools
     grade: dict[str, Floats]
@@ -114,8 +123,12 @@ class Economics:
     currency : str
         For tables and pictures.
     forbid : sequence of str
-        Formulas: blocks for which one of them holds may not be dug, be it for one of their sub-blocks alone. Blocks without tonnes are
-        air, which none of them keeps.
+        Formulas: blocks for which one of them holds may not be dug, be it for one of their
+        sub-blocks alone. Blocks without tonnes are air, which none of them keeps.
+    waste_classes : sequence of str
+        Resource classes whose blocks are never ore, by the column `class` of [model].
+    exchange : mapping
+        What a unit of another currency is worth in `currency`, for metals that are sold in it.
     """
 
     metals: Sequence[Metal]
@@ -127,6 +140,8 @@ class Economics:
     rounding: float = 1.0
     currency: str = "$"
     forbid: Sequence[str] = field(default_factory=tuple)
+    waste_classes: Sequence[str] = field(default_factory=tuple)
+    exchange: Mapping[str, float] = field(default_factory=dict)
 
     def __post_init__(self) -> None:
         if not self.metals:
@@ -145,8 +160,28 @@ class Economics:
             "economics",
             {name: value for name, value in vars(self).items() if name not in (METALS, "rounding")},
         )
+        for metal in self.metals:
+            with about("economics", METALS, metal.name, "currency"):
+                self.rate_of(metal)
         with about("economics", "rounding"):
             rounding_of(self.rounding)
+
+    def rate_of(self, metal: Metal) -> float:
+        """What a unit of the currency that a metal is sold in is worth in that of the study.
+
+        Raises
+        ------
+        PlanError
+            Where nothing says that.
+        """
+        if metal.currency is None or metal.currency == self.currency:
+            return 1.0
+        if metal.currency not in self.exchange:
+            raise PlanError(
+                f"[economics] metal {metal.name}: currency is {metal.currency!r}, and exchange says nothing of it{meant(metal.currency, [self.currency, *self.exchange])}",
+                try_this=f"exchange = {{ {json.dumps(metal.currency, ensure_ascii=False)} = .. }} in [economics]: what one is worth in {self.currency}",
+            )
+        return float(self.exchange[metal.currency])
 
     @property
     def feed(self) -> float:
@@ -162,29 +197,33 @@ class Economics:
         Raises
         ------
         PlanError
-            Where a column, a rock, a unit, a grade, a share or a cost is wrong: with the row where there is one.
+            Where a column, a rock, a unit, a grade, a share or a cost is wrong: with the row where
+            there is one.
         """
         model = coded(model, self.codes())
         tonnes, read = model.blocks.tonnes.to_numpy(float), self.read_of(model)
+        part = ore_part(model)
+        ore = tonnes if part is None else tonnes * part
         revenue, selling = np.zeros(len(model)), np.zeros(len(model))
         metal: dict[str, Floats] = {}
         for m in self.metals:
             units = (
-                tonnes
+                ore
                 * self.mining_recovery
                 * read.grade[m.name]
-                * m.content()
+                * (m.content() * model.units.tonnes)
                 * read.recovery[m.name]
                 * read.to_mill
             )
             metal[m.name] = units
-            revenue += units * m.price * m.payable
-            selling += units * m.selling
-        processing = tonnes * self.feed * read.processing * read.to_mill + selling
+            rate = self.rate_of(m)
+            revenue += units * (m.price * rate) * m.payable
+            selling += units * (m.selling * rate)
+        processing = ore * self.feed * read.processing * read.to_mill + selling
         mining = tonnes * read.mining
         rounding = rounding_of(self.rounding)
         whole = [
-            in_whole(name, values, rounding, model)
+            _in_whole(name, values, rounding, model)
             for name, values in (
                 ("revenue", revenue),
                 ("processing", processing),
@@ -192,14 +231,22 @@ class Economics:
             )
         ]
         found = Priced(
-            whole[0], whole[1], whole[2], rounding, metal, read.grade, self.feed, read.forbidden
+            whole[0],
+            whole[1],
+            whole[2],
+            rounding,
+            metal,
+            read.grade,
+            self.feed,
+            read.forbidden,
+            part=part,
         )
         if found.forbidden.any():
             found.unfenced = found.mining[found.forbidden]
             found.mining[found.forbidden] = fence_price(found, rounding)
         return found
 
-    def read_of(self, model: Model) -> Read:
+    def read_of(self, model: Model) -> _Read:
         """What the keys say of each block.
 
         Raises
@@ -219,53 +266,57 @@ class Economics:
         for m in self.metals:
             at, what = ("economics", METALS, m.name), f"[economics] recovery of {m.name}"
             with wrong.part(*at, "grade"):
-                grade[m.name] = grades_of(m, model)
+                grade[m.name] = _grades_of(m, model)
             with wrong.part(*at, "recovery"):
-                refuse_shares(what, m.recovery, (*at, "recovery"))
-                recovery[m.name] = share(what, amount(what, m.recovery, model), model)
+                _refuse_shares(what, m.recovery, (*at, "recovery"))
+                recovery[m.name] = _share(what, amount(what, m.recovery, model), model)
         for name in ("processing", "mining"):
             with wrong.part("economics", name):
-                costs[name] = cost(f"[economics] {name}", getattr(self, name), model)
+                costs[name] = _cost(f"[economics] {name}", getattr(self, name), model)
         with wrong.part("economics", "forbid"):
             forbidden = self.forbidden(model)
         wrong.tell()
-        return Read(to_mill, grade, recovery, costs["processing"], costs["mining"], forbidden)
+        return _Read(to_mill, grade, recovery, costs["processing"], costs["mining"], forbidden)
 
     def to_mill(self, model: Model) -> Bools:
-        """Whether a block may go to the mill: its rock is one that the mill takes, and it is a block of the table."""
+        """Whether a block may go to the mill: its rock is one that the mill takes, its class none
+        of waste, and it is a block of the table."""
         rock, kinds = model.blocks.rock, [str(kind) for kind in model.blocks.rock.unique()]
         wrong = Gathered()
-        for name in self.mill or ():
-            if name not in kinds:
-                wrong.add(
-                    [
-                        PlanError(
-                            f"[economics] mill: no block is of rock {name!r}{meant(name, kinds)}",
-                            key=("economics", "mill"),
-                        )
-                    ]
-                )
+        wrong.add(
+            PlanError(
+                f"[economics] mill: no block is of rock {name!r}{meant(name, kinds)}",
+                key=("economics", "mill"),
+            ).with_swap(swap_of(name, kinds))
+            for name in self.mill or ()
+            if name not in kinds
+        )
         wrong.tell()
         takes = rock.isin(list(self.mill)) if self.mill is not None else rock != AIR
         found: Bools = takes.to_numpy() & (model.blocks["row"].to_numpy() >= 0)
-        return found
+        return found & ~of_waste(model, self.waste_classes)
 
     def forbidden(self, model: Model) -> Bools:
-        """Which blocks may not be dug: those for which a formula of `forbid` holds, or for a sub-block of which one does. Air is never dug:
-        air above a corridor would else keep the rock beside the corridor, whose slopes lead through that air, from being dug too.
+        """Which blocks may not be dug: those for which a formula of `forbid` holds, or for a
+        sub-block of which one does. Air is never dug: air above a corridor would else keep the rock
+        beside the corridor, whose slopes lead through that air, from being dug too.
         """
         found: Bools = np.zeros(len(model), bool)
         if model.fenced and list(model.fenced[0]) == list(self.forbid):
             found[: len(model.fenced[1])] = model.fenced[1]  # blocks after those are air
             return found
+        wrong = Gathered()
         for formula in self.forbid:
-            found |= holds(str(formula), model)[0]
+            with wrong.part("economics", "forbid"):
+                found |= holds(str(formula), model)[0]
+        wrong.tell()
         found &= model.blocks.tonnes.to_numpy(float) > 0
         return found
 
     def codes(self) -> set[str]:
-        """The columns that stand for codes: those that a comparison or `forbid` names. A metal's grade isn't one, whatever is asked of it:
-        of sub-blocks its mean is what the metal in the block comes to."""
+        """The columns that stand for codes: those that a comparison or `forbid` names. A metal's
+        grade isn't one, whatever is asked of it: of sub-blocks its mean is what the metal in the
+        block comes to."""
         amounts = [self.mining, self.processing, *(metal.recovery for metal in self.metals)]
         compared = [names_in(text, is_compared=True) for text in amounts if isinstance(text, str)]
         return set().union(*compared, *(names_in(str(text)) for text in self.forbid)) - {
@@ -273,7 +324,8 @@ class Economics:
         }
 
     def partly_forbidden(self, model: Model) -> Bools:
-        """Which blocks may not be dug for some of their sub-blocks alone, of shape (len(model),)."""
+        """Which blocks may not be dug for some of their sub-blocks alone, of shape
+        (len(model),)."""
         found = self.forbidden(model)
         if model.parts is None:
             return np.zeros(len(model), bool)
@@ -291,7 +343,7 @@ class Economics:
         return found & free
 
 
-def number(what: str, value: object, least: float, most: float = math.inf) -> None:
+def _number(what: str, value: object, least: float, most: float = math.inf) -> None:
     """Refuses what is no number from `least` to `most`."""
     if (
         isinstance(value, bool)
@@ -303,7 +355,7 @@ def number(what: str, value: object, least: float, most: float = math.inf) -> No
         raise PlanError(f"{what} is {value!r}, and has to be a number {span}")
 
 
-def grades_of(metal: Metal, model: Model) -> Floats:
+def _grades_of(metal: Metal, model: Model) -> Floats:
     """The grade of each block, 0 for blocks that were added."""
     found = model.numbers(metal.grade, f"metal {metal.name}")
     found[model.blocks["row"].to_numpy() < 0] = 0.0
@@ -311,13 +363,13 @@ def grades_of(metal: Metal, model: Model) -> Floats:
         metal.name, "%", metal.price_unit
     ) * 100 * (1 + 1e-9)
     if (found < 0).any():
-        raise wrong_grade(metal, model, found, found < 0)
+        raise _wrong_grade(metal, model, found, found < 0)
     if too_rich.any():
-        raise wrong_grade(metal, model, found, too_rich)
+        raise _wrong_grade(metal, model, found, too_rich)
     return found
 
 
-def wrong_grade(metal: Metal, model: Model, grades: Floats, wrong: Bools) -> PlanError:
+def _wrong_grade(metal: Metal, model: Model, grades: Floats, wrong: Bools) -> PlanError:
     """The error of grades below 0, or of more than the whole rock."""
     at, row = int(np.argmax(wrong)), model.blocks["row"].to_numpy()
     more = f"; {int(wrong.sum()):,} cells are so" if wrong.sum() > 1 else ""
@@ -333,9 +385,7 @@ def wrong_grade(metal: Metal, model: Model, grades: Floats, wrong: Bools) -> Pla
             try_this=hint,
             key=(*key[:-1], "grade_unit"),
         ).with_cells(cells)
-    mark = Remedy(
-        ("model", "absent"), [f"{grades[at]:g}"], 'if that stands for "not estimated"', adds=True
-    )
+    mark = not_estimated(f"{grades[at]:g}", model.absent)
     is_mark = len(np.unique(grades[wrong])) == 1  # else it is what kriging leaves
     return PlanError(
         f"{grades[at]:g} is below 0{more}",
@@ -367,54 +417,72 @@ def amount(what: str, given: Amount, model: Model) -> Floats:
         return (
             model.numbers(given, what)
             if given in b.columns
-            else of_formula(given, model, what).astype(float)
+            else _of_formula(given, model, what).astype(float)
         )
     kinds = [str(kind) for kind in b.rock.unique()]
-    unsaid = sorted(set(kinds) - set(given) - {AIR})
-    if unsaid and "other" not in given:
-        refuse_misspelt(what, given, kinds, unsaid)
-        raise PlanError(
-            f"{what}: nothing is said of rock {', '.join(rock or 'without a name, an empty cell' for rock in unsaid)}",
-            table=model.table,
-            row=row_at(model, int(np.argmax(b.rock == unsaid[0]))),
-            try_this=f"{{ {unsaid[0] if BARE.fullmatch(unsaid[0]) else json.dumps(unsaid[0], ensure_ascii=False)} = .. }}, or {{ other = .. }} for the rest",
-        )
-    for rock, value in given.items():
-        number(f"{what} of rock {rock}", value, -math.inf)
-        if "other" in given and rock not in (
-            *kinds,
-            "other",
-            AIR,
-        ):  # else a misspelt rock counts as one of the others
-            raise PlanError(f"{what}: no block is of rock {rock!r}{meant(rock, kinds)}")
+    _refuse_rocks(what, given, model, kinds)
     found: Floats = b.rock.map(
         {kind: float(given.get(kind, given.get("other", 0.0))) for kind in kinds}
     ).to_numpy(float)
     return found
 
 
-def refuse_misspelt(
+def _refuse_rocks(
+    what: str, given: Mapping[str, float], model: Model, kinds: Sequence[str]
+) -> None:
+    """Refuses a table by rock that says nothing of a rock, or names one that no block is of: with
+    "other" that would count as one of the others. Each of them is told."""
+    wrong = Gathered()
+    unsaid = sorted(set(kinds) - set(given) - {AIR}) if "other" not in given else []
+    unknown = [name for name in given if name not in (*kinds, "other", AIR)]
+    with wrong.part():
+        _refuse_misspelt(what, given, kinds, unsaid)
+        if unsaid:
+            first = _row_at(model, int(np.argmax(model.blocks.rock == unsaid[0])))
+            named = ", ".join(rock or "without a name, an empty cell" for rock in unsaid)
+            raise PlanError(
+                f"{what}: nothing is said of rock {named}",
+                table=model.table,
+                row=first,
+                try_this=f"{{ {unsaid[0] if _BARE.fullmatch(unsaid[0]) else json.dumps(unsaid[0], ensure_ascii=False)} = .. }}, or {{ other = .. }} for the rest",
+            )
+    for rock, value in given.items():
+        with wrong.part():
+            _number(f"{what} of rock {rock}", value, -math.inf)
+    if "other" in given:
+        wrong.add(
+            PlanError(
+                f"{what}: no block is of rock {rock!r}{meant(rock, kinds)}",
+            ).with_swap(swap_of(rock, kinds))
+            for rock in unknown
+        )
+    wrong.tell()
+
+
+def _refuse_misspelt(
     what: str, given: Mapping[str, float], kinds: Sequence[str], unsaid: Sequence[str]
 ) -> None:
     """Refuses a name of no rock that looks like that of one of which nothing is said."""
-    for name in given:
-        near = near_to(name, unsaid) if name not in kinds else None
-        if near:
-            better = {near if rock == name else rock: value for rock, value in given.items()}
-            raise PlanError(
-                f"{what}: no block is of rock {name!r}; is {near!r} meant?",
-                try_this=spelled(better),
-            )
+    near = {name: near_to(name, unsaid) for name in given if name not in kinds}
+    meant = {name: rock for name, rock in near.items() if rock}
+    if meant:
+        raise PlanError(
+            f"{what}: no block is of rock {', '.join(map(repr, meant))}; "
+            + ("is" if len(meant) == 1 else "are")
+            + f" {', '.join(map(repr, meant.values()))} meant?",
+            try_this=spelled({meant.get(rock, rock): value for rock, value in given.items()}),
+        ).with_swap(next(iter(meant.items())) if len(meant) == 1 else None)
 
 
-def of_formula(text: str, model: Model, what: str) -> Floats | Bools:
+def _of_formula(text: str, model: Model, what: str) -> Floats | Bools:
     """What a formula gives for each block."""
-    return of_rows(text, model.blocks, what)
+    with in_table(model.table):
+        return _of_rows(text, model.blocks, what)
 
 
-def of_rows(text: str, table: pd.DataFrame, what: str) -> Floats | Bools:
-    """What a formula gives for each row; 0 or no for air that was added, which weighs nothing, and stands where a formula that goes by the
-    ground may give no number."""
+def _of_rows(text: str, table: pd.DataFrame, what: str) -> Floats | Bools:
+    """What a formula gives for each row; 0 or no for air that was added, which weighs nothing, and
+    stands where a formula that goes by the ground may give no number."""
     asked = (table["row"].to_numpy() >= 0) | (table["tonnes"].to_numpy(float) > 0)
     if asked.all():
         return worked_out(text, table, what)
@@ -425,8 +493,8 @@ def of_rows(text: str, table: pd.DataFrame, what: str) -> Floats | Bools:
 
 
 def holds(formula: str, model: Model) -> tuple[Bools, Bools]:
-    """For which blocks a formula of `forbid` holds, and for which rows: of blocks that were added up, one of whose sub-blocks it holds
-    for that weighs something.
+    """For which blocks a formula of `forbid` holds, and for which rows: of blocks that were added
+    up, one of whose sub-blocks it holds for that weighs something.
 
     Raises
     ------
@@ -444,7 +512,8 @@ def holds(formula: str, model: Model) -> tuple[Bools, Bools]:
             f"[economics] forbid = {formula!r}: for which sub-blocks does it hold? A model that was built doesn't have them any more",
             try_this="read the table again, and build",
         )
-    found = of_rows(formula, table, "[economics] forbid")
+    with in_table(model.table):
+        found = _of_rows(formula, table, "[economics] forbid")
     if found.dtype != bool:
         raise PlanError(
             f"[economics] forbid = {formula!r} says neither yes nor no", try_this='as "XC > 12000"'
@@ -455,8 +524,9 @@ def holds(formula: str, model: Model) -> tuple[Bools, Bools]:
     return each, rows
 
 
-def refuse_shares(what: str, given: Amount, key: KeyPath) -> None:
-    """Refuses shares that stand in study.toml itself and aren't from 0 to 1: no row of the table is to blame."""
+def _refuse_shares(what: str, given: Amount, key: KeyPath) -> None:
+    """Refuses shares that stand in study.toml itself and aren't from 0 to 1: no row of the table is
+    to blame."""
     if isinstance(given, str):
         return
     by_rock = given if isinstance(given, Mapping) else {"": given}
@@ -472,7 +542,7 @@ def refuse_shares(what: str, given: Amount, key: KeyPath) -> None:
             )
 
 
-def share(what: str, values: Floats, model: Model) -> Floats:
+def _share(what: str, values: Floats, model: Model) -> Floats:
     """Refuses shares that aren't from 0 to 1."""
     wrong = (values < 0) | (values > 1)
     if wrong.any():
@@ -480,12 +550,12 @@ def share(what: str, values: Floats, model: Model) -> Floats:
         raise PlanError(
             f"{what} is {values[at]:g}, and a share is from 0 to 1",
             table=model.table,
-            row=row_at(model, at),
+            row=_row_at(model, at),
         )
     return values
 
 
-def cost(what: str, given: Amount, model: Model) -> Floats:
+def _cost(what: str, given: Amount, model: Model) -> Floats:
     """What a tonne costs, at least 0."""
     for value in given.values() if isinstance(given, Mapping) else [given]:
         if isinstance(value, (int, float)) and value < 0:
@@ -498,7 +568,7 @@ def cost(what: str, given: Amount, model: Model) -> Floats:
             f"{what} costs {values[at]:g} a tonne here, less than nothing"
             + (f", and so for {int(wrong.sum()):,} blocks" if wrong.sum() > 1 else ""),
             table=model.table,
-            row=row_at(model, at),
+            row=_row_at(model, at),
             try_this=f"max(0, {given}), if the formula runs below 0"
             if isinstance(given, str)
             else None,
@@ -506,12 +576,12 @@ def cost(what: str, given: Amount, model: Model) -> Floats:
     return values
 
 
-def row_at(model: Model, block: int) -> int | None:
+def _row_at(model: Model, block: int) -> int | None:
     row = int(model.blocks["row"].iloc[block])
     return row if row >= 0 else None
 
 
-def in_whole(name: str, values: Floats, rounding: Decimal, model: Model) -> Ints:
+def _in_whole(name: str, values: Floats, rounding: Decimal, model: Model) -> Ints:
     """Amounts in whole multiples of `rounding`, half to even."""
     most = float(MOST)
     if not np.abs(values).max(initial=0.0) <= most:  # so also where a product is no number
@@ -519,7 +589,7 @@ def in_whole(name: str, values: Floats, rounding: Decimal, model: Model) -> Ints
         raise PlanError(
             f"a {name} of {values[at]:g} for one block: is a unit wrong?",
             table=model.table,
-            row=row_at(model, at),
+            row=_row_at(model, at),
             key=("economics", METALS if name == "revenue" else name),
         )
     whole: Ints = np.rint(values / float(rounding)).astype(np.int64)
@@ -527,8 +597,9 @@ def in_whole(name: str, values: Floats, rounding: Decimal, model: Model) -> Ints
 
 
 def fence_price(priced: Priced, rounding: Decimal) -> int:
-    """What digging a forbidden block is made to cost: more than the whole mine brings at the largest factor, so that no best
-    pit has one. Where that is more than `pit` reads, the most that it reads; `Study.adds_up` looks whether a pit has one then.
+    """What digging a forbidden block is made to cost: more than the whole mine brings at the
+    largest factor, so that no best pit has one. Where that is more than `pit` reads, the most that
+    it reads; `Study.adds_up` looks whether a pit has one then.
 
     Raises
     ------

@@ -1,4 +1,5 @@
-"""Places that no row of the table is for: air above the ground, holes within the model, and the rock around it."""
+"""Places that no row of the table is for: air above the ground, holes within the model, and the
+rock around it."""
 from __future__ import annotations
 
 from collections.abc import Mapping
@@ -16,7 +17,7 @@ from .grid import Grid
 if TYPE_CHECKING:
     from .model import Model
 
-LARGEST = 1 << 24  # blocks that pit reads
+_LARGEST = 1 << 24  # blocks that pit reads
 
 
 def enclosed(columns: Bools) -> Bools:
@@ -44,8 +45,9 @@ def enclosed(columns: Bools) -> Bools:
 
 
 def close(model: Model, missing: str, fill: Mapping[str, Any], table: str) -> None:
-    """Tells missing rows apart. Above the ground they are air, and may be left out. Within the model they are holes that no
-    wall is held through: refused, unless the planner says what they are; then blocks are added to the model.
+    """Tells missing rows apart. Above the ground they are air, and may be left out. Within the
+    model they are holes that no wall is held through: refused, unless the planner says what they
+    are; then blocks are added to the model.
 
     Parameters
     ----------
@@ -64,11 +66,12 @@ def close(model: Model, missing: str, fill: Mapping[str, Any], table: str) -> No
     top = np.where(columns, cube.shape[2] - 1 - cube[:, :, ::-1].argmax(axis=2), -1)
     floor = np.where(columns, cube.argmax(axis=2), cube.shape[2])
     within = ~cube & (levels < top[:, :, None]) & (levels > floor[:, :, None])
-    shafts(model, enclosed(columns), missing, table)
+    _shafts(model, enclosed(columns), missing, table)
     low = int((~cube & columns[:, :, None] & (levels < floor[:, :, None])).sum())
     if low:
         model.notes.append(
-            f"{low:,} places below the lowest block of their column have no row: a pit can't go there, and no wall is held through them"
+            f"{low:,} places below the lowest block of their column have no row: a pit can't go"
+            " there, and no wall is held through them"
         )
     above = int((~cube & columns[:, :, None] & (levels > top[:, :, None])).sum())
     if above:
@@ -80,14 +83,20 @@ def close(model: Model, missing: str, fill: Mapping[str, Any], table: str) -> No
     if missing == "refuse":
         i, j, k = (int(v[0]) for v in np.nonzero(within))
         raise PlanError(
-            f"{place(model, i, j, k)} has no row, with blocks above and below it ({int(within.sum()):,} such); through such a hole no wall is held",
+            (
+                f"{_place(model, i, j, k)} has no row, with blocks above and below it"
+                f" ({int(within.sum()):,} such); through such a hole no wall is held"
+            ),
             table=table,
-            try_this='missing = "air" in [model] (old workings), or missing = "rock" with fill = { tonnes = 10400, rock = "waste" }',
+            try_this=(
+                'missing = "air" in [model] (old workings), or missing = "rock" with fill = {'
+                ' tonnes = 10400, rock = "waste" }'
+            ),
         )
-    add_within(model, within, missing, fill)
+    _add_within(model, within, missing, fill)
 
 
-def shafts(model: Model, holes: Bools, missing: str, table: str) -> None:
+def _shafts(model: Model, holes: Bools, missing: str, table: str) -> None:
     """Refuses whole columns that are missing within the model, unless they are air."""
     if not holes.any():
         return
@@ -95,21 +104,25 @@ def shafts(model: Model, holes: Bools, missing: str, table: str) -> None:
         i, j = (int(v[0]) for v in np.nonzero(holes))
         east, north, _ = model.grid.world(i, j, 0)
         raise PlanError(
-            f"the whole column at ({east:.10g}, {north:.10g}) is missing within the model ({int(holes.sum()):,} such); through such a gap no wall is held",
+            (
+                f"the whole column at ({east:.10g}, {north:.10g}) is missing within the model"
+                f" ({int(holes.sum()):,} such); through such a gap no wall is held"
+            ),
             table=table,
             try_this='export it too, or missing = "air" in [model], if it is a shaft',
         )
     model.notes.append(f"{int(holes.sum()):,} whole columns within the model left empty, as air")
 
 
-def place(model: Model, i: int, j: int, k: int) -> str:
+def _place(model: Model, i: int, j: int, k: int) -> str:
     """A place by the table's own coordinates."""
     x, y, z = model.grid.world(i, j, k)
     return f"({x:.10g}, {y:.10g}, {-z if model.depth else z:.10g})"
 
 
-def add_within(model: Model, within: Bools, missing: str, fill: Mapping[str, Any]) -> None:
-    """Adds a block at each hole: its columns are those of the next block above, but for what `fill` says."""
+def _add_within(model: Model, within: Bools, missing: str, fill: Mapping[str, Any]) -> None:
+    """Adds a block at each hole: its columns are those of the next block above, but for what `fill`
+    says."""
     if missing == "air":
         fill = {"tonnes": 0.0, "rock": AIR}
     elif "tonnes" not in fill or "rock" not in fill:
@@ -139,10 +152,11 @@ def add_within(model: Model, within: Bools, missing: str, fill: Mapping[str, Any
 
 
 def widen(model: Model, n: int) -> None:
-    """Adds n columns of barren rock on each side: the nearest column of the model again, which is never ore."""
+    """Adds n columns of barren rock on each side: the nearest column of the model again, which is
+    never ore."""
     g = model.grid
     nx, ny, nz = g.shape
-    if (nx + 2 * n) * (ny + 2 * n) > LARGEST:
+    if (nx + 2 * n) * (ny + 2 * n) > _LARGEST:
         raise PlanError(
             f"[model] widen = {n:,} makes more blocks than pit reads",
             try_this="widen = 10: so many columns on each side",
@@ -168,8 +182,8 @@ def widen(model: Model, n: int) -> None:
 
 
 def added(model: Model, new: pd.DataFrame, grid: Grid) -> None:
-    """Puts blocks after those of the table; their coordinates are where they are. The labels of `new` are the numbers of the blocks that
-    they are copies of."""
+    """Puts blocks after those of the table; their coordinates are where they are. The labels of
+    `new` are the numbers of the blocks that they are copies of."""
     if model.parts:
         model.parts = replace(
             model.parts, source=np.concatenate([model.parts.source, model.parts.source[new.index]])

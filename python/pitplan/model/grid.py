@@ -17,7 +17,8 @@ class Grid:
     Parameters
     ----------
     origin : tuple of 3 floats
-        The centre of index (0, 0, 0): east, north, elevation, in the unit of the table's coordinates.
+        The centre of index (0, 0, 0): east, north, elevation, in the unit of the table's
+        coordinates.
     size : tuple of 3 floats
         Of a block along the model's own axes.
     shape : tuple of 3 ints
@@ -32,13 +33,15 @@ class Grid:
     rotation: float = 0.0
 
     def local(self, east: Any, north: Any) -> tuple[Floats, Floats]:
-        """Turns offsets east and north into offsets along the model's x and y axes, of the same shape and unit."""
+        """Turns offsets east and north into offsets along the model's x and y axes, of the same
+        shape and unit."""
         a = math.radians(self.rotation)
         east, north = np.asarray(east, float), np.asarray(north, float)
         return east * math.cos(a) - north * math.sin(a), east * math.sin(a) + north * math.cos(a)
 
     def world(self, ix: Any, iy: Any, iz: Any) -> tuple[Floats, Floats, Floats]:
-        """East, north and elevation of places given by index, which may be fractional: ix - 0.5 is a block's side.
+        """East, north and elevation of places given by index, which may be fractional: ix - 0.5 is
+        a block's side.
 
         Parameters
         ----------

@@ -8,12 +8,19 @@ from pathlib import Path
 from typing import Any
 
 import numpy as np
-import numpy.typing as npt
 import pandas as pd
 
-from ..base.arrays import Array, Bools, Floats, Ints
+from ..base.arrays import Array, Bools, Floats, Indices, Ints
 from ..base.errors import Gathered, PlanError, Remedy, about, meant
-from ..table.column_names import PLACES, SIZES, misnamed, said_of_misnamed, which_columns
+from ..table.column_names import (
+    PLACES,
+    SIZES,
+    columns_found,
+    misnamed,
+    said_of_misnamed,
+    which_columns,
+    with_few_classes,
+)
 from ..table.csv_text import (
     NO_PLACE,
     NO_WEIGHT,
@@ -21,17 +28,21 @@ from ..table.csv_text import (
     dialect_of,
     head_of,
     names_of,
+    not_estimated,
     number_column,
     numbers_among,
     read_frame,
 )
+from ..base.units import Units
 from ..table.study_keys import refuse_wrong
-from . import gaps, subblocks
+from . import gaps, subblocks, weights
 from .grid import Grid
+from .weights import ORE, TOPOGRAPHY
 
-OFF = 0.05  # of a block: how far a centre may be off the grid
-MOST_STEPS = 10**9  # blocks along an axis, so that their numbers are whole and fit
-SAMPLE = 50_000  # centres, by which the grid that most are on is found
+_OFF = 0.05  # of a block: how far a centre may be off the grid
+_MOST_STEPS = 10**9  # blocks along an axis, so that their numbers are whole and fit
+_SAMPLE = 50_000  # centres, by which the grid that most are on is found
+_WEIGHTS = ("tonnes", "density")
 OURS = ("id", "ix", "iy", "iz", "tonnes", "rock", "row")
 
 
@@ -42,9 +53,10 @@ class Model:
     Attributes
     ----------
     blocks : DataFrame
-        ``id`` (the planner's name of the block, as text), ``ix iy iz`` (whole indices in the model's own axes, iz
-        upward), ``tonnes``, ``rock``, ``row`` (of the table, below the header line, from 0; -1 for a block that was
-        added), and all other columns of the table under their own names.
+        ``id`` (the planner's name of the block, as text), ``ix iy iz`` (whole indices in the
+        model's own axes, iz upward), ``tonnes``, ``rock``, ``row`` (of the table, below the header
+        line, from 0; -1 for a block that was added), and all other columns of the table under their
+        own names.
     grid : Grid
     name : str
         Of the table, without its ending.
@@ -65,7 +77,14 @@ class Model:
     fenced : (formulas, bool array of shape (len(self),)) or None
         Of a stored model with sub-blocks the formulas of `forbid`, and the blocks that they keep.
     unweighed : dict
-        How many rows of a table that was just read have no tonnes or density, as `absent` says, by rock.
+        How many rows of a table that was just read have no tonnes or density, as `absent` says, by
+        rock.
+    units : Units
+        Of coordinates and tonnes; a density is in tonnes a cubic metre whatever they are.
+    row_tonnes : float array of shape (rows of the table,), or None
+        Of a stored model with sub-blocks what each row weighs.
+    absent_cells : dict
+        How many cells of a table that was just read count as 0, as `absent` says, by column.
     """
 
     blocks: pd.DataFrame
@@ -73,13 +92,16 @@ class Model:
     name: str = "model"
     notes: list[str] = field(default_factory=list)
     columns: dict[str, str] = field(default_factory=dict)
-    row_block: npt.NDArray[np.int32] = field(default_factory=lambda: np.empty(0, np.int32))
+    row_block: Indices = field(default_factory=lambda: np.empty(0, np.int32))
     depth: bool = False
     source: Path | None = None
     absent: Sequence[str] = ()
     parts: subblocks.Parts | None = None
     fenced: tuple[Sequence[str], Bools] | None = None
     unweighed: dict[str, int] = field(default_factory=dict)
+    units: Units = Units()
+    row_tonnes: Floats | None = None
+    absent_cells: dict[str, int] = field(default_factory=dict)
 
     def __len__(self) -> int:
         return len(self.blocks)
@@ -96,8 +118,9 @@ class Model:
         return self.source.name if self.source else self.name
 
     @property
-    def index(self) -> npt.NDArray[np.int32]:
-        """The number of the block at each place of the grid, of its shape; -1 where there is none."""
+    def index(self) -> Indices:
+        """The number of the block at each place of the grid, of its shape; -1 where there is
+        none."""
         cube = np.full(self.grid.shape, -1, dtype=np.int32)
         cube[self.blocks.ix, self.blocks.iy, self.blocks.iz] = np.arange(
             len(self.blocks), dtype=np.int32
@@ -106,14 +129,15 @@ class Model:
 
     @property
     def is_rock(self) -> Bools:
-        """Whether a block weighs anything, of shape (len(self),): the others are air, of which nothing is dug. Where none weighs
-        anything, all are rock."""
+        """Whether a block weighs anything, of shape (len(self),): the others are air, of which
+        nothing is dug. Where none weighs anything, all are rock."""
         found: Bools = self.blocks["tonnes"].to_numpy(float) > 0
         return found if found.any() else ~found
 
     @property
     def table_row(self) -> Ints:
-        """The row of each block as a spreadsheet counts it, of shape (len(self),); 0 for blocks that were added."""
+        """The row of each block as a spreadsheet counts it, of shape (len(self),); 0 for blocks
+        that were added."""
         row = self.blocks["row"].to_numpy(np.int64)
         return np.where(row >= 0, row + 2, 0)
 
@@ -123,7 +147,8 @@ class Model:
         return self.grid.world(b.ix.to_numpy(), b.iy.to_numpy(), b.iz.to_numpy())
 
     def numbers(self, column: str, what: str) -> Floats:
-        """A column of the table as numbers, of shape (len(self),); `what` says in an error what it was wanted for."""
+        """A column of the table as numbers, of shape (len(self),); `what` says in an error what it
+        was wanted for."""
         if column not in self.blocks.columns:
             raise PlanError(
                 f"{what}: the table has no column {column!r}{meant(column, map(str, self.blocks.columns))}"
@@ -142,9 +167,17 @@ class TableKeys:
     Attributes
     ----------
     columns : mapping
-        Names of columns that aren't the usual ones, under id, x, y, z, dx, dy, dz, tonnes, density, rock.
+        Names of columns that aren't the usual ones, under id, x, y, z, dx, dy, dz, tonnes, density,
+        rock, class; and of the columns of topography and ore, which have none: the percent of a
+        block that is rock, and of its tonnes that is ore.
+    tonnes : str or float, optional
+        A formula over the table's columns: what a row's block weighs, in place of a column of
+        tonnes or density.
+    units : mapping
+        ``length`` and ``weight`` of `Units`.
     size : 3 floats, optional
-        Of a block along the model's axes. Taken from the columns dx, dy, dz where the table has them.
+        Of a block along the model's axes. Taken from the columns dx, dy, dz where the table has
+        them.
     rotation : float
         The bearing of the model's y axis, in degrees clockwise from north.
     z : {"elevation", "depth"}
@@ -163,6 +196,8 @@ class TableKeys:
     """
 
     columns: Mapping[str, str] = field(default_factory=dict)
+    tonnes: str | float | None = None
+    units: Mapping[str, str] = field(default_factory=dict)
     size: Sequence[float] | None = None
     rotation: float = 0.0
     z: str = "elevation"
@@ -202,7 +237,8 @@ def read_table(path: str | Path, **keys: Any) -> Model:
     Raises
     ------
     PlanError
-        Where a key, the file, a cell or the grid is wrong: with table, row, column, what stands there and what to try.
+        Where a key, the file, a cell or the grid is wrong: with table, row, column, what stands
+        there and what to try.
 
     Examples
     --------
@@ -223,25 +259,26 @@ def read_with(path: Path, keys: TableKeys) -> Model:
     with about("model", "columns"):
         names = which_columns(header, keys.columns, table)
     frame = read_frame(path, dialect, [names[key] for key in ("id", "rock") if key in names])
+    names = with_few_classes(names, keys.columns, lambda name: int(frame[name].nunique()))
     notes = ["columns: " + ", ".join(f"{key} = {name}" for key, name in names.items())]
     if dialect.skip:
         notes.append(f"{dialect.skip} lines below the header hold no blocks")
     rows = int(frame.index[-1]) + 1
-    places = places_of(frame, names, keys, table)
-    with about("model", "size"):
-        size = size_of(frame, names, keys, table, notes)
-    unweighed = without_weight(frame, names, keys.absent)
-    estimated(frame, names, keys.absent)
+    places, size = _places_of(frame, names, keys, table, notes)
+    unweighed = _without_weight(frame, names, keys)
+    absent_cells = _estimated(frame, names, keys.absent)
+    weigh_by = weights.weighed(frame, names, keys, table)
     with about("model", "regularise"):
         whole = subblocks.whole_blocks(
-            frame, names, places, size, subblocks.Wanted(keys.regularise, keys.rotation, table)
+            frame, weigh_by, places, size, subblocks.Wanted(keys.regularise, keys.rotation, table)
         )
     notes += whole.notes
-    with axes_told(names, keys.columns), about("model", "size"):
-        grid, index = on_grid(whole.places, size, keys, names, whole.frame.index, table)
+    with _misnamed_axes(names, keys.columns), about("model", "size"):
+        grid, index = _on_grid(whole.places, size, keys, names, whole.frame.index, table)
     with about("model", "columns"):
-        blocks = columns_of(whole.frame, names, grid, index, table)
-    notes += light(blocks)
+        units = Units(**keys.units)
+        blocks = _columns_of(whole.frame, weigh_by, grid, index, table, units.weight_of_cube)
+    notes += _light(blocks)
     row_block = np.full(rows, -1, np.int32)
     row_block[frame.index.to_numpy()] = whole.parent
     model = Model(
@@ -255,11 +292,15 @@ def read_with(path: Path, keys: TableKeys) -> Model:
         path,
         keys.absent,
         unweighed=unweighed,
+        units=units,
+        absent_cells=absent_cells,
     )
     if whole.tonnes is not None:
         i, j, k = (at[whole.parent] for at in index)
         model.parts = subblocks.Parts(
-            columns_of(frame, names, grid, (i, j, k), table).assign(tonnes=whole.tonnes),
+            _columns_of(frame, weigh_by, grid, (i, j, k), table).assign(
+                tonnes=whole.tonnes * (1 if "tonnes" in weigh_by else units.weight_of_cube)
+            ),
             whole.parent,
             np.arange(len(blocks)),
         )
@@ -271,22 +312,71 @@ def read_with(path: Path, keys: TableKeys) -> Model:
     return model
 
 
-def places_of(
-    frame: pd.DataFrame, names: Mapping[str, str], keys: TableKeys, table: str
-) -> subblocks.Places:
-    """The centres. Wrong cells of any of their columns, or of that of tonnes or density, are told together."""
+def rows_alone(path: Path, keys: TableKeys) -> tuple[Model, set[int]]:
+    """The rows of a table, each as a block, wherever it is and whatever it weighs: rocks, regions
+    and formulas can be looked up in them where places are wrong.
+
+    Returns
+    -------
+    Model, set of int
+        And the rows in which a place or a weight is wrong; 0 stands for it.
+
+    Raises
+    ------
+    PlanError
+        Where the file isn't a table.
+    """
+    dialect = keys.dialect(path)
+    header = names_of(head_of(path, dialect.encoding, 1)[0], dialect.separator)
+    names = columns_found(header, keys.columns)
+    frame = read_frame(path, dialect, [names[key] for key in ("id", "rock") if key in names])
+    is_wrong = np.zeros(len(frame), bool)
+    _estimated(frame, names, keys.absent)
+    for key in set(names) & {*PLACES, *SIZES, *_WEIGHTS}:
+        found = pd.to_numeric(frame[names[key]], errors="coerce")
+        is_wrong |= found.isna().to_numpy()
+        frame[names[key]] = found.fillna(0.0).clip(lower=0 if key in _WEIGHTS else None)
+    wrong = set(frame.index[is_wrong])
+    if not set(_WEIGHTS) & set(names):
+        frame, names = frame.assign(tonnes=1.0), {**names, "tonnes": "tonnes"}
+    filled = {names.get(key, key): value for key, value in keys.fill.items()}
+    if keys.missing == "rock":  # a row of its own: its rock may be none of the table's
+        here = {name: value for name, value in filled.items() if name in frame}
+        frame = pd.concat([frame, frame.iloc[-1:].assign(**here)])
+    places = np.arange(len(frame)), np.zeros(len(frame), np.int64), np.zeros(len(frame), np.int64)
+    nowhere = Grid((0.0, 0.0, 0.0), (1.0, 1.0, 1.0), (len(frame), 1, 1))
+    blocks = _columns_of(frame, names, nowhere, places, path.name)
+    if keys.missing == "rock":
+        blocks.loc[len(blocks) - 1, "row"] = -1
+    return (
+        Model(blocks, nowhere, path.name, columns=names, source=path, absent=keys.absent),
+        wrong,
+    )
+
+
+def _places_of(
+    frame: pd.DataFrame,
+    names: Mapping[str, str],
+    keys: TableKeys,
+    table: str,
+    notes: list[str],
+) -> tuple[subblocks.Places, tuple[float, float, float]]:
+    """The centres, and the size of a whole block. Wrong cells of any of their columns, or of that
+    of tonnes or density, are told together."""
     wrong, found = Gathered(), {}
     for key in PLACES:
         with wrong.part("model", "columns", key):
             found[key] = number_column(frame[names[key]], table, hint=NO_PLACE)
-    for key in [key for key in ("tonnes", "density") if key in names][:1]:
-        with wrong.part("model", "columns", key):
-            number_column(frame[names[key]], table, keys.absent, NO_WEIGHT)
+    with wrong.part("model", "columns"):
+        _look_at_weights(frame, names, keys, table)
+    size = (0.0, 0.0, 0.0)
+    with wrong.part("model", "size"):
+        size = _size_of(frame, names, keys, table, notes)
     wrong.tell()
-    return subblocks.Places(*(found[key] for key in PLACES))
+    return subblocks.Places(*(found[key] for key in PLACES)), size
 
 
-def size_of(
+def _size_of(
     frame: pd.DataFrame, names: Mapping[str, str], keys: TableKeys, table: str, notes: list[str]
 ) -> tuple[float, float, float]:
     """The size of a whole block: as told, or the largest that the table's columns of sizes have."""
@@ -312,12 +402,13 @@ def size_of(
     return x, y, z
 
 
-def without_weight(
-    frame: pd.DataFrame, names: Mapping[str, str], absent: Sequence[str]
+def _without_weight(
+    frame: pd.DataFrame, names: Mapping[str, str], keys: TableKeys
 ) -> dict[str, int]:
     """How many rows of each rock have a cell of `absent` for their tonnes or density."""
-    key = next((key for key in ("tonnes", "density") if key in names), None)
-    if not absent or key is None:
+    absent = keys.absent
+    key = next((key for key in _WEIGHTS if key in names), None)
+    if not absent or key is None or not weights.is_read(keys, names[key]):
         return {}
     values = frame[names[key]]
     marked = (
@@ -334,11 +425,15 @@ def without_weight(
     return {str(rock): int(count) for rock, count in rocks.value_counts().items()}
 
 
-def estimated(frame: pd.DataFrame, names: Mapping[str, str], absent: Sequence[str]) -> None:
-    """Puts 0 where a cell says "not estimated", in all columns but those of places and names."""
+def _estimated(
+    frame: pd.DataFrame, names: Mapping[str, str], absent: Sequence[str]
+) -> dict[str, int]:
+    """Puts 0 where a cell says "not estimated", in all columns but those of places and names. Says
+    how many cells do, by column."""
+    found: dict[str, int] = {}
     if not absent:
-        return
-    kept = {names[key] for key in (*PLACES, *SIZES, "id", "rock") if key in names}
+        return found
+    kept = {names[key] for key in (*PLACES, *SIZES, "id", "rock", TOPOGRAPHY, ORE) if key in names}
     marks = numbers_among(absent)
     for name in frame.columns:
         if name in kept:
@@ -348,15 +443,21 @@ def estimated(frame: pd.DataFrame, names: Mapping[str, str], absent: Sequence[st
             hit = values.isin(marks) | (values.isna() if "" in absent else False)
             if hit.any():
                 frame[name] = values.mask(hit, 0)
+                found[name] = int(hit.sum())
             continue
         try:
             number_column(values.iloc[:1000], name, absent)
             frame[name] = number_column(values, name, absent)
         except PlanError:
-            pass  # a column of words, or one that is told where it is used
+            continue  # a column of words, or one that is told where it is used
+        text = values.astype(str).str.strip().mask(values.isna(), "")
+        hit = text.isin([mark.strip() for mark in absent])
+        hit |= pd.to_numeric(text, errors="coerce").isin(marks)
+        found |= {name: int(hit.sum())} if hit.any() else {}
+    return found
 
 
-def on_grid(
+def _on_grid(
     places: subblocks.Places,
     size: tuple[float, float, float],
     keys: TableKeys,
@@ -369,12 +470,13 @@ def on_grid(
     Raises
     ------
     PlanError
-        Where a centre is off the grid, no two blocks are neighbours, or two blocks are at one place: with the row.
+        Where a centre is off the grid, no two blocks are neighbours, or two blocks are at one
+        place: with the row.
     """
     turned = Grid((0.0, 0.0, 0.0), size, rotation=float(keys.rotation))
     u, v = turned.local(places.x - places.x[0], places.y - places.y[0])
     up = places.z if keys.z == "elevation" else -places.z
-    told = (
+    hint = (
         "rotation = the bearing of the model's y axis in [model], or size as the package has it"
         if not keys.rotation
         else "another rotation, or size"
@@ -382,10 +484,12 @@ def on_grid(
     found = []
     for key, values, length in zip(PLACES, (u, v, up), size):
         found.append(
-            along(
+            _along(
                 values,
                 length,
-                Axis(table, names[key], rows, told if key != "z" else "size as the package has it"),
+                _Axis(
+                    table, names[key], rows, hint if key != "z" else "size as the package has it"
+                ),
             )
         )
     (ix, low_u), (iy, low_v), (iz, low_z) = found
@@ -412,13 +516,14 @@ def on_grid(
             column=names["x"],
             try_this=f"is the size {size[0]:g} x {size[1]:g} x {size[2]:g} right?",
         )
-    twins((ix * shape[1] + iy) * shape[2] + iz, rows, names["x"], table)
+    _twins((ix * shape[1] + iy) * shape[2] + iz, rows, names["x"], table)
     return Grid((float(east), float(north), low_z), size, shape, float(keys.rotation)), (ix, iy, iz)
 
 
 @contextmanager
-def axes_told(names: Mapping[str, str], given: Mapping[str, str]) -> Iterator[None]:
-    """Errors of the grid, where a column has a usual name of another axis: they say that, and what to try is that one."""
+def _misnamed_axes(names: Mapping[str, str], given: Mapping[str, str]) -> Iterator[None]:
+    """Errors of the grid, where a column has a usual name of another axis: they say that, and what
+    to try is that one."""
     try:
         yield
     except PlanError as error:
@@ -438,7 +543,7 @@ def axes_told(names: Mapping[str, str], given: Mapping[str, str]) -> Iterator[No
 
 
 @dataclass(frozen=True)
-class Axis:
+class _Axis:
     """What an error says of an axis."""
 
     table: str
@@ -447,29 +552,30 @@ class Axis:
     try_this: str
 
 
-def along(values: Floats, length: float, axis: Axis) -> tuple[Ints, float]:
-    """Whole indices along an axis, and the coordinate of index 0. The grid is where most centres are."""
+def _along(values: Floats, length: float, axis: _Axis) -> tuple[Ints, float]:
+    """Whole indices along an axis, and the coordinate of index 0. The grid is where most centres
+    are."""
     with np.errstate(over="ignore"):  # a length that is next to nothing
         steps = values / length
     far = int(np.argmax(np.abs(steps)))
-    if not abs(steps[far]) < MOST_STEPS:
+    if not abs(steps[far]) < _MOST_STEPS:
         raise PlanError(
-            f"the centre is more than {MOST_STEPS:,} blocks of {length:g} away",
+            f"the centre is more than {_MOST_STEPS:,} blocks of {length:g} away",
             table=axis.table,
             row=int(axis.rows[far]),
             column=axis.column,
             try_this=f"is a block {length:g} long? size in [model]",
         )
-    share = steps[:: max(1, len(steps) // SAMPLE)] % 1.0
+    share = steps[:: max(1, len(steps) // _SAMPLE)] % 1.0
     counts = np.bincount(np.minimum((share * 200).astype(np.int64), 199), minlength=200)
     about = int(np.argmax(counts + np.roll(counts, 1))) / 200
     near = (share - about + 0.5) % 1.0 - 0.5
-    steps -= about + float(np.median(near[np.abs(near) < OFF]))
+    steps -= about + float(np.median(near[np.abs(near) < _OFF]))
     index = np.rint(steps).astype(np.int64)
     off = np.abs(steps - index)
-    if off.max() > OFF:
-        row = int(np.argmax(off > OFF))
-        n = int(np.sum(off > OFF))
+    if off.max() > _OFF:
+        row = int(np.argmax(off > _OFF))
+        n = int(np.sum(off > _OFF))
         raise PlanError(
             f"the centre is {off[row]:.2f} of a block of {length:g} off the grid that most blocks are on"
             + (f"; {n:,} blocks are off it" if n > 1 else ""),
@@ -492,7 +598,7 @@ def along(values: Floats, length: float, axis: Axis) -> tuple[Ints, float]:
     return index, low
 
 
-def twins(flat: Ints, rows: pd.Index, column: str, table: str) -> None:
+def _twins(flat: Ints, rows: pd.Index, column: str, table: str) -> None:
     """Refuses two blocks at one place."""
     order = np.argsort(flat, kind="stable")
     same = np.flatnonzero(np.diff(flat[order]) == 0)
@@ -509,7 +615,7 @@ def twins(flat: Ints, rows: pd.Index, column: str, table: str) -> None:
         )
 
 
-def light(blocks: pd.DataFrame) -> list[str]:
+def _light(blocks: pd.DataFrame) -> list[str]:
     """A note of the rows that weigh nothing: nothing is paid for digging them."""
     rocks = blocks["rock"][blocks["tonnes"] == 0].value_counts()
     if not len(rocks):
@@ -523,7 +629,7 @@ def light(blocks: pd.DataFrame) -> list[str]:
     ]
 
 
-def without_blanks(words: pd.Series) -> Array:
+def _without_blanks(words: pd.Series) -> Array:
     """Words without the blanks around them, which packages fill cells up with."""
     code, kinds = pd.factorize(words)
     found: Array = np.array([*(str(kind).strip() for kind in kinds), ""], object)[
@@ -532,12 +638,58 @@ def without_blanks(words: pd.Series) -> Array:
     return found
 
 
-def columns_of(
+def _weights_of(
+    frame: pd.DataFrame, names: Mapping[str, str], table: str, absent: Sequence[str] = ()
+) -> Floats:
+    """The tonnes of each row; where the table has none, the density.
+
+    Raises
+    ------
+    PlanError
+        Where the table has neither, or a cell is no number of at least 0.
+    """
+    key = next((key for key in _WEIGHTS if key in names), None)
+    if key is None:
+        raise PlanError(
+            "no column is known as tonnes or density",
+            table=table,
+            try_this='columns = { tonnes = "..." } in [model]',
+        )
+    with about("model", "columns", key):
+        found = number_column(frame[names[key]], table, absent, NO_WEIGHT)
+    if (found < 0).any():
+        row = int(np.argmax(found < 0))
+        raise PlanError(
+            f"{found[row]:g} is less than nothing",
+            table=table,
+            row=int(frame.index[row]),
+            column=names[key],
+            try_this=str(not_estimated(f"{found[row]:g}", absent)),
+        )
+    return found
+
+
+def _look_at_weights(
+    frame: pd.DataFrame, names: Mapping[str, str], keys: TableKeys, table: str
+) -> None:
+    """Raises PlanError where a weight is wrong, or the cells that a formula makes one of: what that
+    comes to is told where it is worked out."""
+    if keys.tonnes is None:
+        _weights_of(frame, names, table, keys.absent)
+        return
+    for key in [key for key in _WEIGHTS if key in names]:
+        if weights.is_read(keys, names[key]):
+            with about("model", "columns", key):
+                number_column(frame[names[key]], table, keys.absent, NO_WEIGHT)
+
+
+def _columns_of(
     frame: pd.DataFrame,
     names: Mapping[str, str],
     grid: Grid,
     index: tuple[Ints, Ints, Ints],
     table: str,
+    weight_of_cube: float = 1.0,
 ) -> pd.DataFrame:
     """The table with this package's own columns beside the planner's."""
     own: dict[str, Any] = {
@@ -546,37 +698,19 @@ def columns_of(
         else (frame.index.to_numpy() + 2).astype(str)
     }
     own |= {key: values.astype(np.int32) for key, values in zip(("ix", "iy", "iz"), index)}
-    if "tonnes" in names:
-        weighed, tonnes = names["tonnes"], number_column(
-            frame[names["tonnes"]], table, hint=NO_WEIGHT
-        )
-    elif "density" in names:
-        weighed = names["density"]
-        tonnes = number_column(frame[weighed], table, hint=NO_WEIGHT) * grid.volume
-    else:
-        raise PlanError(
-            "no column is known as tonnes or density",
-            table=table,
-            try_this='columns = { tonnes = "..." } in [model]',
-        )
-    if (tonnes < 0).any():
-        row = int(np.argmax(tonnes < 0))
-        cell = number_column(frame[weighed].iloc[row : row + 1], table)[0]
-        raise PlanError(
-            f"{cell:g} is less than nothing",
-            table=table,
-            row=int(frame.index[row]),
-            column=weighed,
-            try_this=f'absent = ["{cell:g}"] in [model], if that stands for "not estimated"',
-        )
-    own["tonnes"] = tonnes
+    weighed = _weights_of(frame, names, table)
+    own["tonnes"] = weighed if "tonnes" in names else weighed * (grid.volume * weight_of_cube)
     own["rock"] = (
-        without_blanks(frame[names["rock"]])
+        _without_blanks(frame[names["rock"]])
         if "rock" in names
         else np.full(len(frame), "rock", object)
     )
     own["row"] = frame.index.to_numpy().astype(np.int32)
-    rest = {str(name): frame[name].to_numpy() for name in frame.columns if name not in OURS}
+    rest = {
+        str(name): frame[name].to_numpy()
+        for name in frame.columns
+        if name not in (*OURS, weights.WEIGHT)
+    }
     return pd.DataFrame(
         {**own, **rest}, copy=False
     )  # a copy into common blocks would take as long as all checks

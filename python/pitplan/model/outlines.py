@@ -1,7 +1,8 @@
 """Outlines of blocks in plan: polygons with holes, bench by bench.
 
-In the grid's own units a block is one long and wide, with its centre at its whole index, so that corners lie at halves and
-areas are exact counts of blocks. `placed` brings polygons to the planner's coordinates.
+In the grid's own units a block is one long and wide, with its centre at its whole index, so that
+corners lie at halves and areas are exact counts of blocks. `placed` brings polygons to the
+planner's coordinates.
 """
 from __future__ import annotations
 
@@ -9,14 +10,16 @@ from collections.abc import Iterator
 from typing import TYPE_CHECKING, Any
 
 import numpy as np
-from shapely.geometry import MultiPolygon, Polygon, box
-from shapely.ops import unary_union
+from scipy import ndimage
+from shapely.geometry import MultiPolygon, Polygon
 
-from ..base.arrays import Array, Bools, Floats
+from ..base.arrays import Array, Bools, Floats, Indices, Ints
 
 if TYPE_CHECKING:
     from .grid import Grid
     from .model import Model
+
+Benches = list[tuple[int, MultiPolygon]]
 
 
 def cube_of(model: Model, values: Array, empty: Any) -> Array:
@@ -42,57 +45,75 @@ def outline(plane: Bools) -> MultiPolygon:
     Returns
     -------
     MultiPolygon
-        Valid, without corners on straight lines, outer rings counterclockwise and holes clockwise; empty where no cell is
-        set. Cells that meet at a corner alone lie in polygons of their own.
+        Valid, without corners on straight lines, outer rings counterclockwise and holes clockwise;
+        empty where no cell is set. Cells that meet at a corner alone lie in polygons of their own.
     """
-    edges = np.diff(np.pad(plane, ((1, 1), (0, 0))).astype(np.int8), axis=0).T
-    rows, first = np.nonzero(edges == 1)
-    _, last = np.nonzero(edges == -1)
-    joined = unary_union(
-        [
-            box(a - 0.5, j - 0.5, z - 0.5, j + 0.5)
-            for j, a, z in zip(rows.tolist(), first.tolist(), last.tolist())
-        ]
+    box = [slice(it.min(), it.max() + 1) for it in np.nonzero(plane) if it.size]
+    piece, _ = ndimage.label(plane[tuple(box)])
+    low = np.array([it.start for it in box]) - 0.5
+    found: dict[int, tuple[Floats, list[Floats]]] = {}
+    for own, is_hole, corners in _traced(np.pad(piece, 1)):
+        if is_hole:
+            found[own][1].append(corners + low)
+        else:
+            found[own] = corners + low, []
+    return MultiPolygon([Polygon(*it) for it in found.values()])
+
+
+def _traced(piece: Indices) -> Iterator[tuple[int, bool, Ints]]:
+    """The rings around pieces of cells, each with its piece on the left of its way.
+
+    Parameters
+    ----------
+    piece : int array of shape (nx + 2, ny + 2)
+        Which piece each cell is of, from 1; 0 for no piece, as of all cells at the rim. Cells of a
+        piece hang together by their sides.
+
+    Yields
+    ------
+    own : int
+        The piece.
+    is_hole : bool
+        An outer ring comes before its holes.
+    corners : int array of shape (corners, 2)
+        (0, 0) is where the first four cells meet. A ring comes to a corner once: where a piece
+        meets itself at a corner alone, a ring goes to each side of it.
+    """
+    sw, se, nw, ne = piece[:-1, :-1], piece[1:, :-1], piece[:-1, 1:], piece[1:, 1:]
+    # whether a ring goes from here east, north, west and south: a cell lies on the left alone
+    goes = np.stack(
+        [(ne > 0) & (se == 0), (nw > 0) & (ne == 0), (sw > 0) & (nw == 0), (se > 0) & (sw == 0)], 2
     )
-    return MultiPolygon(
-        [
-            Polygon(
-                turned(corners(p.exterior), True),
-                [turned(corners(hole), False) for hole in p.interiors],
-            )
-            for p in parts(joined)
-        ]
-    )
-
-
-def parts(shape: Any) -> list[Polygon]:
-    """The polygons of a shape."""
-    return [
-        p for p in getattr(shape, "geoms", [shape]) if p.geom_type == "Polygon" and not p.is_empty
-    ]
-
-
-def corners(ring: Any) -> Floats:
-    """The points of a closed ring at which it turns, of shape (corners, 2), the first not repeated."""
-    points = np.asarray(ring.coords)
-    way = points[1:] - points[:-1]  # the ring is closed: from each point to the next
-    last = way[np.arange(-1, len(way) - 1)]
-    turns: Floats = points[:-1][last[:, 0] * way[:, 1] != last[:, 1] * way[:, 0]]
-    return turns
-
-
-def turned(points: Floats, is_left: bool) -> Floats:
-    """The points of a ring in the order that goes counterclockwise (left), or clockwise."""
-    x, y = (points - points[0]).T
-    is_now = float(np.dot(x, np.roll(y, -1)) - np.dot(y, np.roll(x, -1))) > 0
-    return points if is_now == is_left else points[::-1]
+    meets_itself = (sw == ne) & (nw == se) & (sw != nw)
+    sides = np.flatnonzero(goes)
+    way, column = sides % 4, 4 * sw.shape[1]
+    corner = sides - way + np.array([column, 4, -column, -4])[way]  # at the side's end
+    left, right = corner + (way + 1) % 4, corner + (way - 1) % 4
+    goes_left = goes.flat[left] & ~meets_itself.flat[corner // 4]
+    after = np.where(goes_left, left, np.where(goes.flat[right], right, corner + way))
+    turns, nexts = after % 4 != way, np.searchsorted(sides, after).tolist()
+    is_done = bytearray(len(sides))
+    for first, side in enumerate(sides.tolist()):
+        if is_done[first]:
+            continue
+        ring, at = [], first
+        while not is_done[at]:
+            is_done[at] = True
+            ring.append(at)
+            at = nexts[at]
+        # of the lowest column's lowest corner: there an outer ring goes east, a hole's north
+        is_hole = side % 4 == 1
+        own = (nw if is_hole else ne).flat[side // 4]
+        x, y = np.divmod(corner[ring][turns[ring]] // 4, sw.shape[1])
+        yield int(own), is_hole, np.column_stack([x, y])
 
 
 def cut(shape: MultiPolygon, reach: float = 0.5) -> MultiPolygon:
-    """The same outline with its corners cut off, `reach` of a block from each: a staircase becomes a straight line.
+    """The same outline with its corners cut off, `reach` of a block from each: a staircase becomes
+    a straight line.
 
-    The area is no longer that of the blocks: by an eighth of a block less at each corner that points out, and more at each
-    that points in.
+    The area is no longer that of the blocks: by an eighth of a block less at each corner that
+    points out, and more at each that points in.
     """
 
     def ring(points: Any) -> Floats:
@@ -109,7 +130,8 @@ def cut(shape: MultiPolygon, reach: float = 0.5) -> MultiPolygon:
 
 
 def placed(shape: MultiPolygon, grid: Grid) -> MultiPolygon:
-    """A shape in the grid's own units, brought to the planner's coordinates, also of a turned model."""
+    """A shape in the grid's own units, brought to the planner's coordinates, also of a turned
+    model."""
 
     def ring(points: Any) -> Floats:
         at = np.asarray(points.coords)
@@ -122,7 +144,8 @@ def placed(shape: MultiPolygon, grid: Grid) -> MultiPolygon:
 
 
 def rings(shape: MultiPolygon) -> Iterator[tuple[Floats, bool]]:
-    """The rings of a shape: points of shape (n, 2), the first not repeated, and whether it is a hole."""
+    """The rings of a shape: points of shape (n, 2), the first not repeated, and whether it is a
+    hole."""
     for p in shape.geoms:
         yield np.asarray(p.exterior.coords)[:-1], False
         for hole in p.interiors:

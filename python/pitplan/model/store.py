@@ -1,12 +1,14 @@
-"""A model as arrays in one file, without pickles: a file that a stranger sends can hold numbers and words, and no code."""
+"""A model as arrays in one file, without pickles: a file that a stranger sends can hold numbers and
+words, and no code."""
 from __future__ import annotations
 
 import json
 import tokenize
 import zipfile
 import zlib
-from collections.abc import Iterator
+from collections.abc import Iterator, Sequence
 from contextlib import contextmanager
+from dataclasses import asdict
 from pathlib import Path
 from typing import Any
 
@@ -14,8 +16,9 @@ import numpy as np
 import pandas as pd
 
 from ..base.amounts import Priced, rounding_of
-from ..base.arrays import Array, Ints
+from ..base.arrays import Array, Bools, Floats, Ints
 from ..base.errors import PlanError
+from ..base.units import Units
 from ..base.next_command import command
 from .grid import Grid
 from .model import Model
@@ -33,12 +36,12 @@ DAMAGED = (
     zlib.error,
     tokenize.TokenError,
 )
-COLUMN, WORDS, METAL, GRADE = "column ", "words ", "metal ", "grade "
+COLUMN, WORDS, _METAL, _GRADE = "column ", "words ", "metal ", "grade "
 
 
-def words_as_bytes(words: Any) -> Array:
-    """Words as one array of UTF-8 bytes, a line each: a fixed width for all would take the longest one's for each. An empty cell is
-    a line without words."""
+def _words_as_bytes(words: Any) -> Array:
+    """Words as one array of UTF-8 bytes, a line each: a fixed width for all would take the longest
+    one's for each. An empty cell is a line without words."""
     return np.frombuffer(
         "\n".join("" if word != word else str(word).replace("\n", " ") for word in words).encode(),
         np.uint8,
@@ -60,17 +63,23 @@ def save(path: Path, model: Model, priced: Priced, region: Ints) -> None:
         "row_block": model.row_block,
         "region": region.astype(np.uint16),
     }
-    arrays |= {METAL + name: units for name, units in priced.metal.items()}
-    arrays |= {GRADE + name: grade for name, grade in priced.grade.items()}
+    if priced.part is not None:
+        arrays["part"] = priced.part
+    if model.parts is not None:
+        weights = np.zeros(len(model.row_block))
+        weights[model.parts.frame["row"].to_numpy()] = model.parts.frame["tonnes"].to_numpy(float)
+        arrays["row_tonnes"] = weights
+    arrays |= {_METAL + name: units for name, units in priced.metal.items()}
+    arrays |= {_GRADE + name: grade for name, grade in priced.grade.items()}
     for name in model.blocks.columns:
         values = model.blocks[name]
         arrays |= (
-            {WORDS + name: words_as_bytes(values)}
+            {WORDS + name: _words_as_bytes(values)}
             if values.dtype.kind not in "iufb"
             else {COLUMN + name: values.to_numpy()}
         )
     g = model.grid
-    told = {
+    facts = {
         "origin": g.origin,
         "size": g.size,
         "shape": g.shape,
@@ -80,16 +89,17 @@ def save(path: Path, model: Model, priced: Priced, region: Ints) -> None:
         "depth": model.depth,
         "fenced": list(model.fenced[0]) if model.fenced else None,
         "columns": model.columns,
+        "units": asdict(model.units),
         "order": list(map(str, model.blocks.columns)),
         "blocks": len(model),
         "rounding": str(priced.rounding),
         "feed": priced.feed,
     }
-    np.savez(path, told=np.frombuffer(json.dumps(told).encode(), np.uint8), **arrays)
+    np.savez(path, told=np.frombuffer(json.dumps(facts).encode(), np.uint8), **arrays)
 
 
 @contextmanager
-def opened(path: Path) -> Iterator[Any]:
+def _open_kept(path: Path) -> Iterator[Any]:
     """The arrays of a file.
 
     Raises
@@ -108,63 +118,83 @@ def opened(path: Path) -> Iterator[Any]:
         ) from None
 
 
-def told_of(file: Any) -> dict[str, Any]:
-    told: dict[str, Any] = json.loads(bytes(file["told"]).decode())
-    return told
+def facts_of(file: Any) -> dict[str, Any]:
+    facts: dict[str, Any] = json.loads(bytes(file["told"]).decode())
+    return facts
 
 
-def three(values: list[Any]) -> tuple[Any, Any, Any]:
+def _three(values: list[Any]) -> tuple[Any, Any, Any]:
     x, y, z = values
     return x, y, z
 
 
 def load_model(path: Path) -> Model:
     """The model that `save` wrote."""
-    with opened(path) as file:
-        told = told_of(file)
+    with _open_kept(path) as file:
+        facts = facts_of(file)
         columns = {
             name: file[COLUMN + name]
             if COLUMN + name in file.files
-            else bytes_as_words(file[WORDS + name], told["blocks"])
-            for name in told["order"]
+            else bytes_as_words(file[WORDS + name], facts["blocks"])
+            for name in facts["order"]
         }
-        grid = Grid(
-            three(told["origin"]), three(told["size"]), three(told["shape"]), told["rotation"]
-        )
-        fenced = (told["fenced"], file["forbidden"]) if told.get("fenced") is not None else None
-        return Model(
-            pd.DataFrame(columns, copy=False),
-            grid,
-            told["name"],
-            told["notes"],
-            told["columns"],
-            file["row_block"],
-            told["depth"],
-            fenced=fenced,
-        )
+        return model_from(pd.DataFrame(columns, copy=False), file, facts)
+
+
+def model_from(blocks: pd.DataFrame, file: Any, facts: dict[str, Any]) -> Model:
+    """The model of a file that `save` wrote, of some of its columns."""
+    return Model(
+        blocks,
+        Grid(
+            _three(facts["origin"]),
+            _three(facts["size"]),
+            _three(facts["shape"]),
+            facts["rotation"],
+        ),
+        facts["name"],
+        facts["notes"],
+        facts["columns"],
+        file["row_block"],
+        facts["depth"],
+        fenced=_fenced_of(file, facts),
+        units=Units(**facts.get("units", {})),
+        row_tonnes=_row_tonnes_of(file),
+    )
+
+
+def _fenced_of(file: Any, facts: dict[str, Any]) -> tuple[Sequence[str], Bools] | None:
+    """The formulas of `forbid` and the blocks that they keep, of a model with sub-blocks."""
+    return (facts["fenced"], file["forbidden"]) if facts.get("fenced") is not None else None
+
+
+def _row_tonnes_of(file: Any) -> Floats | None:
+    """What each row of the table weighs, where several are one block."""
+    return file["row_tonnes"] if "row_tonnes" in file.files else None
 
 
 def load_priced(path: Path) -> Priced:
     """What the blocks bring and cost; the planner's own columns aren't read."""
-    with opened(path) as file:
-        told = told_of(file)
-        metal = {name[len(METAL) :]: file[name] for name in file.files if name.startswith(METAL)}
-        grade = {name[len(GRADE) :]: file[name] for name in file.files if name.startswith(GRADE)}
+    with _open_kept(path) as file:
+        facts = facts_of(file)
+        metal = {name[len(_METAL) :]: file[name] for name in file.files if name.startswith(_METAL)}
+        grade = {name[len(_GRADE) :]: file[name] for name in file.files if name.startswith(_GRADE)}
         return Priced(
             file["revenue"],
             file["processing"],
             file["mining"],
-            rounding_of(told["rounding"]),
+            rounding_of(facts["rounding"]),
             metal,
             grade,
-            told["feed"],
+            facts["feed"],
             file["forbidden"],
             file["unfenced"] if "unfenced" in file.files else np.zeros(0, np.int64),
+            file["part"] if "part" in file.files else None,
         )
 
 
 def load_region(path: Path) -> Ints:
-    """The region of slopes of each block: 0 is "default", the others in the order of ``study.toml``."""
-    with opened(path) as file:
+    """The region of slopes of each block: 0 is "default", the others in the order of
+    ``study.toml``."""
+    with _open_kept(path) as file:
         region: Ints = file["region"].astype(np.int64)
         return region

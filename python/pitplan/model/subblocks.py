@@ -7,10 +7,9 @@ from dataclasses import dataclass, field, replace
 from typing import TYPE_CHECKING
 
 import numpy as np
-import numpy.typing as npt
 import pandas as pd
 
-from ..base.arrays import Floats, Ints
+from ..base.arrays import Floats, Indices, Ints
 from ..base.errors import PlanError
 from ..table.column_names import PLACES, SIZES
 from ..table.csv_text import NO_WEIGHT, number_column
@@ -42,12 +41,13 @@ class Wanted:
 
 
 @dataclass
-class Whole:
-    """Blocks of one size, and for each row of the table that was handed in the number of its block."""
+class _Whole:
+    """Blocks of one size, and for each row of the table that was handed in the number of its
+    block."""
 
     frame: pd.DataFrame
     places: Places
-    parent: npt.NDArray[np.int32]
+    parent: Indices
     notes: list[str] = field(default_factory=list)
     tonnes: Floats | None = None  # of each row, where rows were added up
 
@@ -59,17 +59,19 @@ class Parts:
     Attributes
     ----------
     frame : DataFrame
-        As `Model.blocks`, a row for each row of the table: its tonnes are its own, its indices those of its block.
+        As `Model.blocks`, a row for each row of the table: its tonnes are its own, its indices
+        those of its block.
     parent : int array of shape (rows,)
         The block of each.
     source : int array of shape (blocks,)
-        The block of the table whose columns a block has: itself, or that of which an added block is a copy.
+        The block of the table whose columns a block has: itself, or that of which an added block is
+        a copy.
     codes : frozenset of str
         Columns of numbers of which blocks have the value of the most tonnes already.
     """
 
     frame: pd.DataFrame
-    parent: npt.NDArray[np.int32]
+    parent: Indices
     source: Ints
     codes: frozenset[str] = frozenset()
 
@@ -80,31 +82,38 @@ def whole_blocks(
     places: Places,
     size: tuple[float, float, float],
     wanted: Wanted,
-) -> Whole:
-    """The blocks as they are where all have one size; else the whole blocks that the sub-blocks add up to.
+) -> _Whole:
+    """The blocks as they are where all have one size; else the whole blocks that the sub-blocks add
+    up to.
 
-    Tonnes are summed, other numbers are means weighted by tonnes, and words are those of the most tonnes; a value that all
-    sub-blocks of a block share stays exactly. Of columns of codes `coded` makes the value of the most tonnes later.
+    Tonnes are summed, other numbers are means weighted by tonnes, and words are those of the most
+    tonnes; a value that all sub-blocks of a block share stays exactly. Of columns of codes `coded`
+    makes the value of the most tonnes later.
 
     Raises
     ------
     PlanError
-        Where there is a sub-block and the planner didn't ask for whole ones, where a block is larger than `size`, or
-        where a sub-block lies over the sides of a whole block: with the row.
+        Where there is a sub-block and the planner didn't ask for whole ones, where a block is
+        larger than `size`, or where a sub-block lies over the sides of a whole block: with the row.
     """
-    same = Whole(frame, places, np.arange(len(frame), dtype=np.int32))
+    same = _Whole(frame, places, np.arange(len(frame), dtype=np.int32))
     if not any(key in names for key in SIZES):
         if wanted.regularise:
             raise PlanError(
-                "regularise needs the size of each sub-block, and no columns are known as dx, dy and dz",
+                (
+                    "regularise needs the size of each sub-block, and no columns are known as dx,"
+                    " dy and dz"
+                ),
                 table=wanted.table,
                 try_this='columns = { dx = "XINC", dy = "YINC", dz = "ZINC" } in [model]',
             )
         return same
     lengths = [
-        number_column(frame[names[key]], wanted.table)
-        if key in names
-        else np.full(len(frame), length)
+        (
+            number_column(frame[names[key]], wanted.table)
+            if key in names
+            else np.full(len(frame), length)
+        )
         for key, length in zip(SIZES, size)
     ]
     small = np.zeros(len(frame), bool)
@@ -124,19 +133,23 @@ def whole_blocks(
     if not wanted.regularise:
         row = int(np.argmax(small))
         raise PlanError(
-            f"is a sub-block of {' x '.join(f'{found[row]:g}' for found in lengths)} in a model of {' x '.join(f'{v:g}' for v in size)}; "
-            f"{int(small.sum()):,} of {len(frame):,} rows are",
+            (
+                f"is a sub-block of {' x '.join(f'{found[row]:g}' for found in lengths)} in a model"
+                f" of {' x '.join(f'{v:g}' for v in size)}; {int(small.sum()):,} of"
+                f" {len(frame):,} rows are"
+            ),
             table=wanted.table,
             row=int(frame.index[row]),
             column=next(names[key] for key in SIZES if key in names),
             try_this="regularise = true in [model], or regularise in the package",
         )
-    return added_up(frame, names, Parents.of(frame, names, places, lengths, size, wanted))
+    return _added_up(frame, names, _Parents.of(frame, names, places, lengths, size, wanted))
 
 
 @dataclass
-class Parents:
-    """The whole block of each sub-block: its number, its centre, and the share of it that the sub-block fills."""
+class _Parents:
+    """The whole block of each sub-block: its number, its centre, and the share of it that the
+    sub-block fills."""
 
     number: Ints
     places: Places
@@ -153,13 +166,14 @@ class Parents:
         lengths: list[Floats],
         size: tuple[float, float, float],
         wanted: Wanted,
-    ) -> Parents:
-        """Finds the whole block of each sub-block, along the model's own axes; a sub-block over a side is told with its row."""
+    ) -> _Parents:
+        """Finds the whole block of each sub-block, along the model's own axes; a sub-block over a
+        side is told with its row."""
         turned = Grid((0.0, 0.0, 0.0), (1.0, 1.0, 1.0), rotation=wanted.rotation)
         u, v = turned.local(places.x - places.x[0], places.y - places.y[0])
         indices, centres = [], []
         for key, c, d, s in zip(PLACES, (u, v, places.z), lengths, size):
-            corner = corner_of(c, d, s)
+            corner = _corner_of(c, d, s)
             low, high = np.floor((c - d / 2 - corner) / s + OFF), np.ceil(
                 (c + d / 2 - corner) / s - OFF
             )
@@ -181,8 +195,8 @@ class Parents:
         whole = np.logical_and.reduce([np.abs(d - s) <= OFF * s for d, s in zip(lengths, size)])[at]
         x, y, _ = turned.world(centres[0][at], centres[1][at], 0)
         x, y, z = (
-            np.where(whole, told[at], found)
-            for told, found in zip(
+            np.where(whole, of_part[at], found)
+            for of_part, found in zip(
                 (places.x, places.y, places.z), (x + places.x[0], y + places.y[0], centres[2][at])
             )
         )
@@ -190,9 +204,9 @@ class Parents:
         return cls(number.astype(np.int64), Places(x, y, z), share, size, wanted.table)
 
 
-def corner_of(centres: Floats, lengths: Floats, length: float) -> float:
-    """A side of the whole blocks along an axis: one that most blocks of full length begin at. Where no block is of full
-    length, the lowest side of all."""
+def _corner_of(centres: Floats, lengths: Floats, length: float) -> float:
+    """A side of the whole blocks along an axis: one that most blocks of full length begin at. Where
+    no block is of full length, the lowest side of all."""
     lower = centres - lengths / 2
     whole = np.flatnonzero(np.abs(lengths - length) <= OFF * length)
     if not len(whole):
@@ -209,7 +223,7 @@ def corner_of(centres: Floats, lengths: Floats, length: float) -> float:
     )
 
 
-def added_up(frame: pd.DataFrame, names: Mapping[str, str], parents: Parents) -> Whole:
+def _added_up(frame: pd.DataFrame, names: Mapping[str, str], parents: _Parents) -> _Whole:
     """The table of whole blocks."""
     number, m = parents.number, int(parents.number.max()) + 1
     over = np.bincount(number, parents.share, m)
@@ -220,7 +234,7 @@ def added_up(frame: pd.DataFrame, names: Mapping[str, str], parents: Parents) ->
             table=parents.table,
             row=int(frame.index[row]),
         )
-    weighed, weight = weights(frame, names, parents)
+    weighed, weight = _weights(frame, names, parents)
     total = np.bincount(number, weight, m)
     first = pd.Series(np.arange(len(number))).groupby(number).first().to_numpy()
     out = frame.iloc[first].copy()
@@ -229,17 +243,20 @@ def added_up(frame: pd.DataFrame, names: Mapping[str, str], parents: Parents) ->
             out[name] = means(frame[name], number, weight, first)
         elif name != names.get("id"):
             if name != names.get("rock"):
-                number_column_or_words(frame[name], parents.table)
-            out[name] = frame[name].to_numpy()[of_most(frame[name], number, weight)]
+                _number_column_or_words(frame[name], parents.table)
+            out[name] = frame[name].to_numpy()[_of_most(frame[name], number, weight)]
     out[weighed] = total
     for key, values in zip(PLACES, (parents.places.x, parents.places.y, parents.places.z)):
         out[names[key]] = values
     for key, length in zip(SIZES, parents.size):
         if key in names:
             out[names[key]] = length
-    note = f"regularised: {len(frame):,} sub-blocks into {m:,} blocks; tonnes summed, other numbers weighted by tonnes, words those of the most tonnes"
+    note = (
+        f"regularised: {len(frame):,} sub-blocks into {m:,} blocks; tonnes summed, other numbers"
+        " weighted by tonnes, words those of the most tonnes"
+    )
     size = parents.size
-    return Whole(
+    return _Whole(
         out,
         parents.places,
         number.astype(np.int32),
@@ -248,24 +265,23 @@ def added_up(frame: pd.DataFrame, names: Mapping[str, str], parents: Parents) ->
     )
 
 
-def means(
-    values: pd.Series, number: Ints, weight: Floats, first: Ints
-) -> npt.NDArray[np.float64 | np.int64]:
-    """The mean of each block, weighted by tonnes, 0 where it has none; where all its sub-blocks have one value, that value, to the last
-    digit: a mean in floating point makes 2.9999999999999996 of a code of 3."""
+def means(values: pd.Series, number: Ints, weight: Floats, first: Ints) -> Floats | Ints:
+    """The mean of each block, weighted by tonnes, 0 where it has none; where all its sub-blocks
+    have one value, that value, to the last digit: a mean in floating point makes 2.9999999999999996
+    of a code of 3."""
     x = values.to_numpy(float)
     is_shared = np.bincount(number, x != x[first][number], len(first)) == 0
     if is_shared.all():
-        same: npt.NDArray[np.float64 | np.int64] = values.to_numpy()[first]
+        same: Floats | Ints = values.to_numpy()[first]
         return same
     total = np.bincount(number, weight, len(first))
     mean = np.bincount(number, weight * x, len(first)) / np.where(total > 0, total, 1)
     return np.where(is_shared, x[first], np.where(total > 0, mean, 0.0))
 
 
-def of_most(values: pd.Series, number: Ints, weight: Floats) -> Ints:
-    """For each block the first of its rows that has the value of the most tonnes; of values of as many tonnes that which comes first.
-    Words are the same whatever blanks are around them."""
+def _of_most(values: pd.Series, number: Ints, weight: Floats) -> Ints:
+    """For each block the first of its rows that has the value of the most tonnes; of values of as
+    many tonnes that which comes first. Words are the same whatever blanks are around them."""
     code = (
         pd.factorize(values.to_numpy() if values.dtype.kind in "iuf" else stripped(values))[
             0
@@ -281,13 +297,15 @@ def of_most(values: pd.Series, number: Ints, weight: Floats) -> Ints:
 
 
 def coded(model: Model, names: Collection[str]) -> Model:
-    """The model with the value of the most tonnes in columns of codes, where sub-blocks were added up: a region or a sector of 2.5 is none.
-    Blocks that were added have what the block has that they are a copy of, unless `fill` says something else.
+    """The model with the value of the most tonnes in columns of codes, where sub-blocks were added
+    up: a region or a sector of 2.5 is none. Blocks that were added have what the block has that
+    they are a copy of, unless `fill` says something else.
 
     Parameters
     ----------
     names : collection of str
-        The columns: those that `by`, a comparison or `forbid` names. Places, sizes, tonnes and words are left out.
+        The columns: those that `by`, a comparison or `forbid` names. Places, sizes, tonnes and
+        words are left out.
     """
     parts = model.parts
     if parts is None:
@@ -320,22 +338,26 @@ def coded(model: Model, names: Collection[str]) -> Model:
     )
     for name in found:
         cells = parts.frame[name].to_numpy()
-        most = cells[of_most(parts.frame[name], number, weight)]
+        most = cells[_of_most(parts.frame[name], number, weight)]
         is_mixed = np.bincount(number, cells != most[number]) > 0
         now = blocks[name].to_numpy()
         is_copy = (now == now[parts.source]) | (np.isnan(now) & np.isnan(now[parts.source]))
         blocks[name] = np.where(is_copy, most[parts.source], now)
         if is_mixed.any():
             notes.append(
-                f"{name} is taken as a code: of {int(is_mixed.sum()):,} blocks with several values each has that of the most tonnes"
+                f"{name} is taken as a code: of {int(is_mixed.sum()):,} blocks with several values"
+                " each has that of the most tonnes"
             )
     return replace(
         model, blocks=blocks, notes=notes, parts=replace(parts, codes=parts.codes | set(found))
     )
 
 
-def weights(frame: pd.DataFrame, names: Mapping[str, str], parents: Parents) -> tuple[str, Floats]:
-    """The column that says what a sub-block weighs, and its weight: tonnes, or its density times the share that it fills."""
+def _weights(
+    frame: pd.DataFrame, names: Mapping[str, str], parents: _Parents
+) -> tuple[str, Floats]:
+    """The column that says what a sub-block weighs, and its weight: tonnes, or its density times
+    the share that it fills."""
     if "tonnes" in names:
         return names["tonnes"], number_column(frame[names["tonnes"]], parents.table, hint=NO_WEIGHT)
     if "density" in names:
@@ -350,7 +372,8 @@ def weights(frame: pd.DataFrame, names: Mapping[str, str], parents: Parents) -> 
     )
 
 
-def number_column_or_words(values: pd.Series, table: str) -> None:
-    """Tells the cell that makes words of a column of numbers, before it is lost among the sub-blocks of a whole block."""
+def _number_column_or_words(values: pd.Series, table: str) -> None:
+    """Tells the cell that makes words of a column of numbers, before it is lost among the
+    sub-blocks of a whole block."""
     if pd.to_numeric(values, errors="coerce").notna().mean() > 0.5:
         number_column(values, table)

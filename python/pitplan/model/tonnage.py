@@ -1,14 +1,19 @@
-"""Grade and tonnage of each rock, before any pit."""
+"""Grade and tonnage of each rock, before any pit, and of each resource class."""
 from __future__ import annotations
 
-from collections.abc import Mapping
+from collections.abc import Mapping, Sequence
 from typing import Any
 
 import numpy as np
 import pandas as pd
 
 from ..base.amounts import THOUSAND, Priced
+from ..base.arrays import Bools
+from ..base.units_shown import grade_places
+from .classes import Classes
 from .model import Model
+
+TITLE = "in place, at the full price; metals as recovered"
 
 
 def by_rock(model: Model, priced: Priced, metals: Mapping[str, Mapping[str, str]]) -> pd.DataFrame:
@@ -22,40 +27,117 @@ def by_rock(model: Model, priced: Priced, metals: Mapping[str, Mapping[str, str]
     Returns
     -------
     DataFrame
-        ``rock``, ``blocks``, ``Mt`` (million tonnes in place), ``ore Mt`` (in place; what would pay for its treatment at the
-        full price, once it is dug), and for each metal its mean grade in that ore and what would be recovered of it.
+        ``rock``, ``blocks``, ``Mt`` (million tonnes in place; ``Mst`` of short tons), ``ore Mt``
+        (in place; what would pay for its treatment at the full price, once it is dug), and for each
+        metal its mean grade in that ore and what would be recovered of it.
     """
-    tonnes, ore = model.blocks.tonnes.to_numpy(float), priced.milled(THOUSAND)
+    tonnes = model.blocks.tonnes.to_numpy(float)
+    ore = priced.ore_of(tonnes, THOUSAND)
     code, rocks = pd.factorize(model.blocks.rock)
     weighed = np.bincount(code, tonnes, len(rocks))
     order = np.argsort(-weighed, kind="stable")
-    rows = [row_of(str(rocks[i]), code == i, tonnes, ore, priced, metals) for i in order]
-    rows.append(row_of("all", np.ones(len(model), bool), tonnes, ore, priced, metals))
-    return pd.DataFrame(rows)
+    kinds = [(str(rocks[i]), code == i) for i in order] + [("all", np.ones(len(model), bool))]
+    return _in_units(
+        model,
+        [{"rock": rock} | _row_of(here, tonnes, ore, priced, metals) for rock, here in kinds],
+    )
 
 
-def row_of(
-    rock: str,
+def by_class(
+    model: Model,
+    priced: Priced,
+    metals: Mapping[str, Mapping[str, str]],
+    classes: Classes,
+    sets: Mapping[str, Bools],
+    base: int = THOUSAND,
+) -> pd.DataFrame:
+    """A row for each of some sets of blocks and each resource class that it has.
+
+    Parameters
+    ----------
+    sets : mapping of str to bool array of shape (len(model),)
+        By the name of each.
+    base : int
+        The factor, in thousandths, at which ore counts.
+
+    Returns
+    -------
+    DataFrame
+        ``of`` (the name of the set), ``class``, and the columns of `by_rock` from ``blocks`` on.
+    """
+    tonnes = model.blocks.tonnes.to_numpy(float)
+    ore = priced.ore_of(tonnes, base)
+    rows = [
+        {"of": name, "class": kind} | _row_of(held & here, tonnes, ore, priced, metals)
+        for name, held in sets.items()
+        for kind, here in classes.masks().items()
+        if (held & here).any()
+    ]
+    none = np.zeros(len(model), bool)
+    return _in_units(
+        model, rows or [{"of": "", "class": ""} | _row_of(none, tonnes, ore, priced, metals)]
+    )
+
+
+def _in_units(model: Model, rows: list[dict[str, Any]]) -> pd.DataFrame:
+    """Rows as a table, whose columns of tonnes are named in the model's unit of weight."""
+    mega = f"M{model.units.weight}"
+    return pd.DataFrame(rows).rename(columns={"Mt": mega, "ore Mt": f"ore {mega}"})
+
+
+def _row_of(
     here: Any,
     tonnes: Any,
     ore: Any,
     priced: Priced,
     metals: Mapping[str, Mapping[str, str]],
 ) -> dict[str, Any]:
-    """The line of some blocks, which `here` says: their tonnes, and of their ore the grades and the metal."""
-    milled = here & ore
-    weight = float(tonnes[milled].sum())
+    """The line of some blocks, which `here` says: their tonnes, and of their ore the grades and the
+    metal."""
+    milled = here & (ore > 0)
+    weight = float(ore[milled].sum())
     row: dict[str, Any] = {
-        "rock": rock,
         "blocks": int(np.count_nonzero(here)),
         "Mt": float(tonnes[here].sum()) / 1e6,
         "ore Mt": weight / 1e6,
     }
     for name, units in metals.items():
         row[f"{name} {units['grade_unit']}"] = (
-            float((priced.grade[name][milled] * tonnes[milled]).sum()) / weight
+            float((priced.grade[name][milled] * ore[milled]).sum()) / weight
             if weight
             else float("nan")
         )
         row[f"{name} {units['price_unit']}"] = float(priced.metal[name][milled].sum())
     return row
+
+
+def texts_of(lines: pd.DataFrame, words: int = 1) -> tuple[list[str], list[tuple[str, ...]]]:
+    """The names of a table's columns, and its rows as texts. The first `words` columns are
+    words."""
+    columns = [
+        *(list(map(str, lines[name])) for name in lines.columns[:words]),
+        *(cells_of(lines[name].tolist()) for name in lines.columns[words:]),
+    ]
+    return list(map(str, lines.columns)), list(zip(*columns))
+
+
+def cells_of(values: Sequence[int | float]) -> list[str]:
+    """The numbers of a column as a table shows them, all with as many decimals: 3 where the
+    greatest is below 100, one less for each digit more, more where it would have less than three
+    that count, and none for whole numbers. What is no number is an empty cell.
+
+    >>> cells_of([178.4, 52.12, float("nan")]), cells_of([5041, 12]), cells_of([0.0291])
+    (['178.40', '52.12', ''], ['5,041', '12'], ['0.0291'])
+    """
+    if all(isinstance(value, int) for value in values):
+        return [f"{value:,}" for value in values]
+    greatest = max((abs(value) for value in values if value == value), default=0.0)
+    places = next(
+        (
+            places
+            for places, most in ((grade_places([greatest], 3, 3), 100), (2, 1_000), (1, 10_000))
+            if round(greatest, places) < most
+        ),
+        0,
+    )
+    return ["" if value != value else f"{value:,.{places}f}" for value in values]

@@ -1,4 +1,5 @@
-"""The one place that runs `pit`: what comes out is an `Accepted` or a `Stated`, or an error in the planner's terms."""
+"""The one place that runs `pit`: what comes out is an `Accepted` or a `Stated`, or an error in the
+planner's terms."""
 from __future__ import annotations
 
 import gzip
@@ -10,7 +11,7 @@ import signal
 import subprocess
 import sys
 import threading
-from collections.abc import Callable, Iterable, Iterator, Sequence
+from collections.abc import Callable, Iterable, Iterator, Mapping, Sequence
 from contextlib import contextmanager, nullcontext
 from dataclasses import InitVar, dataclass
 from functools import cached_property
@@ -22,36 +23,43 @@ import numpy as np
 from ..base.arrays import Bools, Ints
 from ..base.errors import Disagreement, Killed, MachineError, NotAccepted, PlanError
 from ..base.files import ROOM
+from ..base.stops import raise_if_asked
 from ..base.units_shown import share_text
+from .scheduled import Scheduled
 from .valued import Valued
 
-Progress = Callable[[int, int], None]
-Heard = Callable[[str], None]  # a line of `--progress`
-Word = Union[str, int, Path]
+_Progress = Callable[[int, int], None]
+_Heard = Callable[[str], None]  # a line of `--progress`
+_Word = Union[str, int, Path]
 TOP = Path(__file__).resolve().parents[3]
 BUILT = (
     TOP / "out" / "pit",
     TOP / "crates" / "pit" / "out" / "pit",
 )  # where this repository's build puts it
-PIECE = 1 << 20
-HEAD = 4  # lines before the PIT lines of a certificate
-BEHIND = (b"SOURCE ", b"REST ", b"SINK ", b"END")
-HINTS = {
+_PIECE = 1 << 20
+_LARGE_PAGES = "glibc.malloc.hugetlb=1"  # a setting of the C library
+_HEAD = 4  # lines before the PIT lines of a certificate
+_BEHIND = (b"SOURCE ", b"REST ", b"SINK ", b"END")
+_HINTS = {
     "No space left on device": ROOM,
     "Disk quota exceeded": ROOM,
     "UNSETTLED": "the run was cut off before its pit was proved: tell the maintainers of this mine",
-    "TooLarge": "the amounts are too large together: rounding = 1000 in [economics], or prices and costs in thousands",
+    "TooLarge": (
+        "the amounts are too large together: rounding = 1000 in [economics], or prices and costs in"
+        " thousands"
+    ),
     "memory": "memory was refused: fewer --workers",
     "device": "a file couldn't be read or written: is the disk full?",
 }
 BEGUN = object()  # what only Pit.check hands to an Accepted, and Pit.series to a Stated
 MOST_FACTORS = 64  # of one run of `pit shells`
-ABOVE = 1 << 30  # of a block that no pit of a series has: above all factors
+_ABOVE = 1 << 30  # of a block that no pit of a series has: above all factors
 
 
 @dataclass(frozen=True)
 class Accepted:
-    """A pit that `pit check` has accepted. `Pit.check` alone makes one, of the very bytes that were checked.
+    """A pit that `pit check` has accepted. `Pit.check` alone makes one, of the very bytes that were
+    checked.
 
     Attributes
     ----------
@@ -91,10 +99,11 @@ class Accepted:
 
 @dataclass(frozen=True)
 class Stated:
-    """A pit as `pit shells --by-block` states it. `Pit.series` alone makes one, of one run's lines and table of blocks.
+    """A pit as `pit shells --by-block` states it. `Pit.series` alone makes one, of one run's lines
+    and table of blocks.
 
-    No certificate of it is kept. That it is the best pit at its factor rests on the program: it is proved to check each pit with a
-    flow before it prints a line.
+    No certificate of it is kept. That it is the best pit at its factor rests on the program: it is
+    proved to check each pit with a flow before it prints a line.
 
     Attributes
     ----------
@@ -136,13 +145,52 @@ class Files:
     prec: Path
     blocks: Path
     settings: Path
+    behind = ""  # of the line of acceptance
 
-    def words(self) -> list[Word]:
+    def words(self) -> list[_Word]:
         return ["--prec", self.prec, "--blocks", self.blocks, "--settings", self.settings]
 
 
+@dataclass(frozen=True)
+class Texts:
+    """The two files of a mine of which each block has one worth."""
+
+    prec: Path
+    upit: Path
+    behind = " GROUP WORTH"  # of the line of acceptance, since worths alone are counted
+
+    def words(self) -> list[_Word]:
+        return ["--prec", self.prec, "--upit", self.upit]
+
+
+@dataclass(frozen=True)
+class Richest:
+    """The richest pit of such a mine, as `pit check` has accepted it. `Pit.richest` alone makes
+    one.
+
+    Attributes
+    ----------
+    worth : str
+        What it is worth: no closed set of blocks is worth more.
+    blocks : int array
+        The numbers of its blocks, ascending.
+    certificate : str
+        The sha256 of the certificate.
+    """
+
+    worth: str
+    blocks: Ints
+    certificate: str
+    begun: InitVar[object] = None
+
+    def __post_init__(self, begun: object) -> None:
+        if begun is not BEGUN:
+            raise TypeError("a Richest is made by Pit.richest alone")
+
+
 def found_program() -> str:
-    """Where `pit` is: as PIT in the environment says, on the path, where this repository builds it, or beside the command.
+    """Where `pit` is: as PIT in the environment says, on the path, where this repository builds it,
+    or beside the command.
 
     Raises
     ------
@@ -210,10 +258,11 @@ class Pit:
         files: Files,
         factor: int,
         certificate: Path,
-        progress: Progress | None = None,
+        progress: _Progress | None = None,
         keeps: bool = True,
     ) -> Accepted:
-        """The best pit at a factor: its certificate is written, then checked as the file that was written, and kept packed.
+        """The best pit at a factor: its certificate is written, then checked as the file that was
+        written, and kept packed.
 
         Parameters
         ----------
@@ -231,15 +280,15 @@ class Pit:
         NotAccepted
             Where there was no certificate, or the check refuses it.
         """
-        more: list[Word] = ["--progress"] if progress else []
+        more: list[_Word] = ["--progress"] if progress else []
         said = self.run(
             ["solve", *files.words(), "--factor", factor, "--verbose", *more],
             certificate,
-            settled(progress) if progress else None,
+            _settled(progress) if progress else None,
         )
         if said:
             raise NotAccepted(
-                f"pit solve at factor {share_text(factor)}: {said.strip()}", try_this=hint_of(said)
+                f"pit solve at factor {share_text(factor)}: {said.strip()}", try_this=_hint_of(said)
             )
         with packed(certificate) if keeps else nullcontext() as kept:
             found = self.check(files, certificate, kept)
@@ -247,8 +296,8 @@ class Pit:
         return found
 
     def check(self, files: Files, certificate: Path, kept: gzip.GzipFile | None = None) -> Accepted:
-        """Lets `pit check` judge a certificate. The bytes of the file are read once: handed to `pit check`, digested, and
-        their PIT lines read, so that what is accepted is what is returned.
+        """Lets `pit check` judge a certificate. The bytes of the file are read once: handed to `pit
+        check`, digested, and their PIT lines read, so that what is accepted is what is returned.
 
         Parameters
         ----------
@@ -263,29 +312,91 @@ class Pit:
             Where it doesn't answer ACCEPTED.
         """
         lines = PitLines()
+        count, worth = self.judged(files, certificate, lines, kept)
+        size, factor, blocks = lines.found()
+        _refuse_other_count(count, blocks)
+        return Accepted(count, worth, blocks, factor, lines.digest.hexdigest(), size, BEGUN)
+
+    def judged(
+        self,
+        files: Files | Texts,
+        certificate: Path,
+        lines: PitLines,
+        kept: gzip.GzipFile | None = None,
+    ) -> tuple[int, str]:
+        """What `pit check` says of a certificate: how many blocks its pit has, and what it is
+        worth. `lines` takes in the same bytes.
+
+        Raises
+        ------
+        NotAccepted
+            Where it doesn't answer ACCEPTED.
+        """
 
         def pieces() -> Iterator[bytes]:
-            with gzip.open(certificate, "rb") if certificate.suffix == ".gz" else open(
-                certificate, "rb"
+            with (
+                gzip.open(certificate, "rb")
+                if certificate.suffix == ".gz"
+                else open(certificate, "rb")
             ) as file:
-                while data := file.read(PIECE):
+                while data := file.read(_PIECE):
                     lines.take(data)
                     if kept:
                         kept.write(data)
                     yield data
 
         line = self.run(["check", *files.words(), "--verbose", "/dev/stdin"], fed=pieces()).strip()
-        found = re.fullmatch(r"ACCEPTED (\d+) (-?[\d.]+)", line)
+        found = re.fullmatch(r"ACCEPTED (\d+) (-?[\d.]+)" + files.behind, line)
         if not found:
-            raise NotAccepted(f"pit check: {line}", try_this=hint_of(line))
-        size, factor, blocks = lines.found()
-        if len(blocks) != int(found[1]):
-            raise NotAccepted(
-                f"pit check counts {found[1]} blocks, and the certificate has {len(blocks)} PIT lines"
-            )
-        return Accepted(
-            int(found[1]), found[2], blocks, factor, lines.digest.hexdigest(), size, BEGUN
-        )
+            raise NotAccepted(f"pit check: {line}", try_this=_hint_of(line))
+        return int(found[1]), found[2]
+
+    def richest(self, texts: Texts, certificate: Path) -> Richest:
+        """Finds the richest pit of a mine of which each block has one worth, and lets `pit check`
+        judge it.
+
+        Parameters
+        ----------
+        texts : Texts
+        certificate : Path
+            The file to write; when it is done, it lies packed at the same name with ``.gz`` behind.
+
+        Raises
+        ------
+        NotAccepted
+            Where there was no certificate, or the check refuses it.
+        """
+        said = self.run(["solve", *texts.words(), "--group", "worth", "--verbose"], certificate)
+        if said:
+            raise NotAccepted(f"pit solve: {said.strip()}", try_this=_hint_of(said))
+        lines = PitLines()
+        with packed(certificate) as kept:
+            count, worth = self.judged(texts, certificate, lines, kept)
+        certificate.unlink()
+        blocks = lines.numbers()
+        _refuse_other_count(count, blocks)
+        return Richest(worth, blocks, lines.digest.hexdigest(), BEGUN)
+
+    def schedule(
+        self, files: Files | Texts, factor: int | None, uses: Path, periods: Path, schedule: Path
+    ) -> Scheduled:
+        """Lets `pit schedule` judge a schedule at a factor.
+
+        Parameters
+        ----------
+        factor : int, optional
+            Of the revenue, in thousandths; None of a mine of which each block has one worth.
+        uses : Path
+            A `.blocks` file with what each block uses.
+        periods : Path
+            What periods weigh and have, as `pit` reads it.
+        schedule : Path
+            A text with the number of a block and its period in each line.
+        """
+        priced: list[_Word] = [] if factor is None else ["--factor", factor]
+        words: list[_Word] = [*files.words(), *priced, "--uses", uses]
+        said = self.run(["schedule", *words, "--periods", periods, "--verbose", schedule])
+        return Scheduled.of_answer(said, _hint_of(said))
 
     def value(self, files: Files, design: Path, certificate: Path) -> Valued:
         """Lets `pit value` judge a design beside the pit of a certificate, at its factor.
@@ -303,7 +414,7 @@ class Pit:
             Where the certificate is refused.
         """
         said = self.run(["value", *files.words(), "--verbose", "--best", certificate, design])
-        return Valued.of_answer(said, hint_of(said))
+        return Valued.of_answer(said, _hint_of(said))
 
     @cached_property
     def states_blocks(self) -> bool:
@@ -343,7 +454,7 @@ class Pit:
         """
         settings, table = work / "series.toml", work / "by_block.csv"
         settings.write_text(files.settings.read_text() + f"factors = {list(factors)}\n")
-        words: list[Word] = [
+        words: list[_Word] = [
             *Files(files.prec, files.blocks, settings).words(),
             "--by-block",
             table,
@@ -353,11 +464,11 @@ class Pit:
         ]
         said = self.run(
             ["shells", *words, *(["--progress"] if proved else [])],
-            heard=each_proved(proved) if proved else None,
+            heard=_each_proved(proved) if proved else None,
         )
         lines = re.findall(r"^SHELL (\d+) (\d+) (-?[\d.]+)$", said, re.MULTILINE)
         if not lines:
-            raise NotAccepted(f"pit shells: {said.strip()}", try_this=hint_of(said))
+            raise NotAccepted(f"pit shells: {said.strip()}", try_this=_hint_of(said))
         if [int(factor) for factor, _, _ in lines] != list(factors) or len(lines) != said.count(
             "\n"
         ):
@@ -365,7 +476,7 @@ class Pit:
                 f"pit shells was asked for {len(factors)} factors, and its lines are of others",
                 try_this="tell the maintainers",
             )
-        shell = shell_of_blocks(table, factors)
+        shell = _shell_of_blocks(table, factors)
         return [
             Stated(int(count), worth, int(factor), shell <= int(factor), BEGUN)
             for factor, count, worth in lines
@@ -373,9 +484,9 @@ class Pit:
 
     def run(
         self,
-        words: Sequence[Word],
+        words: Sequence[_Word],
         out: Path | None = None,
-        heard: Heard | None = None,
+        heard: _Heard | None = None,
         fed: Iterable[bytes] | None = None,
     ) -> str:
         """Runs `pit`.
@@ -389,33 +500,36 @@ class Pit:
         heard : function, optional
             Is told each line that says how far it is.
         fed : iterable of bytes, optional
-            What it gets on its standard input; all of it is gone through, also where `pit` reads no more.
+            What it gets on its standard input; all of it is gone through, also where `pit` reads no
+            more.
 
         Returns
         -------
         str
-            Its standard output; with `out`, nothing where it is done, and the answer where that is no.
+            Its standard output; with `out`, nothing where it is done, and the answer where that is
+            no.
 
         Raises
         ------
         PlanError, MachineError
-            Where it ended with another status than 0 or 1, or by a signal: with its own words, and what to try.
+            Where it ended with another status than 0 or 1, or by a signal: with its own words, and
+            what to try.
         """
-        told: list[str] = []
+        lines: list[str] = []
         with open(out, "wb") if out else open(os.devnull, "wb") as target:
             run = self.started(
                 words,
                 target.fileno() if out else subprocess.PIPE,
                 subprocess.PIPE if fed is not None else subprocess.DEVNULL,
             )
-            ear = threading.Thread(target=listen, args=(run, told, heard), daemon=True)
+            ear = threading.Thread(target=_listen, args=(run, lines, heard), daemon=True)
             ear.start()
             try:
-                feed(run, fed or ())
+                _feed(run, fed or ())
                 text = run.stdout.read().decode(errors="replace") if run.stdout else ""
                 status = run.wait()
             except BaseException:
-                ended_now(run)
+                _ended_now(run)
                 run.wait()
                 raise
             finally:
@@ -426,12 +540,14 @@ class Pit:
             return out.read_text(errors="replace")[:1000]
         if status in (0, 1):
             return text
-        raise self.ended(str(words[0]), status, " ".join(told))
+        raise self.ended(str(words[0]), status, " ".join(lines))
 
-    def started(self, words: Sequence[Word], output: int, given: int) -> subprocess.Popen[bytes]:
-        """Starts `pit`, so that it ends when this process does: setpriv is of util-linux, which Debian always has."""
+    def started(self, words: Sequence[_Word], output: int, given: int) -> subprocess.Popen[bytes]:
+        """Starts `pit`, so that it ends when this process does: setpriv is of util-linux, which
+        Debian always has."""
         setpriv = shutil.which("setpriv")
         before = [setpriv, "--pdeathsig", "KILL", "--"] if setpriv else []
+        raise_if_asked()
         with self.lock:
             if self.is_stopped:
                 raise KeyboardInterrupt
@@ -441,6 +557,7 @@ class Pit:
                     stdin=given,
                     stdout=output,
                     stderr=subprocess.PIPE,
+                    env=_with_large_pages(os.environ),
                     process_group=0,
                 )  # ctrl-C is for this process, which ends it
             except OSError as error:
@@ -453,7 +570,7 @@ class Pit:
         with self.lock:
             self.is_stopped = True
             for run in self.running:
-                ended_now(run)
+                _ended_now(run)
 
     def restart(self) -> None:
         """Lets runs be started again after `stop`."""
@@ -474,40 +591,48 @@ class Pit:
             hint = "fewer --workers: memory was short, or somebody ended it"
             return Killed(said, try_this=hint)
         kind = MachineError if status < 0 or status == 4 else PlanError
-        return kind(said, try_this=hint_of(fault))
+        return kind(said, try_this=_hint_of(fault))
 
 
 @contextmanager
 def packed(certificate: Path) -> Iterator[gzip.GzipFile]:
     """The packed file beside a certificate, for its bytes."""
-    with open(certificate.with_name(certificate.name + ".gz"), "wb") as target, gzip.GzipFile(
-        "", "wb", 1, target, mtime=0
-    ) as kept:
+    with (
+        open(certificate.with_name(certificate.name + ".gz"), "wb") as target,
+        gzip.GzipFile("", "wb", 1, target, mtime=0) as kept,
+    ):
         yield kept
 
 
-def ended_now(run: subprocess.Popen[bytes]) -> None:
+def _with_large_pages(around: Mapping[str, str]) -> dict[str, str]:
+    """An environment in which the C library asks the system for large pages, unless it says
+    otherwise itself: of two values the last one counts."""
+    own = around.get("GLIBC_TUNABLES")
+    return {**around, "GLIBC_TUNABLES": ":".join([_LARGE_PAGES] + ([own] if own else []))}
+
+
+def _ended_now(run: subprocess.Popen[bytes]) -> None:
     """Ends a run and all that it started: it is the first of a process group of its own."""
     if run.poll() is None:
         os.killpg(run.pid, signal.SIGKILL)
 
 
-def hint_of(said: str) -> str | None:
-    return next((hint for key, hint in HINTS.items() if key in said), None)
+def _hint_of(said: str) -> str | None:
+    return next((hint for key, hint in _HINTS.items() if key in said), None)
 
 
-def listen(run: subprocess.Popen[bytes], told: list[str], heard: Heard | None) -> None:
+def _listen(run: subprocess.Popen[bytes], lines: list[str], heard: _Heard | None) -> None:
     """Takes in what `pit` says on standard error: how far it is, and what is wrong."""
     assert run.stderr is not None
     for raw in run.stderr:
         line = raw.decode(errors="replace").rstrip()
         if not line.startswith("progress:"):
-            told.append(line)
+            lines.append(line)
         elif heard:
             heard(line)
 
 
-def settled(progress: Progress) -> Heard:
+def _settled(progress: _Progress) -> _Heard:
     """Tells of how many blocks `pit solve` says that they are settled."""
 
     def heard(line: str) -> None:
@@ -518,7 +643,7 @@ def settled(progress: Progress) -> Heard:
     return heard
 
 
-def each_proved(proved: Callable[[int], None]) -> Heard:
+def _each_proved(proved: Callable[[int], None]) -> _Heard:
     """Tells each factor of which `pit shells` says that its pit is proved."""
 
     def heard(line: str) -> None:
@@ -529,8 +654,9 @@ def each_proved(proved: Callable[[int], None]) -> Heard:
     return heard
 
 
-def shell_of_blocks(table: Path, factors: Sequence[int]) -> Ints:
-    """The first factor whose pit has each block, in thousandths, of shape (blocks,); above all factors where none has it.
+def _shell_of_blocks(table: Path, factors: Sequence[int]) -> Ints:
+    """The first factor whose pit has each block, in thousandths, of shape (blocks,); above all
+    factors where none has it.
 
     Raises
     ------
@@ -560,11 +686,11 @@ def shell_of_blocks(table: Path, factors: Sequence[int]) -> Ints:
             "the table of blocks that pit shells wrote isn't one of all blocks and these factors",
             try_this="is the disk full? else tell the maintainers",
         )
-    first: Ints = np.nan_to_num(shell, nan=float(ABOVE)).astype(np.int64)
+    first: Ints = np.nan_to_num(shell, nan=float(_ABOVE)).astype(np.int64)
     return first
 
 
-def feed(run: subprocess.Popen[bytes], pieces: Iterable[bytes]) -> None:
+def _feed(run: subprocess.Popen[bytes], pieces: Iterable[bytes]) -> None:
     """Hands bytes to a run, as long as it takes them."""
     takes = run.stdin is not None
     for piece in pieces:
@@ -581,7 +707,8 @@ def feed(run: subprocess.Popen[bytes], pieces: Iterable[bytes]) -> None:
 
 
 class PitLines:
-    """The PIT lines of a certificate that goes by in pieces, and the sha256 of all of it; the flow is only digested.
+    """The PIT lines of a certificate that goes by in pieces, and the sha256 of all of it; the flow
+    is only digested.
 
     Attributes
     ----------
@@ -600,19 +727,20 @@ class PitLines:
             return
         data = self.rest + data
         if not self.head:
-            if data.count(b"\n") < HEAD:
+            if data.count(b"\n") < _HEAD:
                 self.rest = data
                 return
-            *self.head, data = data.split(b"\n", HEAD)
+            *self.head, data = data.split(b"\n", _HEAD)
         cut = data.rfind(b"\n") + 1
         piece, self.rest = data[:cut], data[cut:]
-        ends = [at for at in map(piece.find, BEHIND) if at >= 0]
+        ends = [at for at in map(piece.find, _BEHIND) if at >= 0]
         if ends:
             piece, self.is_over = piece[: min(ends)], True
-        self.blocks.append(numbers_in(piece))
+        self.blocks.append(_numbers_in(piece))
 
     def found(self) -> tuple[int, int, Ints]:
-        """How many blocks the certificate's model has, its factor in thousandths, and the blocks of its PIT lines.
+        """How many blocks the certificate's model has, its factor in thousandths, and the blocks of
+        its PIT lines.
 
         Raises
         ------
@@ -620,19 +748,27 @@ class PitLines:
             Where its first lines say neither.
         """
         size, factor = (
-            self.head[i].split()[-1] if len(self.head) == HEAD and self.head[i] else b""
+            self.head[i].split()[-1] if len(self.head) == _HEAD and self.head[i] else b""
             for i in (1, 2)
         )
         if not factor.isdigit() or not size.isdigit():
             raise NotAccepted("a certificate without a factor: is it of another kind of model?")
-        return (
-            int(size),
-            int(factor),
-            np.concatenate(self.blocks) if self.blocks else np.empty(0, np.int64),
+        return int(size), int(factor), self.numbers()
+
+    def numbers(self) -> Ints:
+        """The blocks of the PIT lines."""
+        return np.concatenate(self.blocks) if self.blocks else np.empty(0, np.int64)
+
+
+def _refuse_other_count(count: int, blocks: Ints) -> None:
+    """Refuses PIT lines of another number than `pit check` counts."""
+    if len(blocks) != count:
+        raise NotAccepted(
+            f"pit check counts {count} blocks, and the certificate has {len(blocks)} PIT lines"
         )
 
 
-def numbers_in(lines: bytes) -> Ints:
+def _numbers_in(lines: bytes) -> Ints:
     """The numbers of lines ``PIT b``."""
     if lines.translate(None, b"0123456789PIT \n"):
         raise NotAccepted("a certificate has other lines between its PIT lines")

@@ -6,20 +6,23 @@ from dataclasses import dataclass
 
 from ..base.errors import NotAccepted
 
-AMOUNT = r"(-?[\d.]+)"
-ANSWER = re.compile(
-    rf"DESIGN (\d+) {AMOUNT}\n(CLOSED|OPEN (\d+))\n((?:NEEDS \d+ \d+\n)*)BEST (\d+) {AMOUNT} GAP {AMOUNT}\n"
+_AMOUNT = r"(-?[\d.]+)"
+_ANSWER = re.compile(
+    rf"DESIGN (\d+) {_AMOUNT}\n(CLOSED|OPEN (\d+))\n((?:NEEDS \d+ \d+\n)*)BEST (\d+) {_AMOUNT} GAP"
+    rf" {_AMOUNT}\n"
 )
 
 
 @dataclass(frozen=True)
 class Valued:
-    """What `pit value --best` says of a design: `pit` is proved to say it of the very bytes of its files.
+    """What `pit value --best` says of a design: `pit` is proved to say it of the very bytes of its
+    files.
 
     Attributes
     ----------
     said : str
-        ``CLOSED``, or ``OPEN`` and in how many pairs the design has a block and not its predecessor.
+        ``CLOSED``, or ``OPEN`` and in how many pairs the design has a block and not its
+        predecessor.
     open : int
         How many they are.
     needs : tuple of pairs of int
@@ -54,7 +57,7 @@ class Valued:
         NotAccepted
             Where `pit` says something else, as that the certificate is refused.
         """
-        found = ANSWER.fullmatch(text)
+        found = _ANSWER.fullmatch(text)
         if not found:
             raise NotAccepted(f"pit value: {text.strip()}", try_this=hint)
         count, worth, said, pairs, needs, best_count, bound, gap = found.groups()

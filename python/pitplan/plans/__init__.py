@@ -18,6 +18,7 @@ if TYPE_CHECKING:
     from .risk import Risk as Risk
     from .task_line import Task as Task, task_of as task_of
     from .vary import Change as Change
+    from .widening import Widening as Widening
 else:
     __getattr__, __dir__, __all__ = door(
         __name__,
@@ -28,5 +29,6 @@ else:
             "risk": "Risk",
             "task_line": "Task task_of",
             "vary": "Change",
+            "widening": "Widening",
         },
     )

@@ -1,8 +1,10 @@
-"""A designed pit beside the proved best one: does it keep the slopes, where not, what is it worth, how far from the bound.
+"""A designed pit beside the proved best one: does it keep the slopes, where not, what is it worth,
+how far from the bound.
 
-Whether the design is closed, what it is worth and how far that is from the best pit are `pit value`'s own words: it reads the model's
-files, the design's blocks and the certificate of the best pit, which it checks as `pit check` does. The pairs that a design
-breaks, and the sum of its worth over the planner's own table, are looked up here too, and have to be the same.
+Whether the design is closed, what it is worth and how far that is from the best pit are `pit
+value`'s own words: it reads the model's files, the design's blocks and the certificate of the best
+pit, which it checks as `pit check` does. The pairs that a design breaks, and the sum of its worth
+over the planner's own table, are looked up here too, and have to be the same.
 """
 from __future__ import annotations
 
@@ -21,7 +23,9 @@ from ..base.amounts import THOUSAND, spelled
 from ..base.arrays import Bools
 from ..base.errors import Disagreement
 from ..base.next_command import command
+from ..base.units_shown import printed_scale
 from ..pit.valued import Valued
+from ..study.reserves import reserves
 from ..study.resting import Resting
 from . import walls
 from .design import Design
@@ -29,11 +33,11 @@ from .design import Design
 if TYPE_CHECKING:
     from ..study.study import Study
 
-PIECE = 1 << 22
+_PIECE = 1 << 22
 
 
 @dataclass(frozen=True)
-class Repair:
+class _Repair:
     """The least closed set that has a design: what else has to be dug to keep the slopes.
 
     Attributes
@@ -67,18 +71,21 @@ class Comparison:
     is_closed : bool
         Whether it keeps the slopes.
     worth, bound : str
-        What the design and the best pit are worth at the factor: exact, in units of currency. Blocks that may not be dug are left
-        out of the design's worth: they have a price that keeps them from every pit.
+        What the design and the best pit are worth at the factor: exact, in units of currency.
+        Blocks that may not be dug are left out of the design's worth: they have a price that keeps
+        them from every pit.
     gap : str or None
-        How far the design is below the bound, at least 0 where it digs only what may be dug. None where it breaks the slopes: it may be
-        worth more than any pit then, and `repair` has the distance.
-    repair : Repair or None
+        How far the design is below the bound, at least 0 where it digs only what may be dug. None
+        where it breaks the slopes: it may be worth more than any pit then, and `repair` has the
+        distance.
+    repair : _Repair or None
         Where it breaks the slopes.
     optimum : bool array of shape (blocks,)
         The best pit.
     pairs : DataFrame
-        The pairs that it breaks: ``id``, ``needs`` (ids of a block that it digs and of a predecessor that it leaves), ``bench`` and
-        ``needs_bench`` (elevations of their centres), ``x``, ``y`` (of the block), ``tonnes`` (of the predecessor).
+        The pairs that it breaks: ``id``, ``needs`` (ids of a block that it digs and of a
+        predecessor that it leaves), ``bench`` and ``needs_bench`` (elevations of their centres),
+        ``x``, ``y`` (of the block), ``tonnes`` (of the predecessor).
     walls : DataFrame
         As `walls.worst`.
     benches : DataFrame
@@ -92,7 +99,7 @@ class Comparison:
     worth: str
     bound: str
     gap: str | None
-    repair: Repair | None
+    repair: _Repair | None
     optimum: Bools
     pairs: pd.DataFrame
     walls: pd.DataFrame
@@ -114,10 +121,11 @@ def compare(study: Study, design: Design, factor: int = THOUSAND) -> Comparison:
     NotAccepted
         Where `pit value` refuses the certificate of the best pit.
     Disagreement
-        Where `pit` and this package's own look-ups contradict each other, or a closed design is worth more than the bound.
+        Where `pit` and this package's own look-ups contradict each other, or a closed design is
+        worth more than the bound.
     """
     resting, optimum = Resting(study), study.mask(factor)
-    design = completed(study, resting, design)
+    design = _completed(study, resting, design)
     certificate = Certificate(study, factor)
     said, broken = certificate.judge(design.held), resting.broken(design.held)
     agree(
@@ -127,8 +135,8 @@ def compare(study: Study, design: Design, factor: int = THOUSAND) -> Comparison:
         study.priced.worth_of(design.held, factor),
         study.priced.worth_of(optimum, factor),
     )
-    repair = None if said.is_closed else repaired(certificate, resting, design.held)
-    worth, gap = of_diggable(study, design.held, said, factor)
+    repair = None if said.is_closed else _repaired(certificate, resting, design.held)
+    worth, gap = _of_diggable(study, design.held, said, factor)
     return Comparison(
         design,
         factor,
@@ -139,26 +147,31 @@ def compare(study: Study, design: Design, factor: int = THOUSAND) -> Comparison:
         gap if said.is_closed else None,
         repair,
         optimum,
-        pairs_of(study, broken),
+        _pairs_of(study, broken),
         walls.worst(study.model, resting, design.held, broken),
         by_bench(study, design.held, optimum, factor),
     )
 
 
-def completed(study: Study, resting: Resting, design: Design) -> Design:
-    """A design with the blocks that it rests on and couldn't name: those that no row of the table is for, and those that weigh
-    nothing, as air."""
+def _completed(study: Study, resting: Resting, design: Design) -> Design:
+    """A design with the blocks that it rests on and couldn't name: those that no row of the table
+    is for, and those that weigh nothing, as air."""
     tonnes = study.model.blocks.tonnes.to_numpy(float)
     whole = resting.mended(design.held, design.unnamed | (tonnes == 0))
     more = whole & ~design.held
     if not more.any():
         return design
-    note = f"{int(more.sum()):,} blocks that the design rests on and can't name were added: air, or rock that the table has no row for ({tonnes[more].sum() / 1e6:,.2f} Mt)"
+    rock = printed_scale([tonnes[whole].sum()], study.model.units.weight)
+    note = (
+        f"{int(more.sum()):,} blocks that the design rests on and can't name were added: air, or"
+        f" rock that the table has no row for ({rock.said(tonnes[more].sum())})"
+    )
     return Design(design.name, whole, design.unnamed, [*design.notes, note])
 
 
 class Certificate:
-    """The certificate of the best pit at a factor, beside which `pit value` judges other sets of blocks; made where none is there yet.
+    """The certificate of the best pit at a factor, beside which `pit value` judges other sets of
+    blocks; made where none is there yet.
 
     Raises
     ------
@@ -194,13 +207,16 @@ class Certificate:
         )
         digest = hashlib.sha256()
         with gzip.open(kept, "rb") as old, open(to, "wb") as new:
-            while data := old.read(PIECE):
+            while data := old.read(_PIECE):
                 digest.update(data)
                 new.write(data)
         if verdict is None or digest.hexdigest() != verdict["certificate"]:
             raise Disagreement(
                 f"{kept} isn't the certificate that was accepted",
-                try_this=f"take {self.study.place(self.factor)} away, then: {command('shells', self.study.named)}",
+                try_this=(
+                    f"take {self.study.place(self.factor)} away, then:"
+                    f" {command('shells', self.study.named)}"
+                ),
             )
 
 
@@ -216,7 +232,10 @@ def agree(said: Valued, held: Bools, broken: tuple[Any, Any, Any], worth: str, b
     first = tuple(zip(blocks[: len(said.needs)].tolist(), predecessors[: len(said.needs)].tolist()))
     if said.open != len(blocks) or said.needs != first:
         raise Disagreement(
-            f"pit value says {said.said} of the design, and by the slopes that were built {len(blocks):,} pairs are broken",
+            (
+                f"pit value says {said.said} of the design, and by the slopes that were built"
+                f" {len(blocks):,} pairs are broken"
+            ),
             try_this="tell the maintainers",
         )
     if (said.count, said.worth, said.bound) != (
@@ -225,7 +244,11 @@ def agree(said: Valued, held: Bools, broken: tuple[Any, Any, Any], worth: str, b
         bound,
     ) or Decimal(said.gap) != Decimal(bound) - Decimal(worth):
         raise Disagreement(
-            f"pit value says {said.count:,} blocks worth {said.worth}, {said.gap} below {said.bound}, and the table adds up to {np.count_nonzero(held):,} worth {worth}, beside {bound}",
+            (
+                f"pit value says {said.count:,} blocks worth {said.worth}, {said.gap} below"
+                f" {said.bound}, and the table adds up to {np.count_nonzero(held):,} worth {worth},"
+                f" beside {bound}"
+            ),
             try_this="tell the maintainers",
         )
     if said.is_closed and Decimal(said.gap) < 0:
@@ -235,16 +258,17 @@ def agree(said: Valued, held: Bools, broken: tuple[Any, Any, Any], worth: str, b
         )
 
 
-def of_diggable(study: Study, held: Bools, said: Valued, factor: int) -> tuple[str, str]:
-    """What a set is worth without the blocks in it that may not be dug, and how far that is below the bound: `pit value` counts these at
-    the price that keeps them from every pit, so that its amounts say nothing of the set."""
+def _of_diggable(study: Study, held: Bools, said: Valued, factor: int) -> tuple[str, str]:
+    """What a set is worth without the blocks in it that may not be dug, and how far that is below
+    the bound: `pit value` counts these at the price that keeps them from every pit, so that its
+    amounts say nothing of the set."""
     if not (held & study.priced.forbidden).any():
         return said.worth, said.gap
     worth = study.priced.worth_of(held & ~study.priced.forbidden, factor)
     return worth, spelled(Decimal(said.bound) - Decimal(worth))
 
 
-def repaired(certificate: Certificate, resting: Resting, held: Bools) -> Repair:
+def _repaired(certificate: Certificate, resting: Resting, held: Bools) -> _Repair:
     """The least closed set that has a design, and `pit`'s word that it is closed."""
     study, factor = certificate.study, certificate.factor
     whole = resting.mended(held)
@@ -261,15 +285,15 @@ def repaired(certificate: Certificate, resting: Resting, held: Bools) -> Repair:
             "the mended design isn't closed, by pit value", try_this="tell the maintainers"
         )
     more = whole & ~held
-    return Repair(
+    return _Repair(
         whole,
         int(more.sum()),
         float(study.model.blocks.tonnes.to_numpy(float)[more].sum()),
-        *of_diggable(study, whole, said, factor),
+        *_of_diggable(study, whole, said, factor),
     )
 
 
-def pairs_of(study: Study, broken: tuple[Any, Any, Any]) -> pd.DataFrame:
+def _pairs_of(study: Study, broken: tuple[Any, Any, Any]) -> pd.DataFrame:
     """The pairs that a design breaks, in the planner's terms."""
     blocks, predecessors, _ = broken
     x, y, z = study.model.xyz()
@@ -287,19 +311,27 @@ def pairs_of(study: Study, broken: tuple[Any, Any, Any]) -> pd.DataFrame:
     )
 
 
+def by_way(study: Study, held: Bools, optimum: Bools, factor: int) -> pd.DataFrame:
+    """What the design and the best pit have in common and each alone, by bench, rock, resource
+    class and way; see `reserves.reserves`."""
+    words = np.array([0, "best pit alone", "design alone", "both"], object)
+    return reserves(study, {"in": words[optimum + 2 * held]}, factor)
+
+
 def by_bench(study: Study, held: Bools, optimum: Bools, factor: int) -> pd.DataFrame:
     """A row for each bench that the design or the best pit has blocks on, from the top.
 
     Returns
     -------
     DataFrame
-        ``bench`` (elevation of the blocks' centres), ``design_t`` and ``best_t`` (tonnes of each), ``left_t`` (in the best pit and
-        not in the design), ``over_t`` (in the design and not in the best pit), ``left_ore_t`` and ``over_ore_t`` (of
-        these what would go to the mill), ``left_worth`` and ``over_worth`` (without blocks that may not be dug).
+        ``bench`` (elevation of the blocks' centres), ``design_t`` and ``best_t`` (tonnes of each),
+        ``left_t`` (in the best pit and not in the design), ``over_t`` (in the design and not in the
+        best pit), ``left_ore_t`` and ``over_ore_t`` (of these what would go to the mill),
+        ``left_worth`` and ``over_worth`` (without blocks that may not be dug).
     """
     grid, priced = study.model.grid, study.priced
     level, tonnes = study.model.blocks.iz.to_numpy(), study.model.blocks.tonnes.to_numpy(float)
-    ore, worth = tonnes * priced.milled(factor), np.where(
+    ore, worth = priced.ore_of(tonnes, factor), np.where(
         priced.forbidden, 0.0, priced.worth(factor)
     )
 

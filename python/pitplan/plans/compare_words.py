@@ -4,22 +4,28 @@ from __future__ import annotations
 from typing import TYPE_CHECKING
 
 from ..base.arrays import Bools
-from ..base.units_shown import separated
+from ..base.units import Units
+from ..base.units_shown import length_text, printed_scale, separated
 
 if TYPE_CHECKING:
     from ..study.study import Study
     from .compare import Comparison
 
 
-def verdict_lines(found: Comparison, currency: str) -> list[str]:
-    """What `pit value` says of the design, whether it keeps the slopes, and how far it is from the bound."""
+def verdict_lines(found: Comparison, currency: str, units: Units = Units()) -> list[str]:
+    """What `pit value` says of the design, whether it keeps the slopes, and how far it is from the
+    bound."""
     return [
         f"pit value says of the design: {found.said}",
-        *(closed_lines(found, currency) if found.is_closed else broken_lines(found, currency)),
+        *(
+            _closed_lines(found, currency)
+            if found.is_closed
+            else _broken_lines(found, currency, units)
+        ),
     ]
 
 
-def closed_lines(found: Comparison, currency: str) -> list[str]:
+def _closed_lines(found: Comparison, currency: str) -> list[str]:
     """What is said of a design that keeps the slopes."""
     if (found.design.held == found.optimum).all():
         return ["the design is the best pit"]
@@ -29,16 +35,20 @@ def closed_lines(found: Comparison, currency: str) -> list[str]:
 def distance(found: Comparison, gap: str, currency: str) -> str:
     """How far a worth is below the bound; above it only a set is that digs what no pit may."""
     if gap.startswith("-"):
-        return f"{money(gap[1:], currency)} ({found.share(gap[1:]):.2%}) above the proved bound, which holds for pits that dig none of the blocks left out"
+        return (
+            f"{money(gap[1:], currency)} ({found.share(gap[1:]):.2%}) above the proved bound, which"
+            " holds for pits that dig none of the blocks left out"
+        )
     return f"{money(gap, currency)} ({found.share(gap):.2%}) below the proved bound"
 
 
-def broken_lines(found: Comparison, currency: str) -> list[str]:
-    """What is said of a design that breaks the slopes. How far it is from the bound is said of the mended design alone, since one
-    that breaks slopes may be worth more than any pit."""
+def _broken_lines(found: Comparison, currency: str, units: Units) -> list[str]:
+    """What is said of a design that breaks the slopes. How far it is from the bound is said of the
+    mended design alone, since one that breaks slopes may be worth more than any pit."""
     assert found.repair
     lines = [
-        f"the design breaks the slopes at {len(found.pairs):,} pairs of a block and a predecessor that it leaves, on {found.pairs['bench'].nunique():,} benches"
+        f"the design breaks the slopes at {len(found.pairs):,} pairs of a block and a predecessor"
+        f" that it leaves, on {found.pairs['bench'].nunique():,} benches"
     ]
     for wall in found.walls.head(3).to_dict("records"):
         way = (
@@ -48,8 +58,10 @@ def broken_lines(found: Comparison, currency: str) -> list[str]:
         )
         may = "" if wall["built"] != wall["built"] else f" where {wall['built']:.1f} may stand"
         lines.append(
-            f"  wall {way}: {wall['steepest']:.1f} degrees at worst{may}, {wall['height']:,.10g} m up over {wall['away']:,.1f} m, "
-            f"from {'block ' + wall['id'] if wall['id'] else 'an added block'} at ({wall['x']:,.1f}, {wall['y']:,.1f}), bench {wall['bench']:,.10g}; {wall['pairs']:,} pairs"
+            f"  wall {way}: {wall['steepest']:.1f} degrees at worst{may}, {length_text(wall['height'])}"
+            f" {units.length} up over {wall['away']:,.1f} {units.length}, from"
+            f" {'block ' + wall['id'] if wall['id'] else 'an added block'} at ({wall['x']:,.1f},"
+            f" {wall['y']:,.1f}), bench {length_text(wall['bench'])}; {wall['pairs']:,} pairs"
         )
     more = len(found.walls) - 3
     lines += (
@@ -57,9 +69,11 @@ def broken_lines(found: Comparison, currency: str) -> list[str]:
         if more > 0
         else []
     )
+    rock = printed_scale([found.benches.design_t.sum()], units.weight)
     lines.append(
-        f"to keep them it has to dig {found.repair.blocks:,} blocks more ({found.repair.tonnes / 1e6:,.2f} Mt); then it is worth {money(found.repair.worth, currency)}, "
-        + distance(found, found.repair.gap, currency)
+        f"to keep them it has to dig {found.repair.blocks:,} blocks more"
+        f" ({rock.said(found.repair.tonnes)}); then it is worth"
+        f" {money(found.repair.worth, currency)}, " + distance(found, found.repair.gap, currency)
     )
     return lines
 
@@ -73,9 +87,12 @@ def forbidden_lines(study: Study, held: Bools) -> list[str]:
         int(shut.sum()),
         str(study.model.blocks["id"].to_numpy()[shut][0]) or "an added block",
     )
-    weight = study.model.blocks.tonnes.to_numpy(float)[shut].sum() / 1e6
+    tonnes = study.model.blocks.tonnes.to_numpy(float)
+    rock = printed_scale([tonnes[held].sum()], study.model.units.weight)
     return [
-        f"look: the design digs {count:,} {'blocks' if count > 1 else 'block'} that forbid keeps from being dug, as {first}: {weight:,.2f} Mt, which are left out of its worth and of its distance from the bound"
+        f"look: the design digs {count:,} {'blocks' if count > 1 else 'block'} that forbid keeps"
+        f" from being dug, as {first}: {rock.said(tonnes[shut].sum())}, which are left out of its"
+        " worth and of its distance from the bound"
     ]
 
 

@@ -1,10 +1,13 @@
-"""Many realisations of the grades, at each of some factors: how likely is a block to be dug, and what may the mine be worth?
+"""Many realisations of the grades, at each of some factors: how likely is a block to be dug, and
+what may the mine be worth?
 
-With a block each realisation's pit has its predecessors, so a predecessor is at least as likely as the block. So for every
-likelihood the blocks of at least that are a closed pit, and of two likelihoods the higher one's pit lies within the other's.
+With a block each realisation's pit has its predecessors, so a predecessor is at least as likely as
+the block. So for every likelihood the blocks of at least that are a closed pit, and of two
+likelihoods the higher one's pit lies within the other's.
 
-The grades stand in ``risk/``: ``realisations.npy`` or the planner's own file, and ``risk.json``, which names the digest of each
-realisation. The pits stand in ``runs/r0017/f00800/``, as those of the study itself, but without their certificates.
+The grades stand in ``risk/``: ``realisations.npy`` or the planner's own file, and ``risk.json``,
+which names the digest of each realisation. The pits stand in ``runs/r0017/f00800/``, as those of
+the study itself, but without their certificates.
 """
 from __future__ import annotations
 
@@ -16,48 +19,52 @@ import time
 import unicodedata
 from collections.abc import Callable, Iterator, Sequence
 from contextlib import contextmanager
-from dataclasses import asdict, dataclass
+from dataclasses import asdict, dataclass, replace
 from functools import cached_property
 from pathlib import Path
 from typing import TYPE_CHECKING, Any
 from weakref import WeakKeyDictionary
 
 import numpy as np
-import numpy.typing as npt
 import pandas as pd
 
 from ..base import kept_json
 from ..base.amounts import THOUSAND, Priced, spelled
-from ..base.arrays import Array, Bools, Floats, Levels, Singles
+from ..base.arrays import Array, Bools, Floats, Indices, Levels, Singles
 from ..base.errors import Disagreement, MachineError, PlanError
 from ..base.next_command import command
 from ..base.within import refuse_outside
 from ..model import store
+from ..model.classes import CLASS
 from ..model.economics import Economics
-from ..model.grid import Grid
 from ..model.model import Model, TableKeys
+from ..model.subblocks import means as means_by_weight
+from ..model.weights import ORE
 from ..study import edges
 from ..base.files import FULL, made_whole, mark, sweep
 from ..base.units_shown import share_text
 from ..study.study import Study
-from ..study.runs import Told
+from ..study.runs import FactorProgress
 from ..study.verdicts import Verdict
 from ..study.building import write_blocks
 from ..study.study_file import economics_of, refuse_digits
 from ..table.column_names import PLACES
-from ..table.csv_text import dialect_beside, number_column, read_frame
+from ..table.csv_text import dialect_beside, number_column, numbers_among, read_frame
+from ..table.formula import names_in
 from .task_line import Task
 
 if TYPE_CHECKING:
     from ..pit.program import Files
 
-NOT_ALIKE, FEWEST = (
+# the correlation below which realisations have nothing to do with the table, and the rows that it
+# takes to tell
+NOT_ALIKE, _FEWEST = (
     0.1,
     50,
-)  # the correlation below which realisations have nothing to do with the table, and the rows that it takes to tell
+)
 TENTHS = tuple(tenth / 10 for tenth in range(1, 10))
-SPREAD = (0.1, 0.5, 0.9)
-ASKED = (
+_SPREAD = (0.1, 0.5, 0.9)
+_ASKED = (
     "ix",
     "iy",
     "iz",
@@ -66,9 +73,9 @@ ASKED = (
     "rock",
 )  # columns that pricing and `.blocks` ask for, beside those that [economics] names
 # of each study, and of the economics as text: what all realisations of a process share
-LEAN_MODELS: WeakKeyDictionary[Study, dict[str, Model]] = WeakKeyDictionary()
-SCRATCH = "pitplan."  # folders of `.blocks` and certificates, in TMPDIR
-ROOM = "TMPDIR=/a/larger/disk: a realisation's blocks and certificate are written there"
+_LEAN_MODELS: WeakKeyDictionary[Study, dict[str, Model]] = WeakKeyDictionary()
+_SCRATCH = "pitplan."  # folders of `.blocks` and certificates, in TMPDIR
+_ROOM = "TMPDIR=/a/larger/disk: a realisation's blocks and certificate are written there"
 
 
 @dataclass(frozen=True)
@@ -80,7 +87,8 @@ class Setup:
     study : str
         The key of the model that it was made for.
     file : str
-        The realisations, of shape (realisations, rows of the table); a relative path counts from ``risk/``.
+        The realisations, of shape (realisations, rows of the table); a relative path counts from
+        ``risk/``.
     column : str
         The column of grades that a realisation takes the place of.
     digests : list of str
@@ -89,6 +97,8 @@ class Setup:
         In thousandths, ascending.
     economics : dict
         As [economics] of study.toml.
+    absent : list of str
+        Cells that stand for "not estimated", as in [model]: such a number counts as 0.
     """
 
     study: str
@@ -97,9 +107,10 @@ class Setup:
     digests: list[str]
     factors: list[int]
     economics: dict[str, Any]
+    absent: list[str]
 
 
-def folder_of(study: Study) -> Path:
+def _folder_of(study: Study) -> Path:
     return study.folder / "risk"
 
 
@@ -107,21 +118,24 @@ def setup_of(study: Study) -> Setup | None:
     """What was asked for by `prepare` over this very model, None where nothing was."""
     try:
         found = kept_json.read(
-            folder_of(study) / "risk.json",
-            SETUP,
+            _folder_of(study) / "risk.json",
+            _SETUP,
             command("risk", study.named, "--realisations", "FILE"),
         )
     except FileNotFoundError:
         return None
     if found["column"] not in [metal["grade"] for metal in found["economics"]["metals"]]:
         raise kept_json.Damaged(
-            f"{folder_of(study) / 'risk.json'} is damaged: column is {kept_json.shown(found['column'])}",
+            (
+                f"{_folder_of(study) / 'risk.json'} is damaged: column is"
+                f" {kept_json.shown(found['column'])}"
+            ),
             try_this=command("risk", study.named, "--realisations", "FILE"),
         )
-    return Setup(**{key: found[key] for key in SETUP}) if found["study"] == study.key else None
+    return Setup(**{key: found[key] for key in _SETUP}) if found["study"] == study.key else None
 
 
-def are_factors(value: Any) -> bool:
+def _are_factors(value: Any) -> bool:
     """Whether this is a list of factors in thousandths, ascending."""
     return (
         bool(value)
@@ -130,7 +144,7 @@ def are_factors(value: Any) -> bool:
     )
 
 
-def is_economics(value: Any) -> bool:
+def _is_economics(value: Any) -> bool:
     """Whether this is what `prepare` keeps of [economics]."""
     try:
         refuse_digits("", value)
@@ -139,17 +153,22 @@ def is_economics(value: Any) -> bool:
         return False
 
 
-# What risk.json has, and what each may be. Realisations lie in the folder risk, or where the planner's own file does.
-SETUP: dict[str, kept_json.Holds] = {
+# What risk.json has, and what each may be. Realisations lie in the folder risk, or where the
+# planner's own file does.
+_SETUP: dict[str, kept_json.Holds] = {
     "study": kept_json.is_word,
-    "file": lambda value: kept_json.is_file_name(value)
-    or kept_json.is_path(value)
-    and Path(value).is_absolute(),
+    "file": (
+        lambda value: kept_json.is_file_name(value)
+        or kept_json.is_path(value)
+        and Path(value).is_absolute()
+    ),
     "column": kept_json.is_word,
-    "digests": lambda value: kept_json.is_list(kept_json.is_digest)(value)
-    and 0 < len(value) < 1 << 16,
-    "factors": are_factors,
-    "economics": is_economics,
+    "digests": (
+        lambda value: kept_json.is_list(kept_json.is_digest)(value) and 0 < len(value) < 1 << 16
+    ),
+    "factors": _are_factors,
+    "economics": _is_economics,
+    "absent": kept_json.is_list(kept_json.is_word),
 }
 
 
@@ -168,25 +187,28 @@ def prepare(
     economics : Economics
         What the study was built with.
     realisations : Path
-        ``.npy`` of shape (realisations, rows of the table), which stays where it is; or CSV with a column for each
-        realisation and a row for each row of the table.
+        ``.npy`` of shape (realisations, rows of the table), which stays where it is; or CSV with a
+        column for each realisation and a row for each row of the table.
     factors : sequence of int
         In thousandths.
     metal : str, optional
         Whose grades these are. Default: the first metal.
     keys : TableKeys, optional
-        How the table of blocks was read: a CSV may have its encoding, and its marks for "not estimated".
+        How the table of blocks was read: realisations may have its marks for "not estimated", and
+        a CSV its encoding.
 
     Raises
     ------
     PlanError
         Where a cell is no grade, the rows aren't those of the table, or there is no such metal.
     """
-    column = column_of(economics, metal)
-    rows = rows_of(study)
+    column = _column_of(economics, metal)
+    _refuse_fence(study, economics, column)
+    rows = int((study.model.row_block >= 0).sum())
+    absent = list(keys.absent) if keys else []
     lines = len(study.model.row_block)
-    with made_whole(folder_of(study)) as work:
-        grades, file = opened(realisations, work, study, keys)
+    with made_whole(_folder_of(study)) as work:
+        grades, file = open_realisations(realisations, work, study, keys)
         if grades.ndim != 2 or grades.shape[1] not in (rows, lines):
             shape = " x ".join(map(str, grades.shape))
             raise PlanError(
@@ -199,13 +221,17 @@ def prepare(
                 f"{len(grades):,} realisations: from 1 to {(1 << 16) - 1:,} can be counted",
                 table=realisations,
             )
-        digests = [digest_of(checked(grades[r], r, realisations)) for r in range(len(grades))]
-        found = Setup(study.key, file, column, digests, sorted(set(factors)), asdict(economics))
+        for r in range(len(grades)):
+            checked(_without_marks(grades[r], absent), r, realisations)
+        digests = [digest_of(grades[r]) for r in range(len(grades))]
+        found = Setup(
+            study.key, file, column, digests, sorted(set(factors)), asdict(economics), absent
+        )
         (work / "risk.json").write_text(json.dumps(asdict(found), indent=1))
     return found
 
 
-def column_of(economics: Economics, metal: str | None) -> str:
+def _column_of(economics: Economics, metal: str | None) -> str:
     """The column of a metal's grades."""
     names = {m.name: m.grade for m in economics.metals}
     if metal is not None and metal not in names:
@@ -213,20 +239,50 @@ def column_of(economics: Economics, metal: str | None) -> str:
     return names[metal or economics.metals[0].name]
 
 
-def rows_of(study: Study) -> int:
-    """How many rows of the table have a block, as blank lines and descriptions haven't. Raises PlanError where several of them are one block."""
-    row_block = study.model.row_block
-    held = row_block[row_block >= 0]
-    if len(np.unique(held)) < len(held):
+def _refuse_fence(study: Study, economics: Economics, column: str) -> None:
+    """Refuses realisations of a column that `forbid` names, where several rows are one block: which
+    of them is kept is known of the table's own grades alone."""
+    named = set().union(*(names_in(str(formula)) for formula in economics.forbid))
+    if study.model.has_sub_blocks and column in named:
         raise PlanError(
-            "realisations over a table with sub-blocks: whose grade would count?",
-            try_this="a table of whole blocks, and realisations over it",
+            f"[economics] forbid names {column}, and so do realisations over sub-blocks: what it keeps would change with each of them",
+            try_this="forbid by another column",
+            key=("economics", "forbid"),
         )
-    return len(held)
 
 
-def by_line(grades: Singles, row_block: npt.NDArray[np.int32]) -> Singles:
-    """Grades of the rows that have a block as grades of all lines below the header, 0 where a line has none; grades of all lines as they are."""
+def _without_marks(grades: Array, absent: Sequence[str]) -> Array:
+    """Grades with 0 in place of numbers that stand for "not estimated"."""
+    marks = [np.float32(mark) for mark in numbers_among(absent)]
+    if not marks or grades.dtype.kind not in "iuf":
+        return grades
+    hit = np.isin(np.asarray(grades, np.float32), marks)
+    return np.where(hit, 0, grades) if hit.any() else grades
+
+
+def _by_block(grades: Array, model: Model) -> Floats:
+    """The grade of each block: that of its row, or of its sub-blocks the mean by tonnes, as the
+    table's own; 0 of a block that was added.
+
+    Parameters
+    ----------
+    grades : float array of shape (lines of the table below its header,)
+    """
+    rows = model.blocks["row"].to_numpy()
+    if model.row_tonnes is None:
+        return np.where(rows >= 0, grades[np.maximum(rows, 0)], 0).astype(float)
+    there = np.flatnonzero(model.row_block >= 0)
+    number = model.row_block[there].astype(np.int64)
+    first = np.unique(number, return_index=True)[1]
+    found = np.zeros(len(model))
+    values = pd.Series(grades[there].astype(float))
+    found[: len(first)] = means_by_weight(values, number, model.row_tonnes[there], first)
+    return found
+
+
+def _by_line(grades: Singles, row_block: Indices) -> Singles:
+    """Grades of the rows that have a block as grades of all lines below the header, 0 where a line
+    has none; grades of all lines as they are."""
     if len(grades) == len(row_block):
         return grades
     found = np.zeros(len(row_block), np.float32)
@@ -234,7 +290,7 @@ def by_line(grades: Singles, row_block: npt.NDArray[np.int32]) -> Singles:
     return found
 
 
-def opened(
+def open_realisations(
     path: Path, work: Path, study: Study | None = None, keys: TableKeys | None = None
 ) -> tuple[Any, str]:
     """The realisations as an array that is read where it is asked, and the file that has them."""
@@ -252,8 +308,8 @@ def opened(
 
 
 def of_table(path: Path, model: Model | None, keys: TableKeys | None) -> Singles:
-    """The realisations of a CSV, a column each. The table's own columns of ids and coordinates may stand beside them: they are
-    left out, and the ids have to be those of the table, row by row.
+    """The realisations of a CSV, a column each. The table's own columns of ids and coordinates may
+    stand beside them: they are left out, and the ids have to be those of the table, row by row.
 
     Raises
     ------
@@ -271,7 +327,7 @@ def of_table(path: Path, model: Model | None, keys: TableKeys | None) -> Singles
         [own["id"]] if "id" in own else [],
     )
     if model is not None and own.get("id") in frame.columns:
-        same_ids(frame[own["id"]], model, path)
+        _same_ids(frame[own["id"]], model, path)
     names = [name for name in frame.columns if name not in own.values()]
     if not names:
         raise PlanError("has no column of a realisation", table=path)
@@ -295,14 +351,18 @@ def of_table(path: Path, model: Model | None, keys: TableKeys | None) -> Singles
                 table=error.table,
                 row=error.row,
                 column=error.column,
-                try_this=f"columns = {{ id = {json.dumps(error.column, ensure_ascii=False)} }} in [model] and pitplan build, if these are the blocks' ids, or a file without this column",
+                try_this=(
+                    f"columns = {{ id = {json.dumps(error.column, ensure_ascii=False)} }} in"
+                    " [model] and pitplan build, if these are the blocks' ids, or a file without"
+                    " this column"
+                ),
             ) from None
         raise
 
 
-def same_ids(found: pd.Series, model: Model, path: Path) -> None:
+def _same_ids(found: pd.Series, model: Model, path: Path) -> None:
     """Refuses realisations whose rows are of other blocks than the table's."""
-    told = (
+    known = (
         model.blocks[model.blocks["row"] >= 0]
         .sort_values("row")["id"]
         .astype(str)
@@ -310,12 +370,19 @@ def same_ids(found: pd.Series, model: Model, path: Path) -> None:
         .to_numpy()
     )
     given = found.fillna("").astype(str).str.strip().to_numpy()
-    least = min(len(told), len(given))
-    wrong = told[:least] != given[:least]
+    row_block = model.row_block  # of sub-blocks the id of the first alone is kept
+    there = row_block[row_block >= 0]
+    given = (
+        given[np.sort(np.unique(there, return_index=True)[1][: len(known)])]
+        if len(given) == len(there)
+        else given
+    )
+    least = min(len(known), len(given))
+    wrong = known[:least] != given[:least]
     if wrong.any():
         at = int(np.argmax(wrong))
         raise PlanError(
-            f"{given[at]!r} stands where the table has {told[at]!r}",
+            f"{given[at]!r} stands where the table has {known[at]!r}",
             table=path,
             row=int(found.index[at]),
             column=found.name,
@@ -333,7 +400,8 @@ def checked(grades: Array, number: int, path: Path) -> Array:
     if wrong.any():
         at = int(np.argmax(wrong))
         raise PlanError(
-            f"{grades[at]} is no grade; {int(wrong.sum()):,} cells are so",
+            f"{grades[at]} is no grade"
+            + (f"; {int(wrong.sum()):,} cells are so" if wrong.sum() > 1 else ""),
             table=path,
             row=at,
             column=f"of realisation {number}",
@@ -347,26 +415,29 @@ def digest_of(grades: Array) -> str:
     return hashlib.sha256(np.ascontiguousarray(grades, np.float32).tobytes()).hexdigest()
 
 
-def words_in(value: Any) -> list[str]:
+def _words_in(value: Any) -> list[str]:
     """The words among the values of what was read from JSON: columns and formulas are there."""
     if isinstance(value, dict):
-        return [word for of in value.values() for word in words_in(of)]
+        return [word for of in value.values() for word in _words_in(of)]
     if isinstance(value, (list, tuple)):
-        return [word for of in value for word in words_in(of)]
+        return [word for of in value for word in _words_in(of)]
     return [value] if isinstance(value, str) else []
 
 
 def lean_model(study: Study, economics: dict[str, Any]) -> Model:
-    """The study's model without the columns that pricing doesn't ask for: the planner's names of 10,000,000 blocks take a gigabyte."""
+    """The study's model without the columns that pricing doesn't ask for: the planner's names of
+    10,000,000 blocks take a gigabyte."""
     said = unicodedata.normalize(
-        "NFKC", "\n".join(words_in(economics))
+        "NFKC", "\n".join(_words_in(economics))
     )  # as Python reads the plain words of a formula
     with np.load(study.where / "blocks.npz", allow_pickle=False) as file:
-        told = store.told_of(file)
+        facts = store.facts_of(file)
         columns: dict[str, Any] = {}
-        for name in told["order"]:
+        asked = {*_ASKED, facts["columns"].get(ORE)}
+        asked |= {facts["columns"].get(CLASS)} if economics.get("waste_classes") else set()
+        for name in facts["order"]:
             if (
-                name not in ASKED
+                name not in asked
                 and not re.search(
                     rf"(?<!\w){re.escape(unicodedata.normalize('NFKC', name))}(?!\w)", said
                 )
@@ -377,28 +448,15 @@ def lean_model(study: Study, economics: dict[str, Any]) -> Model:
                 columns[name] = file[store.COLUMN + name]
             else:  # each word once, however many blocks have it
                 codes, words = pd.factorize(
-                    store.bytes_as_words(file[store.WORDS + name], told["blocks"])
+                    store.bytes_as_words(file[store.WORDS + name], facts["blocks"])
                 )
                 columns[name] = words[codes]
-        grid = Grid(
-            store.three(told["origin"]),
-            store.three(told["size"]),
-            store.three(told["shape"]),
-            told["rotation"],
-        )
-        return Model(
-            pd.DataFrame(columns),
-            grid,
-            told["name"],
-            told["notes"],
-            told["columns"],
-            file["row_block"],
-            told["depth"],
-        )
+        return store.model_from(pd.DataFrame(columns), file, facts)
 
 
 class Realisation(Study):
-    """A study with the grades of one realisation. Its `.blocks` is made in a folder for the time of a run; `.prec` is the study's.
+    """A study with the grades of one realisation. Its `.blocks` is made in a folder for the time of
+    a run; `.prec` is the study's.
 
     Parameters
     ----------
@@ -429,9 +487,10 @@ class Realisation(Study):
 
     @cached_property
     def model(self) -> Model:
-        """The study's model, without the words that pricing doesn't ask for; read once for all realisations of a process."""
+        """The study's model, without the words that pricing doesn't ask for; read once for all
+        realisations of a process."""
         if self.shared is None:
-            shared = LEAN_MODELS.setdefault(self.base, {})
+            shared = _LEAN_MODELS.setdefault(self.base, {})
             key = json.dumps(self.setup.economics, sort_keys=True)
             if key not in shared:
                 shared[key] = lean_model(self.base, self.setup.economics)
@@ -445,22 +504,17 @@ class Realisation(Study):
     @cached_property
     def priced(self) -> Priced:
         """What the blocks bring and cost with the grades of this realisation."""
-        rows = self.model.blocks["row"].to_numpy()
-        grades = np.where(rows >= 0, self.grades()[np.maximum(rows, 0)], 0).astype(float)
-        blocks = self.model.blocks.assign(**{self.setup.column: grades})
-        model = Model(
-            blocks,
-            self.model.grid,
-            self.model.name,
-            columns=self.model.columns,
-            row_block=self.model.row_block,
-            depth=self.model.depth,
+        grades = _by_block(self.grades(), self.model)
+        model = replace(
+            self.model,
+            blocks=self.model.blocks.assign(**{self.setup.column: grades}),
+            notes=[],
         )
         try:
             return economics_of(self.setup.economics).priced(model)
         except PlanError as error:  # the economics stand in that file
             for each in error.each():
-                each.table = each.table or folder_of(self.base) / "risk.json"
+                each.table = each.table or _folder_of(self.base) / "risk.json"
             raise
 
     def grades(self) -> Singles:
@@ -471,7 +525,7 @@ class Realisation(Study):
         PlanError
             Where they aren't those that `prepare` looked through.
         """
-        path = folder_of(self.base) / self.setup.file
+        path = _folder_of(self.base) / self.setup.file
         refuse_outside(path)
         try:
             found: Singles = np.ascontiguousarray(
@@ -489,7 +543,7 @@ class Realisation(Study):
                 table=path,
                 try_this=command("risk", self.base.named, "--realisations", "FILE"),
             )
-        return by_line(found, self.model.row_block)
+        return _by_line(_without_marks(found, self.setup.absent), self.model.row_block)
 
     def place(self, factor: int) -> Path:
         """The folder of a factor's result (in thousandths)."""
@@ -502,14 +556,18 @@ class Realisation(Study):
         return self.made.parent if self.made else work
 
     def run(
-        self, factor: int, told: Told | None = None, sure: Callable[[], None] | None = None
+        self,
+        factor: int,
+        progress: FactorProgress | None = None,
+        sure: Callable[[], None] | None = None,
     ) -> Verdict:
-        """One pit of this realisation, as `Study.run`; the certificate isn't kept, its digest is."""
+        """One pit of this realisation, as `Study.run`; the certificate isn't kept, its digest
+        is."""
         done = self.verdict(factor)
         if done:
             return done
         with self.written():
-            return super().run(factor, told, sure)
+            return super().run(factor, progress, sure)
 
     @contextmanager
     def written(self) -> Iterator[Files]:
@@ -523,12 +581,11 @@ class Realisation(Study):
         if self.made:
             yield self.files
             return
-        self.began = (
-            time.monotonic()
-        )  # pricing and writing count with the first pit: `pitplan status` reckons by what pits took
-        sweep(Path(tempfile.gettempdir()), SCRATCH + "*")
+        # pricing and writing count with the first pit: `pitplan status` reckons by what pits took
+        self.began = time.monotonic()
+        sweep(Path(tempfile.gettempdir()), _SCRATCH + "*")
         with tempfile.TemporaryDirectory(
-            prefix=SCRATCH + mark(), ignore_cleanup_errors=True
+            prefix=_SCRATCH + mark(), ignore_cleanup_errors=True
         ) as scratch:
             self.made = Path(scratch) / "mine.blocks"
             try:
@@ -537,7 +594,7 @@ class Realisation(Study):
             except OSError as error:
                 raise MachineError(
                     f"{error.filename or scratch}: {error.strerror}",
-                    try_this=ROOM if error.errno in FULL else None,
+                    try_this=_ROOM if error.errno in FULL else None,
                 ) from error
             finally:
                 self.made = self.began = None
@@ -573,7 +630,8 @@ def tasks(study: Study) -> list[Task]:
 
 
 class Risk:
-    """The pits of all realisations of a study. Each is checked again as it is read, as those of `Shells` are.
+    """The pits of all realisations of a study. Each is checked again as it is read, as those of
+    `Shells` are.
 
     Parameters
     ----------
@@ -584,11 +642,14 @@ class Risk:
     factors : list of int
         In thousandths, ascending.
     runs : DataFrame
-        A row for each realisation and factor: realisation, factor (a share of the price), blocks, rock_t, worth.
+        A row for each realisation and factor: realisation, factor (a share of the price), blocks,
+        rock_t, worth; where the table has resource classes the tonnes of each,
+        class_<name>_rock_t.
     hits : uint16 array of shape (factors, blocks)
         In how many realisations' pits a block is.
     side, floor : int arrays of shape (factors, realisations)
-        How many blocks of each pit ask for a place beside the model, and how many are the lowest of their column; see `edges`.
+        How many blocks of each pit ask for a place beside the model, and how many are the lowest of
+        their column; see `edges`.
 
     Raises
     ------
@@ -624,7 +685,10 @@ class Risk:
                 assert verdict is not None  # its mask has just been read
                 if (below & ~mask).any():
                     raise Disagreement(
-                        f"realisation {r}: the pit at {share_text(self.factors[i - 1])} isn't within that at {share_text(factor)}, and pit proves that it is",
+                        (
+                            f"realisation {r}: the pit at {share_text(self.factors[i - 1])} isn't"
+                            f" within that at {share_text(factor)}, and pit proves that it is"
+                        ),
                         try_this="were results of several models mixed in this folder?",
                     )
                 self.hits[i] += mask
@@ -639,6 +703,7 @@ class Risk:
                         "blocks": verdict["count"],
                         "rock_t": float(tonnes[mask].sum()),
                         "worth": float(verdict["worth"]),
+                        **(study.classes.rock_of(mask, tonnes) if study.classes else {}),
                     }
                 )
         self.runs = pd.DataFrame(rows)
@@ -649,7 +714,8 @@ class Risk:
         return found
 
     def pit(self, likelihood: float, factor: int = THOUSAND) -> Bools:
-        """The blocks of at least a likelihood above 0: a closed pit, within that of every lower likelihood."""
+        """The blocks of at least a likelihood above 0: a closed pit, within that of every lower
+        likelihood."""
         if not 0 < likelihood <= 1:
             raise PlanError(f"a likelihood of {likelihood:g}: it has to be above 0 and at most 1")
         least = int(np.ceil(likelihood * self.count - 1e-9))
@@ -666,24 +732,29 @@ class Risk:
         return self.factors.index(factor)
 
     def table(self) -> pd.DataFrame:
-        """The spread of blocks, tonnes and worth over the realisations: a row for each factor; worth_p10 is what a tenth of the
-        realisations doesn't reach."""
+        """The spread of blocks, tonnes and worth over the realisations, and of the tonnes of each
+        resource class: a row for each factor; worth_p10 is what a tenth of the realisations doesn't
+        reach."""
         rows = []
+        classed = [str(name) for name in self.runs if str(name).startswith("class_")]
         for factor, of in self.runs.groupby("factor"):
             row: dict[str, Any] = {"factor": factor, "realisations": len(of)}
-            for name in ("blocks", "rock_t", "worth"):
+            for name in ("blocks", "rock_t", "worth", *classed):
                 row |= {
                     f"{name}_least": of[name].min(),
                     f"{name}_mean": of[name].mean(),
                     f"{name}_most": of[name].max(),
                 }
-                row |= {f"{name}_p{int(100 * share)}": of[name].quantile(share) for share in SPREAD}
+                row |= {
+                    f"{name}_p{int(100 * share)}": of[name].quantile(share) for share in _SPREAD
+                }
             rows.append(row)
         return pd.DataFrame(rows)
 
     def pits(self, factor: int = THOUSAND) -> pd.DataFrame:
-        """The pits of likelihood 0.1 to 0.9: blocks, tonnes, and what each is worth on the mean and at least over all realisations,
-        beside what the realisations' own best pits are worth on the mean."""
+        """The pits of likelihood 0.1 to 0.9: blocks, tonnes, and what each is worth on the mean and
+        at least over all realisations, beside what the realisations' own best pits are worth on the
+        mean; and the tonnes of each resource class, where the table has classes."""
         masks = [self.pit(share, factor) for share in TENTHS]
         worths = np.zeros((len(TENTHS), self.count))
         best = np.zeros(self.count)
@@ -694,7 +765,9 @@ class Risk:
             assert verdict is not None
             best[r] = float(verdict["worth"])
         tonnes = lean_model(self.study, self.setup.economics).blocks.tonnes.to_numpy(float)
-        return pd.DataFrame(
+        classes = self.study.classes
+        by_class = [classes.rock_of(mask, tonnes) if classes else {} for mask in masks]
+        found = pd.DataFrame(
             {
                 "likelihood": TENTHS,
                 "blocks": [int(m.sum()) for m in masks],
@@ -705,9 +778,11 @@ class Risk:
                 "best_mean": best.mean(),
             }
         )
+        return found.join(pd.DataFrame(by_class, index=found.index))
 
     def of_blocks(self) -> pd.DataFrame:
-        """The likelihood of each block at each factor, beside its id and row as a spreadsheet counts it (0: a block that was added)."""
+        """The likelihood of each block at each factor, beside its id and row as a spreadsheet
+        counts it (0: a block that was added)."""
         model, found = self.study.model, {
             f"likelihood_{spelled_factor(f)}": self.likelihood(f) for f in self.factors
         }
@@ -715,7 +790,7 @@ class Risk:
 
 
 @dataclass(frozen=True)
-class Means:
+class _Means:
     """The mean grade of the realisations beside that of the table, each weighted by tonnes.
 
     Attributes
@@ -725,10 +800,11 @@ class Means:
     realisations, table : float
         The means, over the same rows; nan where there are none.
     rows : int
-        How many rows the realisations cover: those for which one of them at least has a grade above 0.
+        How many rows the realisations cover: those for which one of them at least has a grade above
+        0.
     apart : tuple of int
-        The realisations that have nothing to do with the table: whose correlation with it, over the rows that have a grade in it, is
-        below `NOT_ALIKE`.
+        The realisations that have nothing to do with the table: whose correlation with it, over the
+        rows that have a grade in it, is below `NOT_ALIKE`.
     """
 
     metal: str
@@ -740,32 +816,32 @@ class Means:
 
     @property
     def share(self) -> float:
-        """By which share of the table's mean the realisations' lies above it (below 0: below it)."""
+        """By which share of the table's mean the realisations' lies above it (below 0: below
+        it)."""
         if self.table > 0:
             return self.realisations / self.table - 1
         return np.inf if self.realisations > 0 else 0.0
 
 
-def means(study: Study, setup: Setup) -> Means:
-    """Holds the realisations against the table: a simulation whose mean is another than the estimate's is worth another amount
-    in every realisation, which looks like upside or risk and is neither.
+def means(study: Study, setup: Setup) -> _Means:
+    """Holds the realisations against the table: a simulation whose mean is another than the
+    estimate's is worth another amount in every realisation, which looks like upside or risk and is
+    neither.
 
     Raises
     ------
     PlanError
-        Where the realisations aren't those that `prepare` looked through, or a grade of the table is no number.
+        Where the realisations aren't those that `prepare` looked through, or a grade of the table
+        is no number.
     """
     model = lean_model(study, setup.economics)
     rows = model.blocks["row"].to_numpy()
     there = rows >= 0
-    total, rows, planned_grades = (
-        np.zeros(int(there.sum())),
-        rows[there],
-        model.numbers(setup.column, "realisations")[there],
-    )
+    total = np.zeros(int(there.sum()))
+    planned_grades = model.numbers(setup.column, "realisations")[there]
     apart = []
     for r in range(len(setup.digests)):
-        grades = Realisation(study, setup, r, model).grades()[rows]
+        grades = _by_block(Realisation(study, setup, r, model).grades(), model)[there]
         total += grades
         if not alike(grades, planned_grades):
             apart.append(r)
@@ -778,15 +854,16 @@ def means(study: Study, setup: Setup) -> Means:
         float((grades * tonnes).sum()) / whole if whole > 0 else np.nan
         for grades in (total[covered] / len(setup.digests), table)
     )
-    return Means(
+    return _Means(
         metal["name"], metal["grade_unit"], simulated, planned, int(covered.sum()), tuple(apart)
     )
 
 
 def alike(grades: Array, table: Array) -> bool:
-    """Whether grades have to do with those of the table, row by row: not where rows are in another order. Few rows tell nothing."""
+    """Whether grades have to do with those of the table, row by row: not where rows are in another
+    order. Few rows tell nothing."""
     there = table > 0
-    if int(there.sum()) < FEWEST or np.ptp(grades[there]) == 0 or np.ptp(table[there]) == 0:
+    if int(there.sum()) < _FEWEST or np.ptp(grades[there]) == 0 or np.ptp(table[there]) == 0:
         return True
     return bool(np.corrcoef(grades[there], table[there])[0, 1] >= NOT_ALIKE)
 

@@ -1,4 +1,5 @@
-"""A surface of triangles, as designed pits come from CAD, and its height over the columns of a model."""
+"""A surface of triangles, as designed pits come from CAD, and its height over the columns of a
+model."""
 from __future__ import annotations
 
 from collections.abc import Iterator, Sequence
@@ -14,10 +15,10 @@ from ..base.within import refuse_outside
 from ..model.grid import Grid
 
 AT_ONCE = 4_000_000  # columns under triangles that are looked at in one go
-SLACK = 1e-9
+_SLACK = 1e-9
 MOST = 1_000_000  # faces and other entities that the blocks of a DXF may bring
-DEEPEST = 32  # blocks that a block may stand in
-FAR = 1e12  # how far from 0 a corner may be
+_DEEPEST = 32  # blocks that a block may stand in
+_FAR = 1e12  # how far from 0 a corner may be
 
 
 @dataclass(frozen=True)
@@ -37,13 +38,14 @@ class Surface:
 
 
 def of_points(points: Floats, table: object) -> Surface:
-    """Points joined to triangles in plan (`scipy.spatial.Delaunay`); of points over one another the lowest counts.
+    """Points joined to triangles in plan (`scipy.spatial.Delaunay`); of points over one another the
+    lowest counts.
 
     Raises PlanError where no three of them span a triangle.
     """
     from scipy.spatial import Delaunay, QhullError
 
-    points = near(points, table)
+    points = _near(points, table)
     lowest = points[np.lexsort((points[:, 2], points[:, 1], points[:, 0]))]
     first = np.ones(len(lowest), bool)
     first[1:] = (lowest[1:, :2] != lowest[:-1, :2]).any(axis=1)
@@ -62,19 +64,19 @@ def of_dxf(path: Path, layers: Sequence[str] = ()) -> Surface:
     Raises
     ------
     PlanError
-        Where it can't be read, has no such layer, or no faces there: with what it has instead; where its blocks never end, or a
-        corner is no place.
+        Where it can't be read, has no such layer, or no faces there: with what it has instead;
+        where its blocks never end, or a corner is no place.
     """
     from ezdxf.lldxf.const import DXFError
 
     there, kinds, faces = set[str](), set[str](), list[list[Any]]()
-    entities = Entities(path)
+    entities = _Entities(path)
     try:
-        for entity, is_within in entities.of(document(path).modelspace()):
+        for entity, is_within in entities.of(_document(path).modelspace()):
             there.add(str(entity.dxf.layer))
             if not layers or entity.dxf.layer in layers:
                 kinds.add(entity.dxftype())
-                found = list(faces_of(entity))
+                found = list(_faces_of(entity))
                 entities.take(len(found) if is_within else 0)
                 faces += found
     except (DXFError, ArithmeticError, AttributeError, LookupError, TypeError, ValueError) as error:
@@ -90,14 +92,14 @@ def of_dxf(path: Path, layers: Sequence[str] = ()) -> Surface:
         )
     fans = [(face[0], face[i], face[i + 1]) for face in faces for i in range(1, len(face) - 1)]
     points, corner = np.unique(
-        near(np.array(fans, float).reshape(-1, 3), path), axis=0, return_inverse=True
+        _near(np.array(fans, float).reshape(-1, 3), path), axis=0, return_inverse=True
     )
     return Surface(points, corner.reshape(-1, 3).astype(np.int64))
 
 
-def near(points: Floats, path: object) -> Floats:
-    """Points, refused where one is no place or further off than `FAR`."""
-    wrong = ~(np.abs(points) <= FAR).all(axis=1)
+def _near(points: Floats, path: object) -> Floats:
+    """Points, refused where one is no place or further off than `_FAR`."""
+    wrong = ~(np.abs(points) <= _FAR).all(axis=1)
     if wrong.any():
         x, y, z = points[int(np.argmax(wrong))]
         raise PlanError(
@@ -108,9 +110,10 @@ def near(points: Floats, path: object) -> Floats:
     return points
 
 
-class Entities:
-    """The simple entities of a DXF, also within blocks, as `ezdxf.disassemble` finds them. What blocks bring has a bound, since a few
-    lines of blocks within blocks stand for any number of faces.
+class _Entities:
+    """The simple entities of a DXF, also within blocks, as `ezdxf.disassemble` finds them. What
+    blocks bring has a bound, since a few lines of blocks within blocks stand for any number of
+    faces.
 
     Parameters
     ----------
@@ -128,12 +131,15 @@ class Entities:
             raise PlanError(
                 f"its blocks bring more than {MOST:,} faces and other entities",
                 table=self.path,
-                try_this="explode the blocks of the design in the CAD package, and leave the others out",
+                try_this=(
+                    "explode the blocks of the design in the CAD package, and leave the others out"
+                ),
             )
 
     def of(self, entities: Any, around: tuple[str, ...] = ()) -> Iterator[tuple[Any, bool]]:
-        """The simple entities of some entities, and whether each is of a block; `around` are the blocks that these stand in.
-        Raises PlanError where a block holds itself, or stands in `DEEPEST` others."""
+        """The simple entities of some entities, and whether each is of a block; `around` are the
+        blocks that these stand in. Raises PlanError where a block holds itself, or stands in
+        `_DEEPEST` others."""
         from ezdxf.entities.insert import Insert
         from ezdxf.protocols import SupportsVirtualEntities, virtual_entities
 
@@ -163,18 +169,20 @@ class Entities:
 
     def deeper(self, around: tuple[str, ...], name: str) -> tuple[str, ...]:
         """The blocks that a block's own entities stand in."""
-        if name and name in around or len(around) >= DEEPEST:
+        if name and name in around or len(around) >= _DEEPEST:
             raise PlanError(
-                f"the block {name!r} holds itself"
-                if name in around
-                else f"blocks stand in each other more than {DEEPEST} deep",
+                (
+                    f"the block {name!r} holds itself"
+                    if name in around
+                    else f"blocks stand in each other more than {_DEEPEST} deep"
+                ),
                 table=self.path,
                 try_this="mend it in the CAD package, or explode the blocks of the design there",
             )
         return (*around, name)
 
 
-def document(path: Path) -> Any:
+def _document(path: Path) -> Any:
     """A DXF, mended where that is possible."""
     from ezdxf import recover
     from ezdxf.filemanagement import readfile
@@ -192,7 +200,7 @@ def document(path: Path) -> Any:
         raise PlanError(f"can't be read as DXF: {error}", table=path) from None
 
 
-def faces_of(entity: Any) -> Iterator[list[Any]]:
+def _faces_of(entity: Any) -> Iterator[list[Any]]:
     """The faces of an entity of a DXF, each as its corners."""
     from ezdxf.render.mesh import MeshBuilder
 
@@ -221,26 +229,26 @@ def heights(surface: Surface, grid: Grid) -> tuple[Floats, Floats]:
     u, v = grid.local(surface.points[:, 0] - grid.origin[0], surface.points[:, 1] - grid.origin[1])
     plan = np.column_stack([u / grid.size[0], v / grid.size[1]])[surface.triangles]
     z = surface.points[:, 2][surface.triangles]
-    twice = cross(plan[:, 1] - plan[:, 0], plan[:, 2] - plan[:, 0])
-    flat = np.abs(twice) > SLACK
+    twice = _cross(plan[:, 1] - plan[:, 0], plan[:, 2] - plan[:, 0])
+    flat = np.abs(twice) > _SLACK
     plan, z, twice = plan[flat], z[flat], twice[flat]
-    least = np.maximum(np.ceil(plan.min(axis=1) - SLACK), 0).astype(np.int64)
-    most = np.minimum(np.floor(plan.max(axis=1) + SLACK), np.array(grid.shape[:2]) - 1).astype(
+    least = np.maximum(np.ceil(plan.min(axis=1) - _SLACK), 0).astype(np.int64)
+    most = np.minimum(np.floor(plan.max(axis=1) + _SLACK), np.array(grid.shape[:2]) - 1).astype(
         np.int64
     )
     spans = np.maximum(most - least + 1, 0)
     low, high = np.full(grid.shape[:2], np.nan), np.full(grid.shape[:2], np.nan)
-    for some in pieces(spans.prod(axis=1)):
-        i, j, which = columns_under(least[some], spans[some])
-        weight = weights(plan[some][which], twice[some][which], np.column_stack([i, j]))
-        inside = (weight >= -SLACK).all(axis=1)
+    for some in _pieces(spans.prod(axis=1)):
+        i, j, which = _columns_under(least[some], spans[some])
+        weight = _weights(plan[some][which], twice[some][which], np.column_stack([i, j]))
+        inside = (weight >= -_SLACK).all(axis=1)
         at = (weight * z[some][which]).sum(axis=1)[inside]
         np.fmin.at(low, (i[inside], j[inside]), at)
         np.fmax.at(high, (i[inside], j[inside]), at)
     return low, high
 
 
-def pieces(counts: Ints) -> Iterator[slice]:
+def _pieces(counts: Ints) -> Iterator[slice]:
     """Slices of the triangles with about `AT_ONCE` columns each."""
     ends, start = counts.cumsum(), 0
     while start < len(counts):
@@ -250,7 +258,7 @@ def pieces(counts: Ints) -> Iterator[slice]:
         start = end
 
 
-def columns_under(least: Ints, spans: Ints) -> tuple[Ints, Ints, Ints]:
+def _columns_under(least: Ints, spans: Ints) -> tuple[Ints, Ints, Ints]:
     """The columns in the box around each triangle: i, j, and the triangle."""
     counts = spans.prod(axis=1)
     which = np.repeat(np.arange(len(counts)), counts)
@@ -258,14 +266,14 @@ def columns_under(least: Ints, spans: Ints) -> tuple[Ints, Ints, Ints]:
     return least[which, 0] + at // spans[which, 1], least[which, 1] + at % spans[which, 1], which
 
 
-def weights(plan: Floats, twice: Floats, at: Ints) -> Floats:
+def _weights(plan: Floats, twice: Floats, at: Ints) -> Floats:
     """Barycentric weights of places in triangles, of shape (places, 3)."""
     a, b, c = (plan[:, k] - at for k in range(3))
-    found: Floats = np.column_stack([cross(b, c), cross(c, a), cross(a, b)]) / twice[:, None]
+    found: Floats = np.column_stack([_cross(b, c), _cross(c, a), _cross(a, b)]) / twice[:, None]
     return found
 
 
-def cross(p: Floats, q: Floats) -> Floats:
+def _cross(p: Floats, q: Floats) -> Floats:
     """The cross product of vectors in the plane."""
     found: Floats = p[..., 0] * q[..., 1] - p[..., 1] * q[..., 0]
     return found

@@ -9,6 +9,10 @@ from ..base.errors import PlanError
 from ..study.shells import thousandths
 
 BASE = "base"
+SCHEDULE = "schedule"
+REALISED = "realised"
+_KINDS = ("run", "realisation", SCHEDULE, REALISED)
+NUMBERED = ("realisation", REALISED)
 
 
 @dataclass(frozen=True, order=True)
@@ -17,7 +21,8 @@ class Task:
 
     Attributes
     ----------
-    kind : {"run", "realisation"}
+    kind : str
+        One of `_KINDS`.
     name : str
         Of the scenario, "base" for the study itself; or the number of the realisation, from 0.
     factors : tuple of int
@@ -33,13 +38,13 @@ class Task:
 
     @property
     def label(self) -> str:
-        """Its name in file names, which have at most 255 bytes: of many factors the first, the last and a digest of all."""
+        """Its name in file names, which have at most 255 bytes: of many factors the first, the last
+        and a digest of all."""
         whole = str(self).replace(" ", "_").replace(",", "_")
-        return (
-            whole
-            if len(whole) <= 100
-            else f"{self.kind}_{self.name}_{self.factors[0]}-{self.factors[-1]}_{hashlib.sha256(whole.encode()).hexdigest()[:16]}"
-        )
+        if len(whole) <= 100:
+            return whole
+        digest = hashlib.sha256(whole.encode()).hexdigest()[:16]
+        return f"{self.kind}_{self.name}_{self.factors[0]}-{self.factors[-1]}_{digest}"
 
 
 def task_of(words: Sequence[str]) -> Task:
@@ -54,14 +59,14 @@ def task_of(words: Sequence[str]) -> Task:
     'realisation 17 800,1000'
     """
     example = "pitplan task STUDY run base 800, or pitplan task STUDY realisation 17 800,1000"
-    if len(words) != 3 or words[0] not in ("run", "realisation"):
+    if len(words) != 3 or words[0] not in _KINDS:
         raise PlanError(f"{' '.join(words)!r} is no task", try_this=example)
     parts = words[2].split(",")
     if not all(part.isdigit() for part in parts) or (
-        words[0] == "realisation" and not words[1].isdigit()
+        words[0] in NUMBERED and not words[1].isdigit()
     ):
         raise PlanError(
             f"{' '.join(words)!r} is no task: factors are whole thousandths", try_this=example
         )
     factors = tuple(sorted({thousandths(int(part) / 1000) for part in parts}))
-    return Task(words[0], str(int(words[1])) if words[0] == "realisation" else words[1], factors)
+    return Task(words[0], str(int(words[1])) if words[0] in NUMBERED else words[1], factors)

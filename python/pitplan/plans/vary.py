@@ -1,10 +1,13 @@
-"""What-ifs: the proved pit at other prices, recoveries, costs and slopes, and which of them moves the worth most.
+"""What-ifs: the proved pit at other prices, recoveries, costs and slopes, which of them moves the
+worth most, and which the npv.
 
-A price is a factor of the revenue, so the pit at a price 20 % higher is the study's own at 1.2 times the factor. Every other
-what-if is a study of its own in ``vary/recovery-5/``, built by the same code. ``vary.json`` says what was asked for.
+A price is a factor of the revenue, so the pit at a price 20 % higher is the study's own at 1.2
+times the factor. Rates and the discount leave the pit as it is. Every other what-if is a study of
+its own in ``vary/recovery-5/``, built by the same code. ``vary.json`` says what was asked for.
 """
 from __future__ import annotations
 
+import hashlib
 import json
 import re
 from collections.abc import Iterable, Sequence
@@ -23,43 +26,102 @@ from ..base.units_shown import share_text
 from ..model.economics import Amount, Economics
 from ..model.model import Model
 from ..slopes.slopes import Slopes
+from ..base.arrays import Floats
 from ..study import edges
-from ..study.shells import thousandths
+from ..study.pit_by_pit import Cells, Rates, by_bench, discounted
+from ..study.shells import Shells, thousandths
 from ..study.study import Study
 from .task_line import BASE, Task
 
 if TYPE_CHECKING:
     from matplotlib.figure import Figure
 
-PERCENT = ("price", "recovery", "mining", "processing")  # of what stands in study.toml
-SLOPE = "slope"  # in degrees
-WHAT = (*PERCENT, SLOPE)
-UNITS = {**{name: "%" for name in PERCENT}, SLOPE: " degrees"}
+_OF_A_METAL = ("price", "recovery")  # of all metals, or of one of them: price:gold
+_PERCENT = (*_OF_A_METAL, "mining", "processing")  # of what stands in study.toml
+_SLOPE = "slope"  # in degrees
+RATES = ("mining_rate", "mill_rate")  # in percent; they leave the pit as it is
+DISCOUNT = "discount"  # in points: from 8 % to 10 % a year are 2
+WHAT = (*_PERCENT, _SLOPE, *RATES, DISCOUNT)
+SINK = "sink"  # in benches; of schedules alone
+_UNITS = {
+    **{name: "%" for name in (*_PERCENT, *RATES)},
+    _SLOPE: " degrees",
+    DISCOUNT: " points",
+    SINK: " benches",
+}
+_EXAMPLES = "price=-20..20 price:gold=-10..10 recovery=-5..5 slope=-3..3 discount=-2..2"
 
 
 @dataclass(frozen=True)
 class Change:
-    """One thing that is other than in study.toml: by percent of itself, slopes by degrees."""
+    """One thing that is other than in study.toml: by percent of itself, slopes by degrees, the
+    discount by points.
+
+    Attributes
+    ----------
+    what : str
+        One of `WHAT`, or `SINK`; or one of `_OF_A_METAL`, a colon, and the metal's name.
+    by : float
+    """
 
     what: str
     by: float
 
     @property
-    def name(self) -> str:
-        """Of its folder.
+    def kind(self) -> str:
+        """What is changed, without the metal."""
+        return self.what.partition(":")[0]
 
-        >>> Change("recovery", -5).name
-        'recovery-5'
+    @property
+    def metal(self) -> str:
+        """The metal that alone is changed; "" where all are."""
+        return self.what.partition(":")[2]
+
+    @property
+    def keeps_pit(self) -> bool:
+        """Whether the pit stays as it is, and only its npv changes."""
+        return self.kind in (*RATES, DISCOUNT, SINK)
+
+    @property
+    def is_factor(self) -> bool:
+        """Whether the study itself has its pit, at another factor."""
+        return self.what == "price"
+
+    @property
+    def unit(self) -> str:
+        """Of `by`, with the blank before it."""
+        return _UNITS[self.kind]
+
+    @property
+    def name(self) -> str:
+        """Of its folder. Of a metal with other letters in its name a digest says which.
+
+        >>> Change("recovery", -5).name, Change("price:gold", 10).name
+        ('recovery-5', 'price_gold+10')
         """
-        return f"{self.what}{self.by:+g}"
+        word = re.sub(r"[^A-Za-z0-9]+", "_", self.metal)[:40]
+        if word != self.metal:
+            word += "_" + hashlib.sha256(self.metal.encode()).hexdigest()[:8]
+        return f"{self.kind}{'_' + word if word else ''}{self.by:+g}"
 
     def __str__(self) -> str:
-        return f"{self.what} {self.by:+g}{UNITS[self.what]}"
+        return f"{called(self.what)} {self.by:+g}{self.unit}"
+
+
+def called(what: str) -> str:
+    """What is changed, as a reader is told.
+
+    >>> called("price:gold"), called("mill_rate")
+    ('price of gold', 'mill rate')
+    """
+    kind, _, metal = what.partition(":")
+    return kind.replace("_", " ") + (f" of {metal}" if metal else "")
 
 
 @dataclass(frozen=True)
-class Asked:
-    """What ``vary.json`` says: the key of the model, the factor in thousandths, and the changes as (what, by)."""
+class _Asked:
+    """What ``vary.json`` says: the key of the model, the factor in thousandths, and the changes as
+    (what, by)."""
 
     study: str
     factor: int
@@ -69,8 +131,8 @@ class Asked:
         return [Change(what, by) for what, by in self.changes]
 
 
-def changes_of(words: Iterable[str]) -> list[Change]:
-    """The changes that words as ``price=-20..20`` or ``slope=-3,2`` ask for.
+def changes_of(words: Iterable[str], known: Sequence[str] = WHAT) -> list[Change]:
+    """The changes that words as ``price=-20..20`` or ``slope=-3,2`` ask for, of what is known.
 
     Raises
     ------
@@ -82,15 +144,19 @@ def changes_of(words: Iterable[str]) -> list[Change]:
     """
     found: list[Change] = []
     for word in words:
-        parts = re.fullmatch(r"(\w+)=([-+\d.,]+?)(?:\.\.([-+\d.]+))?", word)
+        parts = re.fullmatch(r"(\w+(?::[^=]+)?)=([-+\d.,]+?)(?:\.\.([-+\d.]+))?", word)
         if not parts:
+            raise PlanError(f"{word!r} is no change", try_this=_EXAMPLES)
+        kind, _, metal = parts[1].partition(":")
+        if kind not in known:
             raise PlanError(
-                f"{word!r} is no change", try_this="price=-20..20 recovery=-5..5 slope=-3..3"
+                f"{word!r}: {kind!r} isn't among what can be varied{meant(kind, known)}",
+                try_this=", ".join(known),
             )
-        if parts[1] not in WHAT:
+        if metal and kind not in _OF_A_METAL:
             raise PlanError(
-                f"{word!r}: {parts[1]!r} isn't among what can be varied{meant(parts[1], WHAT)}",
-                try_this=", ".join(WHAT),
+                f"{word!r}: {kind} isn't a metal's",
+                try_this=f"{kind}={parts[2]}, or one of {', '.join(_OF_A_METAL)} with a metal",
             )
         try:
             values = [
@@ -101,14 +167,27 @@ def changes_of(words: Iterable[str]) -> list[Change]:
                 f"{word!r} has something that is no number", try_this=f"{parts[1]}=-5..5"
             ) from None
         for value in values:
-            if value == 0 or value <= -100:
-                raise PlanError(
-                    f"{word!r}: a change of {value:g}{UNITS[parts[1]]} is none that can be made"
-                )
+            _refuse_amount(word, Change(parts[1], value))
             found.append(Change(parts[1], value))
     if len({change.name for change in found}) < len(found):
         raise PlanError("a change is asked for twice")
     return found
+
+
+def _refuse_amount(word: str, change: Change) -> None:
+    """Refuses a change of nothing, and one that takes all."""
+    said = f"{word!r}: a change of {change.by:g}{change.unit}"
+    if change.by == 0:
+        raise PlanError(
+            f"{said} is what study.toml has, which every table shows as planned",
+            try_this=f"{change.what}=-5..5",
+        )
+    if change.by <= -100:
+        rest = "nothing of the" if change.unit == "%" else "no"
+        raise PlanError(
+            f"{said} leaves {rest} {called(change.what)}: it has to be above -100",
+            try_this=f"{change.what}=-5..5",
+        )
 
 
 def prepare(
@@ -117,7 +196,8 @@ def prepare(
     slopes: Slopes,
     changes: Sequence[Change],
     factor: int = THOUSAND,
-) -> Asked:
+    rates: Rates = Rates(),
+) -> _Asked:
     """Builds what the changes need, and writes down what is to be run. No pit is found yet.
 
     Parameters
@@ -126,14 +206,22 @@ def prepare(
         What the study was built with.
     factor : int
         In thousandths.
+    rates : Rates
+        Of study.toml.
+
+    Raises
+    ------
+    PlanError
+        Where a change can't be made, as that of a metal that isn't there: it names the change.
     """
-    asked = Asked(study.key, factor, [(c.what, c.by) for c in changes])
+    asked = _Asked(study.key, factor, [(c.what, c.by) for c in changes])
     for change in changes:
-        if change.what != "price":
-            e, s = changed(economics, slopes, change, study.model)
-            Study.create(place(study, change.name), study.model, e, s, study.program)
-        else:
-            price_factor(factor, change)
+        try:
+            _make(study, economics, slopes, change, (factor, rates))
+        except PlanError as error:
+            for each in error.each():
+                each.what = f"{change}: {each.what}"
+            raise
     path = study.folder / "vary" / "vary.json"
     path.parent.mkdir(exist_ok=True)
     with whole_file(path) as part:
@@ -141,35 +229,65 @@ def prepare(
     return asked
 
 
+def _make(
+    study: Study,
+    economics: Economics,
+    slopes: Slopes,
+    change: Change,
+    other: tuple[int, Rates],
+) -> None:
+    """Builds the study of a change, where it needs one of its own; else looks whether it can be
+    made. `other` is the factor, and the rates."""
+    factor, rates = other
+    if change.is_factor:
+        price_factor(factor, change)
+    elif change.keeps_pit:
+        _other_rates(rates.over(1.0, 1.0), change)
+    else:
+        e, s = changed(economics, slopes, change, study.model)
+        Study.create(place(study, change.name), study.model, e, s, study.program)
+
+
+def _other_rates(rates: Rates, change: Change | None) -> Rates:
+    """The rates with a change; those that it doesn't concern stay."""
+    if change is None or not change.keeps_pit:
+        return rates
+    if change.kind == DISCOUNT:
+        return replace(rates, discount=round(rates.discount + change.by / 100, 12))
+    name = change.kind.removesuffix("_rate")
+    return replace(rates, **{name: getattr(rates, name) * (1 + change.by / 100)})
+
+
 def changed(
     economics: Economics, slopes: Slopes, change: Change, model: Model
 ) -> tuple[Economics, Slopes]:
     """The economics and the slopes with one change."""
     share = 1 + change.by / 100
-    if change.what == SLOPE:
+    if change.what == _SLOPE:
         regions = (
-            {name: turned(angles, change.by) for name, angles in slopes.regions.items()}
+            {name: _turned(angles, change.by) for name, angles in slopes.regions.items()}
             if slopes.regions
             else None
         )
-        return economics, replace(slopes, angles=turned(slopes.angles, change.by), regions=regions)
-    if change.what == "recovery":
-        return (
-            replace(
-                economics,
-                metals=tuple(
-                    replace(m, recovery=times(m.recovery, share, model)) for m in economics.metals
-                ),
-            ),
-            slopes,
+        return economics, replace(slopes, angles=_turned(slopes.angles, change.by), regions=regions)
+    if change.kind in _OF_A_METAL:
+        names = [metal.name for metal in economics.metals]
+        if change.metal and change.metal not in names:
+            raise PlanError(f"no metal is called {change.metal!r}{meant(change.metal, names)}")
+        metals = (
+            replace(metal, **{change.kind: _times(getattr(metal, change.kind), share, model)})
+            if change.metal in ("", metal.name)
+            else metal
+            for metal in economics.metals
         )
+        return replace(economics, metals=tuple(metals)), slopes
     return (
-        replace(economics, **{change.what: times(getattr(economics, change.what), share, model)}),
+        replace(economics, **{change.what: _times(getattr(economics, change.what), share, model)}),
         slopes,
     )
 
 
-def times(amount: Amount, share: float, model: Model) -> Amount:
+def _times(amount: Amount, share: float, model: Model) -> Amount:
     """An amount times a number."""
     if isinstance(amount, str):
         return (
@@ -182,7 +300,7 @@ def times(amount: Amount, share: float, model: Model) -> Amount:
     return {rock: value * share for rock, value in amount.items()}
 
 
-def turned(angles: Any, by: float) -> Any:
+def _turned(angles: Any, by: float) -> Any:
     """Angles by so many degrees steeper."""
     return (
         [(bearing, angle + by) for bearing, angle in angles]
@@ -197,7 +315,8 @@ def price_factor(factor: int, change: Change) -> int:
     Raises
     ------
     PlanError
-        Where it is none of whole thousandths: another price than that which was asked for would be shown.
+        Where it is none of whole thousandths: another price than that which was asked for would be
+        shown.
     """
     exact = factor * (1 + change.by / 100)
     if abs(exact - round(exact)) > 1e-6:
@@ -215,33 +334,35 @@ def place(study: Study, name: str) -> Path:
     return study.folder / "vary" / name
 
 
-def asked_of(study: Study) -> Asked | None:
+def asked_of(study: Study) -> _Asked | None:
     """What was asked for by `prepare` over this very model, None where nothing was."""
     path = study.folder / "vary" / "vary.json"
     try:
-        found = kept_json.read(path, ASKED, command("vary", study.named, "price=-20..20"))
+        found = kept_json.read(path, _ASKED, command("vary", study.named, "price=-20..20"))
     except FileNotFoundError:
         return None
     return (
-        Asked(found["study"], found["factor"], [(what, by) for what, by in found["changes"]])
+        _Asked(found["study"], found["factor"], [(what, by) for what, by in found["changes"]])
         if found["study"] == study.key
         else None
     )
 
 
 def is_change(value: Any) -> bool:
-    """Whether this is a change that can be made: it names a folder, so that no other word may stand there."""
+    """Whether this is a change that can be made: it names a folder, so that no other word may stand
+    there."""
     return (
         isinstance(value, list)
         and len(value) == 2
-        and value[0] in WHAT
+        and isinstance(value[0], str)
+        and value[0].partition(":")[0] in (_OF_A_METAL if ":" in value[0] else (*WHAT, SINK))
         and kept_json.is_number(value[1])
         and value[1] != 0
         and value[1] > -100
     )
 
 
-ASKED: dict[str, kept_json.Holds] = {
+_ASKED: dict[str, kept_json.Holds] = {
     "study": kept_json.is_word,
     "factor": kept_json.is_factor,
     "changes": kept_json.is_list(is_change),
@@ -249,9 +370,14 @@ ASKED: dict[str, kept_json.Holds] = {
 
 
 def scenario(base: Study, name: str) -> Study:
-    """The study of a what-if. Raises PlanError where none of that name was asked for over this very model."""
+    """The study of a what-if. Raises PlanError where none of that name was asked for over this very
+    model."""
     asked = asked_of(base)
-    names = [change.name for change in asked.each() if change.what != "price"] if asked else []
+    names = (
+        [each.name for each in asked.each() if not each.is_factor and not each.keeps_pit]
+        if asked
+        else []
+    )
     if name not in names:
         raise PlanError(
             f"there is no scenario {name!r} of the model that stands there{meant(name, names)}",
@@ -260,11 +386,11 @@ def scenario(base: Study, name: str) -> Study:
     return Study(place(base, name), base.given)
 
 
-def task(asked: Asked, change: Change | None) -> Task:
+def task(asked: _Asked, change: Change | None) -> Task:
     """The task of a change; of the study itself where there is none."""
-    if change is None:
+    if change is None or change.keeps_pit:
         return Task("run", BASE, (asked.factor,))
-    if change.what == "price":
+    if change.is_factor:
         return Task("run", BASE, (price_factor(asked.factor, change),))
     return Task("run", change.name, (asked.factor,))
 
@@ -272,18 +398,27 @@ def task(asked: Asked, change: Change | None) -> Task:
 def tasks(study: Study) -> list[Task]:
     """The tasks of the what-ifs that were asked for, the study itself first."""
     asked = asked_of(study)
-    return [task(asked, change) for change in (None, *asked.each())] if asked else []
+    each = [task(asked, change) for change in (None, *asked.each())] if asked else []
+    return list(dict.fromkeys(each))
 
 
-def table(study: Study) -> pd.DataFrame:
+def table(study: Study, rates: Rates = Rates()) -> pd.DataFrame:
     """The pits of the what-ifs, each checked again as it is read.
+
+    Parameters
+    ----------
+    rates : Rates
+        Of study.toml. Those that it doesn't say are such that the study's own pit takes 15 years.
 
     Returns
     -------
     DataFrame
-        A row for the study itself and for each change: what, by, unit, factor (a share of the price), blocks, rock_t, worth,
-        difference (the worth less that of the study itself), and how many blocks of the pit ask for a place beside the model
-        (side_blocks) and are the lowest of their column (floor_blocks); see `edges`.
+        A row for the study itself and for each change: what, by, unit, factor (a share of the
+        price), blocks, rock_t, worth, difference (the worth less that of the study itself), npv
+        (bench after bench, discounted as `pit_by_pit.discounted`), npv_difference, how many blocks
+        of the pit ask for a place beside the model (side_blocks) and are the lowest of their column
+        (floor_blocks), see `edges`; and where the table has resource classes the tonnes of each,
+        class_<name>_rock_t.
 
     Raises
     ------
@@ -296,51 +431,108 @@ def table(study: Study) -> pd.DataFrame:
             "no what-ifs were asked for over the model that stands there",
             try_this=command("vary", study.named, "price=-20..20"),
         )
-    tonnes, rows = study.model.blocks.tonnes.to_numpy(float), []
+    pits: dict[Task, _OnePit] = {}
+    rows = []
     for change in (None, *asked.each()):
         of = task(asked, change)
-        one, factor = study if of.name == BASE else scenario(study, of.name), of.factors[0]
-        one.verify()
-        held, verdict = one.mask(factor), one.verdict(factor)
-        mask = held[: len(tonnes)]  # blocks after those are air, which other slopes lead through
-        assert verdict is not None  # its mask has just been read
+        if of not in pits:
+            one = study if of.name == BASE else scenario(study, of.name)
+            pits[of] = _OnePit.of(one, of.factors[0], study)
+        if change is None:
+            rates = rates.over(float(pits[of].rock.sum()), float(pits[of].feed.sum()))
         rows.append(
             {
                 "what": change.what if change else BASE,
                 "by": change.by if change else 0.0,
-                "unit": UNITS[change.what].strip() if change else "",
-                "factor": factor / THOUSAND,
-                "blocks": verdict["count"],
-                "rock_t": float(tonnes[mask].sum()),
-                "worth": float(verdict["worth"]),
-                "side_blocks": int((held & edges.touching(one)).sum()),
-                "floor_blocks": int((held & edges.on_floor(one.model)).sum()),
+                "unit": change.unit.strip() if change else "",
+                "factor": of.factors[0] / THOUSAND,
+                **pits[of].said,
+                "npv": pits[of].npv(_other_rates(rates, change)),
             }
         )
     found = pd.DataFrame(rows)
     found.insert(7, "difference", found.worth - found.worth.iloc[0])
+    found.insert(8, "npv", found.pop("npv"))
+    found.insert(9, "npv_difference", found.npv - found.npv.iloc[0])
     return found
 
 
+@dataclass(frozen=True)
+class _OnePit:
+    """The pit of a what-if: what the table says of it, and its rock, feed and worth bench by bench
+    from the top."""
+
+    said: dict[str, Any]
+    rock: Floats
+    feed: Floats
+    worth: Floats
+
+    @classmethod
+    def of(cls, study: Study, factor: int, base: Study) -> _OnePit:
+        """Reads it with all checks; `base` is the study itself."""
+        shells = Shells(study, [factor])
+        held, cells = shells.holds(0), Cells.of(shells, factor)
+        tonnes = base.model.blocks.tonnes.to_numpy(float)
+        mask = held[: len(tonnes)]  # blocks after those are air, which other slopes lead through
+        said = {
+            "blocks": shells.verdicts[0]["count"],
+            "rock_t": float(tonnes[mask].sum()),
+            "worth": float(shells.verdicts[0]["worth"]),
+            "side_blocks": int((held & edges.touching(study)).sum()),
+            "floor_blocks": int((held & edges.on_floor(study.model)).sum()),
+            **(base.classes.rock_of(mask, tonnes) if base.classes else {}),
+        }
+        return cls(
+            said,
+            by_bench(cells.rock),
+            by_bench(cells.ore) * study.priced.feed,
+            by_bench(cells.worth),
+        )
+
+    def npv(self, rates: Rates) -> float:
+        """Its worth bench after bench, discounted."""
+        return discounted(self.rock, self.feed, self.worth, rates)[0]
+
+
 def tornado(found: pd.DataFrame, currency: str = "$") -> Figure:
-    """The tornado chart of `table`: for each thing a bar from its lowest to its highest worth, the longest on top."""
+    """The tornado charts of `table`: of the worth, and beside it of the npv. For each thing a bar
+    from its lowest to its highest, the longest on top. What leaves the pit as it is, stands in that
+    of the npv alone."""
     from matplotlib.figure import Figure
+
+    what = found.iloc[1:].what
+    moves = ~what.isin((*RATES, DISCOUNT))
+    bars = what.nunique()
+    figure = Figure(figsize=(14, 1.7 + 0.6 * bars), layout="constrained")
+    left, right = figure.subplots(1, 2)
+    base = found.iloc[:1]
+    draw(left, pd.concat([base, found.iloc[1:][moves]]), "worth", currency)
+    left.set_title("What moves the worth: a proved pit at each end", fontsize=12)
+    draw(right, found, "npv", currency)
+    right.set_title("What moves the npv of that pit, bench after bench", fontsize=12)
+    return figure
+
+
+def draw(
+    axes: Any, found: pd.DataFrame, column: str, currency: str, of: str = "best pit"
+) -> list[str]:
+    """One tornado chart, of a column of `table`; gives what its bars are of, from the lowest up."""
     from ..base.units_shown import scale_of
 
-    base = float(found.worth.iloc[0])
-    money = scale_of(found.worth, currency)
+    base = float(found[column].iloc[0])
+    money = scale_of(found[column], currency)
     groups = sorted(
         found.iloc[1:].groupby("what"),
-        key=lambda group: float(max(group[1].worth.max(), base) - min(group[1].worth.min(), base)),
+        key=lambda group: float(
+            max(group[1][column].max(), base) - min(group[1][column].min(), base)
+        ),
     )
-    figure = Figure(figsize=(8.5, 1.6 + 0.6 * len(groups)), layout="constrained")
-    axes = figure.add_subplot()
     for at, (_, group) in enumerate(groups):
-        for row in group.itertuples():
-            up = row.by > 0
+        for row in group.to_dict("records"):
+            end, up = row[column], row["by"] > 0
             axes.barh(
                 at,
-                (row.worth - base) / money.divisor,
+                (end - base) / money.divisor,
                 left=base / money.divisor,
                 height=0.6,
                 color="#8a8a8a" if up else "#f1efe9",
@@ -348,18 +540,19 @@ def tornado(found: pd.DataFrame, currency: str = "$") -> Figure:
                 edgecolor="black",
                 linewidth=0.6,
             )
+            is_right = end > base or end == base and up
             axes.annotate(
-                f"{row.by:+g}{UNITS[row.what]}",
-                (row.worth / money.divisor, at),
-                xytext=(4 if row.worth >= base else -4, 0),
+                str(Change(row["what"], row["by"])).removeprefix(called(row["what"])).strip(),
+                (end / money.divisor, at),
+                xytext=(4 if is_right else -4, 0),
                 textcoords="offset points",
-                ha="left" if row.worth >= base else "right",
+                ha="left" if is_right else "right",
                 va="center",
                 fontsize=8,
             )
     axes.axvline(base / money.divisor, color="black", linewidth=1)
-    axes.set_yticks(range(len(groups)), [str(name) for name, _ in groups])
+    axes.set_yticks(range(len(groups)), [called(str(name)) for name, _ in groups])
     axes.margins(x=0.18)
-    axes.set_xlabel(f"Worth of the best pit ({money.unit}); as planned {base / money.divisor:,.2f}")
-    axes.set_title("What moves the worth: a proved pit at each end", fontsize=12)
-    return figure
+    name = "Worth" if column == "worth" else "Npv"
+    axes.set_xlabel(f"{name} of the {of} ({money.unit}); as planned {base / money.divisor:,.2f}")
+    return [str(name) for name, _ in groups]

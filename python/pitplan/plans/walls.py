@@ -15,9 +15,9 @@ if TYPE_CHECKING:
     from ..model.model import Model
     from ..study.resting import Resting
 
-SECTORS = 16  # of bearings: each 22.5 degrees wide, the first around north
-LEVELS = 6  # over which a wall is measured, where the slopes look at fewer
-COLUMNS = ("bearing", "pairs", "steepest", "built", "height", "away", "id", "x", "y", "bench")
+_SECTORS = 16  # of bearings: each 22.5 degrees wide, the first around north
+_LEVELS = 6  # over which a wall is measured, where the slopes look at fewer
+_COLUMNS = ("bearing", "pairs", "steepest", "built", "height", "away", "id", "x", "y", "bench")
 
 
 def sector_of(bearing: float) -> int:
@@ -26,7 +26,7 @@ def sector_of(bearing: float) -> int:
     >>> sector_of(0.0), sector_of(349.0), sector_of(90.0)
     (0, 0, 4)
     """
-    return int((bearing % 360) * SECTORS / 360 + 0.5) % SECTORS
+    return int((bearing % 360) * _SECTORS / 360 + 0.5) % _SECTORS
 
 
 def away_of(grid: Grid, dx: int, dy: int) -> tuple[float, float]:
@@ -42,9 +42,10 @@ def worst(
 ) -> pd.DataFrame:
     """The steepest wall of each sector of bearings in which a design breaks the slopes.
 
-    A wall is measured from the centre of a block that the design digs, and that breaks the slopes in this sector, up to the
-    centre of the highest block that stands beside it, over no more levels than the slopes look at (or 6). Bearings are those of the wall seen from the bottom of
-    the pit, clockwise from north.
+    A wall is measured from the centre of a block that the design digs, and that breaks the slopes
+    in this sector, up to the centre of the highest block that stands beside it, over no more levels
+    than the slopes look at (or 6). Bearings are those of the wall seen from the bottom of the pit,
+    clockwise from north.
 
     Parameters
     ----------
@@ -55,19 +56,20 @@ def worst(
     Returns
     -------
     DataFrame
-        Steepest first: ``bearing`` (of the sector's steepest wall; not a number where the design leaves a block that stands
-        straight above one that it digs), ``pairs`` (how many are broken in the sector), ``steepest`` (degrees), ``built``
-        (degrees of a deep wall at that bearing, by the slopes that were built), ``height`` and ``away`` (of the wall's top
-        from its foot), and of the foot ``id``, ``x``, ``y``, ``bench``.
+        Steepest first: ``bearing`` (of the sector's steepest wall; not a number where the design
+        leaves a block that stands straight above one that it digs), ``pairs`` (how many are broken
+        in the sector), ``steepest`` (degrees), ``built`` (degrees of a deep wall at that bearing,
+        by the slopes that were built), ``height`` and ``away`` (of the wall's top from its foot),
+        and of the foot ``id``, ``x``, ``y``, ``bench``.
     """
     blocks, _, offsets = broken
     if not len(blocks):
-        return pd.DataFrame(columns=list(COLUMNS))
+        return pd.DataFrame(columns=list(_COLUMNS))
     ways, way, counts = np.unique(offsets[:, :2], axis=0, return_inverse=True, return_counts=True)
     sectors = np.array(
         [sector_of(away_of(model.grid, dx, dy)[1]) if dx or dy else -1 for dx, dy in ways.tolist()]
     )[way.ravel()]
-    lines = steepest(
+    lines = _steepest(
         model,
         resting,
         held,
@@ -97,14 +99,14 @@ def worst(
     x, y, z = model.xyz()
     return found.assign(
         id=model.blocks["id"].to_numpy()[foot], x=x[foot], y=y[foot], bench=z[foot]
-    )[list(COLUMNS)]
+    )[list(_COLUMNS)]
 
 
-def steepest(
+def _steepest(
     model: Model, resting: Resting, held: Bools, feet: dict[int, Ints]
 ) -> dict[int, dict[str, Any]]:
-    """The steepest line of each sector from one of the sector's own `feet` up to rock that stands: a block that breaks the slopes
-    elsewhere may lie in a region whose walls may be steeper.
+    """The steepest line of each sector from one of the sector's own `feet` up to rock that stands:
+    a block that breaks the slopes elsewhere may lie in a region whose walls may be steeper.
 
     Returns
     -------
@@ -115,7 +117,7 @@ def steepest(
     standing = np.full(grid.shape[:2], -1, np.int64)
     place = resting.place[~held & weight]
     np.maximum.at(standing, (place[:, 0], place[:, 1]), place[:, 2])
-    levels, reach_x, reach_y = window(resting)
+    levels, reach_x, reach_y = _window(resting)
     found: dict[int, dict[str, Any]] = {}
     for dx in range(-reach_x, reach_x + 1):
         for dy in range(-reach_y, reach_y + 1):
@@ -153,11 +155,11 @@ def steepest(
     }
 
 
-def window(resting: Resting) -> tuple[int, int, int]:
+def _window(resting: Resting) -> tuple[int, int, int]:
     """Over how many levels, and how many blocks along x and y, walls are looked at."""
     every = np.array([offset for offsets in resting.offsets for offset in offsets] or [(1, 1, 1)])
     highest = int(every[:, 2].max())
-    times = -(-LEVELS // highest)
+    times = -(-_LEVELS // highest)
     return (
         highest * times,
         int(np.abs(every[:, 0]).max()) * times,

@@ -1,16 +1,19 @@
 """The fewest offsets of a wall that is as steep as asked.
 
-`pit` digs before a block those at its offsets, and before these those at theirs. So far up a pit has the blocks that sums
-of offsets come to, and its outline, divided by its height, is the convex hull of offset / level: that is the wall. Whole
-blocks don't come to every slope, so the wall errs, more at some bearings than at others. `search` tries cones of
-several levels, stretched a little, leaves out every offset that a sum of the others comes to, and takes the fewest that
-err by no more than is allowed.
+`pit` digs before a block those at its offsets, and before these those at theirs. So far up a pit
+has the blocks that sums of offsets come to, and its outline, divided by its height, is the convex
+hull of offset / level: that is the wall. Whole blocks don't come to every slope, so the wall errs,
+more at some bearings than at others. `search` tries cones of several levels, stretched a little,
+leaves out every offset that a sum of the others comes to, and takes the fewest that err by no more
+than is allowed.
 
-A cone whose slope changes with the bearing may have dents, where one bearing is steeper than those beside it. The wall
-that is built has none: there it is flatter than asked, and the error says by how much.
+A cone whose slope changes with the bearing may have dents, where one bearing is steeper than those
+beside it. The wall that is built has none: there it is flatter than asked, and the error says by
+how much.
 
-With `safe` the wall is at no bearing steeper than asked, or there is no answer. A cone that is stretched far enough is
-safe at each number of levels, so what can be in the way is the number of offsets alone.
+With `safe` the wall is at no bearing steeper than asked, or there is no answer. A cone that is
+stretched far enough is safe at each number of levels, so what can be in the way is the number of
+offsets alone.
 
 Standard library alone: `examples/offsets.py` is a command line over this file.
 """
@@ -19,32 +22,45 @@ from __future__ import annotations
 import bisect
 import functools
 import math
-from collections.abc import Callable, Iterator, Sequence
+from collections.abc import Callable, Iterator, Mapping, Sequence
 from dataclasses import dataclass
 from typing import Tuple, Union
 
 Offset = Tuple[int, int, int]
 Angles = Union[float, Sequence[Tuple[float, float]]]
-Fits = Callable[[Sequence[Offset]], bool]
+_Fits = Callable[[Sequence[Offset]], bool]
 
 PAIRS = 1 << 27  # the most pairs of a block and a predecessor that `pit` takes
 OFFSETS = 4096  # the most offsets
-MEAN, WORST, SIGNED = (
+MEAN, WORST, _SIGNED = (
     0.5,
     1.0,
     0.25,
 )  # degrees that a wall may err by: on average, anywhere, on average with its sign
-TOO_STEEP = 1000  # what a wall that is too steep weighs, and each degree of it, where none may be: more than all that is flatter
-SIDE = 0.25  # the least share that the lesser of the errors to both sides has of the greater
-FLATTEST, STEEPEST = 5.0, 89.0  # degrees that may be asked for
-SLACK = 1e-9  # relative: numbers so near to each other are one number, spelled in two ways
-TRIES = (10, 400), (
+# what a wall that is too steep weighs, and each degree of it, where none may be: more than all that
+# is flatter
+_TOO_STEEP = 1000
+_SIDE = 0.25  # the least share that the lesser of the errors to both sides has of the greater
+_FLATTEST, _STEEPEST = 5.0, 89.0  # degrees that may be asked for
+# relative: steepnesses so near to each other are one, spelled in two ways. Sizes of blocks are: 20 m
+# are 65.6167979 ft. Where columns lie on the very edge of a cone, the search has ties, and a size
+# that is off in its eighth digit must break none of them.
+_SAME = 1e-6
+_EVEN = (
+    math.degrees(_SAME) / 2
+)  # so many degrees no two angles differ by whose tangents are the same
+# the search looks so many levels up that a wall comes 10 blocks out, at 400 stretches; then further
+_TRIES = (10, 400), (
     24,
     300,
-)  # the search looks so many levels up that a wall comes 10 blocks out, at 400 stretches; then further
-MOST_LEVELS = 200
-NARROWEST, WIDEST = 0.9, 1.6  # the least and the greatest stretch, but where a safe wall needs more
-NEAR = 3  # where a wall comes this many blocks out, a cone of that stretch has a block on each side of it
+)
+_MOST_LEVELS = 200
+NARROWEST, _WIDEST = (
+    0.9,
+    1.6,
+)  # the least and the greatest stretch, but where a safe wall needs more
+# where a wall comes this many blocks out, a cone of that stretch has a block on each side of it
+_NEAR = 3
 
 
 class SlopeError(ValueError):
@@ -68,8 +84,9 @@ class TooSteep(SlopeError):
         bearing, asked = nearest.steepest_at(), nearest.wall
         self.nearest = nearest
         self.what = (
-            "a wall that is nowhere steeper than asked can't be built in blocks of %s with the offsets that pit takes: the nearest is %.1f degrees "
-            "at bearing %.0f, where %.1f are asked for"
+            "a wall that is nowhere steeper than asked can't be built in blocks of %s with the"
+            " offsets that pit takes: the nearest is %.1f degrees at bearing %.0f, where %.1f are"
+            " asked for"
             % (
                 " x ".join("%g" % side for side in asked.size),
                 nearest.built(bearing),
@@ -89,9 +106,9 @@ class Wall:
     size
         Metres of a block along the model's x, y and z.
     slopes
-        Pairs (bearing, degrees from the horizontal), ascending. The bearing is that of the wall from the bottom of
-        the pit, clockwise from north: the north wall is at 0, the east wall at 90. Between two bearings the slope
-        changes evenly with the bearing.
+        Pairs (bearing, degrees from the horizontal), ascending. The bearing is that of the wall
+        from the bottom of the pit, clockwise from north: the north wall is at 0, the east wall at
+        90. Between two bearings the slope changes evenly with the bearing.
     rotation
         Bearing of the model's y axis, in degrees.
     """
@@ -112,7 +129,8 @@ class Wall:
 
     @functools.cached_property
     def leans(self) -> set[float]:
-        """By how many degrees the slope rises for each degree of bearing, between one bearing that is given and the next."""
+        """By how many degrees the slope rises for each degree of bearing, between one bearing that
+        is given and the next."""
         after = self.slopes[1:] + self.slopes[:1]
         return {
             (two - one) / ((other - bearing) % 360 or 360)
@@ -165,10 +183,10 @@ def wall(size: Sequence[float], angles: Angles, rotation: float = 0.0) -> Wall:
     if not pairs:
         raise SlopeError("no slope is given; it is in degrees, as 45")
     for bearing, angle in pairs:
-        if not FLATTEST <= angle <= STEEPEST:
+        if not _FLATTEST <= angle <= _STEEPEST:
             raise SlopeError(
                 "a slope is from %g to %g degrees from the horizontal; there is %g"
-                % (FLATTEST, STEEPEST, angle)
+                % (_FLATTEST, _STEEPEST, angle)
             )
         if not 0 <= bearing <= 360:
             raise SlopeError(
@@ -207,33 +225,34 @@ class Error:
 
     @property
     def is_too_steep(self) -> bool:
-        """Whether a wall is steeper than asked somewhere."""
-        return self.steepest > SLACK
+        """Whether a wall is steeper than asked somewhere, by more than `_EVEN`."""
+        return self.steepest > _EVEN
 
     def badness(self, is_safe: bool = False) -> float:
         """At most 1 where all is held; otherwise the greatest share of what is allowed."""
         if is_safe:
             return max(self.mean / MEAN, self.bound(is_safe))
-        is_one_sided = min(self.steepest, -self.flattest) < SIDE * self.worst
+        lesser = min(self.steepest, -self.flattest)
+        is_one_sided = self.worst > _EVEN and lesser < _SIDE * self.worst
         return max(
             self.mean / MEAN,
             self.worst / WORST,
-            abs(self.signed) / SIGNED,
+            abs(self.signed) / _SIGNED,
             1.5 if is_one_sided else 0,
         )
 
     def bound(self, is_safe: bool) -> float:
         """What `badness` is at least, by the extremes alone."""
         return self.worst / WORST + (
-            TOO_STEEP * (1 + self.steepest) if is_safe and self.is_too_steep else 0
+            _TOO_STEEP * (1 + self.steepest) if is_safe and self.is_too_steep else 0
         )
 
     def __str__(self) -> str:
         """In words, with two decimals."""
         lean = "%.2f %s" % (abs(self.signed), "steeper" if self.signed >= 0 else "flatter")
         return (
-            "%.2f degrees off on average (%s, with its sign), at most %.2f steeper and %.2f flatter than asked"
-            % (self.mean, lean, max(self.steepest, 0), max(-self.flattest, 0))
+            "%.2f degrees off on average (%s, with its sign), at most %.2f steeper and %.2f flatter"
+            " than asked" % (self.mean, lean, max(self.steepest, 0), max(-self.flattest, 0))
         )
 
 
@@ -297,7 +316,8 @@ class Outline:
     """
 
     def __init__(self, asked: Wall, offsets: Sequence[Offset]) -> None:
-        """The hull is found in whole numbers: each offset over its level, times the common multiple of the levels."""
+        """The hull is found in whole numbers: each offset over its level, times the common multiple
+        of the levels."""
         common = math.lcm(*(k for _, _, k in offsets))
         points = sorted({(i * (common // k), j * (common // k)) for i, j, k in offsets})
         x, y, z = asked.size
@@ -315,7 +335,8 @@ class Outline:
         self._is_open = len(corners) > 2 and all(_cross(p, q) < 0 for p, q in self._edges)
 
     def slope(self, bearing: float) -> float:
-        """Degrees of the wall at a bearing from the bottom of the pit; 90 where the pit doesn't open to all sides."""
+        """Degrees of the wall at a bearing from the bottom of the pit; 90 where the pit doesn't
+        open to all sides."""
         if not self._is_open:
             return 90.0
         p, q = self._edges[bisect.bisect_right(self._starts, bearing % 360) - 1]
@@ -325,19 +346,21 @@ class Outline:
     def corner_slopes(self) -> Iterator[tuple[float, float]]:
         """The bearing and the degrees of the wall at each corner: there it is flattest."""
         for start, (east, north) in zip(self._starts, self.corners):
-            yield start, math.degrees(
-                math.atan2(1.0, math.hypot(east, north))
-            ) if self._is_open else 90.0
+            yield start, (
+                math.degrees(math.atan2(1.0, math.hypot(east, north))) if self._is_open else 90.0
+            )
 
     def nearest(self) -> list[float]:
         """The bearings at which an edge is nearest: there the wall is steepest."""
         return [math.degrees(math.atan2(p[1] - q[1], q[0] - p[0])) for p, q in self._edges]
 
     def steepest_beside(self, lean: float) -> Iterator[float]:
-        """The bearings at which an edge is steepest beside a slope that rises by `lean` degrees for each degree of bearing.
+        """The bearings at which an edge is steepest beside a slope that rises by `lean` degrees for
+        each degree of bearing.
 
-        At an angle a from where it is nearest, an edge that comes d out for each metre of height rises by
-        -d sin a / (d^2 + cos^2 a) for each degree of bearing. That is `lean` at one angle or at none.
+        At an angle a from where it is nearest, an edge that comes d out for each metre of height
+        rises by -d sin a / (d^2 + cos^2 a) for each degree of bearing. That is `lean` at one angle
+        or at none.
         """
         ends = self._starts[1:] + self._starts[:1]
         for bearing, start, end, (p, q) in zip(self.nearest(), self._starts, ends, self._edges):
@@ -350,7 +373,8 @@ class Outline:
 
 
 def _chain(points: Sequence[tuple[int, int]]) -> list[tuple[int, int]]:
-    """Half of the corners of a convex hull, of points in ascending or descending order (Andrew 1979)."""
+    """Half of the corners of a convex hull, of points in ascending or descending order (Andrew
+    1979)."""
     chain: list[tuple[int, int]] = []
     for x, y in points:
         while len(chain) > 1:
@@ -369,8 +393,9 @@ def _cross(p: tuple[float, float], q: tuple[float, float]) -> float:
 def error_of(asked: Wall, outline: Outline, is_safe: bool = False) -> Error:
     """By how much a wall errs.
 
-    The means are those of 360 bearings. The extremes are looked for at these, at the outline's bends, and where the
-    slope that is asked for bends; with `is_safe` also between these, so that `steepest` is the greatest error of all.
+    The means are those of 360 bearings. The extremes are looked for at these, at the outline's
+    bends, and where the slope that is asked for bends; with `is_safe` also between these, so that
+    `steepest` is the greatest error of all.
     """
     off = [outline.slope(bearing) - slope for bearing, slope in enumerate(_by_degree(asked))]
     steepest, flattest = _extremes(asked, outline, is_safe)
@@ -388,7 +413,8 @@ def _by_degree(asked: Wall) -> list[float]:
 
 
 def _steep(asked: Wall, outline: Outline, is_safe: bool) -> Iterator[float]:
-    """The bearings at which a wall may be steepest beside what is asked; with `is_safe` all of them."""
+    """The bearings at which a wall may be steepest beside what is asked; with `is_safe` all of
+    them."""
     yield from outline.nearest()
     yield from (bearing for bearing, _ in asked.slopes)
     for lean in asked.leans if is_safe else ():
@@ -399,7 +425,8 @@ def _steep(asked: Wall, outline: Outline, is_safe: bool) -> Iterator[float]:
 def _extremes(
     asked: Wall, outline: Outline, is_safe: bool, flat: float = math.inf, steep: float = math.inf
 ) -> tuple[float, float]:
-    """The greatest and the least error; the looking ends at the first that is flatter or steeper by more than these."""
+    """The greatest and the least error; the looking ends at the first that is flatter or steeper by
+    more than these."""
     flattest = math.inf
     for bearing, slope in outline.corner_slopes():
         flattest = min(flattest, slope - asked.slope(bearing))
@@ -417,11 +444,11 @@ def _extremes(
 class _Cones:
     """The cones of one wall, stretched by different factors.
 
-    A level of a cone is a set of columns (i, j), held as the bits of a whole number, so that a set is shifted, joined
-    and compared in one operation.
+    A level of a cone is a set of columns (i, j), held as the bits of a whole number, so that a set
+    is shifted, joined and compared in one operation.
     """
 
-    def __init__(self, asked: Wall, levels: int, widest: float = WIDEST) -> None:
+    def __init__(self, asked: Wall, levels: int, widest: float = _WIDEST) -> None:
         flattest = min(slope for _, slope in asked.slopes)
         reach = widest * levels * asked.size[2] / math.tan(math.radians(flattest))
         across, along = int(reach / asked.size[0]) + 1, int(reach / asked.size[1]) + 1
@@ -433,7 +460,7 @@ class _Cones:
             for i in range(-across, across + 1)
             for j in range(-along, along + 1)
         )
-        self.found = [f for f in found if f[0] <= widest * levels * (1 + SLACK)]
+        self.found = [f for f in found if f[0] <= widest * levels * (1 + _SAME)]
         self.far = [far for far, _, _ in self.found]
         self.sets, self.counts = {0: 0}, [
             0
@@ -441,8 +468,8 @@ class _Cones:
 
     def level(self, k: int, stretch: float) -> int:
         """The columns of level k of the cone; of columns as far away as each other all or none."""
-        count = bisect.bisect_right(self.far, stretch * k * (1 + SLACK))
-        while 0 < count < len(self.far) and self.far[count] <= self.far[count - 1] * (1 + SLACK):
+        count = bisect.bisect_right(self.far, stretch * k * (1 + _SAME))
+        while 0 < count < len(self.far) and self.far[count] <= self.far[count - 1] * (1 + _SAME):
             count += 1
         if count not in self.sets:
             near = self.counts[
@@ -457,18 +484,21 @@ class _Cones:
         return self.sets[count]
 
     def cuts(self, narrowest: float, most: int) -> list[float]:
-        """Stretches at which a cone has one block more, ascending; where there are too many, those of the lower levels."""
+        """Stretches at which a cone has one block more, ascending; where there are too many, those
+        of the lower levels."""
         cuts: list[float] = [1.0]
+        low, high = narrowest * (1 - _SAME), self.widest * (1 + _SAME)
         for k in range(1, self.levels + 1):
-            more = [far / k for far in self.far if narrowest <= far / k <= self.widest]
+            more = [far / k for far in self.far if low <= far / k <= high]
             cuts = sorted(cuts + more)
-            cuts = [cut for cut, before in zip(cuts, [-1.0] + cuts) if cut > before * (1 + SLACK)]
+            cuts = [cut for cut, before in zip(cuts, [-1.0] + cuts) if cut > before * (1 + _SAME)]
             if len(cuts) >= most:
                 break
         return cuts[:: -(-len(cuts) // most)]
 
     def needed(self, stretch: float) -> Iterator[list[Offset]]:
-        """The offsets that no sum of others comes to, up to each level at which there are new ones, and 4,096 in all."""
+        """The offsets that no sum of others comes to, up to each level at which there are new ones,
+        and 4,096 in all."""
         chosen: list[Offset] = []
         reached = [self.origin]
         for k in range(1, self.levels + 1):
@@ -489,13 +519,13 @@ class _Cones:
                 yield chosen
 
 
-def within(blocks: int) -> Fits:
+def within(blocks: int) -> _Fits:
     """Whether offsets can't make more pairs of so many blocks than `pit` takes."""
     return lambda offsets: len(offsets) * blocks <= PAIRS
 
 
 def search(
-    asked: Wall, *, safe: bool = False, levels: int | None = None, fits: Fits = within(0)
+    asked: Wall, *, safe: bool = False, levels: int | None = None, fits: _Fits = within(0)
 ) -> Pattern:
     """The fewest offsets that hold a wall.
 
@@ -504,7 +534,8 @@ def search(
     asked
         The wall.
     safe
-        Whether it may be steeper than asked nowhere, at whatever bearing. Otherwise it errs to both sides, or not at all.
+        Whether it may be steeper than asked nowhere, at whatever bearing. Otherwise it errs to both
+        sides, or not at all.
     levels
         How many levels up the offsets may lead; where None, as many as it takes, up to 200.
     fits
@@ -513,26 +544,27 @@ def search(
     Returns
     -------
     Pattern
-        Of those that err by no more than 0.5 degrees on average and 1.0 at the worst bearing, and unless `safe` by
-        0.25 with their sign on average, one with the fewest offsets; where there is none, the one that errs least, and
-        `is_held` is False. With `safe` no answer is steeper than asked, held or not: where `levels` are few it is flatter.
+        Of those that err by no more than 0.5 degrees on average and 1.0 at the worst bearing, and
+        unless `safe` by 0.25 with their sign on average, one with the fewest offsets; where there
+        is none, the one that errs least, and `is_held` is False. With `safe` no answer is steeper
+        than asked, held or not: where `levels` are few it is flatter.
 
     Raises
     ------
     TooSteep
-        Where no wall may be steeper than asked, and each that is tried is: even one level of a safe one has more offsets
-        than fit.
+        Where no wall may be steeper than asked, and each that is tried is: even one level of a safe
+        one has more offsets than fit.
     SlopeError
         Where not even the straight column of blocks fits, or `levels` isn't from 1 to 200.
     """
-    if levels is not None and not 1 <= levels <= MOST_LEVELS:
-        raise SlopeError("levels are from 1 to %d; there is %d" % (MOST_LEVELS, levels))
+    if levels is not None and not 1 <= levels <= _MOST_LEVELS:
+        raise SlopeError("levels are from 1 to %d; there is %d" % (_MOST_LEVELS, levels))
     steepest = max(slope for _, slope in asked.slopes)
     out = asked.size[2] / math.tan(math.radians(steepest)) / max(asked.size[:2])
     tried: list[Pattern] = []
     before = 0
-    for blocks_out, most in TRIES:
-        high = min(MOST_LEVELS, levels or MOST_LEVELS, math.ceil(blocks_out / out))
+    for blocks_out, most in _TRIES:
+        high = min(_MOST_LEVELS, levels or _MOST_LEVELS, _levels_of(blocks_out, out))
         if high == before:
             break
         before = high
@@ -546,21 +578,27 @@ def search(
         tried.append(found)
         if found.is_held:
             break
-    best = min(tried, key=lambda pattern: _rank(pattern, safe))
+    best = tried[-1] if _is_better(tried[-1], tried[0], safe) else tried[0]
     if safe and best.error.is_too_steep:
-        flatter = _flatter(asked, min(before, math.ceil(NEAR / out)), fits)
+        flatter = _flatter(asked, min(before, _levels_of(_NEAR, out)), fits)
         if flatter is None:
             raise TooSteep(best)
         return flatter
     return best
 
 
-def _flatter(asked: Wall, levels: int, fits: Fits) -> Pattern | None:
-    """The best safe pattern of cones that are stretched more than others need; None where one level has too many offsets before that."""
-    narrow = WIDEST
+def _levels_of(blocks: float, out: float) -> int:
+    """How many levels up a wall comes some blocks out, where it comes `out` of them on each."""
+    return math.ceil(blocks / out * (1 - _SAME))
+
+
+def _flatter(asked: Wall, levels: int, fits: _Fits) -> Pattern | None:
+    """The best safe pattern of cones that are stretched more than others need; None where one level
+    has too many offsets before that."""
+    narrow = _WIDEST
     while (first := next(_Cones(asked, 1, narrow).needed(narrow), None)) and fits(first):
         cones = _Cones(asked, levels, 2 * narrow)
-        found = _best(cones, asked, True, fits, [*cones.cuts(narrow, TRIES[0][1]), cones.widest])
+        found = _best(cones, asked, True, fits, [*cones.cuts(narrow, _TRIES[0][1]), cones.widest])
         if found and not found.error.is_too_steep:
             return found
         narrow = cones.widest
@@ -568,9 +606,10 @@ def _flatter(asked: Wall, levels: int, fits: Fits) -> Pattern | None:
 
 
 def _best(
-    cones: _Cones, asked: Wall, safe: bool, fits: Fits, stretches: Sequence[float]
+    cones: _Cones, asked: Wall, safe: bool, fits: _Fits, stretches: Sequence[float]
 ) -> Pattern | None:
-    """The best pattern of cones that are stretched, of any number of levels; None where none fits."""
+    """The best pattern of cones that are stretched, of any number of levels; None where none
+    fits."""
     best: Pattern | None = None
     least = math.inf  # badness of the best; 1 where it holds
     seen: dict[object, Error | None] = {}
@@ -585,7 +624,7 @@ def _best(
             if outline.corners not in seen:  # None: the extremes alone are worse than the best
                 flat = least * WORST
                 steepest, flattest = _extremes(
-                    asked, outline, safe, flat, max(SLACK, least / TOO_STEEP - 1) if safe else flat
+                    asked, outline, safe, flat, max(_EVEN, least / _TOO_STEEP - 1) if safe else flat
                 )
                 if -flattest > flat:  # further levels make the wall flatter still
                     break
@@ -595,16 +634,20 @@ def _best(
             if error is None:
                 continue
             found = Pattern(
-                asked, tuple(offsets), offsets[-1][2], error, error.badness(safe) <= 1 + SLACK
+                asked, tuple(offsets), offsets[-1][2], error, error.badness(safe) <= 1 + _SAME
             )
-            if best is None or _rank(found, safe) < _rank(best, safe):
-                best, least = found, max(1 + SLACK, error.badness(safe))
+            if best is None or _is_better(found, best, safe):
+                best, least = found, max(1.0, error.badness(safe)) * (1 + _SAME)
     return best
 
 
-def _rank(pattern: Pattern, safe: bool) -> tuple[float, ...]:
-    badness = pattern.error.badness(safe)
-    return (0, len(pattern.offsets), badness) if pattern.is_held else (1, badness)
+def _is_better(found: Pattern, best: Pattern, safe: bool) -> bool:
+    """Whether a pattern is better than the best of those before it; of equals the first stays."""
+    if found.is_held != best.is_held:
+        return found.is_held
+    if found.is_held and len(found.offsets) != len(best.offsets):
+        return len(found.offsets) < len(best.offsets)
+    return found.error.badness(safe) < best.error.badness(safe) * (1 - _SAME)
 
 
 def settings(pattern: Pattern) -> str:
@@ -612,3 +655,14 @@ def settings(pattern: Pattern) -> str:
     return "offsets = [\n%s]\n" % "".join(
         "    [%d, %d, %d],\n" % offset for offset in pattern.offsets
     )
+
+
+def settings_by_region(patterns: Mapping[str, Pattern]) -> str:
+    """The offsets of each region as settings of `pit slopes --pattern settings`: a list for each,
+    in this order, after a remark of what walls they make."""
+    lists = (
+        "".join(f"    # {line}\n" for line in f"{name}: {pattern}".splitlines())
+        + "    [%s],\n" % ", ".join("[%d, %d, %d]" % offset for offset in pattern.offsets)
+        for name, pattern in patterns.items()
+    )
+    return "slopes = [\n%s]\n" % "".join(lists)

@@ -1,13 +1,13 @@
-"""Slopes by bearing and by region: from angles to offsets, and the `.prec` file that `pit slopes` writes of them.
+"""Slopes by bearing and by region: from angles to offsets, and the `.prec` file that `pit slopes`
+writes of them.
 
-A block's predecessors follow from the region of that block, wherever they lie themselves: for each region `pit slopes`
-is run over the whole model, and each block's line is taken from the run of its own region.
+A block's predecessors follow from the region of that block, wherever they lie themselves: settings
+list the offsets of each region, and the `.blocks` file has a column with that of each block.
 """
 from __future__ import annotations
 
 import functools
-from collections.abc import Callable, Iterator, Mapping, Sequence
-from contextlib import ExitStack
+from collections.abc import Callable, Iterable, Iterator, Mapping
 from dataclasses import dataclass, field
 from pathlib import Path
 from typing import Any, cast
@@ -15,19 +15,24 @@ from typing import Any, cast
 import numpy as np
 import pandas as pd
 
-from ..base.arrays import Bools, Ints
-from ..base.errors import Gathered, KeyPath, PlanError, meant
+from ..base.arrays import Array, Bools, Ints
+from ..base.errors import Gathered, KeyPath, PlanError, about, meant, near_to, spelled, swap_of
+from ..base.events import event
 from ..model.grid import Grid
 from ..model.model import Model
 from ..model.subblocks import coded
 from ..pit.program import Pit
-from ..table.formula import text_of
-from ..table.study_keys import keys_of, refuse_wrong
+from ..table.formula import is_formula, names_in, text_of, words_out
+from ..table.study_keys import has_ramp, keys_of, refuse_wrong
 from . import offsets as search
 from .offsets import Angles, Offset, Pattern
+from .ramps import ramp_of
 
 DEFAULT = "default"
-STEP = 15  # degrees of bearing between two rows of the table of asked and built angles
+_REGION = 4  # the column of a block's region, after what it brings, costs and weighs
+_OF_PLACES = ("elevation", "below_ground")  # what a formula of regions may name beside columns
+_OFF = 1e-3  # of a block's height: that much less or more makes no other elevation, nor depth
+_STEP = 15  # degrees of bearing between two rows of the table of asked and built angles
 Begun = Callable[
     [str, int, int], None
 ]  # a region whose predecessors are begun, which it is of how many
@@ -40,18 +45,26 @@ class Slopes:
     Parameters
     ----------
     angles : float or list of pairs
-        Degrees from the horizontal, or pairs (bearing, degrees). The bearing is that of the wall from the bottom of the
-        pit, clockwise from north: the north wall is at 0, the east wall at 90. Between two bearings the angle changes
-        evenly.
+        Degrees from the horizontal, or pairs (bearing, degrees). The bearing is that of the wall
+        from the bottom of the pit, clockwise from north: the north wall is at 0, the east wall at
+        90. Between two bearings the angle changes evenly.
     by : str, optional
-        A column of the table that names the region of each block.
+        A column of the table that names the region of each block, or a formula that gives its name.
+        Beside columns a formula has ``elevation``, of a block's centre, and ``below_ground``, how
+        far that lies below the top of the highest rock of its column.
     regions : mapping, optional
-        Angles of their own for regions, by what stands in that column. All other blocks have `angles`.
+        Angles of their own for regions, by what stands in that column. All other blocks have
+        `angles`.
     safe : bool
-        Whether no wall may be steeper than asked, at any bearing; it is flatter on average then, and with few `levels`
-        much flatter. Where no offsets make such a wall `patterns` raises, and so nothing is built.
+        Whether no wall may be steeper than asked, at any bearing; it is flatter on average then,
+        and with few `levels` much flatter. Where no offsets make such a wall `patterns` raises, and
+        so nothing is built.
     levels : int, optional
         How many levels up the offsets may lead. Default: as many as it takes.
+    ramp : mapping, optional
+        The ramp that passes the walls, or that of each region by its name ("default" for the
+        others): the fields of `ramps.Ramp`. Angles are those between ramps then, and walls get the
+        overall angles that come of them.
 
     Raises
     ------
@@ -64,6 +77,7 @@ class Slopes:
     regions: Mapping[str, Angles] | None = None
     safe: bool = False
     levels: int | None = None
+    ramp: Mapping[str, Any] | None = None
     _found: dict[tuple[Any, ...], dict[str, Pattern]] = field(
         default_factory=dict, init=False, repr=False, compare=False
     )
@@ -92,8 +106,19 @@ class Slopes:
                 key=("slopes", "regions", DEFAULT),
             )
         wrong = Gathered()
+        for name in self.ramp or {}:
+            if not has_ramp(self.ramp) and name not in self.names:
+                wrong.add(
+                    [
+                        PlanError(
+                            f"[slopes] ramp: there is no region {name!r}{meant(name, self.names)}",
+                            try_this=", ".join(self.names),
+                            key=("slopes", "ramp", name),
+                        )
+                    ]
+                )
         for name in self.names:
-            with wrong.part(*key_of(name)):
+            with wrong.part(*_key_of(name)):
                 self.wall(name, (1.0, 1.0, 1.0), 0.0)
         wrong.tell()
 
@@ -102,18 +127,23 @@ class Slopes:
         """The regions: "default", and those with angles of their own."""
         return [DEFAULT, *(self.regions or {})]
 
+    def told(self, region: str) -> Angles:
+        """The angles of a region as study.toml has them."""
+        return self.angles if region == DEFAULT else (self.regions or {})[region]
+
     def wall(self, region: str, size: tuple[float, float, float], rotation: float) -> search.Wall:
-        """What is asked for in a region."""
-        angles, where = self.angles if region == DEFAULT else (self.regions or {})[
-            region
-        ], angles_key(region)
+        """What is asked for in a region: the overall slope, where ramps pass it that with the
+        ramps."""
+        angles, where, ramp = self.told(region), _angles_key(region), ramp_of(self.ramp, region)
         try:
-            return search.wall(size, angles, rotation)
+            search.wall(size, angles, rotation)  # angles out of range are told as they were asked
+            return search.wall(size, ramp.of_angles(angles) if ramp else angles, rotation)
         except search.SlopeError as error:
-            raise PlanError(f"[slopes] {where}: {error}", key=key_of(region)) from None
+            raise PlanError(f"[slopes] {where}: {error}", key=_key_of(region)) from None
 
     def patterns(self, grid: Grid) -> dict[str, Pattern]:
-        """The offsets of each region and the wall that they make, "default" first; searched once for a size and rotation.
+        """The offsets of each region and the wall that they make, "default" first; searched once
+        for a size and rotation.
 
         Raises
         ------
@@ -126,12 +156,21 @@ class Slopes:
             self._found[key] = {name: self._searched(name, wall) for name, wall in walls.items()}
         return self._found[key]
 
+    def lines(self, region: str, grid: Grid, unit: str) -> list[str]:
+        """What a region's walls are built of, lengths in a unit; before it, where ramps pass them,
+        which overall angles come of those between ramps, and why."""
+        ramp, pattern = ramp_of(self.ramp, region), self.patterns(grid)[region]
+        said = [ramp.spelled(self.told(region), unit)] if ramp else []
+        return [f"{region}: {line}" for line in (*said, str(pattern))]
+
     def _searched(self, region: str, wall: search.Wall) -> Pattern:
+        at = f", {self.names.index(region) + 1} of {len(self.names)}" if self.regions else ""
+        event("step", what=f"looking for the offsets of {region}{at}")
         try:
             return searched(wall, self.safe, self.levels)
         except search.TooSteep as error:
             raise PlanError(
-                f"[slopes] {angles_key(region)}, safe = true: {error.what}",
+                f"[slopes] {_angles_key(region)}, safe = true: {error.what}",
                 try_this=error.advice,
                 key=("slopes", "safe"),
             ) from None
@@ -146,15 +185,32 @@ class Slopes:
         Returns
         -------
         DataFrame
-            With columns region, bearing, asked, built and error, in degrees; an error above 0 is steeper than asked.
+            With columns region, bearing, asked, built and error, in degrees; an error above 0 is
+            steeper than asked.
         """
         rows = []
         for name, pattern in self.patterns(grid).items():
             outline = search.Outline(pattern.wall, pattern.offsets)
-            for bearing in range(0, 360, STEP):
+            for bearing in range(0, 360, _STEP):
                 asked, is_now = pattern.wall.slope(bearing), outline.slope(bearing)
                 rows.append((name, bearing, asked, is_now, is_now - asked))
         return pd.DataFrame(rows, columns=["region", "bearing", "asked", "built", "error"])
+
+    def rock_by_region(self, model: Model) -> dict[str, int]:
+        """How many blocks of rock each region has, "default" first."""
+        count = np.bincount(self.region_of(model)[model.is_rock], minlength=len(self.names))
+        return dict(zip(self.names, count.tolist()))
+
+    def codes(self) -> set[str]:
+        """The columns that `by` names: they stand for codes."""
+        return {self.by, *names_in(self.by)} if self.by else set()
+
+    def hangs_on_places(self, columns: Iterable[str]) -> bool:
+        """Whether `by` is a formula of where blocks are, which no column of the table says."""
+        there = set(columns)
+        if self.by is None or self.by in there or not is_formula(self.by):
+            return False
+        return not names_in(self.by) & set(_OF_PLACES) <= there
 
     def region_of(self, model: Model) -> Ints:
         """The region of each block, as an index into `names`.
@@ -166,20 +222,33 @@ class Slopes:
         """
         if not self.regions:
             return np.zeros(len(model), np.int64)
-        if self.by not in model.blocks.columns:
+        if self.by in model.blocks.columns:
+            found: Any = coded(model, [str(self.by)]).blocks[self.by]
+        elif is_formula(str(self.by)):
+            with about("slopes", "by"):
+                found = _by_formula(str(self.by), model)
+        else:
             raise PlanError(
-                f"[slopes] by: the table has no column {self.by!r}{meant(str(self.by), map(str, model.blocks.columns))}",
+                (
+                    "[slopes] by: the table has no column"
+                    f" {self.by!r}{meant(str(self.by), map(str, model.blocks.columns))}"
+                ),
                 key=("slopes", "by"),
-            )
-        codes, there = pd.factorize(coded(model, [str(self.by)]).blocks[self.by])
+            ).with_swap(swap_of(str(self.by), map(str, model.blocks.columns)))
+        codes, there = pd.factorize(found)
         texts = [text_of(value) for value in there]
         wrong = Gathered()
         wrong.add(
             PlanError(
                 f"[slopes] no block has {self.by} = {name}{meant(name, sorted(texts))}",
-                key=key_of(name),
+                try_this=(
+                    f"{spelled({near: angles})[2:-2]} in regions of [slopes]"
+                    if (near := near_to(name, sorted(texts))) and near not in self.regions
+                    else None
+                ),
+                key=_key_of(name),
             )
-            for name in self.regions
+            for name, angles in self.regions.items()
             if name not in texts
         )
         wrong.tell()
@@ -190,19 +259,52 @@ class Slopes:
         return cast(Ints, of_code[codes])
 
 
-def angles_key(region: str) -> str:
+def _by_formula(formula: str, model: Model) -> Array:
+    """The word that a formula gives for each block. Air that was added above the ground has that of
+    the highest block of its column, by which `steep_ground.with_air` looked for it.
+
+    Raises
+    ------
+    PlanError
+        Where it is no formula, or gives no words.
+    """
+    b, grid = model.blocks, model.grid
+    deep = _top_of(model, model.is_rock) - b["iz"].to_numpy() + 0.5
+    own = {"elevation": model.xyz()[2], "below_ground": deep * grid.size[2]}
+    table = b.assign(**{name: values for name, values in own.items() if name not in b.columns})
+    off = {name: _OFF * grid.size[2] for name in own if name not in b.columns}
+    found = words_out(formula, table, "[slopes] by", off)
+    is_air = (b["row"].to_numpy() < 0) & (b["tonnes"].to_numpy(float) == 0)
+    top = _top_of(model, ~is_air)
+    is_over = is_air & (b["iz"].to_numpy() > top) & (top >= 0)
+    found[is_over] = found[model.index[b["ix"], b["iy"], top][is_over]]
+    return found
+
+
+def _top_of(model: Model, held: Bools) -> Ints:
+    """For each block the level of the highest of some blocks in its column, -1 where there is
+    none."""
+    b = model.blocks
+    top = np.full(model.grid.shape[:2], -1, np.int64)
+    np.maximum.at(top, (b["ix"][held], b["iy"][held]), b["iz"][held])
+    found: Ints = top[b["ix"], b["iy"]]
+    return found
+
+
+def _angles_key(region: str) -> str:
     """The key of [slopes] that has a region's angles."""
     return "angles" if region == DEFAULT else f"regions, {region}"
 
 
-def key_of(region: str) -> KeyPath:
+def _key_of(region: str) -> KeyPath:
     """The path of a region's angles in study.toml."""
     return ("slopes", "angles") if region == DEFAULT else ("slopes", "regions", region)
 
 
 @functools.lru_cache(maxsize=64)
 def searched(wall: search.Wall, safe: bool, levels: int | None) -> Pattern:
-    """As `offsets.search`; a wall that was asked for before, as by what-ifs over the same slopes, isn't searched again."""
+    """As `offsets.search`; a wall that was asked for before, as by what-ifs over the same slopes,
+    isn't searched again."""
     return search.search(wall, safe=safe, levels=levels)
 
 
@@ -217,49 +319,62 @@ def _pairs(there: Bools, of: Bools, offset: Offset) -> int:
     return int(np.count_nonzero(of[tuple(low)] & there[tuple(high)]))
 
 
-def count_pairs(slopes: Slopes, model: Model) -> int:
-    """How many pairs of a block and a predecessor the `.prec` file lists."""
+def pairs_by_region(slopes: Slopes, model: Model) -> dict[str, int]:
+    """How many pairs of a block and a predecessor the blocks of each region have."""
     there, b = model.index >= 0, model.blocks
     region = np.full(there.shape, -1, np.int16)
     region[b.ix, b.iy, b.iz] = slopes.region_of(model)
-    found = 0
-    for i, offsets in enumerate(slopes.offsets_by_region(model.grid).values()):
-        of = region == i
-        found += sum(_pairs(there, of, offset) for offset in offsets)
-    return found
+    lists = slopes.offsets_by_region(model.grid)
+    return {
+        name: sum(_pairs(there, region == i, offset) for offset in offsets)
+        for i, (name, offsets) in enumerate(lists.items())
+    }
+
+
+def count_pairs(slopes: Slopes, model: Model) -> int:
+    """How many pairs of a block and a predecessor the `.prec` file lists."""
+    return sum(pairs_by_region(slopes, model).values())
 
 
 def check_limits(slopes: Slopes, model: Model) -> None:
-    """Counts the pairs of each run of `pit slopes` before it is made.
+    """Counts the pairs that `pit slopes` has to write, before it is run.
 
     Raises
     ------
     PlanError
-        Where a region's offsets make more than 134,217,728 pairs over the model. It says with how many levels they
-        don't, and how steep the walls are then.
+        Where there are more than 134,217,728. Of the region with most of them it says with how many
+        levels there aren't, and how steep the walls are then.
     """
-    for name, pattern in slopes.patterns(model.grid).items():
-        count = _over(model, pattern)
-        if not count:
-            continue
-        fitting = [
-            (levels, tried)
-            for levels, tried in _with_fewer_levels(pattern, slopes.safe)
-            if not _over(model, tried)
-        ]
-        told = f"[slopes] {name}: {len(pattern.offsets)} offsets make {count:,} pairs over {len(model):,} blocks, and pit takes {search.PAIRS:,}"
-        if not fitting:
-            raise PlanError(
-                told, try_this="larger blocks: even one level up is too much", key=key_of(name)
-            )
-        levels, tried = min(
-            fitting, key=lambda found: (found[1].error.badness(slopes.safe), -found[0])
-        )
+    patterns = slopes.patterns(model.grid)
+    if max(len(pattern.offsets) for pattern in patterns.values()) * len(model) <= search.PAIRS:
+        return
+    counts = pairs_by_region(slopes, model)
+    total = sum(counts.values())
+    if total <= search.PAIRS:
+        return
+    name = max(counts, key=lambda region: counts[region])
+    pattern, others = patterns[name], total - counts[name]
+    share = f"{counts[name]:,} of {total:,}" if others else f"{total:,}"
+    text = (
+        f"[slopes] {name}: {len(pattern.offsets)} offsets make {share} pairs over"
+        f" {len(model):,} blocks, and pit takes {search.PAIRS:,}"
+    )
+    of = slopes.region_of(model) == list(patterns).index(name)
+    fitting = [
+        (levels, tried)
+        for levels, tried in _with_fewer_levels(pattern, slopes.safe)
+        if others + _pairs_of(tried, model, of) <= search.PAIRS
+    ]
+    if not fitting:
         raise PlanError(
-            told,
-            try_this=f"levels = {levels} in [slopes]: {tried}; or larger blocks",
-            key=key_of(name),
+            text, try_this="larger blocks: even one level up is too much", key=_key_of(name)
         )
+    levels, tried = min(fitting, key=lambda found: (found[1].error.badness(slopes.safe), -found[0]))
+    raise PlanError(
+        text,
+        try_this=f"levels = {levels} in [slopes]: {tried}; or larger blocks",
+        key=_key_of(name),
+    )
 
 
 def _with_fewer_levels(pattern: Pattern, safe: bool) -> Iterator[tuple[int, Pattern]]:
@@ -271,13 +386,12 @@ def _with_fewer_levels(pattern: Pattern, safe: bool) -> Iterator[tuple[int, Patt
             continue
 
 
-def _over(model: Model, pattern: Pattern) -> int:
-    """The pairs of a pattern over a model, where they are more than `pit` takes; else 0."""
-    if len(pattern.offsets) * len(model) <= search.PAIRS:
-        return 0
-    there = model.index >= 0
-    count = sum(_pairs(there, there, offset) for offset in pattern.offsets)
-    return count if count > search.PAIRS else 0
+def _pairs_of(pattern: Pattern, model: Model, chosen: Bools) -> int:
+    """The pairs that the chosen blocks of a model have by a pattern."""
+    there, b = model.index >= 0, model.blocks
+    of = np.zeros(there.shape, bool)
+    of[b.ix[chosen], b.iy[chosen], b.iz[chosen]] = True
+    return sum(_pairs(there, of, offset) for offset in pattern.offsets)
 
 
 def write_prec(
@@ -286,7 +400,6 @@ def write_prec(
     pit: Pit,
     blocks_file: Path,
     out: Path,
-    begun: Begun | None = None,
 ) -> dict[str, list[Offset]]:
     """Writes the predecessors of each block, by the slopes of the region that the block is in.
 
@@ -296,11 +409,11 @@ def write_prec(
     model : Model
     pit : Pit
     blocks_file : Path
-        The `.blocks` file of the model.
+        The `.blocks` file of the model; where there are regions, with the number of each block's in
+        the column `_REGION`.
     out : Path
-        The `.prec` file. Beside it the settings of each region are left, slope-0.toml and so on.
-    begun : function, optional
-        Is told each region as it is begun: over a large model each takes seconds.
+        The `.prec` file. Beside it slopes.toml is left, the settings with the offsets of each
+        region.
 
     Returns
     -------
@@ -313,51 +426,9 @@ def write_prec(
         Where there are too many pairs, before anything is run; or what `pit slopes` says.
     """
     check_limits(slopes, model)
-    choice = slopes.region_of(model)
-    parts, patterns = [], slopes.patterns(model.grid)
-    for i, (name, pattern) in enumerate(patterns.items()):
-        if begun:
-            begun(name, i + 1, len(patterns))
-        settings = out.parent / f"slope-{i}.toml"
-        settings.write_text(
-            "".join(f"# {line}\n" for line in f"{name}: {pattern}".splitlines())
-            + search.settings(pattern)
-        )
-        parts.append(out.with_name(f"{out.name}.{i}.part"))
-        pit.slopes(blocks_file, settings, parts[-1])
-    if len(parts) == 1:
-        parts[0].replace(out)
-    else:
-        merge(parts, choice, out)
+    patterns = slopes.patterns(model.grid)
+    column = f"region = {_REGION}\n" if len(patterns) > 1 else ""
+    settings = out.with_name("slopes.toml")
+    settings.write_text(search.settings_by_region(patterns) + column)
+    pit.slopes(blocks_file, settings, out)
     return slopes.offsets_by_region(model.grid)
-
-
-def merge(parts: Sequence[Path], choice: Ints, out: Path) -> None:
-    """Takes the line of each block from one of several `.prec` files, which are removed.
-
-    Parameters
-    ----------
-    parts : sequence of Path
-        Each as `pit slopes` writes it: a line for each block, ascending.
-    choice : int array of shape (blocks,)
-        The part of each block.
-    out : Path
-
-    Raises
-    ------
-    PlanError
-        Where a part hasn't as many lines as there are blocks.
-    """
-    with ExitStack() as opened, open(out, "wb") as target:
-        files = [opened.enter_context(open(part, "rb")) for part in parts]
-        try:
-            target.writelines(
-                lines[i] for i, lines in zip(choice.tolist(), zip(*files, strict=True), strict=True)
-            )
-        except ValueError:
-            raise PlanError(
-                f"pit slopes wrote a file that hasn't a line for each of the {len(choice):,} blocks",
-                table=out.name,
-            ) from None
-    for part in parts:
-        part.unlink()

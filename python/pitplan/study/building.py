@@ -4,16 +4,19 @@ from __future__ import annotations
 import hashlib
 import json
 import os
+from collections.abc import Mapping
 from dataclasses import dataclass, field, replace
 from pathlib import Path
+from typing import Any
 
 import numpy as np
-import pandas as pd
 
 from ..base.amounts import Priced, as_text
+from ..base.arrays import Ints
 from ..base.digests import sha256
 from ..base.files import made_whole, sweep
 from ..model import store
+from ..model.classes import CLASS
 from ..model.economics import Economics
 from ..model.model import Model
 from ..model.subblocks import coded
@@ -23,6 +26,7 @@ from ..slopes.steep_ground import with_air
 from .folder import READ
 
 COLUMNS = ("revenue", "processing", "mining", "tonnes")
+ROWS = 1 << 16  # that are text at a time
 
 
 @dataclass(frozen=True)
@@ -39,7 +43,7 @@ class Building:
     keys : str
         The digest of the text that all this was read from.
     begun : function, optional
-        Is told each region of slopes as its predecessors are begun: over a large model each takes seconds.
+        Is told each region of slopes as its predecessors are begun.
     """
 
     folder: Path
@@ -51,17 +55,19 @@ class Building:
     begun: Begun | None = None
 
     def write(self) -> None:
-        """Makes the files that `pit` reads. A model that stands there already is replaced once the new one is whole. Where the
-        ground is steeper than the slopes, blocks of air are added, as `steep_ground.with_air` says.
+        """Makes the files that `pit` reads. A model that stands there already is replaced once the
+        new one is whole. Where the ground is steeper than the slopes, blocks of air are added, as
+        `steep_ground.with_air` says.
 
         Raises
         ------
         PlanError
-            Where the model, the economics or the slopes are wrong. The study that was there stays as it was.
+            Where the model, the economics or the slopes are wrong. The study that was there stays
+            as it was.
         """
         model, economics, slopes = self.model, self.economics, self.slopes
         model = with_air(
-            coded(model, economics.codes() | ({slopes.by} if slopes.by else set())), slopes
+            coded(model, _codes_of(economics, slopes) | {model.columns.get(CLASS, "")}), slopes
         )
         priced = economics.priced(model)
         if model.has_sub_blocks:
@@ -70,17 +76,22 @@ class Building:
         self.folder.mkdir(parents=True, exist_ok=True)
         sweep(self.folder, ".model.*")
         with made_whole(self.folder / "model") as work:
-            write_blocks(work / "mine.blocks", model, priced)
+            write_blocks(
+                work / "mine.blocks", model, priced, region if len(slopes.names) > 1 else None
+            )
             (work / "settings.toml").write_text(
                 "".join(f"{name} = {i}\n" for i, name in enumerate(COLUMNS))
             )
+            if self.begun:
+                for i, name in enumerate(slopes.names):
+                    self.begun(name, i + 1, len(slopes.names))
             offsets = write_prec(
-                slopes, model, self.program, work / "mine.blocks", work / "mine.prec", self.begun
+                slopes, model, self.program, work / "mine.blocks", work / "mine.prec"
             )
             store.save(work / "blocks.npz", model, priced, region)
             files = {path.name: sha256(path) for path in sorted(work.iterdir())}
             manifest = {
-                "key": key_of(files),
+                "key": _key_of(files),
                 "files": files,
                 "blocks": len(model),
                 "pairs": count_pairs(slopes, model),
@@ -94,6 +105,7 @@ class Building:
                     name: [list(map(int, o)) for o in found] for name, found in offsets.items()
                 },
                 "currency": economics.currency,
+                "waste_classes": list(economics.waste_classes),
                 "metals": {
                     m.name: {
                         "grade": m.grade,
@@ -106,22 +118,30 @@ class Building:
             (work / "manifest.json").write_text(json.dumps(manifest, indent=1))
 
 
+def _codes_of(economics: Economics, slopes: Slopes) -> set[str]:
+    """The columns of codes. A metal's grade is one only where `by` is that column itself."""
+    grades = {metal.grade for metal in economics.metals}
+    return economics.codes() | (slopes.codes() - grades) | {slopes.by or ""}
+
+
 def near(table: Path, folder: Path) -> str:
-    """How a file in a study's folder names the table: from that folder where it is near, so that the two can be moved together and
-    used from anywhere; else by its whole path."""
+    """How a file in a study's folder names the table: from that folder where it is near, so that
+    the two can be moved together and used from anywhere; else by its whole path."""
     found = os.path.relpath(table.resolve(), folder.resolve())
     return found if found.count("..") <= 2 else str(table.resolve())
 
 
-def key_of(files: dict[str, str]) -> str:
+def _key_of(files: dict[str, str]) -> str:
     """What names a model: the digest of the digests of the three files that `pit` reads."""
     return hashlib.sha256("".join(files[name] for name in READ).encode()).hexdigest()
 
 
-def write_blocks(path: Path, model: Model, priced: Priced) -> None:
-    """`.blocks`: number, place, and the four columns of `COLUMNS`, amounts as exact decimals."""
+def write_blocks(path: Path, model: Model, priced: Priced, region: Ints | None = None) -> None:
+    """`.blocks`: number, place, the four columns of `COLUMNS`, amounts as exact decimals, and each
+    block's region of slopes, where it is given."""
     b = model.blocks
-    table = pd.DataFrame(
+    write_numbers(
+        path,
         {
             "b": np.arange(len(b)),
             "x": b.ix.to_numpy(),
@@ -129,6 +149,16 @@ def write_blocks(path: Path, model: Model, priced: Priced) -> None:
             "z": b.iz.to_numpy(),
             **{name: as_text(getattr(priced, name), priced.rounding) for name in COLUMNS[:3]},
             "tonnes": np.round(b.tonnes.to_numpy(), 3),
-        }
+            **({} if region is None else {"region": region}),
+        },
     )
-    table.to_csv(path, sep=" ", header=False, index=False)
+
+
+def write_numbers(path: Path, columns: Mapping[str, Any]) -> None:
+    """Columns of numbers as `pit` reads them: a line for each row, and a blank between two."""
+    arrays = [np.asarray(column) for column in columns.values()]
+    line = " ".join(["%s"] * len(arrays)) + "\n"
+    with open(path, "w") as file:
+        for at in range(0, len(arrays[0]), ROWS):
+            rows = zip(*(array[at : at + ROWS].tolist() for array in arrays))
+            file.write("".join([line % row for row in rows]))

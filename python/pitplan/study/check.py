@@ -1,28 +1,29 @@
-"""Whether a study is right, without building it: each error of study.toml and of the table that can be found in seconds, at a time."""
+"""Whether a study is right, without building it: each error of study.toml and of the table that can
+be found in seconds, at a time."""
 from __future__ import annotations
 
-from collections.abc import Mapping
-from dataclasses import dataclass, field
+import re
+from collections.abc import Callable, Iterator, Mapping, Sequence
+from contextlib import contextmanager, suppress
+from dataclasses import dataclass, field, replace
 from pathlib import Path
-from typing import Any
-
-import pandas as pd
+from typing import Any, Optional
 
 from ..base.amounts import Priced
-from ..base.errors import Gathered, PlanError, about
+from ..base.errors import Gathered, PlanError, Remedy, about
 from ..base.strange import Strange
+from ..base.study_lines import value_at
 from ..base.within import refuse_outside
-from ..model.economics import Economics
-from ..model.model import Model, read_with
-from ..slopes.looks import looks
-from ..table.csv_text import head_of, names_of, number_column, read_frame
-from ..table.study_keys import METALS
-from .study_file import Parts, economics_of, parts_of, path_of, toml_of
+from ..model.model import Model, TableKeys, read_with, rows_alone
+from ..model.subblocks import coded
+from .first_look import look_at
+from .looks import looks
+from .study_file import Parts, parts_of_file, path_of, table_found
 
-NOTHING = {
-    "mining": 0,
-    "processing": 0,
-}  # in place of costs that are wrong, while the other keys are tried
+_OF_THE_FILE = ("table", "encoding", "decimal", "skip")  # keys without which no cell can be read
+
+
+_Reader = Callable[[Parts], Optional[Model]]
 
 
 @dataclass
@@ -50,36 +51,150 @@ class Checked:
     priced: Priced | None = None
 
 
-def check(study: Path) -> Checked:
-    """Reads a study as `build` does, and goes on where something is wrong as far as that doesn't matter.
+def check(study: Path, read: _Reader | None = None) -> Checked:
+    """Reads a study as `build` does, and goes on where something is wrong as far as that doesn't
+    matter.
 
     Parameters
     ----------
     study : Path
         The folder of the study, or its study.toml.
+    read : function, optional
+        Reads the model in place of `model_of`, as one that keeps what it has read does.
     """
     found, path = Gathered(path_of(study).name), path_of(study)
     with found.part():
         refuse_outside(path)
-        parts = parts_of(path, toml_of(study))
+        parts = parts_of_file(study)
     if found.errors:
         return Checked(errors=found.errors)
     found.add(parts.errors.errors)
     done = Checked(parts)
     with found.part("model"):
-        done.model = model_of(parts)
-    if done.model is None and parts.keys:
-        found.add(wrong_grades(parts))
+        with _grid_found(parts):
+            done.model = (read or model_of)(parts)
     if done.model is not None:
-        with found.part("economics"):
-            done.priced = priced_of(parts, done.model)
-        with found.part("slopes"):
-            if parts.slopes:
-                parts.slopes.region_of(done.model)
+        found.add(_wrong_in_table(done, parts, done.model))
+    else:
+        found.add(_wrong_in_rows(parts, found.errors))
     done.errors = found.errors
+    _with_remedies(parts.document, found.errors)
     if done.model is not None and done.priced is not None and not found.errors:
         done.looks = looks(done.model, done.priced, parts.whole())
     return done
+
+
+def _with_remedies(document: Mapping[str, Any], errors: Sequence[PlanError]) -> None:
+    """Gives each error of a word in a value, of which another one is meant, the value with that
+    one."""
+    for error in errors:
+        if error.swap and not error.remedy:
+            with suppress(LookupError, TypeError, StopIteration):
+                now = value_at(document, error.key)
+                better = _swapped(now, *error.swap)
+                error.remedy = Remedy(error.key, better) if error.key and better != now else None
+
+
+def _swapped(value: Any, wrong: str, right: str) -> Any:
+    """A value with one word in place of another: of a formula, a list, or a table's names.
+
+    >>> _swapped("2 + ZD / 10", "ZD", "ZC"), _swapped(["OXl", "SUL"], "OXl", "OXI")
+    ('2 + ZC / 10', ['OXI', 'SUL'])
+    """
+    if isinstance(value, str):
+        return re.sub(rf"(?<!\w){re.escape(wrong)}(?!\w)", lambda _: right, value)
+    if isinstance(value, list):
+        return [_swapped(each, wrong, right) for each in value]
+    if isinstance(value, Mapping):
+        return {
+            right if name == wrong else name: _swapped(each, wrong, right)
+            for name, each in value.items()
+        }
+    return value
+
+
+@contextmanager
+def _grid_found(parts: Parts) -> Iterator[None]:
+    """An error of the grid says by which rotation or size the table can be read, where `first_look`
+    finds one."""
+    try:
+        yield
+    except PlanError as error:
+        keys, table = parts.keys, parts.table
+        if error.key == ("model", "size") and keys and table:
+            better = _grid_by_table(table, keys)
+            if better:
+                error.remedy = better[0] if len(better) == 1 else None
+                error.try_this = " and ".join(map(str, better))
+                error.key = better[0].key if len(better) == 1 else error.key
+        raise
+
+
+def _grid_by_table(table: Path, keys: TableKeys) -> list[Remedy]:
+    """The rotation, the size, or both, by which a table can be read that can't by those of
+    study.toml; none where there are none."""
+    with suppress(PlanError):
+        look = look_at(table, keys.columns, keys.encoding)
+        rotation: dict[str, Any] = {"rotation": look.rotation}
+        size: dict[str, Any] = (
+            {"size": list(look.size)} if look.size and not look.has_sub_blocks else {}
+        )
+        for change in (rotation, size, {**rotation, **size}):
+            with suppress(PlanError):
+                read_with(table, replace(keys, **change))
+                return [Remedy(("model", name), value) for name, value in change.items()]
+    return []
+
+
+def _wrong_in_table(done: Checked, parts: Parts, model: Model) -> list[PlanError]:
+    """What is wrong with prices, costs, rocks, formulas and regions over a model. Where all of
+    [economics] is right, `done` gets what each block brings and costs."""
+    found = Gathered()
+    with found.part("economics"):
+        if parts.economics:
+            done.priced = parts.economics.priced(model)
+            for factor in (parts.factors or [])[-1:]:
+                with about("economics", "rounding"):
+                    done.priced.check_room(factor)
+        elif parts.partly.economics:
+            parts.partly.economics.read_of(coded(model, parts.partly.economics.codes()))
+    with found.part("slopes"):
+        slopes = parts.slopes or parts.partly.slopes
+        if slopes:
+            slopes.region_of(model)
+    return parts.partly.to_tell(found.errors)
+
+
+def _wrong_in_rows(parts: Parts, errors: Sequence[PlanError]) -> list[PlanError]:
+    """The same of the rows of a table whose places, sizes or weights are wrong, as far as it
+    doesn't hang on them."""
+    keys, covers = parts.keys or parts.partly.keys, parts.partly.covers
+    if keys is None or parts.table is None or any(covers(("model", key)) for key in _OF_THE_FILE):
+        return []
+    try:
+        model, doubtful = rows_alone(parts.table, keys)
+    except PlanError as error:
+        error.key = error.key or ("model", "table")
+        return [] if parts.keys else [error]  # else it is told already
+    found = Gathered()
+    with found.part("economics"):
+        economics = parts.economics or parts.partly.economics
+        if economics:
+            economics.read_of(model)
+    with found.part("slopes"):
+        slopes = parts.slopes or parts.partly.slopes
+        if slopes and not slopes.hangs_on_places(map(str, model.blocks.columns)):
+            slopes.region_of(model)
+    whole = keys.regularise or covers(
+        ("model", "absent")
+    )  # a row is no block, or its cells no grades
+    names_rocks = not any(error.key[:2] == ("model", "columns") for error in errors)
+    return [
+        error
+        for error in parts.partly.to_tell(found.errors)
+        if (error.row is None or not whole and error.row not in doubtful)
+        and ("rock" in model.columns or names_rocks or error.key[-1:] == ("grade",))
+    ]
 
 
 def model_of(parts: Parts) -> Model | None:
@@ -88,77 +203,5 @@ def model_of(parts: Parts) -> Model | None:
         return None
     with about("model", "table"):
         refuse_outside(parts.table)
-    return read_with(parts.table, parts.keys)
-
-
-def priced_of(parts: Parts, model: Model) -> Priced | None:
-    """What each block brings and costs. Where keys of [economics] are wrong, the others are tried, and nothing comes."""
-    if parts.economics:
-        priced = parts.economics.priced(model)
-        for factor in (parts.factors or [])[-1:]:
-            with about("economics", "rounding"):
-                priced.check_room(factor)
-        return priced
-    section = parts.told.get("economics")
-    if isinstance(section, Mapping):
-        economics = of_right_keys(section, parts.errors.errors)
-        if economics:
-            economics.priced(model)
-    return None
-
-
-def of_right_keys(section: Mapping[str, Any], errors: list[PlanError]) -> Economics | None:
-    """The economics of the keys that no error concerns; None where there is no metal among them."""
-    wrong = {
-        error.key[1] for error in errors if len(error.key) > 1 and error.key[0] == "economics"
-    } - {METALS}
-    metals = section.get(METALS)
-    if not isinstance(metals, list):
-        return None
-    bad = {
-        error.key[2]
-        for error in errors
-        if error.key[:2] == ("economics", METALS) and len(error.key) > 2
-    }
-    right = [
-        metal
-        for at, metal in enumerate(metals)
-        if at not in bad and (not isinstance(metal, Mapping) or metal.get("name") not in bad)
-    ]
-    try:
-        return economics_of(
-            {
-                **NOTHING,
-                **{name: value for name, value in section.items() if name not in wrong},
-                METALS: right,
-            }
-        )
-    except PlanError:  # told already
-        return None
-
-
-def wrong_grades(parts: Parts) -> list[PlanError]:
-    """The wrong cells of the columns of grades, where the table is one but its places or weights are wrong."""
-    found, frame = Gathered(), frame_of(parts)
-    if frame is None or not parts.economics or parts.keys is None:
-        return []
-    for metal in parts.economics.metals:
-        if metal.grade in frame.columns:
-            with found.part("economics", METALS, metal.name, "grade"):
-                number_column(
-                    frame[metal.grade], parts.table.name if parts.table else None, parts.keys.absent
-                )
-    return found.errors
-
-
-def frame_of(parts: Parts) -> pd.DataFrame | None:
-    """The table as it stands; None where it is none."""
-    if parts.table is None or parts.keys is None:
-        return None
-    try:
-        refuse_outside(parts.table)
-        dialect = parts.keys.dialect(parts.table)
-        names_of(head_of(parts.table, dialect.encoding, 1)[0], dialect.separator)
-        return read_frame(parts.table, dialect, [])
-    except PlanError:
-        return None
+    with table_found(parts.path, parts.table):
+        return read_with(parts.table, parts.keys)

@@ -1,5 +1,6 @@
-"""Where a pit touches the side of the model: its slopes ask for places that the model doesn't have, so no wall is held there. And where it
-reaches the model's floor: what lies below it, ore too, isn't in the model."""
+"""Where a pit touches the side of the model: its slopes ask for places that the model doesn't have,
+so no wall is held there. And where it reaches the model's floor: what lies below it, ore too, isn't
+in the model."""
 from __future__ import annotations
 
 from collections.abc import Iterable, Iterator, Sequence
@@ -15,20 +16,28 @@ if TYPE_CHECKING:
     from .folder import StudyFolder
 
 
-# What is said of a pit that touches the model's side, or reaches its floor, and what to try; the first with how many blocks do.
+# What is said of a pit that touches the model's side, or reaches its floor, and what to try; the
+# first with how many blocks do.
 SIDE = (
-    "touches the side of the model ({}): a place that the slope asks for isn't in the model, so no wall is held there",
+    (
+        "touches the side of the model ({}): a place that the slope asks for isn't in the model, so"
+        " no wall is held there"
+    ),
     "a wider model, or widen in [model]",
 )
 FLOOR = (
-    "reaches the model's floor ({}): what lies deeper isn't in the model, so no pit can follow ore down there",
+    (
+        "reaches the model's floor ({}): what lies deeper isn't in the model, so no pit can follow"
+        " ore down there"
+    ),
     "a model that goes deeper",
 )
 
 
 def ground(model: Model) -> tuple[Ints, Ints]:
-    """The highest level of rock and the lowest level with a row of each column, of shape (nx, ny); of a column without rows, those of
-    the nearest column that has some, as far as one can tell by going along the axes. Rows of air, without tonnes, are no ground.
+    """The highest level of rock and the lowest level with a row of each column, of shape (nx, ny);
+    of a column without rows, those of the nearest column that has some, as far as one can tell by
+    going along the axes. Rows of air, without tonnes, are no ground.
     """
     index = model.index
     there, rock = (
@@ -53,9 +62,10 @@ def ground(model: Model) -> tuple[Ints, Ints]:
 
 
 def touching(study: StudyFolder) -> Bools:
-    """Which blocks have a slope that asks for a place that isn't in the model and isn't air: beyond its sides, where the ground goes on as
-    high as in the nearest column; in a column that has no row; or below the lowest row of a column. Rows of air, without tonnes, don't
-    count: nothing has to hold there.
+    """Which blocks have a slope that asks for a place that isn't in the model and isn't air: beyond
+    its sides, where the ground goes on as high as in the nearest column; in a column that has no
+    row; or below the lowest row of a column. Rows of air, without tonnes, don't count: nothing has
+    to hold there.
 
     Returns
     -------
@@ -70,8 +80,9 @@ def touching(study: StudyFolder) -> Bools:
 
 
 def highest_touching(model: Model, regions: Iterable[Sequence[Sequence[int]]]) -> Iterator[Ints]:
-    """For the offsets of each region the highest level at which a block of each column asks for such a place, of shape (nx, ny). Every
-    block below that level asks for one too: the same offset leads it to a lower place of the same column.
+    """For the offsets of each region the highest level at which a block of each column asks for
+    such a place, of shape (nx, ny). Every block below that level asks for one too: the same offset
+    leads it to a lower place of the same column.
     """
     top, low = ground(model)
     columns = (model.index >= 0).any(axis=2)

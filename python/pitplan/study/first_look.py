@@ -1,4 +1,5 @@
-"""`pitplan init`: looks at a table, guesses what is what, and writes a study.toml with a comment at each key."""
+"""`pitplan init`: looks at a table, guesses what is what, and writes a study.toml with a comment at
+each key."""
 from __future__ import annotations
 
 import math
@@ -18,7 +19,7 @@ from ..base.usual_metals import metal_of, unit_of
 from ..model.grid import Grid
 from ..model.subblocks import OFF
 from ..slopes.slopes import DEFAULT
-from ..table.column_names import PLACES, REGIONS, SIZES, which_columns
+from ..table.column_names import PLACES, REGIONS, SIZES, which_columns, with_few_classes
 from ..table.csv_text import (
     NO_PLACE,
     Dialect,
@@ -29,10 +30,12 @@ from ..table.csv_text import (
     read_frame,
 )
 from ..table.formula import text_of
+from ..table.parts_of_blocks import is_part, remedy_of_part
 from .study_template import aligned, metal, template
 
-UTF_8 = Dialect().encoding
-MARKS = (
+_UTF_8 = Dialect().encoding
+GRADE = "GRADE"  # a column of a grade where none is found
+_MARKS = (
     "-99",
     "-999",
     "-9999",
@@ -66,21 +69,21 @@ MARKS = (
     "S/I",
     "",
 )
-MOSTLY = (
+_MOSTLY = (
     0.9  # the share of numbers from which a column is one of numbers with a few words among them
 )
-LIMIT = re.compile(r"<\s*\d*[.,]?\d+")  # below the limit of an assay
-MOST_LIMITS = 20
-MOST_REGIONS = 12  # of slopes: a column with more words than that names something else
-AIRS = re.compile(
+_LIMIT = re.compile(r"<\s*\d*[.,]?\d+")  # below the limit of an assay
+_MOST_LIMITS = 20
+_MOST_REGIONS = 12  # of slopes: a column with more words than that names something else
+_AIRS = re.compile(
     r"air|aire|ar|airblock|void|vacio|vacío|vazio", re.IGNORECASE
 )  # how a rock is called that is none
-SAMPLE = 1500  # blocks that the grid is looked for in
-PLACES_OFF = 0.02  # in the unit of the coordinates: how far their rounding may put two blocks off
+_SAMPLE = 1500  # blocks that the grid is looked for in
+_PLACES_OFF = 0.02  # in the unit of the coordinates: how far their rounding may put two blocks off
 
 
 @dataclass
-class Look:
+class _Look:
     """What a table looks like.
 
     Attributes
@@ -101,8 +104,11 @@ class Look:
         The column that seems to say in which region of slopes a block is; "" where none does.
     regions : list of str
         What stands in it.
+    parts : list of str
+        Columns that seem to say how much of a block is rock or ore.
     rocks, airs, columns : list of str
-        The rocks, the commonest first; those of them that weigh nothing or are called air; and all names of columns.
+        The rocks, the commonest first; those of them that weigh nothing or are called air; and all
+        names of columns.
     notes : list of str
         What the planner should look at.
     """
@@ -117,6 +123,7 @@ class Look:
     has_sub_blocks: bool = False
     region: str = ""
     regions: list[str] = field(default_factory=list)
+    parts: list[str] = field(default_factory=list)
     rocks: list[str] = field(default_factory=list)
     airs: list[str] = field(default_factory=list)
     columns: list[str] = field(default_factory=list)
@@ -124,8 +131,11 @@ class Look:
 
 
 def look_at(
-    table: Path, given: Mapping[str, str] | None = None, encoding: str | None = None
-) -> Look:
+    table: Path,
+    given: Mapping[str, str] | None = None,
+    encoding: str | None = None,
+    advice: str | None = None,
+) -> _Look:
     """Looks at a table of blocks.
 
     Parameters
@@ -136,19 +146,22 @@ def look_at(
         The names of columns that aren't the usual ones, under the keys of `column_names.USUAL`.
     encoding : str, optional
         Where it isn't UTF-8.
+    advice : str, optional
+        What to try where columns aren't known. Default: the command that names them.
 
     Raises
     ------
     PlanError
         Where it isn't a table, or has no columns that are known as x, y and z.
     """
-    dialect = dialect_of(table, encoding or UTF_8)
+    dialect = dialect_of(table, encoding or _UTF_8)
     said = () if encoding is None else ("--encoding", encoding)
     names = which_columns(
         names_of(head_of(table, dialect.encoding, 1)[0], dialect.separator),
         given or {},
         table.name,
-        lambda near: command(
+        lambda near: advice
+        or command(
             "init",
             ".",
             str(table),
@@ -161,22 +174,24 @@ def look_at(
         ),
     )
     frame = read_frame(table, dialect, [names[key] for key in ("id", "rock") if key in names])
-    look = Look(dialect, names, len(frame), columns=[str(name) for name in frame.columns])
-    look.absent, where = marks_in(frame, names)
+    names = with_few_classes(names, given or {}, lambda name: int(frame[name].nunique()))
+    look = _Look(dialect, names, len(frame), columns=[str(name) for name in frame.columns])
+    look.absent, where = _marks_in(frame, names)
     look.notes += [
         f"{mark or 'an empty cell'} stands for \"not estimated\" in {', '.join(columns)}, and counts as 0"
         for mark, columns in where.items()
     ]
     x, y, z = (number_column(frame[names[key]], table.name, hint=NO_PLACE) for key in PLACES)
-    find_grid(look, frame, x, y, z)
-    look.grades = [str(name) for name in frame.columns if is_grade(frame, str(name), look)]
-    look.region, look.regions = regions_in(frame, look)
+    _find_grid(look, frame, x, y, z)
+    _find_parts(look, frame)
+    look.grades = [str(name) for name in frame.columns if _is_grade(frame, str(name), look)]
+    look.region, look.regions = _regions_in(frame, look)
     if "rock" in names:
         look.rocks = [
             str(rock)
             for rock in frame[names["rock"]].fillna("").str.strip().value_counts().index[:12]
         ]
-        look.airs = airs_among(frame, names, look.absent)
+        look.airs = _airs_among(frame, names, look.absent)
     if not {"tonnes", "density"} & set(names):
         look.notes.append("no column of tonnes or density was found: name it in columns")
     if "rock" not in names:
@@ -188,9 +203,9 @@ def look_at(
     return look
 
 
-def marks_in(frame: pd.DataFrame, names: dict[str, str]) -> tuple[list[str], dict[str, list[str]]]:
-    """The cells that seem to stand for "not estimated", and the columns of each: as the usual marks, in columns that aren't
-    places or names."""
+def _marks_in(frame: pd.DataFrame, names: dict[str, str]) -> tuple[list[str], dict[str, list[str]]]:
+    """The cells that seem to stand for "not estimated", and the columns of each: as the usual
+    marks, in columns that aren't places or names."""
     kept = {names[key] for key in (*PLACES, *SIZES, "id", "rock") if key in names}
     where: dict[str, list[str]] = {}
     numbers = frame.select_dtypes("number")
@@ -199,33 +214,33 @@ def marks_in(frame: pd.DataFrame, names: dict[str, str]) -> tuple[list[str], dic
     )  # all at once: a table may have 100,000 columns
     for name in frame.columns:
         if name not in kept and name not in plain:
-            for mark in marks_of(frame[name]):
+            for mark in _marks_of(frame[name]):
                 where.setdefault(mark, []).append(str(name))
     return list(where), where
 
 
-def marks_of(values: pd.Series) -> list[str]:
+def _marks_of(values: pd.Series) -> list[str]:
     """The cells of a column that seem to stand for "not estimated"; none in a column of words."""
     if values.dtype.kind in "iuf":
         least = float(values.min())
         empty = [""] if values.isna().any() and not values.isna().all() else []
-        return empty + ([f"{least:g}"] if least < 0 and f"{least:g}" in MARKS else [])
-    if share_of_numbers(values) <= 0.5:
+        return empty + ([f"{least:g}"] if least < 0 and f"{least:g}" in _MARKS else [])
+    if _share_of_numbers(values) <= 0.5:
         return []
-    words = words_among(values)
+    words = _words_among(values)
     return (
-        [mark for mark in MARKS if mark in words]
-        + sorted(word for word in words if LIMIT.fullmatch(word))[:MOST_LIMITS]
+        [mark for mark in _MARKS if mark in words]
+        + sorted(word for word in words if _LIMIT.fullmatch(word))[:_MOST_LIMITS]
         + ([""] if values.isna().any() else [])
     )
 
 
-def share_of_numbers(values: pd.Series) -> float:
+def _share_of_numbers(values: pd.Series) -> float:
     """How many of a column's cells are numbers, as a share of all."""
     return float(pd.to_numeric(values, errors="coerce").notna().mean())
 
 
-def words_among(values: pd.Series) -> list[str]:
+def _words_among(values: pd.Series) -> list[str]:
     """The different cells of a column that are no numbers and aren't empty."""
     return [
         str(word).strip()
@@ -233,15 +248,18 @@ def words_among(values: pd.Series) -> list[str]:
     ]
 
 
-def is_grade(frame: pd.DataFrame, name: str, look: Look) -> bool:
-    """Whether a column is one of numbers, and is none of those that are known as something else. One with a few words among
-    its numbers counts, and is told: `build` refuses these words by their row."""
-    if name in look.names.values():
+def _is_grade(frame: pd.DataFrame, name: str, look: _Look) -> bool:
+    """Whether a column is one of numbers, and is none of those that are known as something else.
+    One with a few words among its numbers counts, and is told: `build` refuses these words by their
+    row."""
+    if name in look.names.values() or name in look.parts:
         return False
+    if _rank_of_region(name) < len(REGIONS) and _are_whole(frame[name]) and metal_of(name) is None:
+        return False  # numbers of sectors, be they many
     try:
         values = number_column(frame[name].iloc[:20000], name, look.absent)
     except PlanError as error:
-        is_one = share_of_numbers(frame[name]) > MOSTLY
+        is_one = _share_of_numbers(frame[name]) > _MOSTLY
         if is_one:
             look.notes.append(
                 f'column {name}, row {0 if error.row is None else error.row + 2}: {error.what}; if that stands for "not estimated", put it into absent'
@@ -254,29 +272,63 @@ def is_grade(frame: pd.DataFrame, name: str, look: Look) -> bool:
     return bool(values.min() >= 0) and len(np.unique(values)) > 12
 
 
-def regions_in(frame: pd.DataFrame, look: Look) -> tuple[str, list[str]]:
-    """The column that seems to say in which region of slopes a block is, by its name and its few values, and these; "" where there is none."""
+def _find_parts(look: _Look, frame: pd.DataFrame) -> None:
+    """The columns of how much of a block is rock or ore, and what to do with each."""
+    free = frame[[name for name in frame.columns if name not in look.names.values()]]
+    for name in map(str, free.columns):
+        if is_part(name, free[name]):
+            look.parts.append(name)
+            most = float(free[name].max())
+            look.notes.append(
+                f"{name} is from {free[name].min():g} to {most:g}, and no grade by its name: "
+                + remedy_of_part(name, most)
+            )
 
-    def rank(name: str) -> int:
-        return next((at for at, part in enumerate(REGIONS) if part in name.lower()), len(REGIONS))
 
-    for name in sorted((str(name) for name in frame.columns), key=rank):
-        if rank(name) == len(REGIONS):
-            break
+def _regions_in(frame: pd.DataFrame, look: _Look) -> tuple[str, list[str]]:
+    """The column that seems to say in which region of slopes a block is, by its name, or since its
+    few whole numbers are the same all the way up; and what stands in it. "" where there is none."""
+    free = [
+        str(name)
+        for name in frame.columns
+        if name not in look.names.values() and name not in look.grades
+    ]
+    column = frame.groupby([look.names["x"], look.names["y"]], sort=False).ngroup()
+    for name in sorted(free, key=_rank_of_region):
         there = sorted(
             {text_of(value) for value in frame[name].dropna().unique()} - {"", *look.absent}
         )
-        if (
-            name not in look.names.values()
-            and name not in look.grades
-            and 1 < len(there) <= MOST_REGIONS
-            and DEFAULT not in there
-        ):
-            return name, there
+        if 1 < len(there) <= _MOST_REGIONS and DEFAULT not in there:
+            is_named = _rank_of_region(name) < len(REGIONS)
+            if is_named or _are_codes(frame[name], there) and _goes_up(frame[name], column):
+                return name, there
     return "", []
 
 
-def airs_among(frame: pd.DataFrame, names: Mapping[str, str], absent: Sequence[str]) -> list[str]:
+def _rank_of_region(name: str) -> int:
+    """How likely a name is that of a column of regions: the least is the likeliest."""
+    return next((at for at, part in enumerate(REGIONS) if part in name.lower()), len(REGIONS))
+
+
+def _are_codes(values: pd.Series, there: Sequence[str]) -> bool:
+    """Whether the values of a column are whole numbers, and no mere yes and no."""
+    return _are_whole(values) and not set(there) <= {"0", "1"}
+
+
+def _are_whole(values: pd.Series) -> bool:
+    """Whether a column has whole numbers alone."""
+    return values.dtype.kind in "iuf" and bool((values.dropna() % 1 == 0).all())
+
+
+def _goes_up(values: pd.Series, column: pd.Series) -> bool:
+    """Whether a value is the same over whole columns of blocks, as a sector of a pit is and no rock
+    or class of resources; some columns may change."""
+    kinds = values.groupby(column, sort=False).nunique()
+    high = column.value_counts(sort=False).reindex(kinds.index) > 1
+    return bool(high.any()) and float((kinds[high] <= 1).mean()) >= _MOSTLY
+
+
+def _airs_among(frame: pd.DataFrame, names: Mapping[str, str], absent: Sequence[str]) -> list[str]:
     """The rocks that weigh nothing, or are called air."""
     rock = frame[names["rock"]].fillna("").str.strip()
     kinds, weighed = rock.unique(), next(
@@ -290,11 +342,12 @@ def airs_among(frame: pd.DataFrame, names: Mapping[str, str], absent: Sequence[s
         ).fillna(0.0)
     )
     heavy = set(rock[weight.to_numpy() > 0])
-    return [str(kind) for kind in kinds if kind not in heavy or AIRS.fullmatch(str(kind))]
+    return [str(kind) for kind in kinds if kind not in heavy or _AIRS.fullmatch(str(kind))]
 
 
-def find_grid(look: Look, frame: pd.DataFrame, x: Floats, y: Floats, z: Floats) -> None:
-    """The size of a block and how the model is turned: as the table's own columns say, else by the nearest neighbours."""
+def _find_grid(look: _Look, frame: pd.DataFrame, x: Floats, y: Floats, z: Floats) -> None:
+    """The size of a block and how the model is turned: as the table's own columns say, else by the
+    nearest neighbours."""
     names = look.names
     if all(key in names for key in SIZES):
         lengths = [number_column(frame[names[key]], names[key]) for key in SIZES]
@@ -308,9 +361,9 @@ def find_grid(look: Look, frame: pd.DataFrame, x: Floats, y: Floats, z: Floats) 
     level = z == pd.Series(z).mode().iloc[0]
     near = np.argsort(
         (x[level] - np.median(x[level])) ** 2 + (y[level] - np.median(y[level])) ** 2
-    )[:SAMPLE]
-    across, along = steps(x[level][near], y[level][near])
-    height = least_step(z)
+    )[:_SAMPLE]
+    across, along = _steps(x[level][near], y[level][near])
+    height = _least_step(z)
     if across is None or along is None or height is None:
         look.notes.append(
             "the grid couldn't be told: one level, row or column alone"
@@ -318,13 +371,13 @@ def find_grid(look: Look, frame: pd.DataFrame, x: Floats, y: Floats, z: Floats) 
             else "the size of a block couldn't be told: one level, row or column alone"
         )
         return
-    look.rotation = turned(x, y, across, along)
+    look.rotation = _turned(x, y, across, along)
     u, v = Grid((0, 0, 0), (1, 1, 1), rotation=look.rotation).local(x - x[0], y - y[0])
     if look.size is None:
         look.size = (
-            length_of(u, math.hypot(*across)),
-            length_of(v, math.hypot(*along)),
-            length_of(z, height),
+            _length_of(u, math.hypot(*across)),
+            _length_of(v, math.hypot(*along)),
+            _length_of(z, height),
         )
     if look.rotation:
         look.notes.append(
@@ -332,11 +385,12 @@ def find_grid(look: Look, frame: pd.DataFrame, x: Floats, y: Floats, z: Floats) 
         )
 
 
-def steps(
+def _steps(
     east: Floats, north: Floats
 ) -> tuple[tuple[float, float] | None, tuple[float, float] | None]:
-    """The shortest steps between blocks of a level along the model's x axis (from 45 degrees north to 45 south of east) and
-    along its y axis, as (east, north); None where no two blocks are neighbours so."""
+    """The shortest steps between blocks of a level along the model's x axis (from 45 degrees north
+    to 45 south of east) and along its y axis, as (east, north); None where no two blocks are
+    neighbours so."""
     de, dn = (v[:, None] - v[None, :] for v in (east, north))
     far = np.hypot(de, dn)
     eastward = (de > 0) & (np.abs(dn) <= de * (1 + 1e-9))
@@ -351,9 +405,9 @@ def steps(
     return found[0], found[1]
 
 
-def turned(x: Floats, y: Floats, across: tuple[float, float], along: tuple[float, float]) -> float:
-    """The bearing of the y axis: by a step along the x axis, and then by the rows of the whole model, since a table's
-    coordinates are rounded."""
+def _turned(x: Floats, y: Floats, across: tuple[float, float], along: tuple[float, float]) -> float:
+    """The bearing of the y axis: by a step along the x axis, and then by the rows of the whole
+    model, since a table's coordinates are rounded."""
     angle = -math.degrees(math.atan2(across[1], across[0]))
     u, v = Grid((0, 0, 0), (1, 1, 1), rotation=angle).local(x - x[0], y - y[0])
     row = np.rint(v / math.hypot(*along)).astype(np.int64)
@@ -361,17 +415,17 @@ def turned(x: Floats, y: Floats, across: tuple[float, float], along: tuple[float
     count = np.maximum(np.bincount(row), 1)
     du, dv = (w - (np.bincount(row, w) / count)[row] for w in (u, v))
     angle -= math.degrees(float((du * dv).sum() / max((du * du).sum(), 1e-9)))
-    return shortest(angle, math.degrees(PLACES_OFF / max(float(np.ptp(u)), 1e-9))) + 0.0
+    return _shortest(angle, math.degrees(_PLACES_OFF / max(float(np.ptp(u)), 1e-9))) + 0.0
 
 
-def length_of(values: Floats, step: float) -> float:
+def _length_of(values: Floats, step: float) -> float:
     """The length of a block along an axis, by the whole model's extent."""
     span = float(np.ptp(values))
     count = max(round(span / step), 1)
-    return shortest(span / count, PLACES_OFF / count)
+    return _shortest(span / count, _PLACES_OFF / count)
 
 
-def shortest(value: float, off: float) -> float:
+def _shortest(value: float, off: float) -> float:
     """The number with the fewest decimals that is no further away than `off`."""
     return next(
         (found for decimals in range(6) if abs((found := round(value, decimals)) - value) <= off),
@@ -379,13 +433,13 @@ def shortest(value: float, off: float) -> float:
     )
 
 
-def least_step(values: Floats) -> float | None:
+def _least_step(values: Floats) -> float | None:
     """The least distance between two levels."""
     levels = np.unique(np.round(values, 4))
     return float(np.diff(levels).min()) if len(levels) > 1 else None
 
 
-def written(look: Look, table: str) -> str:
+def written(look: _Look, table: str) -> str:
     """The text of a study.toml for a table; `table` is its path as the text names it."""
     size = ", ".join(f"{v:g}" for v in look.size) if look.size else "20, 20, 10"
     by_rock = ", ".join(f"{key(rock)} = 2.50" for rock in look.rocks[:3]) + (
@@ -393,51 +447,65 @@ def written(look: Look, table: str) -> str:
     )
     return aligned(
         template().substitute(
-            table=quoted(table),
-            columns=", ".join(f"{name} = {quoted(column)}" for name, column in look.names.items()),
+            table=_quoted(table),
+            columns=", ".join(f"{name} = {_quoted(column)}" for name, column in look.names.items()),
             size=size,
-            size_told="" if look.size else "; it couldn't be told: fill it in",
+            size_note="" if look.size else "; it couldn't be told: fill it in",
             rotation=f"{look.rotation:g}",
-            absent=", ".join(map(quoted, look.absent)),
+            absent=", ".join(map(_quoted, look.absent)),
             encoding=""
-            if look.dialect.encoding == UTF_8
-            else f"\nencoding = {quoted(look.dialect.encoding)}",
+            if look.dialect.encoding == _UTF_8
+            else f"\nencoding = {_quoted(look.dialect.encoding)}",
             regularise="true" if look.has_sub_blocks else "false",
-            x=in_formula(look.names["x"]),
-            z=in_formula(look.names["z"]),
+            x=_in_formula(look.names["x"]),
+            z=_in_formula(look.names["z"]),
             by_rock=f"; by rock: {{ {by_rock} }}" if by_rock else "",
             mill=", ".join(
-                map(quoted, [rock for rock in look.rocks if rock not in look.airs][:2] or ["ORE"])
+                map(_quoted, [rock for rock in look.rocks if rock not in look.airs][:2] or ["ORE"])
             ),
             metals=metals(look),
-            by=quoted(look.region or "SECTOR"),
+            by=_quoted(look.region or "SECTOR"),
             regions=", ".join(f"{key(name)} = 45" for name in look.regions)
             or "NORTH = 38, SOUTH = [[0, 44], [180, 50]]",
         )
     )
 
 
-def metals(look: Look) -> str:
+def metals(look: _Look) -> str:
     """The lines of the metals: those whose columns are known, else one to be filled in."""
-    usual = [(column, found) for column in look.grades if (found := metal_of(column))] or [
-        (look.grades[0] if look.grades else "GRADE", ("metal", "%", "t", 8500))
-    ]
-    return "\n".join(
-        metal(
-            {
-                "name": name,
-                "grade": column,
-                "grade_unit": unit_of(column) or grade_unit,
-                "price": price,
-                "price_unit": price_unit,
-            }
-        )
-        for column, (name, grade_unit, price_unit, price) in usual
+    known = [column for column in look.grades if metal_of(column)]
+    return "\n".join(map(metal_in, known or look.grades[:1] or [GRADE]))
+
+
+def metal_in(column: str) -> str:
+    """The line of a column's metal, as far as its name tells it."""
+    name, grade_unit, price_unit, price = metal_of(column) or ("metal", "%", "t", 8500)
+    return metal(
+        {
+            "name": name,
+            "grade": column,
+            "grade_unit": unit_of(column) or grade_unit,
+            "price": price,
+            "price_unit": price_unit,
+        }
     )
 
 
-def in_formula(name: str) -> str:
-    """A column as a formula within the text names it: column('RL m') where its name is no plain word."""
+def named_grades(look: _Look) -> list[str]:
+    """The columns whose names say that they hold a grade, by a metal or by a unit."""
+    return [name for name in look.grades if metal_of(name) or unit_of(name)]
+
+
+def unused_grades(look: _Look) -> list[str]:
+    """What is said of those that `metals` leaves out: by `init` alone, since a planner may leave one out on purpose."""
+    used = metals(look)
+    left = [name for name in named_grades(look) if f"grade = {_quoted(name)}" not in used]
+    return [f"column {name} holds a grade and no metal uses it" for name in left]
+
+
+def _in_formula(name: str) -> str:
+    """A column as a formula within the text names it: column('RL m') where its name is no plain
+    word."""
     if name.isidentifier() and not iskeyword(name):
         return name
     return f"column({name!r})".replace('"', '\\"')
@@ -448,11 +516,11 @@ def key(word: str) -> str:
     return (
         word
         if word and all(c.isascii() and (c.isalnum() or c in "_-") for c in word)
-        else quoted(word)
+        else _quoted(word)
     )
 
 
-def quoted(word: str) -> str:
+def _quoted(word: str) -> str:
     """A word as a text of TOML, in one line whatever is in it."""
     return (
         '"'

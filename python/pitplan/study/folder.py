@@ -15,13 +15,16 @@ from ..base.digests import sha256_unless_known
 from ..base.errors import PlanError
 from ..base.next_command import command
 from ..model import store
+from ..model.classes import Classes, classes_of
 from ..model.model import Model
 from ..pit.program import Files, Pit
 from . import edges
 
+_IS_WORDS = kept_json.is_list(kept_json.is_word)
 READ = ("mine.blocks", "mine.prec", "settings.toml")
-# What manifest.json and a verdict have at least, and what each may be. A file of the model lies beside the manifest, and nowhere else.
-MANIFEST: dict[str, kept_json.Holds] = {
+# What manifest.json and a verdict have at least, and what each may be. A file of the model lies
+# beside the manifest, and nowhere else.
+_MANIFEST: dict[str, kept_json.Holds] = {
     "key": kept_json.is_digest,
     "files": lambda value: kept_json.is_table(kept_json.is_digest, kept_json.is_file_name)(value)
     and {*READ, "blocks.npz"} <= set(value),
@@ -47,27 +50,7 @@ MANIFEST: dict[str, kept_json.Holds] = {
 
 
 class StudyFolder:
-    """The files of a study that was built.
-
-    Parameters
-    ----------
-    folder : str or Path
-    program : Pit, optional
-        Found as `program.found_program` says unless given.
-    named : Path, optional
-        How the user named the study, for the commands that a message names: its folder, or its study.toml.
-
-    Attributes
-    ----------
-    manifest : dict
-        ``key`` (of the three files that `pit` reads), ``files`` (sha256 by name), ``blocks``, ``pairs``, ``offsets`` by region,
-        ``metals``, ``currency``, ``source`` (the table, as `near` has it, and its sha256), ``keys`` (the digest of study.toml), ``pit``.
-
-    Raises
-    ------
-    PlanError
-        Where the folder is no study, or its making was cut off.
-    """
+    """The files of a study that was built, with the parameters and attributes of `Study`."""
 
     def __init__(
         self, folder: str | Path, program: Pit | None = None, named: Path | None = None
@@ -76,7 +59,7 @@ class StudyFolder:
         self.where = self.folder / "model"
         try:
             self.manifest = kept_json.read(
-                self.where / "manifest.json", MANIFEST, command("build", self.named)
+                self.where / "manifest.json", _MANIFEST, command("build", self.named)
             )
         except (FileNotFoundError, NotADirectoryError):
             raise PlanError(
@@ -92,7 +75,8 @@ class StudyFolder:
 
     @cached_property
     def version(self) -> list[str]:
-        """What the program that finds and checks pits here says of itself; the build may have had another."""
+        """What the program that finds and checks pits here says of itself; the build may have had
+        another."""
         return self.program.version()
 
     @property
@@ -131,13 +115,21 @@ class StudyFolder:
         return store.load_priced(self.where / "blocks.npz")
 
     @cached_property
+    def classes(self) -> Classes | None:
+        """The resource class of each block; None where the table has no column of it."""
+        listed: list[str] = self.manifest.get("waste_classes") or []
+        return classes_of(self.model, listed if _IS_WORDS(listed) else [])
+
+    @cached_property
     def region(self) -> Ints:
-        """The region of slopes of each block, of shape (blocks,): an index into ``manifest["offsets"]``."""
+        """The region of slopes of each block, of shape (blocks,): an index into
+        ``manifest["offsets"]``."""
         return store.load_region(self.where / "blocks.npz")
 
     @cached_property
     def sides(self) -> list[Ints]:
-        """For each region of slopes how high up a block of each column asks for a place beside or below the model; see `edges.highest_touching`."""
+        """For each region of slopes how high up a block of each column asks for a place beside or
+        below the model; see `edges.highest_touching`."""
         return list(edges.highest_touching(self.model, self.manifest["offsets"].values()))
 
     def read_ahead(self) -> None:
@@ -145,8 +137,8 @@ class StudyFolder:
         self.model, self.priced, self.region, self.sides
 
     def verify(self) -> None:
-        """Takes the digests of the model's files again; of a file that this process has digested and that hasn't been touched since,
-        as `digests` tells it, that digest stands.
+        """Takes the digests of the model's files again; of a file that this process has digested
+        and that hasn't been touched since, as `digests` tells it, that digest stands.
 
         Raises
         ------
@@ -163,10 +155,36 @@ class StudyFolder:
                     try_this=command("build", self.named),
                 )
 
+    def refuse_changed(self, path: Path, keys: str, table: Path) -> None:
+        """Refuses a study whose study.toml or table isn't any more what it was built from.
+
+        Parameters
+        ----------
+        path : Path
+            The study.toml.
+        keys : str
+            Its digest, as `StudyFile.digest`.
+        table : Path
+            What it names.
+
+        Raises
+        ------
+        PlanError
+            Where one of them has changed.
+        """
+        build = command("build", self.named)
+        if self.manifest["keys"] != keys:
+            raise PlanError(f"{path} has changed since the study was built", try_this=build)
+        source = self.manifest["source"]
+        if source and table.is_file() and sha256_unless_known(table) != source["sha256"]:
+            raise PlanError(
+                "the table has changed since the study was built", table=table, try_this=build
+            )
+
     @contextmanager
     def verifying(self) -> Iterator[Callable[[], None]]:
-        """Takes the digests beside what is done within. The function that it gives waits for them; what `verify` raises comes in
-        place of any other error, since it explains them."""
+        """Takes the digests beside what is done within. The function that it gives waits for them;
+        what `verify` raises comes in place of any other error, since it explains them."""
         with ThreadPoolExecutor(1) as pool:
             digests = pool.submit(self.verify)
             try:

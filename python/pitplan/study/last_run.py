@@ -9,14 +9,15 @@ from typing import Any
 from ..base.events import of_last_run
 from .turns import is_held
 
-Event = Mapping[str, Any]
+_Event = Mapping[str, Any]
 
 
-def told(folder: Path) -> str | None:
-    """A line of the command that has the study, or of the last that had it; None where none had it yet."""
+def last_line(folder: Path) -> str | None:
+    """A line of the command that has the study, or of the last that had it; None where none had it
+    yet."""
     events, who = of_last_run(folder), is_held(folder)
     if who is not None:
-        return f"now: {who}{how_far(events)}"
+        return f"now: {who}{_how_far(events)}"
     began = next((event for event in events if event["event"] == "begin"), None)
     if began is None:
         return None
@@ -25,9 +26,15 @@ def told(folder: Path) -> str | None:
         "%Y-%m-%d %H:%M:%S", time.localtime(float(last.get("time", 0)))
     )
     if last["event"] != "end":
-        return f"last: {name} was ended from outside at {at}{how_far(events)}; the same command goes on from there"
+        return (
+            f"last: {name} was ended from outside at {at}{_how_far(events)}; the same command goes"
+            " on from there"
+        )
     if last.get("status") == 0:
-        return f"last: {name} was done at {at}, after {float(last['time']) - float(began['time']):.0f} s"
+        return (
+            f"last: {name} was done at {at}, after"
+            f" {float(last['time']) - float(began['time']):.0f} s"
+        )
     wrong = next(
         (str(event["said"]) for event in events if event["event"] == "error" and "said" in event),
         "",
@@ -37,7 +44,7 @@ def told(folder: Path) -> str | None:
     )
 
 
-def how_far(events: Sequence[Event]) -> str:
+def _how_far(events: Sequence[_Event]) -> str:
     """How many pits are done, or what was begun last; "" where nothing is told."""
     done = {
         event["factor"]

@@ -9,15 +9,15 @@ import numpy as np
 import pandas as pd
 
 from ..base.amounts import THOUSAND, exact_sum
-from ..base.arrays import Array, Floats
+from ..base.arrays import Array, Bools, Floats, Shorts
 from ..base.errors import PlanError
 from ..table.study_keys import refuse_wrong
 
 if TYPE_CHECKING:
     from .shells import Shells
 
-YEARS = 15  # that the largest pit takes, where no rate is given
-MOST_YEARS = 1000  # that it may take: what needs longer has a rate in another unit
+_YEARS = 15  # that the largest pit takes, where no rate is given
+_MOST_YEARS = 1000  # that it may take: what needs longer has a rate in another unit
 
 
 @dataclass(frozen=True)
@@ -27,7 +27,7 @@ class Rates:
     Parameters
     ----------
     mining : float, optional
-        Tonnes of rock a year. Default: the largest pit in `YEARS` years.
+        Tonnes of rock a year. Default: the largest pit in `_YEARS` years.
     mill : float, optional
         Tonnes of the mill's feed a year; likewise.
     discount : float
@@ -45,19 +45,20 @@ class Rates:
         )
 
     def over(self, rock: float, feed: float) -> Rates:
-        """The rates, with those that weren't told for this much rock and feed. Raises PlanError where that takes more than `MOST_YEARS`."""
+        """The rates, with those that weren't told for this much rock and feed. Raises PlanError
+        where that takes more than `_MOST_YEARS`."""
         for name, rate, tonnes in (
             ("mining_rate", self.mining, rock),
             ("mill_rate", self.mill, feed),
         ):
-            if rate and tonnes > MOST_YEARS * rate:
+            if rate and tonnes > _MOST_YEARS * rate:
                 raise PlanError(
                     f"[shells] {name} = {rate:g}: the largest pit's {tonnes:,.0f} tonnes would take {min(tonnes / rate, 1e9):,.0f} years",
-                    try_this=f"{name} in tonnes a year, as {max(tonnes / YEARS, 1):.2g}; the pits stand, and aren't found again",
+                    try_this=f"{name} in tonnes a year, as {max(tonnes / _YEARS, 1):.2g}; the pits stand, and aren't found again",
                 )
         return Rates(
-            self.mining or max(rock / YEARS, 1.0),
-            self.mill or max(feed / YEARS, 1.0),
+            self.mining or max(rock / _YEARS, 1.0),
+            self.mill or max(feed / _YEARS, 1.0),
             self.discount,
         )
 
@@ -72,32 +73,54 @@ class Cells:
     metal: dict[str, Floats]
     graded: dict[str, Floats]  # ore tonnes times their grade
     blocks: Floats
+    classes: dict[str, Cells]  # of each resource class alone, where the table has classes
 
     @classmethod
-    def of(cls, shells: Shells, base: int) -> Cells:
-        """Adds up the blocks of each shell on each bench; ore is what goes to the mill at the factor `base` (in thousandths)."""
+    def of(
+        cls, shells: Shells, base: int, only: Bools | None = None, shell: Shorts | None = None
+    ) -> Cells:
+        """Adds up the blocks of each shell on each bench; ore is what goes to the mill at the
+        factor `base` (in thousandths).
+
+        Parameters
+        ----------
+        shells, base
+        only : bool array of shape (blocks,), optional
+            The blocks that count, of one class; default: all.
+        shell : int array of shape (blocks,), optional
+            The shell of each block, where it isn't that of the pits.
+        """
+        shell = shells.shell if shell is None else shell
         m, p, s = shells.study.model, shells.study.priced, len(shells.factors)
         nz = m.grid.shape[2]
-        cell = shells.shell.astype(np.int64) * nz + (nz - 1 - m.blocks.iz.to_numpy())
-        tonnes, ore = m.blocks.tonnes.to_numpy(float), p.milled(base)
+        cell = shell.astype(np.int64) * nz + (nz - 1 - m.blocks.iz.to_numpy())
+        tonnes = m.blocks.tonnes.to_numpy(float)
+        ore, milled = p.ore_of(tonnes, base), p.milled(base)
 
         def summed(values: Array) -> Floats:
+            counted = values if only is None else values * only
             found: Floats = (
-                np.bincount(cell, values, (s + 1) * nz).astype(float).reshape(s + 1, nz)[:s]
+                np.bincount(cell, counted, (s + 1) * nz).astype(float).reshape(s + 1, nz)[:s]
             )
             return found
 
+        kinds = shells.study.classes if only is None else None
+
         return cls(
             summed(tonnes),
-            summed(tonnes * ore),
+            summed(ore),
             summed(p.worth(base)),
-            {k: summed(v * ore) for k, v in p.metal.items()},
-            {k: summed(v * tonnes * ore) for k, v in p.grade.items()},
+            {k: summed(v * milled) for k, v in p.metal.items()},
+            {k: summed(v * ore) for k, v in p.grade.items()},
             summed(np.ones(len(m))),
+            {k: cls.of(shells, base, held, shell) for k, held in kinds.masks().items()}
+            if kinds
+            else {},
         )
 
     def at(self, i: int, down: int) -> dict[str, Any]:
-        """What lies in shell i (from 0) on the bench so far down from the top, in the columns of `benches`."""
+        """What lies in shell i (from 0) on the bench so far down from the top, in the columns of
+        `benches`."""
         rock, ore = float(self.rock[i, down]), float(self.ore[i, down])
         found: dict[str, Any] = {
             "blocks": int(self.blocks[i, down]),
@@ -109,6 +132,26 @@ class Cells:
         for name in self.metal:
             found[f"grade_{name}"] = float(self.graded[name][i, down]) / ore if ore else np.nan
             found[f"metal_{name}"] = float(self.metal[name][i, down])
+        return found | self.by_class((i, down))
+
+    def by_class(self, place: tuple[Any, ...]) -> dict[str, Any]:
+        """Of each class what lies in some cells: ``class_<name>_`` and ``rock_t``, ``ore_t``,
+        ``grade_<metal>``, ``metal_<metal>``.
+
+        Parameters
+        ----------
+        place
+            Indices into the arrays: of one cell, or slices.
+        """
+        found: dict[str, Any] = {}
+        for name, part in self.classes.items():
+            ore, before = float(part.ore[place].sum()), f"class_{name}_"
+            found |= {f"{before}rock_t": float(part.rock[place].sum()), f"{before}ore_t": ore}
+            for metal, graded in part.graded.items():
+                found[f"{before}grade_{metal}"] = (
+                    float(graded[place].sum()) / ore if ore else np.nan
+                )
+                found[f"{before}metal_{metal}"] = float(part.metal[metal][place].sum())
         return found
 
 
@@ -125,15 +168,17 @@ def table(shells: Shells, base: int, rates: Rates) -> pd.DataFrame:
     Returns
     -------
     DataFrame
-        ``factor`` (share of the price), ``blocks``; ``rock_t``, ``ore_t``, ``waste_t`` (tonnes in place; ore is what goes to
-        the mill at the base factor), ``strip`` (waste by ore), ``feed_t`` (what the mill gets), ``worth_at_factor`` (text:
-        what `pit` proved), ``worth_at_base`` (exact, rounded to a float at the end), ``npv_best`` (dug shell by
-        shell), ``npv_worst`` (the pit bench by bench), ``years``; and for each metal ``grade_<metal>`` (of the ore in
-        place, in its own unit) and ``metal_<metal>`` (recovered, in the unit of its price).
+        ``factor`` (share of the price), ``blocks``; ``rock_t``, ``ore_t``, ``waste_t`` (tonnes in
+        place; ore is what goes to the mill at the base factor), ``strip`` (waste by ore),
+        ``feed_t`` (what the mill gets), ``worth_at_factor`` (text: what `pit` proved),
+        ``worth_at_base`` (exact, rounded to a float at the end), ``npv_best`` (dug shell by shell),
+        ``npv_worst`` (the pit bench by bench), ``years``; and for each metal ``grade_<metal>`` (of
+        the ore in place, in its own unit) and ``metal_<metal>`` (recovered, in the unit of its
+        price); where the table has resource classes, the columns of `Cells.by_class`.
     """
     p, c = shells.study.priced, Cells.of(shells, base)
     rates = rates.over(float(c.rock.sum()), float(c.ore.sum()) * p.feed)
-    rows, worths = [], worths_of(shells, base)
+    rows, worths = [], _worths_of(shells, base)
     for i, factor in enumerate(shells.factors):
         rock, ore = float(c.rock[: i + 1].sum()), float(c.ore[: i + 1].sum())
         best, worst = (
@@ -143,7 +188,7 @@ def table(shells: Shells, base: int, rates: Rates) -> pd.DataFrame:
                 order(c.worth[: i + 1]),
                 rates,
             )
-            for order in (by_shell, by_bench)
+            for order in (_by_shell, by_bench)
         )
         row: dict[str, Any] = {
             "factor": factor / THOUSAND,
@@ -162,12 +207,13 @@ def table(shells: Shells, base: int, rates: Rates) -> pd.DataFrame:
         for name in p.metal:
             row[f"grade_{name}"] = float(c.graded[name][: i + 1].sum()) / ore if ore else np.nan
             row[f"metal_{name}"] = float(c.metal[name][: i + 1].sum())
-        rows.append(row)
+        rows.append(row | c.by_class((slice(i + 1),)))
     return pd.DataFrame(rows)
 
 
-def worths_of(shells: Shells, base: int) -> list[str]:
-    """What each pit is worth at the factor `base`, exactly: its shells are added up, each once, since a pit has all of the one before it."""
+def _worths_of(shells: Shells, base: int) -> list[str]:
+    """What each pit is worth at the factor `base`, exactly: its shells are added up, each once,
+    since a pit has all of the one before it."""
     p, total, found = shells.study.priced, 0, []
     worth = p.thousandths(base)
     for i in range(len(shells.factors)):
@@ -176,7 +222,7 @@ def worths_of(shells: Shells, base: int) -> list[str]:
     return found
 
 
-def by_shell(values: Floats) -> Floats:
+def _by_shell(values: Floats) -> Floats:
     """Pieces in the order of the best case: shell after shell, each from the top."""
     return values.ravel()
 
@@ -188,8 +234,8 @@ def by_bench(values: Floats) -> Floats:
 
 
 def discounted(rock: Floats, feed: Floats, worth: Floats, rates: Rates) -> tuple[float, float]:
-    """The worth of pieces that are dug one after the other, each as quickly as digging and milling allow, discounted to the
-    middle of its time; and how many years all of them take.
+    """The worth of pieces that are dug one after the other, each as quickly as digging and milling
+    allow, discounted to the middle of its time; and how many years all of them take.
 
     Parameters
     ----------
@@ -212,8 +258,9 @@ def benches(shells: Shells, base: int) -> pd.DataFrame:
     Returns
     -------
     DataFrame
-        ``bench`` (elevation of its blocks' centres), ``shell`` (share of the price), ``blocks``, ``rock_t``, ``ore_t``,
-        ``waste_t``, ``worth`` (at the base factor), and for each metal ``grade_<metal>`` and ``metal_<metal>``, as in `table`.
+        ``bench`` (elevation of its blocks' centres), ``shell`` (share of the price), ``blocks``,
+        ``rock_t``, ``ore_t``, ``waste_t``, ``worth`` (at the base factor), and for each metal
+        ``grade_<metal>`` and ``metal_<metal>``, and the columns of classes, as in `table`.
     """
     g, c = shells.study.model.grid, Cells.of(shells, base)
     return pd.DataFrame(

@@ -1,6 +1,8 @@
-"""Which block rests on which, by the slopes that were built: pairs that a set of blocks breaks, and what would mend it.
+"""Which block rests on which, by the slopes that were built: pairs that a set of blocks breaks, and
+what would mend it.
 
-These are this package's own look-ups, for telling where a design is wrong. Whether it is closed is for `pit` to say.
+These are this package's own look-ups, for telling where a design is wrong. Whether it is closed is
+for `pit` to say.
 """
 from __future__ import annotations
 
@@ -46,8 +48,24 @@ class Resting:
                 found = self.index[tuple(to[inside].T)].astype(np.int64)
                 yield here[inside][found >= 0], found[found >= 0], offset
 
+    def on(self, blocks: Ints) -> Iterator[tuple[Ints, Ints, tuple[int, int, int]]]:
+        """Blocks and those that rest on them at an offset, offset by offset.
+
+        Parameters
+        ----------
+        blocks : int array
+        """
+        for region, offsets in enumerate(self.offsets):
+            for offset in offsets:
+                to = self.place[blocks] - offset
+                inside = ((to >= 0) & (to < self.index.shape)).all(axis=1)
+                found = self.index[tuple(to[inside].T)].astype(np.int64)
+                is_so = (found >= 0) & (self.region[found] == region)
+                yield blocks[inside][is_so], found[is_so], offset
+
     def broken(self, held: Bools) -> tuple[Ints, Ints, Ints]:
-        """The pairs of a block in a set and a predecessor that isn't, ascending; and the offset between the two.
+        """The pairs of a block in a set and a predecessor that isn't, ascending; and the offset
+        between the two.
 
         Returns
         -------
@@ -69,7 +87,8 @@ class Resting:
         ----------
         held : bool array of shape (blocks,)
         only : bool array of shape (blocks,), optional
-            What may be added. Default: all blocks, and the set isn't closed then where others are missing.
+            What may be added. Default: all blocks, and the set isn't closed then where others are
+            missing.
         """
         out = held.copy()
         level = self.place[:, 2]

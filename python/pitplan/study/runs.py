@@ -1,4 +1,5 @@
-"""Pits are found: run by `pit`, added up again from the planner's table, and put in their place whole."""
+"""Pits are found: run by `pit`, added up again from the planner's table, and put in their place
+whole."""
 from __future__ import annotations
 
 import hashlib
@@ -16,7 +17,7 @@ from ..base.units_shown import share_text
 from ..pit.program import Accepted, Stated
 from .verdicts import Verdict, Verdicts
 
-Told = Callable[
+FactorProgress = Callable[
     [int, str, float], None
 ]  # a factor, what is done for it, and how far that is, from 0 to 1
 
@@ -29,20 +30,25 @@ class Runs(Verdicts):
     began: float | None = None
 
     def room(self, work: Path) -> Path:
-        """The folder in which a certificate is written while it is checked: beside the result, unless a class says otherwise."""
+        """The folder in which a certificate is written while it is checked: beside the result,
+        unless a class says otherwise."""
         return work
 
     def run(
-        self, factor: int, told: Told | None = None, sure: Callable[[], None] | None = None
+        self,
+        factor: int,
+        progress: FactorProgress | None = None,
+        sure: Callable[[], None] | None = None,
     ) -> Verdict:
-        """One pit with its certificate: found, checked, added up again, and put in its place whole. Where it is there already,
-        nothing is done; where the pit is there without a certificate, it has to be the same.
+        """One pit with its certificate: found, checked, added up again, and put in its place whole.
+        Where it is there already, nothing is done; where the pit is there without a certificate, it
+        has to be the same.
 
         Parameters
         ----------
         factor : int
             Of the revenue, in thousandths.
-        told : function, optional
+        progress : function, optional
             Is told the factor, what is done for it, and how far that is.
         sure : function, optional
             Is called before anything is kept, as that of `verifying`.
@@ -52,7 +58,8 @@ class Runs(Verdicts):
         NotAccepted
             Where `pit check` doesn't accept.
         Disagreement
-            Where the planner's own table doesn't add up to what `pit` says, or `pit shells` stated another pit. Nothing is kept then.
+            Where the planner's own table doesn't add up to what `pit` says, or `pit shells` stated
+            another pit. Nothing is kept then.
         """
         done = self.certified(factor)
         if done:
@@ -62,12 +69,19 @@ class Runs(Verdicts):
         stated = self.mask(factor) if self.verdict(factor) else None
         with made_whole(place) as work:
             found = self.program.best(
-                self.files, factor, self.room(work) / "best.cert", solving(told, factor), self.keeps
+                self.files,
+                factor,
+                self.room(work) / "best.cert",
+                _solving(progress, factor),
+                self.keeps,
             )
             self.agree(found, factor)
             if stated is not None and (stated != found.mask).any():
                 raise Disagreement(
-                    f"at factor {share_text(factor)} pit shells stated another pit than pit solve found, and the best pit is one",
+                    (
+                        f"at factor {share_text(factor)} pit shells stated another pit than pit"
+                        " solve found, and the best pit is one"
+                    ),
                     try_this="keep the folder, and tell the maintainers",
                 )
             if sure:
@@ -75,7 +89,8 @@ class Runs(Verdicts):
             return self.kept(work, found, time.monotonic() - began)
 
     def kept(self, work: Path, found: Accepted | Stated, seconds: float) -> Verdict:
-        """Writes a pit that has been added up, and its verdict, into a folder that is then renamed to its place."""
+        """Writes a pit that has been added up, and its verdict, into a folder that is then renamed
+        to its place."""
         bits = np.packbits(found.mask)
         np.savez_compressed(work / "pit.npz", bits=bits)
         done = Verdict(
@@ -97,16 +112,17 @@ class Runs(Verdicts):
         self,
         factors: Sequence[int],
         workers: int = 1,
-        told: Told | None = None,
+        progress: FactorProgress | None = None,
         sure: Callable[[], None] | None = None,
     ) -> None:
-        """The pits at some factors without certificates, from one run of `pit shells`: each added up again, and put in its place.
+        """The pits at some factors without certificates, from one run of `pit shells`: each added
+        up again, and put in its place.
 
         Parameters
         ----------
         factors : sequence of int
             In thousandths, ascending, at most `program.MOST_FACTORS`.
-        workers, told, sure
+        workers, progress, sure
             As of `run`; `workers` is how many factors `pit` solves at a time.
 
         Raises
@@ -119,7 +135,9 @@ class Runs(Verdicts):
         with tempfile.TemporaryDirectory(
             prefix=f".f{factors[0]:05d}-{factors[-1]:05d}.{mark()}", dir=pits
         ) as work:
-            found = self.program.series(self.files, factors, Path(work), workers, proving(told))
+            found = self.program.series(
+                self.files, factors, Path(work), workers, _proving(progress)
+            )
         for pit in found:
             self.agree(pit, pit.factor)
         if sure:
@@ -127,22 +145,22 @@ class Runs(Verdicts):
         for pit in found:
             with made_whole(self.place(pit.factor)) as work_of_pit:
                 self.kept(work_of_pit, pit, (time.monotonic() - began) / len(found))
-            if told:
-                told(pit.factor, "done", 1.0)
+            if progress:
+                progress(pit.factor, "done", 1.0)
 
 
-def solving(told: Told | None, factor: int) -> Callable[[int, int], None] | None:
-    """How far `pit solve` is, in the words of `Told`."""
-    if told is None:
+def _solving(progress: FactorProgress | None, factor: int) -> Callable[[int, int], None] | None:
+    """How far `pit solve` is, in the words of `FactorProgress`."""
+    if progress is None:
         return None
-    listener = told
+    listener = progress
     listener(factor, "solving", 0.0)
     return lambda settled, of: listener(factor, "solving", settled / of if of else 0.0)
 
 
-def proving(told: Told | None) -> Callable[[int], None] | None:
-    """Which pits `pit shells` has proved, in the words of `Told`."""
-    if told is None:
+def _proving(progress: FactorProgress | None) -> Callable[[int], None] | None:
+    """Which pits `pit shells` has proved, in the words of `FactorProgress`."""
+    if progress is None:
         return None
-    listener = told
+    listener = progress
     return lambda factor: listener(factor, "proved", 1.0)

@@ -9,13 +9,15 @@ import numpy as np
 import pandas as pd
 
 from ..base.amounts import LARGEST_FACTOR, THOUSAND
-from ..base.arrays import Bools, Shorts
+from ..base.arrays import Array, Bools, Shorts
 from ..base.errors import Disagreement, PlanError
 from ..base.units_shown import share_text
 from . import edges, pit_by_pit
 
 if TYPE_CHECKING:
-    from .runs import Told
+    from ..base.amounts import Priced
+    from ..model.outlines import Benches
+    from .runs import FactorProgress
     from .study import Study
     from .verdicts import Verdict
 
@@ -41,7 +43,10 @@ def thousandths(share: float) -> int:
     if abs(found - share * THOUSAND) > 1e-6 or not 0 <= found <= LARGEST_FACTOR:
         hint = share_text(share) if LARGEST_FACTOR / THOUSAND < share <= LARGEST_FACTOR else None
         raise PlanError(
-            f"a factor is {share:g}, and has to be a share of the price in whole thousandths, from 0 to {LARGEST_FACTOR // THOUSAND}",
+            (
+                f"a factor is {share:g}, and has to be a share of the price in whole thousandths,"
+                f" from 0 to {LARGEST_FACTOR // THOUSAND}"
+            ),
             try_this=hint,
         )
     return found
@@ -60,7 +65,10 @@ def factors(low: float, high: float, step: float) -> list[int]:
         )
     if step * THOUSAND < 1 - 1e-6:
         raise PlanError(
-            f"factors from {low:g} to {high:g} by {step:g}: factors are whole thousandths, so that a step is at least 0.001",
+            (
+                f"factors from {low:g} to {high:g} by {step:g}: factors are whole thousandths, so"
+                " that a step is at least 0.001"
+            ),
             try_this="step = 0.05",
         )
     # so many that one of them is above the largest, if `high` is far above it
@@ -80,11 +88,13 @@ def series_of(shares: Iterable[float]) -> list[int]:
 
 
 class Shells:
-    """The proved pits of a study at a series of factors. A shell is what a pit adds to the one before it.
+    """The proved pits of a study at a series of factors. A shell is what a pit adds to the one
+    before it.
 
-    Every pit is checked again as it is read: the digests of the model's files and of the pit, its count, its worth by the
-    planner's own table, and that it lies within the next. A file that nobody has touched since this process digested it isn't read
-    again (`digests`), and bits that this study has just added up aren't added up again (`Study.mask`).
+    Every pit is checked again as it is read: the digests of the model's files and of the pit, its
+    count, its worth by the planner's own table, and that it lies within the next. A file that
+    nobody has touched since this process digested it isn't read again (`digests`), and bits that
+    this study has just added up aren't added up again (`Study.mask`).
 
     Parameters
     ----------
@@ -97,9 +107,11 @@ class Shells:
     factors : list of int
         In thousandths, ascending.
     shell : int array of shape (blocks,)
-        The first pit that has a block, as an index into `factors`; ``len(factors)`` where none has it.
+        The first pit that has a block, as an index into `factors`; ``len(factors)`` where none has
+        it.
     verdicts : list of dict
-        What is kept of each pit: factor, count, worth, certificate (None where there is none) and more, as `study.Verdict`.
+        What is kept of each pit: factor, count, worth, certificate (None where there is none) and
+        more, as `study.Verdict`.
 
     Raises
     ------
@@ -108,6 +120,9 @@ class Shells:
     Disagreement
         Where a check contradicts what was accepted. Nothing is shown then.
     """
+
+    called = "shell"  # what a block's first pit is called where blocks are listed
+    by = "factor"  # what tells one pit from another in files
 
     def __init__(self, study: Study, series: Iterable[int]) -> None:
         self.study = study
@@ -124,7 +139,10 @@ class Shells:
             mask = self.study.mask(self.factors[i])
             if below is not None and (mask & ~below).any():
                 raise Disagreement(
-                    f"the pit at {share_text(self.factors[i])} isn't within that at {share_text(self.factors[i + 1])}, and pit proves that it is",
+                    (
+                        f"the pit at {share_text(self.factors[i])} isn't within that at"
+                        f" {share_text(self.factors[i + 1])}, and pit proves that it is"
+                    ),
                     try_this="were results of several models mixed in this folder?",
                 )
             self.shell[mask] = i
@@ -138,27 +156,59 @@ class Shells:
 
     @property
     def certified(self) -> int:
-        """How many of the pits have a certificate that `pit check` accepted; the others are as `pit shells` states them."""
+        """How many of the pits have a certificate that `pit check` accepted; the others are as `pit
+        shells` states them."""
         return sum(verdict["certificate"] is not None for verdict in self.verdicts)
 
-    def with_certificates(self, workers: int | None = None, told: Told | None = None) -> Shells:
-        """The same pits, each with its certificate: those that have none yet are found by themselves, checked, and have to be the same.
+    def with_certificates(
+        self, workers: int | None = None, progress: FactorProgress | None = None
+    ) -> Shells:
+        """The same pits, each with its certificate: those that have none yet are found by
+        themselves, checked, and have to be the same.
 
         Parameters
         ----------
-        workers, told
+        workers, progress
             As of `Study.shells`.
         """
         return (
             self
             if self.certified == len(self)
-            else self.study.shells(self.factors, workers, told, certificates=True)
+            else self.study.shells(self.factors, workers, progress, certificates=True)
         )
 
     @cached_property
     def dug(self) -> Shorts:
-        """As `shell`, of rock alone: blocks of air have ``len(factors)``. What is drawn and measured is rock."""
+        """As `shell`, of rock alone: blocks of air have ``len(factors)``. What is drawn and
+        measured is rock."""
         return np.where(self.study.model.is_rock, self.shell, np.int16(len(self.factors)))
+
+    @property
+    def priced(self) -> Priced:
+        """What each block is worth, and whether it goes to the mill, in files of these pits."""
+        return self.study.priced
+
+    def mark(self, i: int) -> float:
+        """What tells pit i from the others: its factor as a share of the price."""
+        return self.factors[i] / THOUSAND
+
+    def worth(self, i: int) -> str:
+        """What pit i is worth at its factor, as `pit` states it."""
+        return str(self.verdicts[i]["worth"])
+
+    @cached_property
+    def traced(self) -> dict[int, Benches]:
+        """What `outlines` has made."""
+        return {}
+
+    def outlines(self, i: int) -> Benches:
+        """The level and the outline of each bench of pit i's rock, as `by_bench` gives them; they
+        are traced once for all files that have them."""
+        from ..model.outlines import by_bench, cube_of
+
+        if i not in self.traced:
+            self.traced[i] = list(by_bench(cube_of(self.study.model, self.dug <= i, False)))
+        return self.traced[i]
 
     def holds(self, i: int) -> Bools:
         """Whether a block is in pit i, of shape (blocks,)."""
@@ -167,18 +217,21 @@ class Shells:
         held: Bools = self.shell <= i
         return held
 
+    @property
+    def first(self) -> Array:
+        """The factor of the first pit that has each block, as a share of the price; nan where none
+        has it."""
+        shares = np.array([*(factor / THOUSAND for factor in self.factors), np.nan])
+        found: Array = shares[self.shell]
+        return found
+
     def of_blocks(self) -> pd.DataFrame:
-        """The first shell that has each block: ``id``, ``row`` (as a spreadsheet counts it; 0 for blocks that were added) and
-        ``shell``, the factor as a share of the price, empty where no pit has the block."""
-        model, shares = self.study.model, np.array(
-            [*(factor / THOUSAND for factor in self.factors), np.nan]
-        )
+        """The first shell that has each block: ``id``, ``row`` (as a spreadsheet counts it; 0 for
+        blocks that were added) and ``shell``, the factor as a share of the price, empty where no
+        pit has the block."""
+        model = self.study.model
         return pd.DataFrame(
-            {
-                "id": model.blocks["id"].to_numpy(),
-                "row": model.table_row,
-                "shell": shares[self.shell],
-            }
+            {"id": model.blocks["id"].to_numpy(), "row": model.table_row, "shell": self.first}
         )
 
     def table(
@@ -196,11 +249,13 @@ class Shells:
         return pit_by_pit.benches(self, base)
 
     def touches_edge(self, i: int) -> int:
-        """How many blocks of pit i have a slope that asks for a place outside the model. See `edges.touching`."""
+        """How many blocks of pit i have a slope that asks for a place outside the model. See
+        `edges.touching`."""
         return int(np.count_nonzero(self.touching & self.holds(i)))
 
     def reaches_floor(self, i: int) -> int:
-        """How many blocks of pit i are the lowest of their column in the model. See `edges.on_floor`."""
+        """How many blocks of pit i are the lowest of their column in the model. See
+        `edges.on_floor`."""
         return int(np.count_nonzero(self.floor & self.holds(i)))
 
     @cached_property
@@ -210,6 +265,7 @@ class Shells:
 
     @cached_property
     def touching(self) -> Bools:
-        """Whether a block of the largest pit has such a slope, of shape (blocks,); those of a smaller pit are among them."""
+        """Whether a block of the largest pit has such a slope, of shape (blocks,); those of a
+        smaller pit are among them."""
         touching: Bools = edges.touching(self.study) & (self.shell < len(self.factors))
         return touching

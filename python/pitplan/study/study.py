@@ -1,13 +1,14 @@
 """A study: a folder that holds the model as `pit` reads it, and a proved pit for each factor.
 
     study.toml                                     what the planner says
-    model/   mine.blocks mine.prec settings.toml slope-*.toml blocks.npz manifest.json
+    model/   mine.blocks mine.prec settings.toml slopes.toml blocks.npz manifest.json
     runs/base/f00800/   pit.npz verdict.json, and best.cert.gz where its certificate was asked for
     out/     tables and pictures
 
-The model and each run are written in a folder of their own and renamed, so that they are there whole or not at all. A pit counts where its
-verdict names the digests of the model as it stands; what else is there is made again. So a run that was cut off goes on
-where it was, and a pit of an older model is never shown.
+The model and each run are written in a folder of their own and renamed, so that they are there
+whole or not at all. A pit counts where its verdict names the digests of the model as it stands;
+what else is there is made again. So a run that was cut off goes on where it was, and a pit of an
+older model is never shown.
 """
 from __future__ import annotations
 
@@ -20,9 +21,9 @@ from ..model.model import Model
 from ..pit.program import Accepted, Pit
 from ..slopes.slopes import Slopes
 from .building import Building
-from .runs import Runs, Told
+from .runs import Runs, FactorProgress
 from .shells import Shells, factors, thousandths
-from .workers import run_all, run_series
+from .workers import run_each, run_together
 
 
 class Study(Runs):
@@ -34,13 +35,15 @@ class Study(Runs):
     program : Pit, optional
         Found as `program.found_program` says unless given.
     named : Path, optional
-        How the user named the study, for the commands that a message names: its folder, or its study.toml.
+        How the user named the study, for the commands that a message names: its folder, or its
+        study.toml.
 
     Attributes
     ----------
     manifest : dict
-        ``key`` (of the three files that `pit` reads), ``files`` (sha256 by name), ``blocks``, ``pairs``, ``offsets`` by region,
-        ``metals``, ``currency``, ``source`` (the table, as `near` has it, and its sha256), ``keys`` (the digest of study.toml), ``pit``.
+        ``key`` (of the three files that `pit` reads), ``files`` (sha256 by name), ``blocks``,
+        ``pairs``, ``offsets`` by region, ``metals``, ``currency``, ``source`` (the table, as `near`
+        has it, and its sha256), ``keys`` (the digest of study.toml), ``pit``.
 
     Raises
     ------
@@ -73,14 +76,16 @@ class Study(Runs):
         Raises
         ------
         PlanError
-            Where the model, the economics or the slopes are wrong. The study that was there stays as it was.
+            Where the model, the economics or the slopes are wrong. The study that was there stays
+            as it was.
         """
         pit = program or Pit()
         Building(Path(folder), model, economics, slopes, pit, keys).write()
         return cls(folder, pit)
 
     def pit(self, share: float) -> Accepted:
-        """The pit at a share of the price, run where it hasn't been, and checked by `pit check` once more.
+        """The pit at a share of the price, run where it hasn't been, and checked by `pit check`
+        once more.
 
         Parameters
         ----------
@@ -98,13 +103,13 @@ class Study(Runs):
         self,
         series: Sequence[int] | None = None,
         workers: int | None = None,
-        told: Told | None = None,
+        progress: FactorProgress | None = None,
         certificates: bool = False,
     ) -> Shells:
         """The proved pit at each factor; those that are there already aren't run again.
 
-        Without certificates they come from one run of `pit shells` for each 64 factors, where this `pit` has the option
-        `--by-block`; a `pit` that hasn't makes a certificate of each.
+        Without certificates they come from one run of `pit shells` for each 64 factors, where this
+        `pit` has the option `--by-block`; a `pit` that hasn't makes a certificate of each.
 
         Parameters
         ----------
@@ -112,14 +117,14 @@ class Study(Runs):
             Factors in thousandths, as `shells.factors` makes them. Default: 0.30 to 1.20 by 0.05.
         workers : int, optional
             How many pits are found at a time. Default: as many as processors and free memory allow.
-        told : function, optional
+        progress : function, optional
             Is told how far each factor is.
         certificates : bool
             Whether each pit is found by itself, with a certificate that `pit check` accepts.
         """
         found = sorted(set(series)) if series is not None else factors(0.3, 1.2, 0.05)
         sweep(self.folder / "runs" / "base")
-        (run_all if certificates or not self.program.states_blocks else run_series)(
-            self, found, workers, told
+        (run_each if certificates or not self.program.states_blocks else run_together)(
+            self, found, workers, progress
         )
         return Shells(self, found)

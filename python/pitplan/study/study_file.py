@@ -1,26 +1,47 @@
-"""``study.toml``: what the planner says, read and checked. Unknown keys are errors that name the nearest known one."""
+"""``study.toml``: what the planner says, read and checked. Unknown keys are errors that name the
+nearest known one."""
 from __future__ import annotations
 
 import hashlib
 import json
-import re
-import tomllib
-from collections.abc import Mapping
+import os
+from collections.abc import Iterable, Iterator, Mapping, Sequence
+from contextlib import contextmanager
 from dataclasses import dataclass, field, fields
 from pathlib import Path
+from types import MappingProxyType
 from typing import Any
 
-from ..base.errors import Gathered, PlanError, meant
+from ..base.errors import (
+    Gathered,
+    KeyPath,
+    PlanError,
+    Remedy,
+    Several,
+    about,
+    meant,
+    near_to,
+    spelled,
+)
 from ..base.next_command import command
 from ..model.economics import Economics, Metal
+from ..model.grid import Grid
 from ..model.model import Model, TableKeys, read_with
 from ..slopes.slopes import Slopes
 from ..table import study_keys
+from ..table.csv_text import tables_like
+from . import toml_lines
 from .shells import factors, series_of
+from .toml_lines import Document
 
-NAME = "study.toml"
-RATES = ("mining_rate", "mill_rate", "discount")
-FAR = 10**100  # how far from 0 a whole number may be
+_NAME = "study.toml"
+_RATES = ("mining_rate", "mill_rate", "discount")
+_NOTHING = {
+    "mining": 0,
+    "processing": 0,
+}  # in place of costs that are wrong, while the other keys are tried
+_STAND_IN = "-"  # for the name of a column or of a region
+_FAR = 10**100  # how far from 0 a whole number may be
 
 
 @dataclass(frozen=True)
@@ -38,7 +59,8 @@ class StudyFile:
     factors : list of int
         In thousandths.
     rates : dict
-        Of ``mining_rate``, ``mill_rate``, ``discount`` those that are given: words for `Shells.table`.
+        Of ``mining_rate``, ``mill_rate``, ``discount`` those that are given: words for
+        `Shells.table`.
     digest : str
         Of the sections [model], [economics] and [slopes]: what a built model rests on.
     values : dict of dict
@@ -57,12 +79,40 @@ class StudyFile:
 
     def read_model(self) -> Model:
         """The model that the table holds."""
-        return read_with(self.table, self.keys)
+        with table_found(self.path, self.table):
+            return read_with(self.table, self.keys)
+
+    def grid(self) -> Grid:
+        """The size and rotation of the blocks, by study.toml alone where it gives the size, so that
+        slopes can be tried before a build."""
+        if self.keys.size is None:
+            return self.read_model().grid
+        x, y, z = (float(side) for side in self.keys.size)
+        return Grid((0.0, 0.0, 0.0), (x, y, z), (0, 0, 0), float(self.keys.rotation))
+
+
+@contextmanager
+def table_found(study_toml: Path, table: Path) -> Iterator[None]:
+    """The error of a table that isn't there says what the key has to be: a path from the folder of
+    study.toml."""
+    try:
+        yield
+    except PlanError as error:
+        like = [] if table.exists() else tables_like(table)
+        if like and error.key == ("model", "table"):
+            ways = [
+                Remedy(error.key, Path(os.path.relpath(each, study_toml.parent)).as_posix())
+                for each in like
+            ]
+            error.remedy = ways[0] if len(ways) == 1 else None
+            names = " or ".join(f"table = {spelled(way.value)}" for way in ways)
+            error.try_this = f"{names} in [model]"
+        raise
 
 
 def path_of(study: Path) -> Path:
     """The study.toml of a study, which is named by its folder or by that file."""
-    return study if study.suffix == ".toml" else study / NAME
+    return study if study.suffix == ".toml" else study / _NAME
 
 
 def read_study_file(study: Path) -> StudyFile:
@@ -79,23 +129,22 @@ def read_study_file(study: Path) -> StudyFile:
         Where it isn't there, isn't TOML, or has a section, a key or a value that it may not have.
     """
     path = path_of(study)
-    parts = parts_of(path, toml_of(study))
+    parts = parts_of_file(study)
     parts.errors.tell()
     return parts.whole()
 
 
-def toml_of(study: Path) -> dict[str, Any]:
-    """What a study's study.toml says, as TOML.
+def parts_of_file(study: Path) -> Parts:
+    """What a study's study.toml says, section by section.
 
     Raises
     ------
     PlanError
-        Where it isn't there, or isn't TOML.
+        Where it isn't there, or can't be read as TOML but for single statements.
     """
     path = path_of(study)
     try:
-        text = path.read_text("utf-8-sig")
-        return tomllib.loads(text)
+        document = toml_lines.read(path.read_text("utf-8-sig"), path)
     except NotADirectoryError:
         raise PlanError(
             f"{study} is a file, and a study is a folder",
@@ -106,26 +155,16 @@ def toml_of(study: Path) -> dict[str, Any]:
             f"{path} isn't there",
             try_this=f"the folder of a study, or {command('init', '.', 'TABLE.csv')} to begin one",
         ) from None
-    except (UnicodeDecodeError, RecursionError) as error:
+    except UnicodeDecodeError as error:
         raise PlanError(f"isn't TOML: {error}", table=path) from None
-    except ValueError as error:  # also a number of more digits than Python reads
-        raise PlanError(
-            f"isn't TOML: {error}{line_of(text, str(error))}",
-            table=path,
-            try_this="numbers with a point as 2.4, words in quotes, every bracket closed",
-        ) from None
-
-
-def line_of(text: str, said: str) -> str:
-    """The line of a text that an error names, as "line 10"; nothing where it names none."""
-    found = re.search(r"line (\d+)", said)
-    lines = text.splitlines()
-    return f": {lines[int(found[1]) - 1].strip()}" if found and int(found[1]) <= len(lines) else ""
+    if document.values is None:
+        raise document.errors[0] if len(document.errors) == 1 else Several(document.errors)
+    return _parts_of(path, document.values, document)
 
 
 def refuse_digits(where: str, value: Any) -> None:
     """Refuses whole numbers of very many digits, which no float holds."""
-    if isinstance(value, int) and abs(value) > FAR:
+    if isinstance(value, int) and abs(value) > _FAR:
         raise PlanError(f"{where.strip()} has a number of very many digits")
     if isinstance(value, dict):
         for key, part in value.items():
@@ -136,30 +175,67 @@ def refuse_digits(where: str, value: Any) -> None:
 
 
 @dataclass
+class _Partly:
+    """What the right keys of wrong sections say, so that the others hide no further error.
+
+    Attributes
+    ----------
+    keys, economics, slopes :
+        With a value that says nothing in place of each wrong key that is needed; None where the
+        section is right.
+    covered : set of KeyPath
+        The keys that have such a value, or that may be meant by one that isn't known: no error that
+        concerns one of them is told.
+    unnamed : dict
+        The place in the list of each metal that has no name, by the one that errors call it.
+    """
+
+    keys: TableKeys | None = None
+    economics: Economics | None = None
+    slopes: Slopes | None = None
+    covered: set[KeyPath] = field(default_factory=set)
+    unnamed: dict[str, int] = field(default_factory=dict)
+
+    def covers(self, key: KeyPath) -> bool:
+        """Whether an error of a key hangs on one that was told."""
+        return any(key[: len(path)] == path for path in self.covered)
+
+    def to_tell(self, errors: Iterable[PlanError]) -> list[PlanError]:
+        """The errors that hang on none that was told, with the keys that the file has."""
+        found = [error for error in errors if not self.covers(error.key)]
+        for error in found:
+            if error.key[:2] == ("economics", study_keys.METALS) and len(error.key) > 2:
+                at = self.unnamed.get(str(error.key[2]), error.key[2])
+                error.key = (*error.key[:2], at, *error.key[3:])
+        return found
+
+
+@dataclass
 class Parts:
     """What a study.toml says, section by section; None where a section is wrong.
 
     Attributes
     ----------
     path : Path
-    told : dict
+    document : dict
         The file as TOML.
     errors : Gathered
         Each error that hangs on no other one.
     """
 
     path: Path
-    told: Mapping[str, Any]
+    document: Mapping[str, Any]
     errors: Gathered = field(default_factory=Gathered)
     keys: TableKeys | None = None
     economics: Economics | None = None
     slopes: Slopes | None = None
     factors: list[int] | None = None
+    partly: _Partly = field(default_factory=lambda: _Partly())
 
     @property
     def table(self) -> Path | None:
         """The table of blocks; None where no file is named."""
-        section = self.told.get("model")
+        section = self.document.get("model")
         named = section.get("table") if isinstance(section, Mapping) else None
         return self.path.parent / Path(named).expanduser() if isinstance(named, str) else None
 
@@ -173,15 +249,17 @@ class Parts:
             and self.factors is not None
         )
         values = {
-            section: study_keys.with_defaults(section, self.told.get(section, {}))
+            section: study_keys.with_defaults(section, self.document.get(section, {}))
             for section in study_keys.SECTIONS
         }
         rates = {
-            name: self.told["shells"][name] for name in RATES if name in self.told.get("shells", {})
+            name: self.document["shells"][name]
+            for name in _RATES
+            if name in self.document.get("shells", {})
         }
         digest = hashlib.sha256(
             json.dumps(
-                [self.told[name] for name in study_keys.NEEDED], sort_keys=True, default=str
+                [self.document[name] for name in study_keys.NEEDED], sort_keys=True, default=str
             ).encode()
         ).hexdigest()
         return StudyFile(
@@ -197,58 +275,148 @@ class Parts:
         )
 
 
-def parts_of(path: Path, told: Mapping[str, Any]) -> Parts:
-    """The sections of a study.toml as what they say, with each error that hangs on no other one."""
-    found = Parts(path, told, Gathered(path.name))
+def _parts_of(path: Path, document: Mapping[str, Any], read: Document | None = None) -> Parts:
+    """The sections of a study.toml as what they say, with each error that hangs on no other one;
+    `read` has those of statements that are no TOML."""
+    found, broken = Parts(path, document, Gathered(path.name)), read or Document()
+    found.errors.add(broken.errors)
     with found.errors.part():
-        refuse_digits("", told)
-    if found.errors.errors:
+        refuse_digits("", document)
+    if len(found.errors.errors) > len(broken.errors):
         return found
-    found.errors.add(wrong_sections(told))
+    found.errors.add(_wrong_sections(document))
     sections = {
-        name: told.get(name, {} if name == "shells" else None) for name in study_keys.SECTIONS
+        name: document.get(name, None if name in study_keys.NEEDED else {})
+        for name in study_keys.SECTIONS
     }
     right = []
     for name, section in sections.items():
         if isinstance(section, Mapping):
-            wrong = wrong_in_section(name, section)
+            wrong = [error for error in broken.errors if error.key[:1] == (name,)]
+            wrong += _wrong_in_section(name, section, {error.key[1]: True for error in wrong})
             found.errors.add(wrong)
             right += [] if wrong else [name]
-    if "model" in right:
-        with found.errors.part("model"):
-            found.keys = made("model", TableKeys, told["model"])
-    if "economics" in right:
-        with found.errors.part("economics"):
-            found.economics = economics_of(told["economics"])
-    if "slopes" in right:
-        with found.errors.part("slopes"):
-            found.slopes = made("slopes", Slopes, told["slopes"])
-    if "shells" in right:
-        with found.errors.part("shells", "factors"):
-            found.factors = series(
-                study_keys.with_defaults("shells", sections["shells"])["factors"]
-            )
+            if wrong:
+                _of_right_keys(found, name, section, wrong)
+    for name in right:
+        _whole_section(found, name, sections[name])
     return found
 
 
-def wrong_sections(told: Mapping[str, Any]) -> list[PlanError]:
+def _whole_section(found: Parts, name: str, section: Mapping[str, Any]) -> None:
+    """Keeps what a section says of which each key is right by itself."""
+    errors = Gathered(found.path.name)
+    with errors.part(name):
+        if name == "model":
+            found.keys = _made("model", TableKeys, section)
+        elif name == "economics":
+            found.economics = economics_of(section)
+        elif name == "slopes":
+            found.slopes = _made("slopes", Slopes, section)
+        elif name == "shells":
+            with about("shells", "factors"):
+                found.factors = _series(study_keys.with_defaults("shells", section)["factors"])
+    found.errors.add(errors.errors)
+    if errors.errors:
+        _of_right_keys(found, name, section, errors.errors)
+
+
+def _of_right_keys(
+    found: Parts, name: str, section: Mapping[str, Any], wrong: list[PlanError]
+) -> None:
+    """Keeps what the right keys of a section say, and what is wrong with them together."""
+    partly, errors = found.partly, Gathered(found.path.name)
+    hidden = {(name, key) for key in _hidden_keys(name, section, wrong, (name,))}
+    partly.covered |= hidden
+    right = {key: value for key, value in section.items() if (name, key) not in hidden}
+    if name == "model":
+        with errors.part("model"):
+            partly.keys = _made("model", TableKeys, right)
+    elif name == "economics":
+        metals = right.get(study_keys.METALS, [{}])
+        if study_keys.KINDS["metals"].holds(metals):
+            right[study_keys.METALS] = [
+                _right_metal(partly, metal, at, wrong) for at, metal in enumerate(metals)
+            ]
+        with errors.part("economics"):
+            partly.economics = economics_of({**_NOTHING, **right})
+    elif name == "slopes":
+        usual = study_keys.keys_of("slopes")["angles"].default
+        bad = {error.key[2] for error in wrong if _is_of_region(error.key)}
+        if study_keys.is_table(right.get("regions")):
+            regions = right["regions"].items()
+            right["regions"] = {name: usual if name in bad else angles for name, angles in regions}
+        if ("slopes", "by") in hidden and right.get("regions"):
+            right["by"] = _STAND_IN
+        if ("slopes", "regions") in hidden and right.get("by"):
+            right["regions"] = {_STAND_IN: usual}
+        with errors.part("slopes"):
+            partly.slopes = _made("slopes", Slopes, right)
+    elif name == "shells" and "factors" in right:
+        with errors.part("shells", "factors"):
+            _series(right["factors"])
+    found.errors.add(partly.to_tell(errors.errors))
+
+
+def _right_metal(
+    partly: _Partly, metal: Mapping[str, Any], at: int, wrong: Sequence[PlanError]
+) -> dict[str, Any]:
+    """The right keys of one of the metals."""
+    path = _metal_path(metal, at)
+    hidden = _hidden_keys(
+        study_keys.METALS, metal, [error for error in wrong if error.key[:3] == path], path
+    )
+    name = str(path[2]) if isinstance(path[2], str) else f"{at + 1}"
+    partly.unnamed |= {} if isinstance(path[2], str) else {name: at}
+    partly.covered |= {("economics", study_keys.METALS, name, key) for key in hidden}
+    needed = {"name": name, "grade": _STAND_IN, "price": 0}
+    return needed | {key: value for key, value in metal.items() if key not in hidden}
+
+
+def _is_of_region(key: KeyPath) -> bool:
+    """Whether a key is that of the angles of one region."""
+    return key[:2] == ("slopes", "regions") and len(key) > 2
+
+
+def _hidden_keys(
+    section: str, values: Mapping[str, Any], wrong: Sequence[PlanError], at: KeyPath
+) -> set[str]:
+    """The keys of a section that wrong ones stand for: themselves; of a key that isn't known the
+    one that seems to be meant, or each that isn't there; and those that are needed and missing."""
+    known, found = study_keys.keys_of(section), set[str]()
+    for error in wrong:
+        name = str(error.key[len(at)]) if len(error.key) > len(at) else ""
+        is_of_part = name == study_keys.METALS and len(error.key) > 2 and len(at) == 1
+        if name in known and not is_of_part and not _is_of_region(error.key):
+            found.add(name)
+        elif name and name not in known:
+            near = near_to(name, list(known))
+            found |= {name} | ({near} if near else set(known) - set(values))
+    return found | {key for key, it in known.items() if it.is_needed and values.get(key) is None}
+
+
+def _wrong_sections(document: Mapping[str, Any]) -> list[PlanError]:
     """Sections that a study.toml has and may not have, or needs and hasn't."""
     names = study_keys.SECTIONS
     found = [
         PlanError(
             f"the file has no section {name!r}{meant(name, names)}",
-            try_this=", ".join(names),
+            try_this=(
+                f"[{near}]"
+                if (near := near_to(name, names)) and near not in document
+                else ", ".join(names)
+            ),
             key=(name,),
         )
-        for name in told
+        for name in document
         if name not in names
     ]
     for name in names:
-        if name in told and not isinstance(told[name], Mapping):
+        if name in document and not isinstance(document[name], Mapping):
             found.append(
                 PlanError(f"{name} has to be a section: [{name}] in a line of its own", key=(name,))
             )
-        elif name in study_keys.NEEDED and name not in told:
+        elif name in study_keys.NEEDED and name not in document:
             found.append(
                 PlanError(
                     f"there is no section [{name}]",
@@ -259,30 +427,39 @@ def wrong_sections(told: Mapping[str, Any]) -> list[PlanError]:
     return found
 
 
-def wrong_in_section(section: str, values: Mapping[str, Any]) -> list[PlanError]:
-    """What is wrong with each key of a section, and with each of the metals."""
-    found = study_keys.wrong_in(section, values) + study_keys.missing_in(section, values)
+def _wrong_in_section(
+    section: str, values: Mapping[str, Any], broken: Mapping[Any, bool] = MappingProxyType({})
+) -> list[PlanError]:
+    """What is wrong with each key of a section, and with each of the metals; the broken ones aren't
+    missing."""
+    found = study_keys.wrong_in(section, values)
+    found += study_keys.missing_in(section, {**values, **broken})
     metals = values.get(study_keys.METALS) if section == "economics" else None
     if study_keys.KINDS["metals"].holds(metals):
         for at, metal in enumerate(metals or ()):
-            found += wrong_in_metal(metal, at)
+            found += _wrong_in_metal(metal, at)
     return found
 
 
-def wrong_in_metal(metal: Mapping[str, Any], at: int) -> list[PlanError]:
+def _wrong_in_metal(metal: Mapping[str, Any], at: int) -> list[PlanError]:
     """What is wrong with each key of one of the metals."""
-    name: str | int = metal["name"] if isinstance(metal.get("name"), str) else at
-    where, path = f"[economics] metal {at + 1 if name == at else name}", (
-        "economics",
-        study_keys.METALS,
-        name,
-    )
+    path = _metal_path(metal, at)
+    where = f"[economics] metal {at + 1 if path[2] == at else path[2]}"
     return study_keys.wrong_in(study_keys.METALS, metal, where, path) + study_keys.missing_in(
         study_keys.METALS, metal, where, path
     )
 
 
-def made(section: str, kind: Any, found: Mapping[str, Any]) -> Any:
+def _metal_path(metal: Mapping[str, Any], at: int) -> KeyPath:
+    """Where one of the metals stands: by its name, or by its number where it has none."""
+    return (
+        "economics",
+        study_keys.METALS,
+        metal["name"] if isinstance(metal.get("name"), str) else at,
+    )
+
+
+def _made(section: str, kind: Any, found: Mapping[str, Any]) -> Any:
     """A dataclass of the keys of a section: of those that it has a field for."""
     names = {f.name for f in fields(kind) if f.init}
     return kind(**{name: value for name, value in found.items() if name in names})
@@ -297,18 +474,18 @@ def economics_of(found: Mapping[str, Any]) -> Economics:
         With each error that hangs on no other one.
     """
     wrong = Gathered()
-    wrong.add(wrong_in_section("economics", found))
+    wrong.add(_wrong_in_section("economics", found))
     wrong.tell()
     metals = []
     for at, metal in enumerate(found["metals"]):
         with wrong.part("economics", study_keys.METALS, metal["name"]):
-            metals.append(made(study_keys.METALS, Metal, metal))
+            metals.append(_made(study_keys.METALS, Metal, metal))
     wrong.tell()
-    economics: Economics = made("economics", Economics, {**found, "metals": tuple(metals)})
+    economics: Economics = _made("economics", Economics, {**found, "metals": tuple(metals)})
     return economics
 
 
-def series(found: Any) -> list[int]:
+def _series(found: Any) -> list[int]:
     """The factors in thousandths: a series from, to, by; or a list of shares of the price."""
     try:
         if isinstance(found, Mapping):

@@ -1,4 +1,5 @@
-"""What is written of the keys of study.toml for people and for editors: the tables of docs/STUDY.md, and a JSON Schema.
+"""What is written of the keys of study.toml for people and for editors: the tables of
+docs/STUDY.md, and a JSON Schema.
 
     python3 -m pitplan.study.study_reference docs/STUDY.md
 
@@ -14,9 +15,9 @@ from typing import Any
 from ..base.errors import spelled
 from ..table.study_keys import KEYS, KINDS, METALS, NEEDED, SECTIONS, Key
 
-BEGIN, END = "<!-- keys: made by study_reference.py -->\n", "<!-- end of keys -->\n"
-HEAD = "| Key | What it says | What it may be | Unless given |\n|---|---|---|---|\n"
-DIALECT = "https://json-schema.org/draft/2020-12/schema"
+_BEGIN, _END = "<!-- keys: made by study_reference.py -->\n", "<!-- end of keys -->\n"
+_HEAD = "| Key | What it says | What it may be | Unless given |\n|---|---|---|---|\n"
+_DIALECT = "https://json-schema.org/draft/2020-12/schema"
 
 
 def tables() -> str:
@@ -25,7 +26,7 @@ def tables() -> str:
         METALS: "## A metal of [economics]"
     }
     return "\n".join(
-        f"{title}\n\n{HEAD}" + "".join(row(key) for key in KEYS if key.section == section)
+        f"{title}\n\n{_HEAD}" + "".join(row(key) for key in KEYS if key.section == section)
         for section, title in titles.items()
     )
 
@@ -40,28 +41,26 @@ def row(key: Key) -> str:
         if key.default is not None
         else ""
     )
-    return (
-        f"| `{key.name}` | {key.help} | {in_cell(key.must)}{in_cell(unit)} | {default} |\n".replace(
-            "|  |", "| |"
-        )
+    return f"| `{key.name}` | {key.help} | {_in_cell(key.must)}{_in_cell(unit)} | {default} |\n".replace(
+        "|  |", "| |"
     )
 
 
-def in_cell(text: str) -> str:
+def _in_cell(text: str) -> str:
     return text.replace("|", "\\|")
 
 
 def with_tables(document: str) -> str:
     """A document with the tables anew between its marks."""
-    before, _, rest = document.partition(BEGIN)
-    return before + BEGIN + "\n" + tables() + "\n" + END + rest.partition(END)[2]
+    before, _, rest = document.partition(_BEGIN)
+    return before + _BEGIN + "\n" + tables() + "\n" + _END + rest.partition(_END)[2]
 
 
 def schema() -> dict[str, Any]:
     """A JSON Schema of study.toml, for editors that complete and check a TOML file by one."""
-    sections = {section: table_of(section) for section in SECTIONS}
+    sections = {section: _table_of(section) for section in SECTIONS}
     return {
-        "$schema": DIALECT,
+        "$schema": _DIALECT,
         "title": "study.toml of pitplan",
         "type": "object",
         "properties": sections,
@@ -70,18 +69,18 @@ def schema() -> dict[str, Any]:
     }
 
 
-def table_of(section: str) -> dict[str, Any]:
+def _table_of(section: str) -> dict[str, Any]:
     """The schema of a section, or of a metal."""
     keys = [key for key in KEYS if key.section == section]
     return {
         "type": "object",
-        "properties": {key.name: value_of(key) for key in keys},
+        "properties": {key.name: _value_of(key) for key in keys},
         "required": [key.name for key in keys if key.is_needed],
         "additionalProperties": False,
     }
 
 
-def value_of(key: Key) -> dict[str, Any]:
+def _value_of(key: Key) -> dict[str, Any]:
     """The schema of a value."""
     found: dict[str, Any] = {**KINDS[key.kind].schema, "description": re.sub(r"`", "", key.help)}
     if key.default is not None:
@@ -93,7 +92,7 @@ def value_of(key: Key) -> dict[str, Any]:
             name: {"type": "string"} for name in key.choices
         }, False
     if key.kind == "metals":
-        found["items"] = table_of(METALS)
+        found["items"] = _table_of(METALS)
     bounds = {
         "exclusiveMinimum" if key.above else "minimum": key.least,
         "exclusiveMaximum" if key.below else "maximum": key.most,
@@ -105,5 +104,5 @@ def value_of(key: Key) -> dict[str, Any]:
 
 
 if __name__ == "__main__":
-    path = Path(sys.argv[1])
-    path.write_text(with_tables(path.read_text()))
+    _path = Path(sys.argv[1])
+    _path.write_text(with_tables(_path.read_text()))

@@ -1,4 +1,5 @@
-"""What is kept of the pits of a study, and whether it still counts: verdicts over the model as it stands, and pits added up again."""
+"""What is kept of the pits of a study, and whether it still counts: verdicts over the model as it
+stands, and pits added up again."""
 from __future__ import annotations
 
 import errno
@@ -19,7 +20,7 @@ from ..model import store
 from ..pit.program import Accepted, Stated
 from .folder import StudyFolder
 
-VERDICT: dict[str, kept_json.Holds] = {
+_VERDICT: dict[str, kept_json.Holds] = {
     "factor": kept_json.is_factor,
     "count": kept_json.is_count,
     "worth": kept_json.is_amount,
@@ -33,7 +34,8 @@ VERDICT: dict[str, kept_json.Holds] = {
 
 
 class Verdict(TypedDict):
-    """What is kept of a pit: that `pit check` accepted, or, where ``certificate`` is None, as `pit shells` states it."""
+    """What is kept of a pit: that `pit check` accepted, or, where ``certificate`` is None, as `pit
+    shells` states it."""
 
     factor: int
     count: int
@@ -69,7 +71,7 @@ class Verdicts(StudyFolder):
         """As `verdict`. Raises `kept_json.Damaged` where it isn't one that `Runs.kept` writes."""
         try:
             found = kept_json.read(
-                self.place(factor) / "verdict.json", VERDICT, command("shells", self.named)
+                self.place(factor) / "verdict.json", _VERDICT, command("shells", self.named)
             )
         except (FileNotFoundError, NotADirectoryError):
             return None
@@ -80,13 +82,15 @@ class Verdicts(StudyFolder):
         )
 
     def certified(self, factor: int) -> Verdict | None:
-        """The verdict of a pit whose certificate `pit check` accepted, over this very model, else None."""
+        """The verdict of a pit whose certificate `pit check` accepted, over this very model, else
+        None."""
         found = self.verdict(factor)
         return found if found and found["certificate"] else None
 
     def mask(self, factor: int) -> Bools:
-        """Whether a block is in the pit at a factor (in thousandths), of shape (blocks,), with all checks made again. Where these very
-        bits were added up by this object, with the same answer, their sum stands.
+        """Whether a block is in the pit at a factor (in thousandths), of shape (blocks,), with all
+        checks made again. Where these very bits were added up by this object, with the same answer,
+        their sum stands.
 
         Raises
         ------
@@ -101,10 +105,13 @@ class Verdicts(StudyFolder):
                 f"the pit at factor {share_text(factor)} hasn't been run over this model",
                 try_this=command("shells", self.named),
             )
-        bits = bits_of(self.place(factor) / "pit.npz")
+        bits = _bits_of(self.place(factor) / "pit.npz")
         if bits is None or hashlib.sha256(bits.tobytes()).hexdigest() != done["bits"]:
             raise Disagreement(
-                f"{self.place(factor) / 'pit.npz'} isn't what was {'accepted' if done['certificate'] else 'stated'}",
+                (
+                    f"{self.place(factor) / 'pit.npz'} isn't what was"
+                    f" {'accepted' if done['certificate'] else 'stated'}"
+                ),
                 try_this=f"take {self.place(factor)} away, then: {command('shells', self.named)}",
             )
         mask: Bools = np.unpackbits(bits, count=self.manifest["blocks"]).astype(bool)
@@ -113,32 +120,43 @@ class Verdicts(StudyFolder):
         return mask
 
     def agree(self, found: Accepted | Stated, factor: int) -> None:
-        """The first two checks: the pit's worth, added up again from the planner's table in whole numbers, is `pit`'s to the
-        last digit, and so is its count of blocks."""
+        """The first two checks: the pit's worth, added up again from the planner's table in whole
+        numbers, is `pit`'s to the last digit, and so is its count of blocks."""
         if found.factor != factor or found.size != self.manifest["blocks"]:
             raise Disagreement(
-                f"the pit is of factor {share_text(found.factor)} over {found.size:,} blocks, and {share_text(factor)} over {self.manifest['blocks']:,} was asked for"
+                f"the pit is of factor {share_text(found.factor)} over {found.size:,} blocks, and"
+                f" {share_text(factor)} over {self.manifest['blocks']:,} was asked for"
             )
         self.adds_up(found.mask, found.count, found.worth, factor)
 
     def adds_up(self, mask: Bools, count: int, worth: str, factor: int) -> None:
-        """Raises Disagreement where a pit's blocks aren't `count`, or the table doesn't add up to `worth` over them; and PlanError
-        where the pit digs a block that `forbid` keeps, which costs the most that `pit` reads for one and was worth digging all the same.
+        """Raises Disagreement where a pit's blocks aren't `count`, or the table doesn't add up to
+        `worth` over them; and PlanError where the pit digs a block that `forbid` keeps, which costs
+        the most that `pit` reads for one and was worth digging all the same.
         """
         ours, counted = self.priced.worth_of(mask, factor), int(np.count_nonzero(mask))
         if ours != worth or counted != count:
             raise Disagreement(
-                f"at factor {share_text(factor)} pit says {count:,} blocks worth {worth}, and the table adds up to {counted:,} blocks worth {ours}",
-                try_this="this is a mistake in pitplan or damage on the disk: keep the folder, and tell the maintainers",
+                (
+                    f"at factor {share_text(factor)} pit says {count:,} blocks worth {worth}, and"
+                    f" the table adds up to {counted:,} blocks worth {ours}"
+                ),
+                try_this=(
+                    "this is a mistake in pitplan or damage on the disk: keep the folder, and tell"
+                    " the maintainers"
+                ),
             )
         if (mask & self.priced.forbidden).any():
             raise PlanError(
-                f"[economics] forbid: at factor {share_text(factor)} the mine brings so much that blocks are dug that may not be",
+                (
+                    f"[economics] forbid: at factor {share_text(factor)} the mine brings so much"
+                    " that blocks are dug that may not be"
+                ),
                 try_this="prices and costs in thousands, or no factor as large",
             )
 
 
-def bits_of(path: Path) -> npt.NDArray[np.uint8] | None:
+def _bits_of(path: Path) -> npt.NDArray[np.uint8] | None:
     """The blocks of a pit as `Runs.kept` packs them; None where the file is gone or damaged."""
     try:
         with np.load(path, allow_pickle=False) as file:

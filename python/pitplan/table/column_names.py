@@ -1,18 +1,20 @@
-"""Which column of a table is which: the names that planning packages give to columns in their exports."""
+"""Which column of a table is which: the names that planning packages give to columns in their
+exports."""
 from __future__ import annotations
 
 import difflib
 import re
 from collections.abc import Callable, Mapping, Sequence
 
-from ..base.errors import PlanError, meant
+from ..base.errors import Gathered, PlanError, meant, swap_of
 
 AIR = "air"  # the rock of a place within the model that the planner calls air
 
-# In lower case; the first of a list that a table has is taken. Datamine: IJK XC YC ZC XINC YINC ZINC DENSITY ROCK.
-# Vulcan: centroid_x dim_x. Surpac: x y z with x_size or dim_x. Micromine: EAST NORTH RL with _EAST _NORTH _RL for the
-# sizes. MineSight: EAST NORTH ELEV (or ELEVATION) and ROCK, with TONS. Then the words of tables in Spanish, Portuguese and
-# French. Whoever finds his package's name missing adds it here, or names the column in study.toml.
+# In lower case; the first of a list that a table has is taken. Datamine: IJK XC YC ZC XINC YINC
+# ZINC DENSITY ROCK. Vulcan: centroid_x dim_x. Surpac: x y z with x_size or dim_x. Micromine: EAST
+# NORTH RL with _EAST _NORTH _RL for the sizes. MineSight: EAST NORTH ELEV (or ELEVATION) and ROCK,
+# with TONS. Then the words of tables in Spanish, Portuguese and French. Whoever finds his package's
+# name missing adds it here, or names the column in study.toml.
 USUAL: dict[str, tuple[str, ...]] = {
     "id": (
         "id",
@@ -189,7 +191,30 @@ USUAL: dict[str, tuple[str, ...]] = {
         "roche",
         "zona",
     ),
+    "class": (
+        "rescat",
+        "res_cat",
+        "resclass",
+        "res_class",
+        "resource_class",
+        "classification",
+        "class",
+        "category",
+        "clase",
+        "clasificacion",
+        "clasificación",
+        "categoria",
+        "categoría",
+        "classe",
+        "classificacao",
+        "classificação",
+    ),
+    "topography": (),  # a planner has to say that a column is that: the percent of a block that is rock
+    "ore": (),  # likewise: the percent of its tonnes that has the grades, and may go to the mill
 }
+MOST_CLASSES = (
+    12  # of resources: a column with more words says something else, unless the planner names it
+)
 # Parts of names of columns that say in which region of slopes a block is, the likeliest first.
 REGIONS = (
     "sector",
@@ -211,8 +236,8 @@ REGIONS = (
 )
 PLACES = ("x", "y", "z")
 SIZES = ("dx", "dy", "dz")
-NUMBER = re.compile(r"[+-]?\d*[.,]?\d+")  # that no column is called
-ALIKE = 0.6  # from 0 to 1: names that are less alike aren't offered
+_NUMBER = re.compile(r"[+-]?\d*[.,]?\d+")  # that no column is called
+_ALIKE = 0.6  # from 0 to 1: names that are less alike aren't offered
 
 
 def which_columns(
@@ -230,35 +255,35 @@ def which_columns(
     given : mapping
         What the planner says; it counts before the usual names.
     typed : callable, optional
-        How to name columns of x, y or z, where it isn't by study.toml: gets the nearest of the table's names for each that is missing.
+        How to name columns of x, y or z, where it isn't by study.toml: gets the nearest of the
+        table's names for each that is missing.
 
     Raises
     ------
     PlanError
-        Where a name that was given isn't in the header, where a key is none of `USUAL`, where no column is known as x, y or z, or
-        where the header line is none.
+        Where a name that was given isn't in the header, where a key is none of `USUAL`, where no
+        column is known as x, y or z, or where the header line is none.
     """
-    found: dict[str, str] = {}
+    wrong = Gathered()
     for key, name in given.items():
-        if key not in USUAL:
-            raise PlanError(f"[model] columns has no key {key!r}{meant(key, USUAL)}")
-        if name not in header:
-            raise PlanError(
-                f"there is no column {name!r} for {key}{meant(name, header)}", table=table
-            )
-        found[key] = name
-    lower = {name.lower(): name for name in header}
-    for key, usual in USUAL.items():
-        hits = [
-            lower[name] for name in usual if name in lower and lower[name] not in found.values()
-        ]
-        if key not in found and hits:
-            found[key] = hits[0]
+        with wrong.part("model", "columns", key):
+            if key not in USUAL:
+                raise PlanError(f"[model] columns has no key {key!r}{meant(key, USUAL)}")
+            if name not in header:
+                raise PlanError(
+                    f"there is no column {name!r} for {key}{meant(name, header)}",
+                    table=table,
+                ).with_swap(swap_of(name, header))
+    wrong.tell()
+    found = columns_found(header, given)
     missing = [key for key in PLACES if key not in found]
     if missing:
-        if len(header) < len(PLACES) or any(NUMBER.fullmatch(name) for name in header):
+        if len(header) < len(PLACES) or any(_NUMBER.fullmatch(name) for name in header):
             raise PlanError(
-                f"the first line isn't the header line, or has another separator than a comma, a semicolon or a tab: {', '.join(header)}",
+                (
+                    "the first line isn't the header line, or has another separator than a comma,"
+                    f" a semicolon or a tab: {', '.join(header)}"
+                ),
                 table=table,
                 try_this="a first line with a name for each column, and no line above it",
             )
@@ -266,13 +291,41 @@ def which_columns(
         raise PlanError(
             f"no column is known as {', '.join(missing)}; the header line has {', '.join(header)}",
             table=table,
-            try_this=typed(near)
-            if typed
-            else "columns = { "
-            + ", ".join(f'{key} = "{name}"' for key, name in near.items())
-            + " } in [model]",
+            try_this=(
+                typed(near)
+                if typed
+                else "columns = { "
+                + ", ".join(f'{key} = "{name}"' for key, name in near.items())
+                + " } in [model]"
+            ),
         )
     return found
+
+
+def columns_found(header: Sequence[str], given: Mapping[str, str]) -> dict[str, str]:
+    """As `which_columns`, of those that are there, and nothing is refused."""
+    found = {key: name for key, name in given.items() if key in USUAL and name in header}
+    lower = {name.lower(): name for name in header}
+    for key, usual in USUAL.items():
+        hits = [
+            lower[name] for name in usual if name in lower and lower[name] not in found.values()
+        ]
+        if key not in found and hits:
+            found[key] = hits[0]
+    return found
+
+
+def with_few_classes(
+    names: Mapping[str, str], given: Mapping[str, str], words: Callable[[str], int]
+) -> dict[str, str]:
+    """The columns without that of classes, where it has a usual name alone and more words than
+    classes have; `words` counts those of a column."""
+    usual = names.get("class") if "class" not in given else None
+    return {
+        key: name
+        for key, name in names.items()
+        if key != "class" or usual is None or words(usual) <= MOST_CLASSES
+    }
 
 
 def misnamed(columns: Mapping[str, str]) -> dict[str, str]:
@@ -299,21 +352,23 @@ def said_of_misnamed(columns: Mapping[str, str], wrong: Mapping[str, str]) -> tu
 
 
 def nearest(missing: Sequence[str], names: Sequence[str]) -> dict[str, str]:
-    """For each of x, y and z the name that looks most like one of its usual names, each name once; NAME where none does.
+    """For each of x, y and z the name that looks most like one of its usual names, each name once;
+    NAME where none does.
 
     >>> nearest(["x", "y"], ["LENGTH", "Y_LOCAL", "X_LOCAL"])
     {'x': 'X_LOCAL', 'y': 'Y_LOCAL'}
     """
     found: dict[str, str] = {}
     for key in missing:
-        free = [(alike(key, name), name) for name in names if name not in found.values()]
+        free = [(_alike(key, name), name) for name in names if name not in found.values()]
         best = max(free, default=(0.0, ""), key=lambda of: of[0])
-        found[key] = best[1] if best[0] >= ALIKE else "NAME"
+        found[key] = best[1] if best[0] >= _ALIKE else "NAME"
     return found
 
 
-def alike(key: str, name: str) -> float:
-    """How much a name looks like the usual names of a key, from 0 to 1; x, y or z as a word of its own makes it one of that axis."""
+def _alike(key: str, name: str) -> float:
+    """How much a name looks like the usual names of a key, from 0 to 1; x, y or z as a word of its
+    own makes it one of that axis."""
     word = name.lower()
     letters = set(re.split(r"[^a-z0-9]+", word)) & set(PLACES)
     if letters:

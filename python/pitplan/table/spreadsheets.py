@@ -11,24 +11,30 @@ from ..base.files import whole_file
 from .csv_text import PLAIN
 
 FORMULA = re.compile(r"[=+\-@\t\r]")
-MARKED = re.compile(r"'[=+\-@\t\r]")
+_MARKED = re.compile(r"'[=+\-@\t\r]")
 
 
 def harmless(words: Any) -> pd.Series:
-    """Words of the planner's own as a spreadsheet may open them: one that begins with ``=``, ``+``, ``-`` or ``@`` gets an
-    apostrophe before it, unless it is a number, since spreadsheets would run it as a formula. A carriage return becomes a blank: it
-    isn't quoted as a line feed is, and spreadsheets begin a row there.
+    """Words of the planner's own as a spreadsheet may open them: one that begins with ``=``, ``+``,
+    ``-`` or ``@`` gets an apostrophe before it, unless it is a number, since spreadsheets would run
+    it as a formula. A carriage return becomes a blank: it isn't quoted as a line feed is, and
+    spreadsheets begin a row there.
 
     >>> harmless(["B1", "=1+1", "-5", "S" + chr(13) + "=2"]).tolist()
     ['B1', "'=1+1", '-5', 'S =2']
     """
     found = pd.Series(words, dtype=object)
-    told = {word: harmless_word(word) for word in found.unique() if isinstance(word, str)}
-    risky = {word: other for word, other in told.items() if word != other}
+    risky = {
+        word: other
+        for word in found.unique()
+        if isinstance(word, str)
+        and (FORMULA.match(word) or "\r" in word)
+        and (other := _harmless_word(word)) != word
+    }
     return found.map(lambda word: risky.get(word, word)) if risky else found
 
 
-def harmless_word(word: str) -> str:
+def _harmless_word(word: str) -> str:
     """A word as `harmless` writes it."""
     is_formula = FORMULA.match(word) and not PLAIN.fullmatch(word)
     return ("'" if is_formula else "") + word.replace("\r", " ")
@@ -36,7 +42,7 @@ def harmless_word(word: str) -> str:
 
 def as_written(word: str) -> str:
     """A word as it was before `harmless`."""
-    return word[1:] if MARKED.match(word) else word
+    return word[1:] if _MARKED.match(word) else word
 
 
 def safe(frame: pd.DataFrame) -> pd.DataFrame:
@@ -50,6 +56,7 @@ def safe(frame: pd.DataFrame) -> pd.DataFrame:
 
 
 def write_table(frame: Any, target: str | os.PathLike[str]) -> None:
-    """Writes a pandas table as CSV, as `whole_file` writes, its words as `harmless` has them: all CSV is written here."""
+    """Writes a pandas table as CSV, as `whole_file` writes, its words as `harmless` has them: all
+    CSV is written here."""
     with whole_file(target) as part:
         safe(frame).to_csv(part, index=False)

@@ -1,31 +1,40 @@
-"""The keys of study.toml, described once. From this list come what the reader accepts, the text that `pitplan init` writes, the reference
-in docs/STUDY.md, what shells complete, a JSON Schema for editors, and forms.
+"""The keys of study.toml, described once. From this list come what the reader accepts, the text
+that `pitplan init` writes, the reference in docs/STUDY.md, what shells complete, a JSON Schema for
+editors, and forms.
 
-Rules that join several keys, as that `regions` needs `by`, stand with the dataclasses that they fill: `model.TableKeys`,
-`economics.Economics` and `economics.Metal`, `slopes.Slopes`.
+Rules that join several keys, as that `regions` needs `by`, stand with the dataclasses that they
+fill: `model.TableKeys`, `economics.Economics` and `economics.Metal`, `slopes.Slopes`.
 """
 from __future__ import annotations
 
 import math
 import tomllib
-from collections.abc import Callable, Mapping, Sequence
+from collections.abc import Callable, Iterable, Mapping, Sequence
 from dataclasses import dataclass
 from numbers import Integral, Real
 from typing import Any
 
-from ..base.errors import Gathered, KeyPath, PlanError, Remedy, meant
-from ..base.units import GRADES, PRICES
+from ..base.errors import Gathered, KeyPath, PlanError, Remedy, meant, near_to, spelled
+from ..base.typed_numbers import typed_number
+from ..base.units import GRADES, LENGTHS, PRICES, WEIGHTS, usual_unit
 from .column_names import USUAL
 
-SECTIONS = ("model", "economics", "slopes", "shells")
+SECTIONS = ("model", "economics", "slopes", "shells", "schedule")
 NEEDED = SECTIONS[:3]  # sections that a study.toml has to have
-LEAST_PERCENT = 2  # from which on a number in place of a share is taken for percent
-LONGEST_BARE = 60  # letters of a value in quotes that is read as one without
+_LEAST_PERCENT = 2  # from which on a number in place of a share is taken for percent
+_WIDEST_VALUE = 120  # letters of a value that is told again
+_LONGEST_BARE = 60  # letters of a value in quotes that is read as one without
+_SEPARATED = (
+    "number",
+    "count",
+    "amount",
+    "angles",
+)  # kinds whose numbers people type with separators
 METALS = "metals"  # the section of the keys of a metal, each a table in the list of that name in [economics]
 
 
 @dataclass(frozen=True)
-class Kind:
+class _Kind:
     """What a value may be.
 
     Attributes
@@ -74,7 +83,8 @@ class Key:
     instead : str
         What to try where a value is wrong.
     example : str
-        How `init` spells the value; ``$name`` stands for what it finds in a table. Default: as the default is.
+        How `init` spells the value; ``$name`` stands for what it finds in a table. Default: as the
+        default is.
     note : str
         What `init` says beside it, where `help` is too long for a line.
     before : str
@@ -82,7 +92,8 @@ class Key:
     is_off : bool
         Whether `init` writes it as a comment.
     is_written : bool
-        Whether `init` writes it by itself: not what it writes where a table asks for it, nor the keys of a metal, which stand in one line.
+        Whether `init` writes it by itself: not what it writes where a table asks for it, nor the
+        keys of a metal, which stand in one line.
     """
 
     section: str
@@ -155,7 +166,7 @@ class Key:
             [value] if isinstance(value, str) else value
         ) <= set(self.choices):
             return False
-        return all(self.in_range(number) for number in numbers_in(value))
+        return all(self.in_range(number) for number in _numbers_in(value))
 
     def in_range(self, value: float) -> bool:
         """Whether a number lies in the range."""
@@ -164,133 +175,234 @@ class Key:
         )
 
 
-def is_number(value: object) -> bool:
+def _is_number(value: object) -> bool:
     return isinstance(value, Real) and not isinstance(value, bool) and abs(float(value)) < math.inf
 
 
-def is_whole(value: object) -> bool:
+def _is_whole(value: object) -> bool:
     return isinstance(value, Integral) and not isinstance(value, bool)
 
 
-def is_list(value: object) -> bool:
+def _is_list(value: object) -> bool:
     return isinstance(value, Sequence) and not isinstance(value, str)
 
 
-def is_words(value: Any) -> bool:
-    return is_list(value) and all(isinstance(word, str) for word in value)
+def _is_words(value: Any) -> bool:
+    return _is_list(value) and all(isinstance(word, str) for word in value)
 
 
 def is_table(value: object) -> bool:
     return isinstance(value, Mapping)
 
 
-def are_angles(value: Any) -> bool:
+def _are_angles(value: Any) -> bool:
     """Whether these are a number, or pairs of numbers."""
     return (
-        is_number(value)
-        or is_list(value)
+        _is_number(value)
+        or _is_list(value)
         and len(value) > 0
-        and all(is_list(pair) and len(pair) == 2 and all(map(is_number, pair)) for pair in value)
+        and all(_is_list(pair) and len(pair) == 2 and all(map(_is_number, pair)) for pair in value)
     )
 
 
-def are_factors(value: Any) -> bool:
+def _are_factors(value: Any) -> bool:
     """Whether this is a series or a list of numbers."""
     return (
         is_table(value)
         and set(value) == set(SERIES)
-        and all(map(is_number, value.values()))
-        or is_list(value)
+        and all(map(_is_number, value.values()))
+        or _is_list(value)
         and len(value) > 0
-        and all(map(is_number, value))
+        and all(map(_is_number, value))
     )
 
 
-def numbers_in(value: Any) -> list[float]:
+def _numbers_in(value: Any) -> list[float]:
     """The numbers of a number or of a list of numbers."""
-    return [number for number in (value if is_list(value) else [value]) if is_number(number)]
+    return [number for number in (value if _is_list(value) else [value]) if _is_number(number)]
 
 
+def has_ramp(value: Any) -> bool:
+    """Whether this says what a ramp is."""
+    return (
+        is_table(value)
+        and set(value) in ({*_RAMP_KEYS, "turns"}, {*_RAMP_KEYS, "around"})
+        and all(_is_number(number) and 0 < number < _FAR for number in value.values())
+    )
+
+
+_NO_LAW = {
+    name: f"{what}, for which no bound is proved: the best pit alone may not hold the best schedule"
+    for what, names in {
+        "prices that change by year": ("price", "prices", "escalation", "inflation"),
+        "a least feed of the mill": ("least_feed", "min_feed", "min_mill_rate", "mill_rate_min"),
+        "blending": ("blend", "blending", "min_grade", "max_grade"),
+        "a stockpile": ("stockpile", "stockpiles"),
+    }.items()
+    for name in names
+}  # of [schedule]: keys that it can't have, and why
+
+
+_RAMP = "{ width = 25, grade = 0.10, height = 300, turns = 2 }"
+_RAMP_KEYS = ("width", "grade", "height")
+_RAMP_MEANS = {
+    "width": ("with berm and ditch, in the unit of the coordinates", "25"),
+    "grade": ("how far it rises for each unit along", "0.10"),
+    "height": ("that of the wall, in the unit of the coordinates", "300"),
+    "turns": ("how often it passes the wall over its height", "2"),
+    "around": ("how long a turn is in plan", "1500"),
+}  # of each key of a ramp what it is, and an example
+_FAR = 1e9  # more than any wall has, in metres or in feet
 SERIES = ("from", "to", "step")
-NUMBER, WORD = {"type": "number"}, {"type": "string"}
-WORDS = {"type": "array", "items": WORD}
-ANGLES = {
+_UNITS = {"length": tuple(LENGTHS), "weight": tuple(WEIGHTS)}
+_NUMBER, _WORD = {"type": "number"}, {"type": "string"}
+_WORDS = {"type": "array", "items": _WORD}
+_ANGLES = {
     "oneOf": [
-        NUMBER,
+        _NUMBER,
         {
             "type": "array",
             "minItems": 1,
-            "items": {"type": "array", "items": NUMBER, "minItems": 2, "maxItems": 2},
+            "items": {"type": "array", "items": _NUMBER, "minItems": 2, "maxItems": 2},
         },
     ]
 }
-KINDS: dict[str, Kind] = {
-    "text": Kind("words in quotes", lambda value: isinstance(value, str), WORD, '"words"'),
-    "file": Kind(
-        "the name of a file, in quotes", lambda value: isinstance(value, str), WORD, '"mine.csv"'
+_POSITIVE = {"type": "number", "exclusiveMinimum": 0}
+_RAMP_SCHEMA: dict[str, Any] = {
+    "type": "object",
+    "properties": dict.fromkeys((*_RAMP_KEYS, "turns", "around"), _POSITIVE),
+    "required": list(_RAMP_KEYS),
+    "oneOf": [{"required": ["turns"]}, {"required": ["around"]}],
+    "additionalProperties": False,
+}
+KINDS: dict[str, _Kind] = {
+    "text": _Kind("words in quotes", lambda value: isinstance(value, str), _WORD, '"words"'),
+    "file": _Kind(
+        "the name of a file, in quotes", lambda value: isinstance(value, str), _WORD, '"mine.csv"'
     ),
-    "column": Kind(
-        "the name of a column, in quotes", lambda value: isinstance(value, str), WORD, '"NAME"'
+    "column": _Kind(
+        "the name of a column, in quotes", lambda value: isinstance(value, str), _WORD, '"NAME"'
     ),
-    "choice": Kind(
-        "one of its words, in quotes", lambda value: isinstance(value, str), WORD, '"word"'
+    "choice": _Kind(
+        "one of its words, in quotes", lambda value: isinstance(value, str), _WORD, '"word"'
     ),
-    "flag": Kind(
+    "flag": _Kind(
         "true or false", lambda value: isinstance(value, bool), {"type": "boolean"}, "true"
     ),
-    "number": Kind("a number", is_number, NUMBER, "1"),
-    "count": Kind("a whole number", is_whole, {"type": "integer"}, "1"),
-    "size": Kind(
+    "number": _Kind("a number", _is_number, _NUMBER, "1"),
+    "count": _Kind("a whole number", _is_whole, {"type": "integer"}, "1"),
+    "size": _Kind(
         "three numbers",
-        lambda value: is_list(value) and len(value) == 3 and all(map(is_number, value)),
-        {"type": "array", "items": NUMBER, "minItems": 3, "maxItems": 3},
+        lambda value: _is_list(value) and len(value) == 3 and all(map(_is_number, value)),
+        {"type": "array", "items": _NUMBER, "minItems": 3, "maxItems": 3},
         "[20, 20, 10]",
     ),
-    "words": Kind('a list of words, as ["a", "b"]', is_words, WORDS, '["a", "b"]'),
-    "rocks": Kind('a list of rocks, as ["OXI", "SUL"]', is_words, WORDS, '["OXI", "SUL"]'),
-    "formulas": Kind('a list of formulas, as ["XC > 12000"]', is_words, WORDS, '["XC > 12000"]'),
-    "columns": Kind(
+    "words": _Kind('a list of words, as ["a", "b"]', _is_words, _WORDS, '["a", "b"]'),
+    "rocks": _Kind('a list of rocks, as ["OXI", "SUL"]', _is_words, _WORDS, '["OXI", "SUL"]'),
+    "formulas": _Kind('a list of formulas, as ["XC > 12000"]', _is_words, _WORDS, '["XC > 12000"]'),
+    "exchange": _Kind(
+        'a table of numbers above 0, as { "EUR" = 1.08 }',
+        lambda value: is_table(value)
+        and all(_is_number(rate) and rate > 0 for rate in value.values()),
+        {"type": "object", "additionalProperties": {"type": "number", "exclusiveMinimum": 0}},
+        '{ "EUR" = 1.08 }',
+    ),
+    "units": _Kind(
+        'a table as { length = "ft", weight = "st" }, of "m" or "ft" and of "t" or "st"',
+        lambda value: is_table(value)
+        and set(value) <= set(_UNITS)
+        and all(isinstance(word, str) and word in _UNITS[key] for key, word in value.items()),
+        {
+            "type": "object",
+            "properties": {key: {"enum": list(words)} for key, words in _UNITS.items()},
+            "additionalProperties": False,
+        },
+        '{ length = "ft", weight = "st" }',
+    ),
+    "formula": _Kind(
+        'a formula, as "SG * 4000", or a number',
+        lambda value: _is_number(value) or isinstance(value, str),
+        {"oneOf": [_NUMBER, _WORD]},
+        '"SG * 4000"',
+    ),
+    "columns": _Kind(
         'a table of words, as { x = "XC" }',
-        lambda value: is_table(value) and is_words(list(value.values())),
-        {"type": "object", "additionalProperties": WORD},
+        lambda value: is_table(value) and _is_words(list(value.values())),
+        {"type": "object", "additionalProperties": _WORD},
         '{ x = "XC" }',
     ),
-    "fill": Kind(
+    "fill": _Kind(
         "a table, as { tonnes = 10400 }",
         is_table,
         {"type": "object"},
         '{ tonnes = 10400, rock = "waste" }',
     ),
-    "amount": Kind(
-        "a number, a column, a formula, or a number for each rock, as { OXI = 7.5, other = 9 }",
-        lambda value: is_number(value)
-        or isinstance(value, str)
-        or is_table(value)
-        and all(map(is_number, value.values())),
-        {"oneOf": [NUMBER, WORD, {"type": "object", "additionalProperties": NUMBER}]},
-        "2.50",
-    ),
-    "angles": Kind(
-        "degrees as 45, or by bearing as [[0, 38], [90, 45], [180, 50], [270, 45]]",
-        are_angles,
-        ANGLES,
-        "45",
-    ),
-    "regions": Kind(
-        "angles for each region, as { NORTH = 38, SOUTH = [[0, 44], [180, 50]] }",
-        lambda value: is_table(value) and all(map(are_angles, value.values())),
-        {"type": "object", "additionalProperties": ANGLES},
-        "{ NORTH = 38 }",
-    ),
-    "factors": Kind(
-        "a series as { from = 0.30, to = 1.20, step = 0.05 }, or a list as [0.5, 0.75, 1.0]",
-        are_factors,
+    "rates": _Kind(
+        "a number, or a list of numbers by year as [15e6, 20e6], each",
+        lambda value: _is_number(value)
+        or _is_list(value)
+        and len(value) > 0
+        and all(map(_is_number, value)),
         {
             "oneOf": [
-                {"type": "array", "items": NUMBER, "minItems": 1},
+                {"type": "number", "exclusiveMinimum": 0},
+                {
+                    "type": "array",
+                    "items": {"type": "number", "exclusiveMinimum": 0},
+                    "minItems": 1,
+                },
+            ]
+        },
+        "[15e6, 20e6]",
+    ),
+    "shares": _Kind(
+        "a list of numbers as [0.5, 0.75], each",
+        lambda value: _is_list(value) and len(value) > 0 and all(map(_is_number, value)),
+        {"type": "array", "items": _NUMBER, "minItems": 1},
+        "[0.5, 0.75]",
+    ),
+    "amount": _Kind(
+        "a number, a column, a formula, or a number for each rock, as { OXI = 7.5, other = 9 }",
+        lambda value: _is_number(value)
+        or isinstance(value, str)
+        or is_table(value)
+        and all(map(_is_number, value.values())),
+        {"oneOf": [_NUMBER, _WORD, {"type": "object", "additionalProperties": _NUMBER}]},
+        "2.50",
+    ),
+    "angles": _Kind(
+        "degrees as 45, or by bearing as [[0, 38], [90, 45], [180, 50], [270, 45]]",
+        _are_angles,
+        _ANGLES,
+        "45",
+    ),
+    "regions": _Kind(
+        "angles for each region, as { NORTH = 38, SOUTH = [[0, 44], [180, 50]] }",
+        lambda value: is_table(value) and all(map(_are_angles, value.values())),
+        {"type": "object", "additionalProperties": _ANGLES},
+        "{ NORTH = 38 }",
+    ),
+    "ramp": _Kind(
+        f"a table as {_RAMP}, with around = 1500 in place of turns or not, or such a table for each region",
+        lambda value: is_table(value)
+        and len(value) > 0
+        and (has_ramp(value) or all(map(has_ramp, value.values()))),
+        {
+            "type": "object",
+            "minProperties": 1,
+            "oneOf": [_RAMP_SCHEMA, {"additionalProperties": _RAMP_SCHEMA}],
+        },
+        _RAMP,
+    ),
+    "factors": _Kind(
+        "a series as { from = 0.30, to = 1.20, step = 0.05 }, or a list as [0.5, 0.75, 1.0]",
+        _are_factors,
+        {
+            "oneOf": [
+                {"type": "array", "items": _NUMBER, "minItems": 1},
                 {
                     "type": "object",
-                    "properties": dict.fromkeys(SERIES, NUMBER),
+                    "properties": dict.fromkeys(SERIES, _NUMBER),
                     "required": list(SERIES),
                     "additionalProperties": False,
                 },
@@ -298,9 +410,9 @@ KINDS: dict[str, Kind] = {
         },
         "[0.5, 0.75, 1.0]",
     ),
-    "metals": Kind(
+    "metals": _Kind(
         "a list of tables",
-        lambda value: is_list(value) and all(map(is_table, value)),
+        lambda value: _is_list(value) and all(map(is_table, value)),
         {"type": "array", "minItems": 1},
         '[ { name = "copper", grade = "CU", price = 8500 } ]',
     ),
@@ -319,13 +431,33 @@ KEYS = (
         "model",
         "columns",
         "columns",
-        "your names of the columns " + " ".join(USUAL) + ", where they aren't the usual ones",
+        "your names of the columns "
+        + " ".join(USUAL)
+        + ", where they aren't the usual ones; `topography` and `ore` have no usual names: the percent of a block that is rock, which alone weighs anything; and the percent of its tonnes that is ore, which alone has grades and may go to the mill",
         "Columns",
         choices=tuple(USUAL),
         default={},
         example="{ $columns }",
         before="which column is what; further keys: dx, dy, dz (the size of a sub-block), tonnes or density, rock, id",
         note=" ",
+    ),
+    Key(
+        "model",
+        "tonnes",
+        "formula",
+        "what the block of a row weighs, by a formula over the table's columns; in place of a column of tonnes or density",
+        "Tonnes",
+        "t",
+        is_written=False,
+    ),
+    Key(
+        "model",
+        "units",
+        "units",
+        'what coordinates and tonnes are in: `length` is `"m"` or `"ft"`, `weight` is `"t"` or `"st"`, short tons; costs, rates, tables and pictures too. A column of density is in tonnes a cubic metre whatever they are',
+        "Units",
+        default={},
+        is_written=False,
     ),
     Key(
         "model",
@@ -338,7 +470,7 @@ KEYS = (
         above=True,
         instead="size = [20, 20, 10]",
         example="[$size]",
-        note="of a block along the model's x, y and z axes, in the unit of the coordinates$size_told",
+        note="of a block along the model's x, y and z axes, in the unit of the coordinates$size_note",
     ),
     Key(
         "model",
@@ -526,6 +658,27 @@ KEYS = (
     ),
     Key(
         "economics",
+        "waste_classes",
+        "words",
+        "resource classes that are never ore, as the column `class` of [model] spells them: what is inferred may count as waste",
+        "Classes that count as waste",
+        default=[],
+        example='["INF"]',
+        note="resource classes that are never ore, where the table has a column of them",
+        is_off=True,
+    ),
+    Key(
+        "economics",
+        "exchange",
+        "exchange",
+        "what a unit of another currency is worth in that of the study, for metals that have a `currency` of their own",
+        "Exchange",
+        "{currency}",
+        default={},
+        is_written=False,
+    ),
+    Key(
+        "economics",
         METALS,
         "metals",
         "what is sold: a list of tables, one for each metal, with the keys below",
@@ -555,8 +708,10 @@ KEYS = (
         "slopes",
         "by",
         "column",
-        "a column that says the region of a block, with angles of its own for each",
+        "a column that says the region of a block, with angles of its own for each; or a formula that gives a word. In it `elevation` is that of the block's centre, and `below_ground` how far it lies below the highest rock of its column",
         "Regions by",
+        wrong="the name of a column, or a formula as where(below_ground < 60, 'WEATHERED', 'FRESH'), in quotes",
+        note="a column; or a formula as where(below_ground < 60, 'WEATHERED', 'FRESH')",
         example="$by",
         is_off=True,
     ),
@@ -564,7 +719,7 @@ KEYS = (
         "slopes",
         "regions",
         "regions",
-        "angles for words of that column; blocks of other words keep `angles`",
+        "angles for words of that column or formula; blocks of other words keep `angles`",
         "Regions",
         "degrees",
         example="{ $regions }",
@@ -589,6 +744,17 @@ KEYS = (
         least=1,
         most=200,
         example="8",
+        is_off=True,
+    ),
+    Key(
+        "slopes",
+        "ramp",
+        "ramp",
+        "the ramp that passes walls of a `height`, or that of each region by its name: then angles are those between ramps, and walls get the overall angles. `turns` says how often it passes over that height, or `around` how long a turn is in plan",
+        "Ramp",
+        "m; grade a share",
+        example=_RAMP,
+        note="leaves room for a ramp in all walls; angles are those between ramps then",
         is_off=True,
     ),
     Key(
@@ -641,6 +807,141 @@ KEYS = (
         example="0.08",
         note="a year",
     ),
+    Key(
+        "schedule",
+        "years",
+        "count",
+        "how many years may be dug in; as many as the rates need for the pit, and one more, unless given",
+        "Years",
+        "years",
+        least=1,
+        most=100,
+        is_written=False,
+    ),
+    Key(
+        "schedule",
+        "per_year",
+        "count",
+        "periods in a year: 2 are half-years, 4 quarters",
+        "Periods a year",
+        least=1,
+        most=12,
+        default=1,
+        is_written=False,
+    ),
+    Key(
+        "schedule",
+        "when",
+        "choice",
+        "when money of a period counts: at its start, in its middle or at its end",
+        "Money counts",
+        choices=("start", "mid", "end"),
+        default="mid",
+        is_written=False,
+    ),
+    Key(
+        "schedule",
+        "mining_rate",
+        "rates",
+        "tonnes of rock a year: a number, or a list by year, whose last number stays; that of [shells] unless given",
+        "Digging",
+        "tonnes a year",
+        least=0,
+        above=True,
+        is_written=False,
+    ),
+    Key(
+        "schedule",
+        "mill_rate",
+        "rates",
+        "tonnes of the mill's feed a year, likewise",
+        "Milling",
+        "tonnes a year",
+        least=0,
+        above=True,
+        is_written=False,
+    ),
+    Key(
+        "schedule",
+        "discount",
+        "number",
+        "a share a year; that of [shells] unless given",
+        "Discount",
+        "a year",
+        least=0,
+        most=1,
+        below=True,
+        wrong="a share from 0 to below 1, as 0.08",
+        is_written=False,
+    ),
+    Key(
+        "schedule",
+        "cutoff",
+        "choice",
+        "where a block goes that would pay at the mill: always there, or to the mill or to waste, whichever brings more in the year it is dug",
+        "Cut-off",
+        choices=("fixed", "by year"),
+        default="fixed",
+        is_written=False,
+    ),
+    Key(
+        "schedule",
+        "sink",
+        "count",
+        "benches that may be dug within a year in any column of blocks; as many as there are unless given",
+        "Sink rate",
+        "benches a year",
+        least=1,
+        is_written=False,
+    ),
+    Key(
+        "schedule",
+        "panel",
+        "count",
+        "blocks by blocks of a bench that are dug together: 2 makes squares of four; the border of a pushback cuts them",
+        "Panels",
+        "blocks",
+        least=1,
+        most=100,
+        default=1,
+        is_written=False,
+    ),
+    Key(
+        "schedule",
+        "pushbacks",
+        "shares",
+        "factors of pits, of those of [shells]: what the first adds to nothing, each to the one before, and the rest of the pit are dug in this order, bench by bench",
+        "Pushbacks",
+        "shares of the price",
+        least=0,
+        above=True,
+        most=1,
+        below=True,
+        is_written=False,
+    ),
+    Key(
+        "schedule",
+        "lead",
+        "count",
+        "benches that a pushback is ahead of those after it: a block waits for all of the pushbacks before its own down to so many benches below it",
+        "Lead of a pushback",
+        "benches",
+        least=0,
+        most=1000,
+        default=0,
+        is_written=False,
+    ),
+    Key(
+        "schedule",
+        "fixed_cost",
+        "number",
+        "what a year costs in which anything is dug, however much; a period has its part of it, rounded to whole units",
+        "Fixed cost",
+        "{currency} a year",
+        least=0,
+        default=0,
+        is_written=False,
+    ),
     Key(METALS, "name", "text", "of the metal", "Metal", is_needed=True),
     Key(
         METALS, "grade", "column", "the column of its grade", "Column of its grade", is_needed=True
@@ -660,7 +961,7 @@ KEYS = (
         METALS,
         "price_unit",
         "choice",
-        "that the price is for; oz is a troy ounce, dmtu is 1 % of a tonne",
+        "that the price is for; oz is a troy ounce, dmtu is 1 % of a tonne, st a short ton, stu 1 % of one",
         "For each",
         choices=tuple(PRICES),
         default="t",
@@ -698,10 +999,18 @@ KEYS = (
         default=0.0,
         example="0",
     ),
+    Key(
+        METALS,
+        "currency",
+        "text",
+        "of price and selling, where it isn't that of the study; `exchange` says what one is worth",
+        "Currency",
+        is_written=False,
+    ),
 )
 
 
-PRICE = ("economics", METALS, "price")
+_PRICE = ("economics", METALS, "price")
 
 
 def keys_of(section: str) -> dict[str, Key]:
@@ -712,7 +1021,8 @@ def keys_of(section: str) -> dict[str, Key]:
 def wrong_in(
     section: str, values: Mapping[str, Any], where: str = "", at: KeyPath = ()
 ) -> list[PlanError]:
-    """What is wrong with each value of a section by itself: unknown keys, values of another kind, or out of range.
+    """What is wrong with each value of a section by itself: unknown keys, values of another kind,
+    or out of range.
 
     Parameters
     ----------
@@ -728,74 +1038,181 @@ def wrong_in(
     known, where, at = keys_of(section), where or f"[{section}]", at or (section,)
     found = []
     for name, value in values.items():
-        if name not in known:
+        if section == "schedule" and name in _NO_LAW:
+            said = f"{where} {name}: {_NO_LAW[name]}"
+            found.append(PlanError(said, try_this=f"leave {name} out", key=(*at, name)))
+        elif name not in known:
             found.append(
                 PlanError(
                     f"{where} has no key {name!r}{meant(name, known)}",
-                    try_this=", ".join(known),
+                    try_this=_renamed(name, value, known, values) or ", ".join(known),
                     key=(*at, name),
                 )
             )
-        elif value is not None and not known[name].holds(value):
-            found.append(wrong_value(known[name], value, where, (*at, name)))
+        elif value is not None:
+            error = _separated(known[name], value, where, (*at, name))
+            if error or not known[name].holds(value):
+                found.append(error or _wrong_value(known[name], value, where, (*at, name)))
     return found
 
 
-def wrong_value(key: Key, value: Any, where: str, at: KeyPath) -> PlanError:
+def _separated(key: Key, value: Any, where: str, at: KeyPath) -> PlanError | None:
+    """The error of a number, or of a table's numbers, typed with separators; None where none is."""
+    each = value if is_table(value) else {"": value}
+    typed = {name: typed_number(text) for name, text in each.items() if isinstance(text, str)}
+    found = {name: number for name, number in typed.items() if number}
+    better = {name: found[name].value if name in found else each[name] for name in each}
+    second = {name: number.other for name, number in found.items() if number.other is not None}
+    right, other = (it if is_table(value) else it[""] for it in (better, {**better, **second}))
+    if key.kind not in _SEPARATED or not found or not key.holds(right):
+        return None
+    name, first = next(iter(found.items()))
+    of_rock = f" of {name}" if name else ""
+    return PlanError(
+        f"{where} {key.name}{of_rock} is {each[name]!r}, which {first.said}: type {first.value!r}",
+        try_this=Remedy(
+            at, right, first.when, other=other if second and key.holds(other) else None
+        ),
+        key=at,
+    )
+
+
+def _renamed(name: str, value: Any, known: Iterable[str], there: Mapping[str, Any]) -> str | None:
+    """A key that isn't known, as the nearest that is; None where none is near, or that one is there
+    too.
+
+    >>> _renamed("absnt", ["-99"], ["absent", "size"], {}), _renamed("pictures", 8, ["absent"], {})
+    ('absent = ["-99"]', None)
+    >>> _renamed("absnt", ["-99"], ["absent", "size"], {"absent": []}) is None
+    True
+    """
+    near = near_to(name, list(known))
+    if near is None or near in there:
+        return None
+    spelt = spelled(value)
+    return f"{near} = {spelt}" if len(spelt) <= _WIDEST_VALUE else f"{near} in place of {name}"
+
+
+def _retold(value: Any) -> str:
+    """A wrong value in an error: tables and lists as TOML spells them."""
+    return spelled(value) if isinstance(value, (dict, list, tuple)) else repr(value)
+
+
+def _wrong_ramp(value: Mapping[str, Any], where: str, at: KeyPath) -> PlanError | None:
+    """The error of the ramp of all walls, or of the first region's that has one; None where neither
+    such a ramp nor regions are told."""
+    is_one = bool(set(_RAMP_MEANS) & set(value))
+    ramps: dict[tuple[str, ...], Any] = (
+        {(): value} if is_one else {(name,): part for name, part in value.items()}
+    )
+    for below, ramp in ramps.items():
+        if is_table(ramp) and not has_ramp(ramp):
+            said = f"{where} {', '.join(('ramp', *below))}"
+            return _told_twice(ramp, said, (*at, *below)) or _wrong_key(ramp, said, (*at, *below))
+    return None
+
+
+def _told_twice(ramp: Mapping[str, Any], said: str, at: KeyPath) -> PlanError | None:
+    """The error of a ramp that has `turns` and `around`."""
+    if not {"turns", "around"} <= set(ramp):
+        return None
+    one = spelled({name: part for name, part in ramp.items() if name != "around"})
+    return PlanError(
+        f"{said} has turns and around, and each says by itself how often the ramp passes",
+        try_this=f"{at[-1]} = {one}, or around without turns",
+        key=(*at, "around"),
+    )
+
+
+def _wrong_key(ramp: Mapping[str, Any], said: str, at: KeyPath) -> PlanError | None:
+    """The error of a ramp with a key that it can't have, a number that it can't be, or a key too
+    few."""
+    for name, number in ramp.items():
+        if name not in _RAMP_MEANS:
+            return PlanError(
+                f"{said} has no key {name!r}{meant(name, _RAMP_MEANS)}",
+                try_this=", ".join(_RAMP_MEANS),
+                key=(*at, name),
+            )
+        if not (_is_number(number) and 0 < number < _FAR):
+            means, example = _RAMP_MEANS[name]
+            return PlanError(
+                f"{said}: {name} is {_retold(number)}, and has to be a number above 0: {means}",
+                try_this=f"{name} = {example}",
+                key=(*at, name),
+            )
+    for name in (*_RAMP_KEYS, "turns"):
+        if name not in ramp and not (name == "turns" and "around" in ramp):
+            means, example = _RAMP_MEANS[name]
+            other = ", or around = 1500" if name == "turns" else ""
+            return PlanError(
+                f"{said} has no {name}: {means}", try_this=f"{name} = {example}{other}", key=at
+            )
+    return None
+
+
+def _wrong_value(key: Key, value: Any, where: str, at: KeyPath) -> PlanError:
     """The error of a value that a key may not have."""
     hint: str | Remedy | None = key.instead or None
+    if key.kind == "ramp" and is_table(value) and (error := _wrong_ramp(value, where, at)):
+        return error
     near = meant(value, key.choices) if key.kind == "choice" and isinstance(value, str) else ""
     if key.kind == "columns" and is_table(value) and KINDS[key.kind].holds(value):
         name = next(name for name in value if name not in key.choices)
         return PlanError(
             f"{where} {key.name} has no key {name!r}{meant(name, key.choices)}",
-            try_this=", ".join(key.choices),
+            try_this=_renamed(name, value[name], key.choices, value) or ", ".join(key.choices),
             key=(*at, name),
         )
     if key.kind == "choice":
+        unit = usual_unit(value) if isinstance(value, str) else ""
+        if unit not in key.choices:
+            unit = near_to(unit, key.choices) or unit
         return PlanError(
-            f"{where} {key.name} is {value!r}, and has to be {key.must}{near if 'meant' in near else ''}",
+            f"{where} {key.name} is {_retold(value)}, and has to be {key.must}{near if 'meant' in near else ''}",
+            try_this=Remedy(at, unit) if unit in key.choices else None,
             key=at,
         )
-    if key.path == PRICE and is_number(
+    if key.path == _PRICE and _is_number(
         value
     ):  # scaled by the factor, a penalty would fall with the price
         hint = f"price = 0, selling = {-value:g}, if it is a penalty"
-    if key.most == 1 and is_number(value) and key.holds(of_percent(value)):
+    if key.most == 1 and _is_number(value) and key.holds(of_percent(value)):
         hint = Remedy(at, of_percent(value))
-    bare = unquoted(value)
+    bare = _unquoted(value)
     is_quoted = bare != value and key.holds(bare)
     return PlanError(
-        f"{where} {key.name} is {value!r}, and has to be {key.must}{', without quotes' if is_quoted else ''}",
+        f"{where} {key.name} is {_retold(value)}, and has to be {key.must}{', without quotes' if is_quoted else ''}",
         try_this=Remedy(at, bare) if is_quoted else hint,
         key=at,
     )
 
 
 def of_percent(value: float) -> float:
-    """A share that was told in percent as a share; another number as it is: one just above 1 is no percent.
+    """A share that was told in percent as a share; another number as it is: one just above 1 is no
+    percent.
 
     >>> of_percent(96.5), of_percent(1.02), of_percent(0.3)
     (0.965, 1.02, 0.3)
     """
-    return float(f"{value / 100:.12g}") if LEAST_PERCENT <= value <= 100 else value
+    return float(f"{value / 100:.12g}") if _LEAST_PERCENT <= value <= 100 else value
 
 
-def unquoted(value: Any) -> Any:
+def _unquoted(value: Any) -> Any:
     """A value with what numbers, flags and lists it has in quotes without them.
 
-    >>> unquoted("30"), unquoted(["20", 20]), unquoted("north")
+    >>> _unquoted("30"), _unquoted(["20", 20]), _unquoted("north")
     (30, [20, 20], 'north')
     """
-    if isinstance(value, str) and len(value) <= LONGEST_BARE:
+    if isinstance(value, str) and len(value) <= _LONGEST_BARE:
         try:
             return tomllib.loads(f"bare = {value}")["bare"]
         except ValueError:
             return value
     if isinstance(value, list):
-        return [unquoted(part) for part in value]
+        return [_unquoted(part) for part in value]
     if isinstance(value, dict):
-        return {name: unquoted(part) for name, part in value.items()}
+        return {name: _unquoted(part) for name, part in value.items()}
     return value
 
 

@@ -1,8 +1,10 @@
-"""Tasks on other machines, by engines that others keep well: a Slurm array, Snakemake for other schedulers, a Dask client.
+"""Tasks on other machines, by engines that others keep well: a Slurm array, Snakemake for other
+schedulers, a Dask client.
 
-An engine starts lines of words (`task`) and needs no state of its own: what is done says the study's folder, which all machines
-share. Each time that tasks are handed in they get a folder of their own, ``submit/3/``, whose list nobody changes afterwards.
-All paths in what a scheduler reads count from the study's folder, since sbatch breaks at a space.
+An engine starts lines of words (`task`) and needs no state of its own: what is done says the
+study's folder, which all machines share. Each time that tasks are handed in they get a folder of
+their own, ``submit/3/``, whose list nobody changes afterwards. All paths in what a scheduler reads
+count from the study's folder, since sbatch breaks at a space.
 """
 from __future__ import annotations
 
@@ -26,9 +28,9 @@ from ..study.study import Study
 from ..base.files import host
 from .task import Tasks, memory_of_task
 
-MOST = 1000  # tasks of an array: Slurm takes 1,001 unless its site says otherwise
+_MOST = 1000  # tasks of an array: Slurm takes 1,001 unless its site says otherwise
 SPARE = 1.3  # times the memory that is guessed, asked of the scheduler
-SLURM = """#!/bin/sh
+_SLURM = """#!/bin/sh
 #SBATCH --job-name={name}
 #SBATCH --array=1-{count}%{at_once}
 #SBATCH --cpus-per-task=1
@@ -40,12 +42,13 @@ SLURM = """#!/bin/sh
 words=$(sed -n "${{SLURM_ARRAY_TASK_ID}}p" {list})
 exec {command} task . $words
 """
-# What Slurm knows of a job, without accounting: Snakemake waits forever for a job that was cancelled if nobody tells it.
-STATUS = """#!/bin/sh
+# What Slurm knows of a job, without accounting: Snakemake waits forever for a job that was
+# cancelled if nobody tells it.
+_STATUS = """#!/bin/sh
 s=$(scontrol -o show job "$1" 2>/dev/null | sed -n 's/.*JobState=\\([A-Z_]*\\).*/\\1/p')
 case "$s" in COMPLETED) echo success;; PENDING|RUNNING|COMPLETING|CONFIGURING|SUSPENDED|REQUEUED) echo running;; *) echo failed;; esac
 """
-SNAKEFILE = """rule all:
+_SNAKEFILE = """rule all:
     input: expand("{folder}/done/{{i}}", i=range(1, {count} + 1))
 rule task:
     output: touch("{folder}/done/{{i}}")
@@ -71,8 +74,9 @@ class Limits:
 
 
 def command() -> str:
-    """How a scheduler's script starts pitplan, quoted for a shell. A `pit` that PIT names here is named there too, by its whole path:
-    tasks start in the study's folder, and a site may hand on no environment.
+    """How a scheduler's script starts pitplan, quoted for a shell. A `pit` that PIT names here is
+    named there too, by its whole path: tasks start in the study's folder, and a site may hand on no
+    environment.
 
     Raises
     ------
@@ -91,7 +95,7 @@ def command() -> str:
     ) + shlex.quote(found)
 
 
-def job_name(study: Study) -> str:
+def _job_name(study: Study) -> str:
     """What the jobs of a study are called, so that the scheduler can be asked for them."""
     return "pitplan-" + hashlib.sha256(str(study.folder.resolve()).encode()).hexdigest()[:10]
 
@@ -109,7 +113,10 @@ def listed(study: Study, tasks: Sequence[Task]) -> Path:
         (study.folder / "log").mkdir(exist_ok=True)
     except FileExistsError:
         raise PlanError(
-            f"{study.folder / 'log'} is a file, and what tasks say is kept in a folder of that name",
+            (
+                f"{study.folder / 'log'} is a file, and what tasks say is kept in a folder of that"
+                " name"
+            ),
             try_this="another name for the file",
         ) from None
     number = max((int(path.name) for path in top.iterdir() if path.name.isdigit()), default=0) + 1
@@ -121,8 +128,8 @@ def listed(study: Study, tasks: Sequence[Task]) -> Path:
 
 def slurm_script(study: Study, count: int, folder: str, limits: Limits = Limits()) -> str:
     """The script of an array of so many tasks, listed in a folder ``submit/N``."""
-    return SLURM.format(
-        name=job_name(study),
+    return _SLURM.format(
+        name=_job_name(study),
         count=count,
         at_once=limits.at_once,
         mega=megabytes(study),
@@ -146,8 +153,8 @@ def submit_slurm(study: Study, tasks: Sequence[Task], limits: Limits = Limits())
         Where sbatch isn't there or refuses, with its words.
     """
     jobs = []
-    for at in range(0, len(tasks), MOST):
-        part = tasks[at : at + MOST]
+    for at in range(0, len(tasks), _MOST):
+        part = tasks[at : at + _MOST]
         folder = listed(study, part)
         (folder / "array.sh").write_text(
             slurm_script(study, len(part), f"submit/{folder.name}", limits)
@@ -162,7 +169,8 @@ def submit_slurm(study: Study, tasks: Sequence[Task], limits: Limits = Limits())
 
 
 def asked(words: Sequence[str], folder: Path) -> str:
-    """What a scheduler's program says. Raises MachineError where it isn't there or ends with a fault."""
+    """What a scheduler's program says. Raises MachineError where it isn't there or ends with a
+    fault."""
     try:
         ran = subprocess.run(
             words, cwd=folder, capture_output=True, text=True, stdin=subprocess.DEVNULL
@@ -192,8 +200,9 @@ class Handed:
     log: Path
 
     def last_line(self) -> str | None:
-        """What stands last in the log; before `STOPPED`, which a task says that is ended, and which doesn't say why. "" where there is
-        nothing, None where there is no log: the task never began."""
+        """What stands last in the log; before `STOPPED`, which a task says that is ended, and which
+        doesn't say why. "" where there is nothing, None where there is no log: the task never
+        began."""
         try:
             lines = [
                 line.strip()
@@ -208,7 +217,8 @@ class Handed:
 
 
 def in_slurm(study: Study) -> dict[Task, Handed]:
-    """The tasks of a study that were handed in to Slurm, and what it has of each; none where there were none.
+    """The tasks of a study that were handed in to Slurm, and what it has of each; none where there
+    were none.
 
     Raises
     ------
@@ -222,28 +232,29 @@ def in_slurm(study: Study) -> dict[Task, Handed]:
         if path.parent.name.isdecimal()
     ]
     for path in sorted(there, key=lambda path: int(path.parent.name)):
-        told = kept_json.read(
+        record = kept_json.read(
             path,
             {
                 "engine": kept_json.is_word,
-                "job": lambda value: isinstance(value, str)
-                and re.fullmatch(r"\w*", value) is not None,
+                "job": (
+                    lambda value: isinstance(value, str) and re.fullmatch(r"\w*", value) is not None
+                ),
             },
             f"take {path} away",
         )
-        if told["engine"] == "slurm":
-            lists[told["job"]] = (path.parent / "tasks.txt").read_text().splitlines()
+        if record["engine"] == "slurm":
+            lists[record["job"]] = (path.parent / "tasks.txt").read_text().splitlines()
     if not lists:
         return {}
     states = {}
     for line in asked(
-        ["squeue", "--noheader", "--array", f"--name={job_name(study)}", "--format=%F %K %T"],
+        ["squeue", "--noheader", "--array", f"--name={_job_name(study)}", "--format=%F %K %T"],
         study.folder,
     ).splitlines():
         job, index, state = line.split()[:3]
         states[job, index] = state
     return {
-        task_in(line): Handed(
+        _task_in(line): Handed(
             states.get((job, str(at)), ""), study.folder / "log" / f"{job}_{at}.log"
         )
         for job, lines in lists.items()
@@ -251,16 +262,18 @@ def in_slurm(study: Study) -> dict[Task, Handed]:
     }
 
 
-def task_in(line: str) -> Task:
+def _task_in(line: str) -> Task:
     from ..plans.task_line import task_of
 
     return task_of(line.split())
 
 
 def write_snakefile(study: Study, tasks: Sequence[Task]) -> Path:
-    """Writes the tasks out for Snakemake: a folder ``submit/N`` with a Snakefile, and a status script for Slurm without accounting.
+    """Writes the tasks out for Snakemake: a folder ``submit/N`` with a Snakefile, and a status
+    script for Slurm without accounting.
 
-    The marks of what is done are files of its own, so Snakemake, which takes away what a failed job had to make, never touches a pit.
+    The marks of what is done are files of its own, so Snakemake, which takes away what a failed job
+    had to make, never touches a pit.
     """
     folder = listed(study, tasks)
     place = f"submit/{folder.name}"
@@ -268,9 +281,9 @@ def write_snakefile(study: Study, tasks: Sequence[Task]) -> Path:
         1:-1
     ]  # Python's words are quoted as JSON's are
     (folder / "Snakefile").write_text(
-        SNAKEFILE.format(folder=place, count=len(tasks), mega=megabytes(study), command=quoted)
+        _SNAKEFILE.format(folder=place, count=len(tasks), mega=megabytes(study), command=quoted)
     )
-    (folder / "slurm-status").write_text(STATUS)
+    (folder / "slurm-status").write_text(_STATUS)
     it = folder / "slurm-status"
     it.chmod(it.stat().st_mode | it.stat().st_mode >> 2 & 0o111)  # who may read it may run it
     (folder / "submitted.json").write_text(
@@ -297,10 +310,11 @@ def run_dask(
     client: Any,
     heard: Callable[[Task, int, int], None] | None = None,
 ) -> None:
-    """Does tasks over the workers of a ``distributed.Client``. Words alone go over the network; the study's folder is shared.
+    """Does tasks over the workers of a ``distributed.Client``. Words alone go over the network; the
+    study's folder is shared.
 
-    Dask sees the memory of its own process and not that of the `pit` beneath it: as many workers as memory has room for is
-    the caller's care (`local.processes_for` says it for this machine).
+    Dask sees the memory of its own process and not that of the `pit` beneath it: as many workers as
+    memory has room for is the caller's care (`local.processes_for` says it for this machine).
 
     Parameters
     ----------
@@ -311,7 +325,8 @@ def run_dask(
     Raises
     ------
     PlanError
-        As `Tasks.do`. A worker that dies costs the task that it had in hand, which is started again elsewhere.
+        As `Tasks.do`. A worker that dies costs the task that it had in hand, which is started again
+        elsewhere.
     """
     from distributed import as_completed
 
@@ -319,11 +334,11 @@ def run_dask(
     folder, program = str(study.folder.resolve()), study.program.program
     futures = {
         client.submit(
-            do_words,
+            _do_words,
             folder,
             program,
             str(task),
-            key=f"{job_name(study)} {task}",
+            key=f"{_job_name(study)} {task}",
             pure=False,
             retries=3,
         ): task
@@ -335,8 +350,8 @@ def run_dask(
             heard(futures[future], done, len(asked_for))
 
 
-def do_words(folder: str, program: str, words: str) -> int:
+def _do_words(folder: str, program: str, words: str) -> int:
     """Does a task in a worker of Dask."""
     from ..pit.program import Pit
 
-    return Tasks(Path(folder), Pit(program)).do(task_in(words))
+    return Tasks(Path(folder), Pit(program)).do(_task_in(words))

@@ -1,7 +1,8 @@
 """Tasks on this machine: a few processes, each of which is handed one line of words after another.
 
-A process of this package for each, and not a thread: a realisation's prices are worked out in Python. The processes end with the
-one that started them, and their `pit` with them. One that dies is started again, with the task that it had in hand.
+A process of this package for each, and not a thread: a realisation's prices are worked out in
+Python. The processes end with the one that started them, and their `pit` with them. One that dies
+is started again, with the task that it had in hand.
 """
 from __future__ import annotations
 
@@ -13,25 +14,27 @@ import subprocess
 import sys
 import threading
 from collections.abc import Callable, Iterable, Sequence
-from concurrent.futures import FIRST_EXCEPTION, ThreadPoolExecutor, wait
+from concurrent.futures import ThreadPoolExecutor
 from pathlib import Path
 from queue import Empty, SimpleQueue
 
 from ..base.errors import Disagreement, MachineError, NotAccepted, PlanError
 from ..base.machine import free_memory, processors
+from ..base.stops import as_they_end
 from ..plans.task_line import Task
 from ..study.study import Study
 from ..study.workers import SHARE
 from .task import memory_of_task
 
-TRIES = 3
-PATIENCE = 20  # seconds that a process gets to take away what it has half done
-START = "import sys; sys.path.insert(0, {!r}); from pitplan.cli.main import main; main()"
+_TRIES = 3
+_PATIENCE = 20  # seconds that a process gets to take away what it has half done
+_START = "import sys; sys.path.insert(0, {!r}); from pitplan.cli.main import main; main()"
 Heard = Callable[[Task, int, int], None]  # a task that is done, how many are, and of how many
 
 
 def processes_for(study: Study, wanted: int | None = None) -> int:
-    """How many tasks run at a time: as asked or as there are processors, and no more than free memory has room for."""
+    """How many tasks run at a time: as asked or as there are processors, and no more than free
+    memory has room for."""
     room = int(SHARE * free_memory() / memory_of_task(study))
     return max(1, min(wanted or processors(), room))
 
@@ -39,7 +42,8 @@ def processes_for(study: Study, wanted: int | None = None) -> int:
 def run_local(
     study: Study, tasks: Iterable[Task], workers: int | None = None, heard: Heard | None = None
 ) -> int:
-    """Does tasks on this machine. Those that are done already are passed over by whoever lists them (`Tasks.left`).
+    """Does tasks on this machine. Those that are done already are passed over by whoever lists them
+    (`Tasks.left`).
 
     Parameters
     ----------
@@ -56,7 +60,8 @@ def run_local(
     Raises
     ------
     PlanError
-        Where a task fails, with its words; or a task's process died three times. What is done is kept.
+        Where a task fails, with its words; or a task's process died three times. What is done is
+        kept.
     KeyboardInterrupt
         The same. No process is left.
     """
@@ -67,7 +72,7 @@ def run_local(
     if not left:
         return 0
     count = min(processes_for(study, workers), len(left))
-    team = [Worker(study, queue) for _ in range(count)]
+    team = [_Worker(study, queue) for _ in range(count)]
     lock, done = threading.Lock(), [0]
 
     def tell(task: Task) -> None:
@@ -79,7 +84,7 @@ def run_local(
     with ThreadPoolExecutor(count) as pool:
         try:
             futures = [pool.submit(worker.work, tell) for worker in team]
-            for future in wait(futures, return_when=FIRST_EXCEPTION).done:
+            for future in as_they_end(futures):
                 future.result()
         finally:
             for worker in team:
@@ -87,7 +92,7 @@ def run_local(
     return sum(worker.deaths for worker in team)
 
 
-class Worker:
+class _Worker:
     """A process that does one task after another of a queue; started again when it dies."""
 
     def __init__(self, study: Study, queue: SimpleQueue[Task]) -> None:
@@ -102,7 +107,7 @@ class Worker:
                 task = self.queue.get_nowait()
             except Empty:
                 break
-            for attempt in range(TRIES):
+            for attempt in range(_TRIES):
                 if self.does(task):
                     tell(task)
                     break
@@ -111,13 +116,14 @@ class Worker:
                     return
             else:
                 raise MachineError(
-                    f"{task}: its process was ended {TRIES} times",
+                    f"{task}: its process was ended {_TRIES} times",
                     try_this="fewer --workers: memory was short, or somebody ended it",
                 )
         self.let_go()
 
     def does(self, task: Task) -> bool:
-        """Hands a task to the process; whether it is done, or the process died. Raises what the task failed with."""
+        """Hands a task to the process; whether it is done, or the process died. Raises what the
+        task failed with."""
         process = self.running()
         try:
             assert process.stdin and process.stdout
@@ -146,7 +152,7 @@ class Worker:
             if self.process is None or self.process.poll() is not None:
                 setpriv = shutil.which("setpriv")
                 before = [setpriv, "--pdeathsig", "TERM", "--"] if setpriv else []
-                start = START.format(str(Path(__file__).resolve().parents[2]))
+                start = _START.format(str(Path(__file__).resolve().parents[2]))
                 environment = {**os.environ, "PIT": self.study.program.program}
                 self.process = subprocess.Popen(
                     [
@@ -173,7 +179,7 @@ class Worker:
             if self.process and self.process.stdin:
                 self.process.stdin.close()
                 try:
-                    self.process.wait(PATIENCE)
+                    self.process.wait(_PATIENCE)
                 except subprocess.TimeoutExpired:
                     pass  # `end` sees to it
 
@@ -185,13 +191,13 @@ class Worker:
                 return
             self.process.send_signal(signal.SIGTERM)
             try:
-                self.process.wait(PATIENCE)
+                self.process.wait(_PATIENCE)
             except subprocess.TimeoutExpired:
                 os.killpg(self.process.pid, signal.SIGKILL)
                 self.process.wait()
 
 
-def answer_to(error: BaseException) -> str:
+def _answer_to(error: BaseException) -> str:
     """What a process says of a task that failed, in a line."""
     if isinstance(error, PlanError):
         place = str(error).split("\n  try: ")[0]
@@ -222,5 +228,5 @@ def serve(
             do(parse(line.split()))
             said = json.dumps({"done": True})
         except (PlanError, OSError, MemoryError) as error:
-            said = answer_to(error)
+            said = _answer_to(error)
         say(said)

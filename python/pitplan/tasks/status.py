@@ -1,4 +1,5 @@
-"""How far a study's tasks are: done, running, waiting, failed with what they said, and how long the rest will take."""
+"""How far a study's tasks are: done, running, waiting, failed with what they said, and how long the
+rest will take."""
 from __future__ import annotations
 
 import json
@@ -23,7 +24,7 @@ ENDED = "was ended from outside"
 
 
 @dataclass(frozen=True)
-class State:
+class _State:
     """Where a task is.
 
     Attributes
@@ -45,7 +46,7 @@ class State:
 
 def states(
     study: Study, tasks: Sequence[Task], in_hand: Mapping[Task, Handed] | None = None
-) -> list[State]:
+) -> list[_State]:
     """Where each task is.
 
     Parameters
@@ -59,28 +60,29 @@ def states(
         Where tasks were handed in to Slurm, and Slurm can't be asked.
     """
     of, slurm = Tasks(study.folder, study.given), in_slurm(study) if in_hand is None else in_hand
-    return [state_of(of, task, slurm.get(task)) for task in dict.fromkeys(tasks)]
+    return [_state_of(of, task, slurm.get(task)) for task in dict.fromkeys(tasks)]
 
 
-def state_of(of: Tasks, task: Task, handed: Handed | None) -> State:
-    """Where a task is: by its verdicts, by Slurm, by what is half done, and by the words that it left."""
+def _state_of(of: Tasks, task: Task, handed: Handed | None) -> _State:
+    """Where a task is: by its verdicts, by Slurm, by what is half done, and by the words that it
+    left."""
     missing = of.missing(task)
     if not missing:
-        return State(task, DONE)
+        return _State(task, DONE)
     if handed and handed.state == "PENDING":
-        return State(task, WAITING, "in Slurm's queue", len(missing))
-    at, is_dead = half_done(of.study(task).place(missing[0]).parent, missing)
+        return _State(task, WAITING, "in Slurm's queue", len(missing))
+    at, is_dead = _half_done(of.study(task).place(missing[0]).parent, missing)
     if handed and not handed.state and at - {host()}:
         at, is_dead = at & {host()}, True  # it was another machine's, and Slurm has it no more
     if at or (handed and handed.state):
-        return State(
+        return _State(
             task,
             RUNNING,
             f"on {', '.join(sorted(at))}" if at else f"Slurm says {handed.state if handed else ''}",
             len(missing),
         )
     try:
-        return State(
+        return _State(
             task, FAILED, str(json.loads(of.note(task).read_text())["words"]), len(missing)
         )
     except (
@@ -99,20 +101,21 @@ def state_of(of: Tasks, task: Task, handed: Handed | None) -> State:
             else ": killed, out of memory, or out of time"
         )
         return (
-            State(task, FAILED, ENDED + why, len(missing))
+            _State(task, FAILED, ENDED + why, len(missing))
             if is_dead or last is not None
-            else State(task, TO_DO, "", len(missing))
+            else _State(task, TO_DO, "", len(missing))
         )
 
 
-def half_done(folder: Path, missing: Sequence[int]) -> tuple[set[str], bool]:
-    """On which machines somebody works at one of these factors, and whether a process of this machine that is no more has left
-    something half done. What a process of another machine has left can't be told from what it is at.
+def _half_done(folder: Path, missing: Sequence[int]) -> tuple[set[str], bool]:
+    """On which machines somebody works at one of these factors, and whether a process of this
+    machine that is no more has left something half done. What a process of another machine has left
+    can't be told from what it is at.
     """
     at, is_dead = set(), False
     for path in folder.glob(".f*"):
         parts = path.name.removesuffix(".old").rsplit(".", 3)
-        if len(parts) != 4 or not is_of(parts[0], missing):
+        if len(parts) != 4 or not _is_of(parts[0], missing):
             continue
         if parts[1] != host() or os.path.exists(f"/proc/{parts[2]}"):
             at.add(parts[1])
@@ -121,16 +124,18 @@ def half_done(folder: Path, missing: Sequence[int]) -> tuple[set[str], bool]:
     return at, is_dead
 
 
-def is_of(name: str, missing: Sequence[int]) -> bool:
-    """Whether a folder of that name, of a factor (".f00800") or of a series (".f00300-01200"), is for one of these factors."""
+def _is_of(name: str, missing: Sequence[int]) -> bool:
+    """Whether a folder of that name, of a factor (".f00800") or of a series (".f00300-01200"), is
+    for one of these factors."""
     found = re.fullmatch(r"\.f(\d+)(?:-(\d+))?", name)
     return found is not None and any(
         int(found[1]) <= factor <= int(found[2] or found[1]) for factor in missing
     )
 
 
-def seconds_left(study: Study, found: Sequence[State]) -> float | None:
-    """How long the rest will take, from the pits that are found and as many at a time as run now; None where none is found yet."""
+def seconds_left(study: Study, found: Sequence[_State]) -> float | None:
+    """How long the rest will take, from the pits that are found and as many at a time as run now;
+    None where none is found yet."""
     of = Tasks(study.folder, study.given)
     took = [
         max(verdict["seconds"], 0.0)

@@ -3,9 +3,12 @@
     run base 800                   the pit of the study itself at factor 0.8
     run price+20 1000              the pit of a what-if
     realisation 17 800,1000        the pits of a realisation of the grades
+    schedule price+20 1000         the schedule of a what-if, and its bound
+    realised 17 1000               the study's schedule under a realisation, and a bound there
 
-A task does nothing where a verdict over this very model stands. Else it works in a folder beside the result, and renames. So
-whatever starts such lines needs no state of its own, and to go on is to start them again.
+A task does nothing where a verdict over this very model stands. Else it works in a folder beside
+the result, and renames. So whatever starts such lines needs no state of its own, and to go on is to
+start them again.
 """
 from __future__ import annotations
 
@@ -18,7 +21,7 @@ from pathlib import Path
 from typing import TYPE_CHECKING
 
 from ..base.errors import PlanError
-from ..plans.task_line import BASE, Task
+from ..plans.task_line import BASE, NUMBERED, REALISED, SCHEDULE, Task
 from ..study.study import Study
 from ..base.files import host, sweep
 from ..study.workers import memory_of
@@ -26,21 +29,23 @@ from ..study.workers import memory_of
 if TYPE_CHECKING:
     from ..pit.program import Pit
 
-MADE = 200  # bytes a block that a realisation's process holds beside its `pit` (bench/scale.csv)
+_MADE = 200  # bytes a block that a realisation's process holds beside its `pit` (bench/scale.csv)
 DONE_WORDS = re.compile(
-    r": (?:\d+ pits? found|done before)$"
+    r": (?:\d+ pits? found|schedule found|done before)$"
 )  # of `told`, at the end of a task's log
-PROCESS = 200_000_000  # bytes of a process of this package with nothing in it
+_PROCESS = 200_000_000  # bytes of a process of this package with nothing in it
 
 
-def told(task: Task, count: int) -> str:
+def done_line(task: Task, count: int) -> str:
     """What is said of a task that is done: how many pits were found for it."""
-    return f"{task}: " + (f"{count} pit{'s' * (count > 1)} found" if count else "done before")
+    is_schedule = task.kind in (SCHEDULE, REALISED)
+    found = "schedule" if is_schedule else f"{count} pit{'s' * (count > 1)}"
+    return f"{task}: " + (f"{found} found" if count else "done before")
 
 
 class Tasks:
-    """The studies of a folder that tasks run over: the study itself, its what-ifs and its realisations. Those of one process
-    share the model that they read.
+    """The studies of a folder that tasks run over: the study itself, its what-ifs and its
+    realisations. Those of one process share the model that they read.
 
     Parameters
     ----------
@@ -55,22 +60,33 @@ class Tasks:
         self.is_verified: set[tuple[str, str]] = set()
 
     def study(self, task: Task) -> Study:
-        """The study that a task runs over. Raises PlanError where there is no such scenario or realisation."""
+        """The study that a task runs over. Raises PlanError where there is no such scenario or
+        realisation."""
         from ..plans.risk import realisation
         from ..plans.vary import scenario
+        from ..schedule.what_ifs import study_named
 
         at = (task.kind, task.name) if task.name != BASE else (BASE, "")
         if at not in self.opened:
-            self.opened[at] = (
-                realisation(self.base, int(task.name))
-                if task.kind == "realisation"
-                else scenario(self.base, task.name)
-            )
+            if task.kind in NUMBERED:
+                self.opened[at] = realisation(self.base, int(task.name))
+            else:
+                named = study_named if task.kind == SCHEDULE else scenario
+                self.opened[at] = named(self.base, task.name)
         return self.opened[at]
 
     def missing(self, task: Task) -> list[int]:
-        """The factors of a task that no verdict over this very model stands for."""
+        """The factors of a task that no verdict over this very model stands for, or no schedule
+        that was searched for as long as was asked."""
         study = self.study(task)
+        if task.kind == SCHEDULE:
+            from ..schedule.what_ifs import is_done
+
+            return [] if is_done(self.base, task.name) else list(task.factors)
+        if task.kind == REALISED:
+            from ..schedule import realised
+
+            return [] if realised.is_done(self.base, int(task.name)) else list(task.factors)
         return [factor for factor in task.factors if not study.verdict(factor)]
 
     def left(self, tasks: Iterable[Task]) -> list[Task]:
@@ -83,7 +99,8 @@ class Tasks:
         Raises
         ------
         PlanError
-            As `Study.run`; its words are kept in the folder ``log`` until the task is done, for `pitplan status`.
+            As `Study.run`; its words are kept in the folder ``log`` until the task is done, for
+            `pitplan status`.
         """
         from ..plans.risk import Realisation
 
@@ -94,7 +111,9 @@ class Tasks:
                 self.verify(task)
                 with study.written() if isinstance(study, Realisation) else nullcontext():
                     for factor in missing:
-                        study.run(factor)
+                        if task.kind != SCHEDULE or not study.verdict(factor):
+                            study.run(factor)
+                self.schedule(task)
             except (PlanError, OSError, MemoryError) as error:
                 self.keep_words(task, str(error) or "memory was refused")
                 raise
@@ -104,6 +123,15 @@ class Tasks:
         with suppress(NotADirectoryError):  # where log is a file
             self.note(task).unlink(missing_ok=True)
         return len(missing)
+
+    def schedule(self, task: Task) -> None:
+        """Searches for the schedule of a task that asks for one."""
+        from ..schedule import realised, what_ifs
+
+        if task.kind == SCHEDULE:
+            what_ifs.find(self.base, task.name)
+        if task.kind == REALISED:
+            realised.find(self.base, int(task.name))
 
     def verify(self, task: Task) -> None:
         """Takes the digests of the files that a task reads, once in a process."""
@@ -117,7 +145,8 @@ class Tasks:
         return self.base.folder / "log" / f"{task.label}.failed.json"
 
     def keep_words(self, task: Task, words: str) -> None:
-        """Keeps what a task failed with; on a full disk it can't be kept, and the words have been told anyway."""
+        """Keeps what a task failed with; on a full disk it can't be kept, and the words have been
+        told anyway."""
         try:
             self.note(task).parent.mkdir(exist_ok=True)
             self.note(task).write_text(
@@ -134,15 +163,19 @@ def memory_of_task(study: Study) -> int:
 
 def memory_by_size(blocks: int, pairs: int) -> int:
     """Bytes of memory that a task over a model of that size takes at most, about."""
-    return PROCESS + memory_of(blocks, pairs) + blocks * MADE
+    return _PROCESS + memory_of(blocks, pairs) + blocks * _MADE
 
 
 def wanted(study: Study, factors: Sequence[int]) -> list[Task]:
-    """All tasks of a study: its own factors, its what-ifs, and its realisations, of those that were asked for."""
+    """All tasks of a study: its own factors, its what-ifs, and its realisations, of those that were
+    asked for."""
     from ..plans import risk, vary
+    from ..schedule import realised, what_ifs
 
     return [
         *(Task("run", BASE, (factor,)) for factor in factors),
         *vary.tasks(study),
         *risk.tasks(study),
+        *what_ifs.tasks(study),
+        *realised.tasks(study),
     ]

@@ -1,4 +1,5 @@
-"""The plan of a bench with a design and the best pit: what both have, what the design leaves, what it takes beyond."""
+"""The plan of a bench with a design and the best pit: what both have, what the design leaves, what
+it takes beyond."""
 from __future__ import annotations
 
 from typing import TYPE_CHECKING, Any
@@ -11,15 +12,16 @@ from matplotlib.patches import Patch
 from ..base.arrays import Bools
 from ..base.units_shown import factor_text
 from . import plane as planes
-from .pictures import CASING, SEPARATED, add_north_and_scale
+from .pictures import CASING, PLACES, add_north_and_scale
 
 if TYPE_CHECKING:
     from ..model.model import Model
     from ..plans.compare import Comparison
 
-# Of each kind of cell: its colour and its hatch, so that the picture says the same in black and white.
-BOTH, LEFT, OVER = ("#dcdcdc", ""), ("#9ecae1", "///"), ("#fdae6b", "...")
-MOST_INCHES = (7.6, 8.0)
+# Of each kind of cell: its colour and its hatch, so that the picture says the same in black and
+# white.
+_BOTH, _LEFT, _OVER = ("#dcdcdc", ""), ("#9ecae1", "///"), ("#fdae6b", "...")
+_MOST_INCHES = (7.6, 8.0)
 
 
 def widest_bench(found: Comparison) -> float:
@@ -35,14 +37,15 @@ def widest_bench(found: Comparison) -> float:
 def plan(model: Model, found: Comparison, elevation: float) -> Figure:
     """The plan of the bench at an elevation, in true coordinates.
 
-    The best pit's outline is a full line, the design's a dashed one. Raises PlanError where the model has no such bench.
+    The best pit's outline is a full line, the design's a dashed one. Raises PlanError where the
+    model has no such bench.
     """
     cut = planes.bench(model, planes.bench_at(model, elevation))
     there = cut.number >= 0
     held, best = (there & mask[cut.number] for mask in (found.design.held, found.optimum))
-    (left, right), (low, top) = frame(held | best, cut)
+    (left, right), (low, top) = _frame(held | best, cut)
     wide, high = right - left, top - low
-    scale = min(MOST_INCHES[0] / wide, MOST_INCHES[1] / high)
+    scale = min(_MOST_INCHES[0] / wide, _MOST_INCHES[1] / high)
     width, height = max(wide * scale + 1.6, 8.0), high * scale + 2.3
     figure = Figure(figsize=(width, height))
     axes = figure.add_axes(
@@ -53,8 +56,12 @@ def plan(model: Model, found: Comparison, elevation: float) -> Figure:
             high * scale / height,
         )
     )
-    for cells, (colour, hatch) in ((held & best, BOTH), (best & ~held, LEFT), (held & ~best, OVER)):
-        fill(axes, cells, cut, colour, hatch)
+    for cells, (colour, hatch) in (
+        (held & best, _BOTH),
+        (best & ~held, _LEFT),
+        (held & ~best, _OVER),
+    ):
+        _fill(axes, cells, cut, colour, hatch)
     axes.plot(*planes.borders(there, cut), color="#777777", linewidth=0.6)
     axes.plot(*planes.borders(best, cut), color="black", linewidth=2.0, path_effects=CASING)
     axes.plot(*planes.borders(held, cut), color="#b2182b", linewidth=1.6, linestyle=(0, (4, 1.5)))
@@ -64,19 +71,23 @@ def plan(model: Model, found: Comparison, elevation: float) -> Figure:
     axes.set_xlabel(cut.labels[0])
     axes.set_ylabel(cut.labels[1])
     for each in (axes.xaxis, axes.yaxis):
-        each.set_major_formatter(SEPARATED)
+        each.set_major_formatter(PLACES)
     axes.locator_params(axis="x", nbins=6)
-    add_north_and_scale(axes)
+    add_north_and_scale(axes, model.units.length)
     axes.set_title(
-        f"{found.design.name} beside the best pit at factor {factor_text(found.factor)}: {cut.title}",
+        (
+            f"{found.design.name} beside the best pit at factor {factor_text(found.factor)}:"
+            f" {cut.title}"
+        ),
         fontsize=11,
     )
-    figure.legend(handles=key(held, best), loc="lower center", ncol=3, frameon=False)
+    figure.legend(handles=_key(held, best), loc="lower center", ncol=3, frameon=False)
     return figure
 
 
-def frame(cells: Bools, cut: planes.Plane) -> tuple[tuple[float, float], tuple[float, float]]:
-    """From where to where a picture of some cells goes, in x and in y, with a margin; of none, over the whole plan."""
+def _frame(cells: Bools, cut: planes.Plane) -> tuple[tuple[float, float], tuple[float, float]]:
+    """From where to where a picture of some cells goes, in x and in y, with a margin; of none, over
+    the whole plan."""
     at = np.argwhere(cells)
     if not len(at):
         return (float(cut.across.min()), float(cut.across.max())), (
@@ -92,7 +103,7 @@ def frame(cells: Bools, cut: planes.Plane) -> tuple[tuple[float, float], tuple[f
     return spans[0], spans[1]
 
 
-def fill(axes: Any, cells: Bools, cut: planes.Plane, colour: str, hatch: str) -> None:
+def _fill(axes: Any, cells: Bools, cut: planes.Plane, colour: str, hatch: str) -> None:
     """Colours some cells: one polygon for each run of cells in a row."""
     from matplotlib.collections import PolyCollection
 
@@ -116,7 +127,7 @@ def fill(axes: Any, cells: Bools, cut: planes.Plane, colour: str, hatch: str) ->
     )
 
 
-def key(held: Bools, best: Bools) -> list[Any]:
+def _key(held: Bools, best: Bools) -> list[Any]:
     """What colours and lines are."""
 
     def patch(cells: Bools, kind: tuple[str, str], word: str) -> Patch:
@@ -129,9 +140,9 @@ def key(held: Bools, best: Bools) -> list[Any]:
         )
 
     return [
-        patch(held & best, BOTH, "In both"),
-        patch(best & ~held, LEFT, "Left by the design"),
-        patch(held & ~best, OVER, "Beyond the best pit"),
+        patch(held & best, _BOTH, "In both"),
+        patch(best & ~held, _LEFT, "Left by the design"),
+        patch(held & ~best, _OVER, "Beyond the best pit"),
         Line2D([], [], color="black", linewidth=2.0, label="Best pit"),
         Line2D([], [], color="#b2182b", linewidth=1.6, linestyle=(0, (4, 1.5)), label="Design"),
     ]

@@ -1,6 +1,8 @@
-"""One HTML file that opens anywhere without a network: pits in three dimensions and in sections, with a slider and tables.
+"""One HTML file that opens anywhere without a network: pits in three dimensions and in sections,
+with a slider and tables.
 
-three.js (Debian's libjs-three) and the heights of `levels` stand in the file; `page_views` says what is shown.
+three.js (Debian's libjs-three) and the heights of `levels` stand in the file; `page_views` says
+what is shown.
 """
 from __future__ import annotations
 
@@ -19,6 +21,7 @@ from ..base.files import whole_file
 from . import page_views
 from .levels import packed, packed_marks
 from .page_views import PATTERNS, Table, View
+from .tones import tones
 
 if TYPE_CHECKING:
     import pandas as pd
@@ -26,17 +29,19 @@ if TYPE_CHECKING:
     from ..plans.compare import Comparison
     from ..plans.phases import Phases
     from ..plans.risk import Risk
+    from ..schedule.plan import Schedule
     from ..study.shells import Shells
     from ..study.study import Study
 
 THREE_JS = Path("/usr/share/javascript/three")
-LIBRARIES = {"three": "three.min.js", "orbit": "examples/js/controls/OrbitControls.js"}
-PLACE = re.compile(r"\{\{(\w+)\}\}")
+_LIBRARIES = {"three": "three.min.js", "orbit": "examples/js/controls/OrbitControls.js"}
+_MANY = 14  # columns from which on their letters are smaller, so that they have room side by side
+_PLACE = re.compile(r"\{\{(\w+)\}\}")
 
 
 def data_of(study: Study, views: Sequence[View]) -> dict[str, Any]:
-    """What the page's script reads: the grid in the user's coordinates, the blocks that may not be dug, and of each view what isn't
-    in its table."""
+    """What the page's script reads: the grid in the user's coordinates, the blocks that may not be
+    dug, and of each view what isn't in its table."""
     grid = study.model.grid
     nx, ny, _ = grid.shape
 
@@ -48,6 +53,7 @@ def data_of(study: Study, views: Sequence[View]) -> dict[str, Any]:
     return {
         "shape": list(grid.shape),
         "size": list(grid.size),
+        "unit": study.model.units.length,
         "rotation": grid.rotation,
         "corners": corners,
         "centre": place(nx / 2 - 0.5, ny / 2 - 0.5),
@@ -65,6 +71,7 @@ def of_view(view: View) -> dict[str, Any]:
         "steps": view.table.names,
         "labels": view.labels,
         "paint": view.paint,
+        "tones": tones(view.weights),
         "beside": view.is_beside,
         "patterns": len(view.labels) <= PATTERNS,
         "start": view.start,
@@ -87,7 +94,8 @@ def table_html(table: Table) -> str:
         for name, row in zip(table.names, rows)
     )
     caption = html.escape(table.caption)
-    return f'<h2>{caption}</h2>\n<div class="scroll" tabindex="0" role="region" aria-label="{caption}"><table><thead><tr>{head}</tr></thead>\n<tbody>\n{body}</tbody></table></div>'
+    is_many = ' class="many"' if len(table.columns) > _MANY else ""
+    return f'<h2>{caption}</h2>\n<div class="scroll" tabindex="0" role="region" aria-label="{caption}"><table{is_many}><thead><tr>{head}</tr></thead>\n<tbody>\n{body}</tbody></table></div>'
 
 
 def view_html(number: int, view: View, key: str) -> str:
@@ -116,12 +124,14 @@ def script_text(value: Any) -> str:
 
 
 def filled(template: str, places: Mapping[str, str]) -> str:
-    """The template with its places filled, in one pass: what is put in is never looked through for places again."""
-    return PLACE.sub(lambda found: places[found[1]], template)
+    """The template with its places filled, in one pass: what is put in is never looked through for
+    places again."""
+    return _PLACE.sub(lambda found: places[found[1]], template)
 
 
 def policy(template: str, libraries: Mapping[str, str]) -> str:
-    """A policy by which the browser fetches nothing, and runs only the scripts that are this page's, by their digests."""
+    """A policy by which the browser fetches nothing, and runs only the scripts that are this
+    page's, by their digests."""
 
     def digest(text: str) -> str:
         return "'sha256-" + base64.b64encode(hashlib.sha256(text.encode()).digest()).decode() + "'"
@@ -138,7 +148,7 @@ def library_texts() -> dict[str, str]:
     """three.js and its orbit controls. Raises PlanError where Debian's package isn't installed."""
     try:
         return {
-            name: (THREE_JS / file).read_text(encoding="utf-8") for name, file in LIBRARIES.items()
+            name: (THREE_JS / file).read_text(encoding="utf-8") for name, file in _LIBRARIES.items()
         }
     except FileNotFoundError as missing:
         raise PlanError(
@@ -197,7 +207,8 @@ def write(
     phases: Phases | None = None,
     design: Comparison | None = None,
 ) -> Path:
-    """Writes the page of a series of pits, and where they are asked for of pushbacks and of a design beside the best pit.
+    """Writes the page of a series of pits, and where they are asked for of pushbacks and of a
+    design beside the best pit.
 
     Parameters
     ----------
@@ -219,17 +230,42 @@ def write(
     OSError
         Where the file can't be written.
     """
-    study = shells.study
+    views = views_of(shells, table, phases, design)
+    return write_views(path, shells.study, views, heading(shells, title))
+
+
+def heading(shells: Shells, title: str | None) -> str:
+    """The heading of a page of pits; without a title of its own it has the model's name."""
+    return f"{title or shells.study.model.name}: nested pits"
+
+
+def views_of(
+    shells: Shells,
+    table: pd.DataFrame | None = None,
+    phases: Phases | None = None,
+    design: Comparison | None = None,
+    schedule: Schedule | None = None,
+) -> list[View]:
+    """The views of a page of pits, and of what else is asked for; the words are those of `write`.
+
+    Raises PlanError where a surface isn't one height for each column.
+    """
     views = [page_views.pits(shells, shells.table() if table is None else table)]
     views += [page_views.phases(phases)] if phases else []
-    views += [page_views.design(study, design)] if design else []
-    return write_views(path, study, views, f"{title or study.model.name}: nested pits")
+    views += [page_views.design(shells.study, design)] if design else []
+    if schedule:
+        from ..schedule.tables import Tables
+        from . import schedule_view
+
+        views.append(schedule_view.schedule(schedule, Tables(schedule).years()))
+    return views
 
 
 def write_likelihood(
     found: Risk, factor: int, path: str | os.PathLike[str], pits: pd.DataFrame | None = None
 ) -> Path:
-    """Writes the page of likelihood over realisations at a factor (in thousandths); `pits` as `Risk.pits` gives it.
+    """Writes the page of likelihood over realisations at a factor (in thousandths); `pits` as
+    `Risk.pits` gives it.
 
     Raises
     ------

@@ -1,10 +1,10 @@
 """What a page shows: pits by factor, pushbacks, a design beside the best pit, pits by likelihood.
 
-Each is the same thing to the page: surfaces one after the other, how blocks are coloured by them, and a row of facts for each.
+Each is the same thing to the page: surfaces one after the other, how blocks are coloured by them,
+and a row of facts for each.
 """
 from __future__ import annotations
 
-import math
 from collections.abc import Mapping, Sequence
 from dataclasses import dataclass, field
 from typing import TYPE_CHECKING, Any
@@ -14,7 +14,16 @@ import pandas as pd
 
 from ..base.amounts import THOUSAND
 from ..base.arrays import Bools, Levels
-from ..base.units_shown import Scale, amount_text, factor_text, lengths, scale_of, separated
+from ..base.units_shown import (
+    Scale,
+    alike,
+    amount_text,
+    factor_text,
+    grade_places,
+    lengths,
+    scale_of,
+    separated,
+)
 from .levels import NO_COLUMN, surfaces
 
 if TYPE_CHECKING:
@@ -25,16 +34,26 @@ if TYPE_CHECKING:
     from ..study.shells import Shells
     from ..study.study import Study
 
-Columns = list[tuple[str, list[str]]]  # a heading with its unit, and the texts below it
+_Columns = list[tuple[str, list[str]]]  # a heading with its unit, and the texts below it
 PATTERNS = 5  # that blocks are told apart by, unless there are more kinds of them
-CERTIFIED = "Each pit has a certificate that pit check has accepted: no pit that keeps the slopes is worth more at its factor. "
-STATED = "Each pit is as pit shells states it, which is proved to state none but the best: no pit that keeps the slopes is worth more at its factor. "
-PITS = "Discounted: dug pit after pit (best case) or bench after bench (worst case)."
-PHASES = "After each pushback the mine is a pit that pit has proved. Amounts are those of the pushback alone, worths at the full price."
-DESIGN = "The best pit has a certificate that pit check has accepted: no pit that keeps the slopes is worth more at its factor."
-LIKELY = (
-    "Each realisation has a pit that pit check has accepted. A block's likelihood is the share of the realisations whose pit has it; for every likelihood "
-    "the blocks of at least that keep the slopes. Worths of a fixed set of blocks over all realisations."
+CERTIFIED = (
+    "Each pit has a certificate that pit check has accepted: no pit that keeps the slopes is worth"
+    " more at its factor. "
+)
+STATED = (
+    "Each pit is as pit shells states it, which is proved to state none but the best: no pit that"
+    " keeps the slopes is worth more at its factor. "
+)
+_PITS = "Discounted: dug pit after pit (best case) or bench after bench (worst case)."
+_PHASES = "Pushbacks {set}. Amounts are those of the pushback alone, worths at the full price."
+_DESIGN = (
+    "The best pit has a certificate that pit check has accepted: no pit that keeps the slopes is"
+    " worth more at its factor."
+)
+_LIKELY = (
+    "Each realisation has a pit that pit check has accepted. A block's likelihood is the share of"
+    " the realisations whose pit has it; for every likelihood the blocks of at least that keep the"
+    " slopes. Worths of a fixed set of blocks over all realisations."
 )
 
 
@@ -49,13 +68,13 @@ class Table:
         The heading of `names`.
     names : list of str
         Of the rows.
-    columns : Columns
+    columns : _Columns
     """
 
     caption: str
     first: str
     names: list[str]
-    columns: Columns
+    columns: _Columns
 
 
 @dataclass(frozen=True)
@@ -77,9 +96,13 @@ class View:
     note : str
         What the numbers rest on.
     labels : list of str
-        A short name for each kind of block. Where `is_beside`, the kinds are: in both, in the first alone, in the second alone.
+        A short name for each kind of block. Where `is_beside`, the kinds are: in both, in the first
+        alone, in the second alone.
     start : int
         The row that is shown first, from 1.
+    weights : list of float
+        Tonnes of each kind of block, by which its colours are spaced; none where two surfaces are
+        compared.
     is_beside : bool
         Whether two surfaces are compared; else each lies within the next.
     said : list of str
@@ -96,14 +119,15 @@ class View:
     note: str
     labels: list[str]
     start: int
+    weights: list[float] = field(default_factory=list)
     is_beside: bool = False
     said: list[str] = field(default_factory=list)
     more: list[Table] = field(default_factory=list)
 
     @property
     def middle(self) -> list[int]:
-        """The row, the column and the bench of the model at which it is cut first: where most is dug, or most differs; of
-        benches the one halfway down."""
+        """The row, the column and the bench of the model at which it is cut first: where most is
+        dug, or most differs; of benches the one halfway down."""
         ground, shown = self.levels[0], self.levels[self.start]
         low, high = (
             (np.minimum(*self.levels[1:3]), np.maximum(*self.levels[1:3]))
@@ -131,19 +155,21 @@ def ratio(values: Any, places: str = ".2f") -> list[str]:
 
 
 def grade_texts(values: Any) -> list[str]:
-    """Grades of one column: with as many decimals as the greatest needs for four digits, so that they stand digit below digit."""
-    found = np.asarray(values, float)
-    most = float(np.abs(found[np.isfinite(found)]).max(initial=0.0))
-    return ratio(found, f",.{max(0, 3 - math.floor(math.log10(most))) if most else 3}f")
+    """Grades of one column: with as many decimals as the greatest needs for four digits, so that
+    they stand digit below digit."""
+    return ratio(values, f",.{grade_places(values)}f")
 
 
-def rock_and_metal(table: pd.DataFrame, metals: Mapping[str, Mapping[str, str]]) -> Columns:
-    """Ore, waste and strip ratio, and of each metal its grade and what is recovered: of a table with columns as `Shells.table`."""
-    rock = scale_of(table["ore_t"] + table["waste_t"], "t")
+def rock_and_metal(
+    table: pd.DataFrame, metals: Mapping[str, Mapping[str, str]], weight: str
+) -> _Columns:
+    """Ore, waste and strip ratio, and of each metal its grade and what is recovered: of a table
+    with columns as `Shells.table`, in a unit of weight."""
+    rock = scale_of(table["ore_t"] + table["waste_t"], weight)
     found = [
         scaled("Ore", table["ore_t"], rock),
         scaled("Waste", table["waste_t"], rock),
-        ("Strip ratio (t/t)", ratio(table["strip"])),
+        (f"Strip ratio ({weight}/{weight})", ratio(table["strip"])),
     ]
     for metal, units in metals.items():
         found.append(
@@ -159,8 +185,8 @@ def rock_and_metal(table: pd.DataFrame, metals: Mapping[str, Mapping[str, str]])
     return found
 
 
-def bottoms(grid: Grid, levels: Levels) -> list[str]:
-    """The toe of each surface's lowest bench, in metres; a dash where nothing is dug."""
+def _bottoms(grid: Grid, levels: Levels) -> list[str]:
+    """The toe of each surface's lowest bench; a dash where nothing is dug."""
     lowest = [
         surface[dug].min() if (dug := surface < levels[0]).any() else np.nan
         for surface in levels[1:]
@@ -182,12 +208,15 @@ def pits(shells: Shells, table: pd.DataFrame) -> View:
     money = scale_of(table["worth_at_base"], currency)
     columns = [
         ("Blocks", [f"{v:,}" for v in table["blocks"]]),
-        ("Toe of the lowest bench (m)", bottoms(shells.study.model.grid, levels)),
+        (
+            f"Toe of the lowest bench ({shells.study.model.units.length})",
+            _bottoms(shells.study.model.grid, levels),
+        ),
         (
             f"Worth at its own factor, proved ({currency})",
-            [separated(str(v["worth"])) for v in shells.verdicts],
+            alike([separated(str(v["worth"])) for v in shells.verdicts]),
         ),
-        *rock_and_metal(table, shells.study.manifest["metals"]),
+        *rock_and_metal(table, shells.study.manifest["metals"], shells.study.model.units.weight),
     ]
     columns += [
         scaled(name, table[column], money)
@@ -205,10 +234,41 @@ def pits(shells: Shells, table: pd.DataFrame) -> View:
         Table("Pit by pit", "Factor", names, columns),
         levels,
         "First pit with the block, by factor",
-        (CERTIFIED if shells.certified == len(shells) else STATED) + PITS,
+        (CERTIFIED if shells.certified == len(shells) else STATED) + _PITS,
         names,
         start,
+        _added(table["rock_t"]),
+        more=by_classes(shells.study, {name: shells.holds(i) for i, name in enumerate(names)}),
     )
+
+
+def by_classes(study: Study, sets: Mapping[str, Bools], factor: int = THOUSAND) -> list[Table]:
+    """A table of what each set of blocks has of each resource class; none where the table has no
+    classes. Ore is what goes to the mill at a factor (in thousandths)."""
+    if study.classes is None:
+        return []
+    rows = pd.concat(
+        amounts_of(study, [held & kind for held in sets.values()], factor).assign(
+            of=list(sets), kind=name
+        )
+        for name, kind in study.classes.masks().items()
+    ).sort_values("of", key=lambda names: names.map(list(sets).index), kind="stable")
+    rows = rows[rows["blocks"] > 0]
+    columns = [("Blocks", [f"{v:,}" for v in rows["blocks"]])]
+    return [
+        Table(
+            "By resource class",
+            "Of, class",
+            [f"{row.of}, {row.kind}" for row in rows.itertuples()],
+            columns + rock_and_metal(rows, study.manifest["metals"], study.model.units.weight),
+        )
+    ]
+
+
+def _added(rock: Any) -> list[float]:
+    """What each pit adds to the one before it, of the tonnes of pits within one another."""
+    found: list[float] = np.diff(np.asarray(rock, float), prepend=0.0).tolist()
+    return found
 
 
 def phases(found: Phases, table: pd.DataFrame | None = None) -> View:
@@ -223,24 +283,30 @@ def phases(found: Phases, table: pd.DataFrame | None = None) -> View:
         for k in range(1, count + 1)
     ]
     columns = [("Factor of its pit", [factor_text(k) for k in found.shells.factors])]
-    columns += [("From (m)", lengths(table["top"])), ("Down to (m)", lengths(table["bottom"]))]
+    unit = study.model.units.length
+    columns += [
+        (f"From ({unit})", lengths(table["top"])),
+        (f"Down to ({unit})", lengths(table["bottom"])),
+    ]
     columns += [(name, [f"{v:,}" for v in table[name.lower()]]) for name in ("Benches", "Blocks")]
     columns += [
-        *rock_and_metal(table, study.manifest["metals"]),
+        *rock_and_metal(table, study.manifest["metals"], study.model.units.weight),
         scaled("Worth at factor 1", table["worth"], scale_of(table["worth"], study.currency)),
-        ("Thinnest (m)", lengths(table["width"])),
-        ("on the bench at (m)", lengths(table["width_bench"])),
+        (f"Thinnest ({unit})", lengths(table["width"])),
+        (f"on the bench at ({unit})", lengths(table["width_bench"])),
     ]
     names = [str(k) for k in range(1, count + 1)]
     return View(
         "Pushbacks",
         "After pushback",
-        Table("Pushbacks", "Pushback", names, columns),
+        Table(f"Pushbacks, {found.set_name}", "Pushback", names, columns),
         surfaces(study, pushed),
         "Pushback",
-        PHASES,
+        _PHASES.format(set=found.set_text),
         names,
         count,
+        table["rock_t"].tolist(),
+        more=by_classes(study, {name: found.pushback == int(name) for name in names}),
     )
 
 
@@ -261,20 +327,48 @@ def design(study: Study, found: Comparison) -> View:
     )
     columns = [
         ("Blocks", [f"{v:,}" for v in table["blocks"]]),
-        ("Toe of the lowest bench (m)", bottoms(study.model.grid, levels)),
+        (
+            f"Toe of the lowest bench ({study.model.units.length})",
+            _bottoms(study.model.grid, levels),
+        ),
         (
             f"Worth at factor {factor_text(found.factor)}, exact ({currency})",
-            [separated(found.worth), separated(found.bound)],
+            alike([separated(found.worth), separated(found.bound)]),
         ),
         (f"Below the proved bound ({currency})", [gap[0], "0"]),
         ("as a share of it", [gap[1], "0.00%"]),
-        *rock_and_metal(table, study.manifest["metals"]),
+        *rock_and_metal(table, study.manifest["metals"], study.model.units.weight),
     ]
+    said = [
+        *found.design.notes,
+        *forbidden_lines(study, held),
+        *verdict_lines(found, currency, study.model.units),
+    ]
+    return View(
+        f"Design {found.design.name} beside the best pit",
+        "Surface of",
+        Table("Design and best pit", "Pit", [found.design.name, "best pit"], columns),
+        levels,
+        "Design and best pit",
+        _DESIGN,
+        ["in both", "beyond the best pit", "left by the design"],
+        1,
+        is_beside=True,
+        said=said,
+        more=[
+            _bench_by_bench(study, found),
+            *by_classes(study, {found.design.name: held, "best pit": best}, found.factor),
+        ],
+    )
+
+
+def _bench_by_bench(study: Study, found: Comparison) -> Table:
+    """The rock of a design and of the best pit on each bench."""
     b = found.benches
-    rock = scale_of(b[["design_t", "best_t"]], "t")
-    by_bench = Table(
+    rock = scale_of(b[["design_t", "best_t"]], study.model.units.weight)
+    return Table(
         "Bench by bench",
-        "Bench at (m)",
+        f"Bench at ({study.model.units.length})",
         lengths(b["bench"]),
         [
             scaled(name, b[column], rock)
@@ -288,28 +382,15 @@ def design(study: Study, found: Comparison) -> View:
             )
         ],
     )
-    said = [*found.design.notes, *forbidden_lines(study, held), *verdict_lines(found, currency)]
-    return View(
-        f"Design {found.design.name} beside the best pit",
-        "Surface of",
-        Table("Design and best pit", "Pit", [found.design.name, "best pit"], columns),
-        levels,
-        "Design and best pit",
-        DESIGN,
-        ["in both", "beyond the best pit", "left by the design"],
-        1,
-        True,
-        said,
-        [by_bench],
-    )
 
 
 def amounts_of(study: Study, masks: Sequence[Bools], factor: int) -> pd.DataFrame:
-    """What lies in sets of blocks, in columns as `Shells.table`; ore is what goes to the mill at a factor (in thousandths)."""
+    """What lies in sets of blocks, in columns as `Shells.table`; ore is what goes to the mill at a
+    factor (in thousandths)."""
     priced, tonnes = study.priced, study.model.blocks["tonnes"].to_numpy(float)
-    milled, rows = priced.milled(factor), []
+    milled, weight, rows = priced.milled(factor), priced.ore_of(tonnes, factor), []
     for mask in masks:
-        ore = tonnes[mask & milled].sum()
+        ore = weight[mask].sum()
         row = {
             "blocks": int(mask.sum()),
             "ore_t": ore,
@@ -318,7 +399,7 @@ def amounts_of(study: Study, masks: Sequence[Bools], factor: int) -> pd.DataFram
         }
         for name, grade in priced.grade.items():
             row |= {
-                f"grade_{name}": (grade * tonnes)[mask & milled].sum() / ore if ore else np.nan,
+                f"grade_{name}": (grade * weight)[mask].sum() / ore if ore else np.nan,
                 f"metal_{name}": priced.metal[name][mask & milled].sum(),
             }
         rows.append(row)
@@ -326,7 +407,8 @@ def amounts_of(study: Study, masks: Sequence[Bools], factor: int) -> pd.DataFram
 
 
 def likelihood(found: Risk, factor: int, table: pd.DataFrame) -> View:
-    """The pits of likelihood 10 to 90 % at a factor (in thousandths), the likeliest blocks first; `table` as `Risk.pits` gives it.
+    """The pits of likelihood 10 to 90 % at a factor (in thousandths), the likeliest blocks first;
+    `table` as `Risk.pits` gives it.
 
     Raises PlanError where a surface isn't one height for each column.
     """
@@ -344,8 +426,11 @@ def likelihood(found: Risk, factor: int, table: pd.DataFrame) -> View:
     money = scale_of(table[["worth_least", "worth_mean", "worth_most", "best_mean"]], currency)
     columns = [
         ("Blocks", [f"{v:,}" for v in table["blocks"]]),
-        ("Toe of the lowest bench (m)", bottoms(study.model.grid, levels)),
-        scaled("Rock", table["rock_t"], scale_of(table["rock_t"], "t")),
+        (
+            f"Toe of the lowest bench ({study.model.units.length})",
+            _bottoms(study.model.grid, levels),
+        ),
+        scaled("Rock", table["rock_t"], scale_of(table["rock_t"], study.model.units.weight)),
     ]
     columns += [
         scaled(name, table[column], money)
@@ -358,8 +443,12 @@ def likelihood(found: Risk, factor: int, table: pd.DataFrame) -> View:
     most = int(np.argmax(table["worth_mean"]))
     said = [
         f"{found.count:,} realisations at factor {factor_text(factor)}.",
-        f"Of these {len(names)} pits that of at least {names[most]} is worth most on the mean, {amount_text(table['worth_mean'].iloc[most], money)} {money.unit}; "
-        f"each realisation's own best pit is worth {amount_text(table['best_mean'].iloc[0], money)} on the mean.",
+        (
+            f"Of these {len(names)} pits that of at least {names[most]} is worth most on the mean,"
+            f" {amount_text(table['worth_mean'].iloc[most], money)} {money.unit}; each"
+            " realisation's own best pit is worth"
+            f" {amount_text(table['best_mean'].iloc[0], money)} on the mean."
+        ),
     ]
     return View(
         f"Likelihood at factor {factor_text(factor)}",
@@ -367,19 +456,21 @@ def likelihood(found: Risk, factor: int, table: pd.DataFrame) -> View:
         Table("Pits by likelihood", "At least", names, columns),
         levels,
         "Likelihood, at least",
-        LIKELY,
+        _LIKELY,
         names,
         1 + names.index("50%"),
+        _added(table["rock_t"]),
         said=said,
-        more=[spread(found, currency)],
+        more=[_spread(found, currency)],
     )
 
 
-def spread(found: Risk, currency: str) -> Table:
+def _spread(found: Risk, currency: str) -> Table:
     """Tonnes and worth of the realisations' own best pits, factor by factor."""
     table = found.table()
-    columns: Columns = []
-    for name, column, unit in (("Rock", "rock_t", "t"), ("Worth", "worth", currency)):
+    columns: _Columns = []
+    weight = found.study.model.units.weight
+    for name, column, unit in (("Rock", "rock_t", weight), ("Worth", "worth", currency)):
         ends = [
             (word, f"{column}_{key}")
             for word, key in (
@@ -394,7 +485,10 @@ def spread(found: Risk, currency: str) -> Table:
         scale = scale_of(table[[key for _, key in ends]], unit)
         columns += [scaled(f"{name}, {word}", table[key], scale) for word, key in ends]
     return Table(
-        "Each realisation's own best pit, its worth at the factor's own price: a tenth lies below p10, a tenth above p90",
+        (
+            "Each realisation's own best pit, its worth at the factor's own price: a tenth lies"
+            " below p10, a tenth above p90"
+        ),
         "Factor",
         [factor_text(round(f * THOUSAND)) for f in table["factor"]],
         columns,

@@ -1,7 +1,7 @@
 """Pictures for a report: the plan of a bench, a section, the pit-by-pit graph.
 
-Each function gives a matplotlib Figure, which `save` writes. Colours go from dark to light in one direction and lines
-differ in their strokes, so that a picture says the same in black and white.
+Each function gives a matplotlib Figure, which `save` writes. Colours go from dark to light in one
+direction and lines differ in their strokes, so that a picture says the same in black and white.
 """
 from __future__ import annotations
 
@@ -21,27 +21,35 @@ from matplotlib.patches import Patch, PathPatch
 from matplotlib.path import Path as Outline
 from matplotlib.ticker import FuncFormatter
 from mpl_toolkits.axes_grid1.anchored_artists import AnchoredSizeBar
-from numpy.typing import NDArray
 
+from ..base.arrays import Array, Bools, Floats, Ints
 from ..base.amounts import THOUSAND
 from ..base.errors import PlanError, meant
 from ..base.next_command import command
-from ..base.units_shown import Scale, factor_text, scale_of
+from ..base.units_shown import Scale, factor_text, length_text, scale_of
+from ..base.within import refuse_outside
 from ..study.shells import Shells
+from ..study.study import Study
 from . import plane as planes
 from .plane import Plane
+from .tones import tones
 
 ROCK_HATCH, ROCK_EDGE = "....", "#9a9a9a"
-FENCE_HATCH, FENCE_EDGE = "xxxx", "#6b6b6b"
-FLAT = 1 / 8  # of its width: a section that is lower is drawn higher
-EASY = 1 / 5  # of its width: how high, about
-MOST_EXAGGERATED = 20
+FENCE_HATCH, _FENCE_EDGE = "xxxx", "#6b6b6b"
+_FLAT = 1 / 8  # of its width: a section that is lower is drawn higher
+_EASY = 1 / 5  # of its width: how high, about
+_MOST_EXAGGERATED = 20
 CASING = [patheffects.withStroke(linewidth=3.6, foreground="white")]
-THIN_CASING = [
+_THIN_CASING = [
     patheffects.withStroke(linewidth=2.4, foreground="white")
 ]  # black dots on the darkest colour need one too
 SEPARATED = FuncFormatter(lambda value, _: f"{value:,.10g}")
-LABELS_AN_INCH = 4.5  # elevations beside a section, one above the other
+PLACES = FuncFormatter(lambda value, _: length_text(value))  # coordinates and elevations
+_LABELS_AN_INCH = 4.5  # elevations beside a section, one above the other
+_MOST_LABELS = 12
+_TICKS_AN_INCH = 24
+_STEPS = [n * 10**power for power in range(9) for n in (1, 2, 5)]  # benches from label to label
+LIGHTEST = 0.9  # of the scale of colours
 MANY_WORDS = 8  # words of a text column that get a colour of their own
 
 
@@ -52,11 +60,14 @@ class Style:
     Attributes
     ----------
     colour : str
-        "shell" (the first pit that has the block), "value" (worth at the base price), or a column of the model.
+        "shell" (the first pit that has the block), "value" (worth at the base price), or a column
+        of the model.
     pit : float or None
-        The factor of the pit that is drawn by a thick line; None is 1, or the largest factor where 1 isn't there.
+        The factor of the pit that is drawn by a thick line; None is 1, or the largest factor where
+        1 isn't there.
     exaggeration : float or None
-        How much longer a metre up is drawn than a metre along, in sections; None is 1, or a whole number in a flat model.
+        How much longer a metre up is drawn than a metre along, in sections; None is 1, or a whole
+        number in a flat model.
     """
 
     colour: str = "shell"
@@ -68,7 +79,7 @@ class Style:
 class Paint:
     """What gives each block its colour; a block of value nan gets none."""
 
-    values: NDArray[np.float64]
+    values: Floats
     colours: Colormap
     norm: Normalize
     label: str
@@ -86,7 +97,10 @@ def pit_index(shells: Shells, factor: float | None) -> int:
     known = ", ".join(factor_text(k) for k in shells.factors)
     raise PlanError(
         f"there is no pit at factor {factor:g}",
-        try_this=f"one of {known}; or put it into factors in [shells] of study.toml, then: {command('shells', shells.study.named)}",
+        try_this=(
+            f"one of {known}; or put it into factors in [shells] of study.toml, then:"
+            f" {command('shells', shells.study.named)}"
+        ),
     )
 
 
@@ -113,28 +127,49 @@ def paint(shells: Shells, colour: str) -> Paint:
         )
     column = blocks[colour]
     if pd.api.types.is_numeric_dtype(column):
-        return paint_numbers(column.to_numpy(float), colour)
+        return paint_numbers(column.to_numpy(float), with_unit(shells.study, colour))
     return paint_words(column.astype(str), colour)
 
 
 def paint_shells(shells: Shells) -> Paint:
-    """A colour for the first pit of each block, the darker the lower its factor."""
+    """A colour for the first pit of each block, the darker the lower its factor; spaced by the
+    tonnes that each pit adds."""
     count = len(shells.factors)
+    rock = np.bincount(shells.shell, shells.study.model.blocks["tonnes"], count + 1)[:count]
     # the lightest yellow is left out: on paper it can't be told from rock that no pit has
-    table = ListedColormap(colormaps["viridis"](np.linspace(0.0, 0.9, max(count, 2)))[:count])
+    table = ListedColormap(shades(LIGHTEST * np.array(tones(rock.tolist()))))
     ticks = [(float(i), factor_text(k)) for i, k in enumerate(shells.factors)]
     values = np.where(shells.shell < count, shells.shell, np.nan).astype(float)
     return Paint(
         values,
         table,
         BoundaryNorm(np.arange(count + 1) - 0.5, count),
-        "First pit with the block (factor)",
+        "First pit with the block (factor)\nColours are spaced by tonnes",
         ticks,
     )
 
 
-def paint_numbers(values: NDArray[np.float64], label: str) -> Paint:
-    """Dark is high. The scale leaves out the outermost hundredths, so that one rich block doesn't make all others pale."""
+def with_unit(study: Study, column: str) -> str:
+    """The name of a column, and where it has a metal's grade the unit of that."""
+    units = {
+        each["grade_unit"] for each in study.manifest["metals"].values() if each["grade"] == column
+    }
+    return f"{column} ({units.pop()})" if len(units) == 1 else column
+
+
+def shades(at: Floats) -> Floats:
+    """Colours of viridis at places from 0 to 1, also between its 256 steps: pits of few tonnes lie
+    close to one another."""
+    steps = colormaps["viridis"](np.linspace(0, 1, 256))[:, :3]
+    found: Floats = np.stack(
+        [np.interp(at, np.linspace(0, 1, 256), part) for part in steps.T], axis=-1
+    )
+    return found
+
+
+def paint_numbers(values: Floats, label: str) -> Paint:
+    """Dark is high. The scale leaves out the outermost hundredths, so that one rich block doesn't
+    make all others pale."""
     known = values[np.isfinite(values)]
     low, high = np.percentile(known, [1, 99]) if len(known) else (0.0, 1.0)
     if low == high:
@@ -173,7 +208,8 @@ def paint_words(column: "pd.Series[str]", label: str) -> Paint:
 
 
 def middle_of(shells: Shells, style: Style = Style()) -> tuple[float, int]:
-    """Where to look where nothing is asked for: the toe of the bench halfway down the outlined pit, and its row with most blocks."""
+    """Where to look where nothing is asked for: the toe of the bench halfway down the outlined pit,
+    and its row with most blocks."""
     model = shells.study.model
     inside = shells.dug <= pit_index(shells, style.pit)
     blocks = model.blocks[inside] if inside.any() else model.blocks
@@ -183,32 +219,35 @@ def middle_of(shells: Shells, style: Style = Style()) -> tuple[float, int]:
     )
 
 
-def fullest_row(amounts: NDArray[Any]) -> int:
-    """The row of the model with most of something; its first and last only where no other has any, since no wall is held beyond them."""
+def fullest_row(amounts: Array) -> int:
+    """The row of the model with most of something; its first and last only where no other has any,
+    since no wall is held beyond them."""
     inner = amounts[1:-1]
     return 1 + int(np.argmax(inner)) if (inner > 0).any() else int(np.argmax(amounts))
 
 
 def exaggeration_of(cut: Plane, asked: float | None = None) -> float:
-    """How much longer heights are drawn in a section: as asked, or so that a flat one is no strip."""
+    """How much longer heights are drawn in a section: as asked, or so that a flat one is no
+    strip."""
     if asked is not None:
         return asked
     wide, high = float(np.ptp(cut.across)), float(np.ptp(cut.up))
     return (
         1.0
-        if high >= wide * FLAT
-        else float(min(max(round(wide * EASY / high), 2), MOST_EXAGGERATED))
+        if high >= wide * _FLAT
+        else float(min(max(round(wide * _EASY / high), 2), _MOST_EXAGGERATED))
     )
 
 
 def plan(shells: Shells, elevation: float, style: Style = Style()) -> Figure:
-    """The plan of the bench at an elevation (its toe, or anything below its crest), in true coordinates.
+    """The plan of the bench at an elevation (its toe, or anything below its crest), in true
+    coordinates.
 
     Raises PlanError where there is no such bench, column or pit.
     """
     model = shells.study.model
     figure, axes = draw(shells, planes.bench(model, planes.bench_at(model, elevation)), style, 1.0)
-    add_north_and_scale(axes)
+    add_north_and_scale(axes, model.units.length)
     return figure
 
 
@@ -221,7 +260,8 @@ def section(
     column: int | None = None,
     style: Style = Style(),
 ) -> Figure:
-    """A vertical section at a northing or easting (models that aren't turned), or along a row or column of the model.
+    """A vertical section at a northing or easting (models that aren't turned), or along a row or
+    column of the model.
 
     Raises PlanError where the model isn't cut there, and where not one place alone is given.
     """
@@ -247,10 +287,28 @@ def section(
     figure, axes = draw(shells, cut, style, exaggeration_of(cut, style.exaggeration))
     toes = np.unique(cut.up)
     high = figure.get_figheight() * axes.get_position().height  # inches
-    most = min(12, max(2, int(high * LABELS_AN_INCH)))
-    axes.set_yticks(toes[:: -(-len(toes) // most)])  # elevations are those of benches
+    axes.set_yticks(bench_ticks(toes, min(_MOST_LABELS, max(2, int(high * _LABELS_AN_INCH)))))
+    if len(toes) <= high * _TICKS_AN_INCH:
+        axes.set_yticks(toes, minor=True)  # a tick at each bench
     axes.grid(axis="y", color="#888888", linewidth=0.3)
     return figure
+
+
+def bench_ticks(toes: Floats, most: int) -> Floats:
+    """The benches that get a label: every first, second, fifth, tenth and so on, those of the
+    roundest elevations.
+
+    Parameters
+    ----------
+    toes : float array
+        Elevations of the benches' toes and of the last crest, ascending and evenly apart.
+    most : int
+        How many there is room for, at least 2.
+    """
+    step = next(n for n in _STEPS if len(toes) <= n * most)
+    starts = toes[: max(1, min(step, len(toes) - step))]  # so that there are two
+    past = np.round(starts / (toes[1] - toes[0]), 6) % step  # of a round number of benches
+    return toes[int(np.argmin(past)) :: step]
 
 
 def draw(shells: Shells, cut: Plane, style: Style, exaggeration: float) -> tuple[Figure, Any]:
@@ -276,15 +334,24 @@ def draw(shells: Shells, cut: Plane, style: Style, exaggeration: float) -> tuple
     axes.set_xlabel(cut.labels[0])
     axes.set_ylabel(cut.labels[1])
     for each in (axes.xaxis, axes.yaxis):
-        each.set_major_formatter(SEPARATED)
+        each.set_major_formatter(PLACES)
     axes.locator_params(axis="x", nbins=7)
     figure.legend(handles=handles, loc="lower center", ncol=4, frameon=False)
-    axes.set_title(f"{model.name}: {cut.title}{second_line(cut, exaggeration)}", fontsize=12)
+    shows = {"shell": "first pit with each block", "value": "worth of each block"}
+    what = shows.get(style.colour, style.colour)
+    title = f"{sentence(cut.title)}: {what}{second_line(cut, exaggeration)}"
+    axes.set_title(title, fontsize=12)
     return figure, axes
 
 
+def sentence(words: str) -> str:
+    """Words as a title begins with them."""
+    return words[:1].upper() + words[1:]
+
+
 def second_line(cut: Plane, exaggeration: float) -> str:
-    """What stands below a title: from where to where a slanting section runs, and by how much heights are drawn longer."""
+    """What stands below a title: from where to where a slanting section runs, and by how much
+    heights are drawn longer."""
     words = [cut.note] * bool(cut.note) + [f"vertical exaggeration {exaggeration:g}"] * (
         exaggeration != 1
     )
@@ -292,7 +359,8 @@ def second_line(cut: Plane, exaggeration: float) -> str:
 
 
 def sheet(wide: float, high: float) -> tuple[Figure, Any, Any]:
-    """A sheet for a picture of this many metres, with room for labels: the figure, the axes, and those of the scale beside.
+    """A sheet for a picture of these lengths, with room for labels: the figure, the axes, and
+    those of the scale beside.
 
     Measures are inches; the picture is as large as fits into 7.6 x 8 inches.
     """
@@ -332,7 +400,8 @@ def add_colour_bar(figure: Figure, beside: Any, image: Any, colours: Paint) -> N
 
 
 def add_outlines(axes: Any, shells: Shells, cut: Plane, chosen: int) -> list[Any]:
-    """The chosen pit by a thick line, the smallest and the largest by thin ones of other strokes; gives their handles."""
+    """The chosen pit by a thick line, the smallest and the largest by thin ones of other strokes;
+    gives their handles."""
     there = cut.number >= 0
     axes.plot(*planes.borders(there, cut), color="#555555", linewidth=0.6)
     handles = []
@@ -355,7 +424,7 @@ def add_outlines(axes: Any, shells: Shells, cut: Plane, chosen: int) -> list[Any
                 color="black",
                 linewidth=width,
                 linestyle=stroke,
-                path_effects=CASING if word == "Pit" else THIN_CASING,
+                path_effects=CASING if word == "Pit" else _THIN_CASING,
                 zorder=3 if word == "Pit" else 2.5,
             )
             handles.append(
@@ -364,24 +433,26 @@ def add_outlines(axes: Any, shells: Shells, cut: Plane, chosen: int) -> list[Any
     return handles
 
 
-def add_fence(axes: Any, cells: NDArray[np.bool_], cut: Plane) -> list[Any]:
-    """Crosses over what may not be dug, upon whatever colour it has; gives their handle, or none where nothing is forbidden here."""
+def add_fence(axes: Any, cells: Bools, cut: Plane) -> list[Any]:
+    """Crosses over what may not be dug, upon whatever colour it has; gives their handle, or none
+    where nothing is forbidden here."""
     if not cells.any():
         return []
-    hatch(axes, cells, cut, (FENCE_HATCH, FENCE_EDGE), "none")
+    hatch(axes, cells, cut, (FENCE_HATCH, _FENCE_EDGE), "none")
     return [
-        Patch(facecolor="white", edgecolor=FENCE_EDGE, hatch=FENCE_HATCH, label="May not be dug")
+        Patch(facecolor="white", edgecolor=_FENCE_EDGE, hatch=FENCE_HATCH, label="May not be dug")
     ]
 
 
 def hatch(
     axes: Any,
-    cells: NDArray[np.bool_],
+    cells: Bools,
     cut: Plane,
     pattern: tuple[str, str] = (ROCK_HATCH, ROCK_EDGE),
     face: str = "white",
 ) -> None:
-    """A pattern over a set of cells, by default dots: one outline for each run of cells in a row."""
+    """A pattern over a set of cells, by default dots: one outline for each run of cells in a
+    row."""
     edge = np.diff(np.pad(cells, ((0, 0), (1, 1))).astype(np.int8), axis=1)
     (rows, first), (_, end) = np.nonzero(edge == 1), np.nonzero(edge == -1)
     if not len(rows):
@@ -406,8 +477,8 @@ def hatch(
     )
 
 
-def add_north_and_scale(axes: Any) -> None:
-    """An arrow to the north, which is up in every plan, and a bar of a round length."""
+def add_north_and_scale(axes: Any, unit: str = "m") -> None:
+    """An arrow to the north, which is up in every plan, and a bar of a round length in a unit."""
     low, high = axes.get_xlim()
     fifth = (high - low) / 5
     power = 10.0 ** np.floor(np.log10(fifth))
@@ -416,7 +487,7 @@ def add_north_and_scale(axes: Any) -> None:
         AnchoredSizeBar(
             axes.transData,
             length,
-            f"{length:,g} m",
+            f"{length:,g} {unit}",
             "lower right",
             pad=0.4,
             borderpad=0.6,
@@ -444,27 +515,33 @@ def add_north_and_scale(axes: Any) -> None:
     )
 
 
-LINES = (
+_LINES = (
     ("worth_at_base", "Undiscounted", "-", "s", "black"),
     ("npv_best", "Discounted, pit after pit (best case)", "--", "o", "#1b5e8c"),
     ("npv_worst", "Discounted, bench after bench (worst case)", ":", "^", "#a3341f"),
 )
 
 
-def pit_by_pit(table: pd.DataFrame, currency: str = "$", name: str = "") -> Figure:
-    """The graph that a pit is chosen from: ore and waste of each pit as bars, its worth at the base price as lines.
+def pit_by_pit(
+    table: pd.DataFrame, currency: str = "$", name: str = "", weight: str = "t"
+) -> Figure:
+    """The graph that a pit is chosen from: ore and waste of each pit as bars, its worth at the base
+    price as lines.
 
     Parameters
     ----------
     table : DataFrame
-        As `Shells.table` gives it: factor, ore_t, waste_t in tonnes, worth_at_base, npv_best, npv_worst in `currency`.
+        As `Shells.table` gives it: factor, ore_t, waste_t in tonnes, worth_at_base, npv_best,
+        npv_worst in `currency`.
     currency, name : str
         The unit of money for the axis, and whose pits these are for the title.
+    weight : str
+        The unit of rock.
     """
     figure = Figure(figsize=(10.5, 6.2))
     axes = figure.add_axes((0.085, 0.27, 0.825, 0.67))
     at = np.arange(len(table))
-    rock = scale_of(table["ore_t"] + table["waste_t"], "t")
+    rock = scale_of(table["ore_t"] + table["waste_t"], weight)
     axes.bar(
         at,
         table["ore_t"] / rock.divisor,
@@ -495,16 +572,15 @@ def pit_by_pit(table: pd.DataFrame, currency: str = "$", name: str = "") -> Figu
     axes.set_ylabel(f"Rock in the pit ({rock.unit})")
     axes.set_ylim(0, float((table["ore_t"] + table["waste_t"]).max()) / rock.divisor * 1.05 or 1.0)
     add_worths(axes.twinx(), axes, table, at, currency)
-    axes.set_title(f"{name}: pit by pit" if name else "Pit by pit", fontsize=12)
+    title = "Pit by pit: ore, waste and worth at each factor of the price"
+    axes.set_title(f"{title}\n{name}" if name else title, fontsize=12)
     return figure
 
 
-def add_worths(
-    right: Any, left: Any, table: pd.DataFrame, at: NDArray[np.int64], currency: str
-) -> None:
+def add_worths(right: Any, left: Any, table: pd.DataFrame, at: Ints, currency: str) -> None:
     """The lines of worth with a ring at the greatest of each, and one key for bars and lines."""
     money: Scale = scale_of(table["worth_at_base"], currency)
-    for column, label, stroke, mark, colour in LINES:
+    for column, label, stroke, mark, colour in _LINES:
         if column not in table:
             continue
         worth = table[column].to_numpy(float) / money.divisor
@@ -518,7 +594,10 @@ def add_worths(
             color=colour,
             linewidth=1.6,
             path_effects=CASING,
-            label=f"{label}; greatest at {factor_text(round(float(table['factor'].iloc[best]) * THOUSAND))}",
+            label=(
+                f"{label}; greatest at"
+                f" {factor_text(round(float(table['factor'].iloc[best]) * THOUSAND))}"
+            ),
         )
         right.plot(
             at[best],
@@ -529,7 +608,7 @@ def add_worths(
             markeredgecolor=colour,
             linestyle="none",
         )
-    all_worths = table[[c for c, *_ in LINES if c in table]].to_numpy(float) / money.divisor
+    all_worths = table[[c for c, *_ in _LINES if c in table]].to_numpy(float) / money.divisor
     low, high = min(0.0, float(all_worths.min())), max(0.0, float(all_worths.max()))
     right.set_ylim(low * 1.05, high * 1.05 or 1.0)
     right.set_ylabel(f"Worth at factor 1 ({money.unit})")
@@ -547,12 +626,14 @@ def add_worths(
 
 
 def save(figure: Figure, path: str | os.PathLike[str], dpi: int = 120) -> Path:
-    """Writes a figure as the name's ending says (.png, .pdf, .svg): beside the place first, and then renamed.
+    """Writes a figure as the name's ending says (.png, .pdf, .svg): beside the place first, and
+    then renamed.
 
     Raises OSError where the folder can't be written.
     """
     path = Path(path)
     part = path.with_name(f".{path.stem}.part{path.suffix}")
+    refuse_outside(path.parent, "written")
     path.parent.mkdir(parents=True, exist_ok=True)
     try:
         figure.savefig(part, dpi=dpi)

@@ -14,12 +14,12 @@ if TYPE_CHECKING:
 
     from ..plans.risk import Risk
 
-LINES = ((0.1, ":"), (0.5, "-"), (0.9, "--"))
+_LINES = ((0.1, ":"), (0.5, "-"), (0.9, "--"))
 
 
 def section(found: Risk, factor: int = THOUSAND, row: int | None = None) -> Figure:
-    """A section across the model's y axis, each block coloured by its likelihood, with the outlines of the pits of at least 10,
-    50 and 90 %.
+    """A section across the model's y axis, each block coloured by its likelihood, with the outlines
+    of the pits of at least 10, 50 and 90 %.
 
     Parameters
     ----------
@@ -35,22 +35,20 @@ def section(found: Risk, factor: int = THOUSAND, row: int | None = None) -> Figu
         CASING,
         ROCK_EDGE,
         ROCK_HATCH,
-        SEPARATED,
+        PLACES,
         add_fence,
         exaggeration_of,
         fullest_row,
         hatch,
         second_line,
+        sentence,
         sheet,
     )
 
     likelihood, model = found.likelihood(factor), found.study.model
     if row is None:
-        row = fullest_row(
-            np.bincount(
-                model.blocks.iy.to_numpy(), weights=likelihood, minlength=model.grid.shape[1]
-            )
-        )
+        along = model.blocks.iy.to_numpy()
+        row = fullest_row(np.bincount(along, likelihood, model.grid.shape[1]))
     cut = cut_of(model, "y", row)
     exaggeration = exaggeration_of(cut)
     there = cut.number >= 0
@@ -68,7 +66,7 @@ def section(found: Risk, factor: int = THOUSAND, row: int | None = None) -> Figu
     hatch(axes, there & ~(values > 0) & ~shut, cut)
     axes.plot(*borders(there, cut), color="#555555", linewidth=0.6)
     handles = []
-    for share, stroke in LINES:
+    for share, stroke in _LINES:
         pen = {"color": "black", "linestyle": stroke}
         line = borders(there & found.pit(share, factor)[cut.number], cut)
         axes.plot(*line, linewidth=1.4, path_effects=CASING, **pen)
@@ -78,12 +76,10 @@ def section(found: Risk, factor: int = THOUSAND, row: int | None = None) -> Figu
     handles += add_fence(axes, shut, cut)
     figure.colorbar(image, cax=beside, label=f"Likelihood over {found.count} realisations")
     axes.set_aspect(exaggeration)
-    axes.set_title(
-        f"{model.name}: {cut.title}, likelihood at factor {share_text(factor)}{second_line(cut, exaggeration)}",
-        fontsize=12,
-    )
+    heading = f"{sentence(cut.title)}: likelihood of each block at factor {share_text(factor)}"
+    axes.set_title(heading + second_line(cut, exaggeration), fontsize=12)
     for each in (axes.xaxis, axes.yaxis):
-        each.set_major_formatter(SEPARATED)
+        each.set_major_formatter(PLACES)
     axes.set(xlabel=cut.labels[0], ylabel=cut.labels[1])
     figure.legend(handles=handles, loc="lower center", ncol=4, frameon=False)
     return figure

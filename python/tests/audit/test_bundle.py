@@ -16,6 +16,7 @@ from types import SimpleNamespace
 import numpy as np
 import pandas as pd
 import pytest
+from scipy.spatial import ConvexHull
 
 import mines
 from bundles import bundled
@@ -96,18 +97,17 @@ def summed(folder):
 
 def test_it_holds(whole):
     lines, status = rechecked(whole, "--plainly")
-    assert (
-        status == 0
-        and len(lines) == 1
-        and lines[0].startswith("everything that was looked at holds")
-    ), lines
+    assert status == 0, lines
+    assert len(lines) == 1, lines
+    assert lines[0].startswith("everything that was looked at holds"), lines
 
 
 def test_formulas_regions_fences_rotation_and_added_blocks_are_worked_out_again(tmp_path):
     frame = mines.table(7, 6, 4, 3, 30)
     frame.loc[[3, 9], "CU"] = -99
     lines, status = rechecked(bundled(tmp_path, RICH, frame))
-    assert status == 0 and len(lines) == 1, lines
+    assert status == 0, lines
+    assert len(lines) == 1, lines
 
 
 @pytest.mark.parametrize("names", [("WEST", "EAST"), ("1", "2")])
@@ -132,9 +132,9 @@ def test_a_block_has_the_slopes_of_its_own_region(tmp_path, names):
     )
     summed(folder)
     lines, status = rechecked(folder)
-    assert status == 1 and any(
-        "pit slopes gives it by model/slope-0.toml, slope-1.toml, for its region that of these: not so in line"
-        in line
+    assert status == 1, lines
+    assert any(
+        "each block is in the region of slopes that its row names: not so block" in line
         for line in lines
     ), lines
 
@@ -148,7 +148,8 @@ def test_a_table_of_depths_holds(tmp_path):
             frame.assign(ZC=500 - frame.ZC),
         )
     )
-    assert status == 0 and len(lines) == 1, lines
+    assert status == 0, lines
+    assert len(lines) == 1, lines
 
 
 def test_worths_are_added_up_whatever_pit_says(copy, tmp_path):
@@ -169,11 +170,12 @@ def test_worths_are_added_up_whatever_pit_says(copy, tmp_path):
         text=True,
     )
     wrong = [line for line in ran.stdout.splitlines() if line.startswith("WRONG")]
-    assert (
-        ran.returncode == 1
-        and [bool(re.search("its .* blocks add up to", line)) for line in wrong[:2]] == [True, True]
-        and not any("pit check" in line for line in wrong)
-    ), ran.stdout
+    assert ran.returncode == 1, ran.stdout
+    assert [bool(re.search("its .* blocks add up to", line)) for line in wrong[:2]] == [
+        True,
+        True,
+    ], ran.stdout
+    assert not any("pit check" in line for line in wrong), ran.stdout
 
 
 def test_air_above_steep_ground_is_no_strange_block(tmp_path):
@@ -215,9 +217,8 @@ def test_added_blocks_that_nobody_asked_for_are_found(tmp_path):
     replaced(folder / "study.toml", "widen = 1\n", "")
     summed(folder)
     lines, status = rechecked(folder)
-    assert status == 1 and any(
-        "blocks have no row, and study.toml asks for none" in line for line in lines
-    ), lines
+    assert status == 1, lines
+    assert any("blocks have no row, and study.toml asks for none" in line for line in lines), lines
 
 
 def test_a_pit_that_digs_what_forbid_keeps_is_found(tmp_path, monkeypatch):
@@ -234,7 +235,8 @@ def test_a_pit_that_digs_what_forbid_keeps_is_found(tmp_path, monkeypatch):
         "[slopes]", 'forbid = ["XC == 5040 and YC == 9040 and ZC == 115"]\n\n[slopes]'
     )
     lines, status = rechecked(bundled(tmp_path, text, frame))
-    assert status == 1 and lines[0].startswith(
+    assert status == 1, lines
+    assert lines[0].startswith(
         "WRONG   no pit has a block that forbid keeps: not so for 1, the first is block"
     ), lines
 
@@ -307,7 +309,8 @@ def test_sub_blocks_are_added_up_again(tmp_path):
     lower = frame.iloc[[0]].assign(ZC=frame.ZC[0] - 3, ZINC=9.0, ROCK="OXI", CU=0.5)
     folder = bundled(tmp_path, PARTS, pd.concat([frame.iloc[1:], upper, lower], ignore_index=True))
     lines, status = rechecked(folder)
-    assert status == 0 and len(lines) == 1, lines
+    assert status == 0, lines
+    assert len(lines) == 1, lines
     path = folder / "table" / "t.csv"
     rows, line = path.read_text(), ",".join(map(str, upper.iloc[0].tolist()))
     cells = {name: i for i, name in enumerate(rows.splitlines()[0].split(","))}
@@ -324,9 +327,8 @@ def test_sub_blocks_are_added_up_again(tmp_path):
         path.write_text(rows.replace(line, ",".join(changed)))
         summed(folder)
         lines, status = rechecked(folder)
-        assert status == 1 and any(
-            found.startswith("WRONG") and told in found for found in lines
-        ), (name, lines)
+        assert status == 1, (name, lines)
+        assert any(found.startswith("WRONG") and told in found for found in lines), (name, lines)
 
 
 FILES = [
@@ -341,7 +343,7 @@ FILES = [
     *(f"certificates/f{factor:05d}.cert.gz" for factor in (600, 1000, 1200)),
     *(
         f"model/{name}"
-        for name in ("manifest.json", "mine.blocks", "mine.prec", "settings.toml", "slope-0.toml")
+        for name in ("manifest.json", "mine.blocks", "mine.prec", "settings.toml", "slopes.toml")
     ),
     *(f"tables/{name}.csv" for name in ("benches", "blocks", "pit_by_pit")),
 ]
@@ -370,9 +372,11 @@ def test_a_changed_byte_is_found_and_its_file_is_named(copy, name):
             for line in lines
             if line.startswith(("WRONG   sha256 of", f"WRONG   {bundle.SUMS}"))
         ]
-        assert status == 1 and (
-            len(told) == 1 if name == bundle.SUMS else told == [f"WRONG   sha256 of {name}"]
-        ), (at, lines)
+        assert status == 1, (at, lines)
+        assert len(told) == 1 if name == bundle.SUMS else told == [f"WRONG   sha256 of {name}"], (
+            at,
+            lines,
+        )
         assert (
             subprocess.run(
                 ["sha256sum", "-c", "--quiet", "--strict", bundle.SUMS],
@@ -398,7 +402,7 @@ def test_files_that_are_gone_or_new_are_found(copy):
     (copy / "table" / "more.csv").write_text("1")
     assert any("more.csv isn't listed" in line for line in rechecked(copy)[0])
     (copy / "table" / "more.csv").unlink()
-    (copy / "model" / "slope-0.toml").unlink()
+    (copy / "model" / "slopes.toml").unlink()
     assert rechecked(copy)[1] == 1
 
 
@@ -582,7 +586,7 @@ CHANGES = {
         "the files of model/",
     ),
     "a list of offsets more": (
-        lambda f: (f / "model" / "slope-1.toml").write_text("offsets = [[0, 0, 1]]\n"),
+        lambda f: replaced(f / "model" / "slopes.toml", "\n]\n", "\n    [[0, 0, 1]],\n]\n"),
         "the lists of offsets",
     ),
     "ore of a pit": (column("pit_by_pit.csv", "ore_t", "1.0"), "tables/pit_by_pit.csv"),
@@ -677,7 +681,8 @@ def test_what_is_changed_with_its_digests_is_found_by_what_it_means(copy, what):
     change(copy)
     summed(copy)
     lines, status = rechecked(copy)
-    assert status == 1 and any(line.startswith("WRONG") and told in line for line in lines), lines
+    assert status == 1, lines
+    assert any(line.startswith("WRONG") and told in line for line in lines), lines
 
 
 def study(old, new):
@@ -854,8 +859,8 @@ STRANGE = {
         "model/manifest.json: files is 7, and has to be a table of sha256",
     ),
     "offsets": (
-        lambda f: (f / "model" / "slope-0.toml").write_text("offsets = [[0, 0, 0]]\n"),
-        "model/slope-0.toml: offsets is [[0, 0, 0]], and has to be a list of offsets as [[0, 0, 1]], each at least one level up",
+        lambda f: (f / "model" / "slopes.toml").write_text("slopes = [[[0, 0, 0]]]\n"),
+        "model/slopes.toml: slopes is [[[0, 0, 0]]], and has to be for each region a list of offsets as [[0, 0, 1]], each at least one level up",
     ),
     "a column of the model": (
         lambda f: (f / "model" / "settings.toml").write_text(
@@ -934,7 +939,8 @@ def test_a_value_that_a_key_may_not_have_is_told_with_its_file_and_what_it_has_t
     change(copy)
     summed(copy)
     lines, status = rechecked(copy)
-    assert status == 1 and any(line.startswith("WRONG") and told in line for line in lines), lines
+    assert status == 1, lines
+    assert any(line.startswith("WRONG") and told in line for line in lines), lines
     assert not any(NAME_OF_AN_ERROR.search(line) for line in lines), lines
 
 
@@ -996,7 +1002,7 @@ VALUES = (
         "model/manifest.json",
         "verdicts.json",
         "model/settings.toml",
-        "model/slope-0.toml",
+        "model/slopes.toml",
         "study.toml",
     ],
 )
@@ -1028,11 +1034,10 @@ def test_no_value_of_a_file_is_answered_by_the_name_of_an_error(
                 if name.endswith(".json")
                 else "".join(f"{json.dumps(key)} = {as_toml(of)}\n" for key, of in told.items())
             )
-            recheck.check_all(recheck.Told(), str(tmp_path / "pit"), False)
+            recheck.check_all(recheck.Report(), str(tmp_path / "pit"), False)
             lines = capsys.readouterr().out.splitlines()
-            assert f"WRONG   sha256 of {name}" in lines and not any(
-                NAME_OF_AN_ERROR.search(line) for line in lines
-            ), (at, value, lines)
+            assert f"WRONG   sha256 of {name}" in lines, (at, value, lines)
+            assert not any(NAME_OF_AN_ERROR.search(line) for line in lines), (at, value, lines)
 
 
 def test_a_formula_divides_as_numpy_does_where_another_value_is_taken(tmp_path):
@@ -1064,7 +1069,8 @@ def test_marks_with_a_comma_are_numbers(tmp_path):
         .replace(";-99,0;", ";-99,00;", 1)
         .replace(";-99,0;", ";-99;", 1)
     )
-    assert ";-99,00;" in written and ";-99;" in written
+    assert ";-99,00;" in written
+    assert ";-99;" in written
     told_at = mines.written_study(
         tmp_path, frame, mines.STUDY_TOML.replace("size =", 'absent = ["-99,0"]\nsize =')
     )
@@ -1073,7 +1079,7 @@ def test_marks_with_a_comma_are_numbers(tmp_path):
     study = Study.create(
         told.path.parent, told.read_model(), told.economics, told.slopes, keys=told.digest
     )
-    bundle.write(
+    bundle.write_bundle(
         study.shells(told.factors),
         tmp_path / "b",
         told.path,
@@ -1091,9 +1097,8 @@ def test_a_packed_table_that_unpacks_without_end_is_not_read_on(copy):
     told_otherwise("facts.json", "table", value="table/t.csv.gz")(copy)
     summed(copy)
     lines, status = rechecked(copy)
-    assert status == 1 and any(
-        "it unpacks to more than a table can have" in line for line in lines
-    ), lines
+    assert status == 1, lines
+    assert any("it unpacks to more than a table can have" in line for line in lines), lines
 
 
 def test_letters_that_a_terminal_has_not_are_no_fault_of_the_bundle(tmp_path):
@@ -1106,7 +1111,8 @@ def test_letters_that_a_terminal_has_not_are_no_fault_of_the_bundle(tmp_path):
         text=True,
         env={**os.environ, "PYTHONIOENCODING": "ascii"},
     )
-    assert ran.returncode == 0 and "amounts are in ?" in ran.stdout, ran.stdout
+    assert ran.returncode == 0, ran.stdout
+    assert "amounts are in ?" in ran.stdout, ran.stdout
 
 
 def walls(folder):
@@ -1132,16 +1138,70 @@ def test_the_walls_of_the_offsets_are_held_against_the_angles(tmp_path, angles):
     folder = bundled(tmp_path, text, mines.table(7, 6, 4, 3, 30))
     told = read_study_file(folder.parent).slopes
     status, found = walls(folder)
-    assert status == 0 and [name for _, name, *_ in found] == ["default", "WEST"]
+    assert status == 0
+    assert [name for _, name, *_ in found] == ["default", "WEST"]
     for (_, name, steeper, flatter), pattern in zip(
         found, told.patterns(Study(folder.parent).model.grid).values()
     ):
         outline = offsets.Outline(pattern.wall, pattern.offsets)
-        errors = [outline.slope(bearing) - pattern.wall.slope(bearing) for bearing in range(360)]
-        assert (steeper, flatter) == pytest.approx((max(0, *errors), -min(0, *errors)), abs=0.0051)
+        error = offsets.error_of(pattern.wall, outline, is_safe=True)
+        expected = max(0, error.steepest), max(0, -error.flattest)
+        assert (steeper, flatter) == pytest.approx(expected, abs=0.0051)
     replaced(folder / "study.toml", "WEST = 38", "WEST = 33")
     summed(folder)
     assert walls(folder)[1][1][2] > found[1][2] + 4.9
+
+
+def dense(pattern, grid, angles, step):
+    """The errors of a wall at bearings a small step apart, by SciPy's hull of the offsets: along a ray it ends at the nearest of its half planes."""
+    (x, y, z), turn = grid["size"], np.radians(grid["rotation"])
+    flat = np.array([(i * x / (k * z), j * y / (k * z)) for i, j, k in pattern.offsets])
+    east = flat[:, 0] * np.cos(turn) + flat[:, 1] * np.sin(turn)
+    north = flat[:, 1] * np.cos(turn) - flat[:, 0] * np.sin(turn)
+    planes = ConvexHull(np.column_stack((east, north))).equations
+    bearing = np.arange(0, 360, step)
+    ray = np.sin(np.radians(bearing)), np.cos(np.radians(bearing))
+    ahead = planes[:, :1] * ray[0] + planes[:, 1:2] * ray[1]
+    with np.errstate(divide="ignore"):
+        out = np.where(ahead > 0, -planes[:, 2:] / ahead, np.inf).min(axis=0)
+    known = np.array(angles if isinstance(angles, list) else [[0, angles]], float)
+    return np.degrees(np.arctan(1 / out)) - np.interp(bearing, *known.T, period=360)
+
+
+@pytest.mark.parametrize(
+    "angles",
+    [
+        45,
+        [[0, 38], [90, 45], [300, 42]],
+        [[0.5, 38], [10.25, 52], [20.75, 38]],
+        [[33.3, 30], [213.3, 60]],
+    ],
+)
+@pytest.mark.parametrize("size, rotation", [((20, 20, 15), 0), ((10, 25, 12), 17.3)])
+def test_a_wall_errs_at_any_bearing(angles, size, rotation):
+    """What recheck.py says is the most of all bearings, and not of those alone that it looks at."""
+    pattern = offsets.search(offsets.wall(size, angles, rotation))
+    grid = {"size": size, "rotation": rotation}
+    steeper, flatter = recheck.wall_errors(
+        [list(at) for at in pattern.offsets], grid, recheck.Asked.of(angles)
+    )
+    errors = dense(pattern, grid, angles, 0.001)
+    assert (steeper, flatter) == pytest.approx((errors.max(), -errors.min()), abs=2e-4)
+    assert steeper >= errors.max() - 1e-9
+    assert flatter >= -errors.min() - 1e-9
+
+
+def test_a_wall_that_is_steeper_between_two_whole_bearings_alone_is_found(tmp_path):
+    """Of an angle that is asked for at bearing 0.5 alone a list of whole bearings shows the half."""
+    folder = bundled(tmp_path, mines.STUDY_TOML.replace("angles = 45", "angles = 45\nsafe = true"))
+    text = "angles = [[44.9, 45], [45.5, 41], [46.1, 45], [225, 45]]"
+    replaced(folder / "study.toml", "angles = 45", text)
+    summed(folder)
+    status, found = walls(folder)
+    kind, _, steeper, _ = found[0]
+    assert status == 1
+    assert kind == "WRONG"
+    assert steeper > 3
 
 
 def test_a_wall_that_is_steeper_than_a_safe_one_is_found(tmp_path):
@@ -1149,7 +1209,8 @@ def test_a_wall_that_is_steeper_than_a_safe_one_is_found(tmp_path):
     assert walls(folder) == (0, [("look", "default", 0.0, walls(folder)[1][0][3])])
     replaced(folder / "study.toml", "angles = 45", "angles = 42")
     summed(folder)
-    assert walls(folder)[0] == 1 and walls(folder)[1][0][0] == "WRONG"
+    assert walls(folder)[0] == 1
+    assert walls(folder)[1][0][0] == "WRONG"
 
 
 @pytest.mark.parametrize("shape", [(5, 4, 3), (9, 8, 5)])
@@ -1168,15 +1229,16 @@ def test_a_certificate_of_another_mine_is_told_in_words(copy, tmp_path, shape):
         for line in lines
         if "another mine, of {:,} blocks, and the model has {:,}".format(*blocks) in line
     ]
-    assert (
-        status == 1 and blocks[0] != blocks[1] and len(told) == 1 and "at factor 1:" in told[0]
-    ), lines
+    assert status == 1, lines
+    assert blocks[0] != blocks[1], lines
+    assert len(told) == 1, lines
+    assert "at factor 1:" in told[0], lines
     assert any("blocks that the model hasn't" in line for line in lines) == (
         blocks[0] > blocks[1]
-    ) and not any("Error" in line for line in lines), lines
-    assert any("tables/pit_by_pit.csv" in line for line in lines) and not any(
-        "at factor 1.2" in line for line in lines
     ), lines
+    assert not any("Error" in line for line in lines), lines
+    assert any("tables/pit_by_pit.csv" in line for line in lines), lines
+    assert not any("at factor 1.2" in line for line in lines), lines
 
 
 def test_no_name_leads_out_of_the_bundle(copy, tmp_path):
@@ -1189,10 +1251,8 @@ def test_no_name_leads_out_of_the_bundle(copy, tmp_path):
             (copy / "link").symlink_to(outside)
         (copy / bundle.SUMS).write_text(sums + f"{digest}  {name}\n")
         lines, status = rechecked(copy)
-        assert status == 1 and any("leads out of the bundle" in line for line in lines), (
-            name,
-            lines,
-        )
+        assert status == 1, (name, lines)
+        assert any("leads out of the bundle" in line for line in lines), (name, lines)
 
 
 def test_a_certificate_that_unpacks_without_end_is_not_read_on(copy):
@@ -1207,7 +1267,8 @@ def test_a_certificate_that_unpacks_without_end_is_not_read_on(copy):
         told()
         summed(copy)
         lines, status = rechecked(copy)
-        assert status == 1 and any("unpacks to more than" in line for line in lines), lines
+        assert status == 1, lines
+        assert any("unpacks to more than" in line for line in lines), lines
 
 
 def test_pairs_are_counted_and_no_number_of_them_is_believed(copy, monkeypatch):
@@ -1234,11 +1295,9 @@ def test_a_pipe_among_the_files_is_refused_and_not_waited_for(copy, name):
         text=True,
         timeout=60,
     )
-    assert (
-        ran.returncode == 1
-        and f"{name} is no regular file" in ran.stdout
-        and "Traceback" not in ran.stderr
-    ), ran.stdout
+    assert ran.returncode == 1, ran.stdout
+    assert f"{name} is no regular file" in ran.stdout, ran.stdout
+    assert "Traceback" not in ran.stderr, ran.stdout
 
 
 def test_bytes_for_a_terminal_are_not_printed(copy):
@@ -1247,7 +1306,8 @@ def test_bytes_for_a_terminal_are_not_printed(copy):
     ran = subprocess.run(
         [sys.executable, str(copy / "recheck.py"), os.environ["PIT"]], capture_output=True
     )
-    assert ran.returncode == 1 and b"\x1b" not in ran.stdout
+    assert ran.returncode == 1
+    assert b"\x1b" not in ran.stdout
 
 
 def test_no_path_of_the_planner_s_machine_is_in_it(tmp_path):
@@ -1264,9 +1324,8 @@ def test_no_path_of_the_planner_s_machine_is_in_it(tmp_path):
     files = [
         path for path in folder.rglob("*") if path.is_file() and path.name != "study.toml"
     ]  # that one as the planner wrote it
-    assert len(files) > 10 and not [
-        path for path in files if str(tmp_path) in path.read_text("latin-1")
-    ]
+    assert len(files) > 10
+    assert not [path for path in files if str(tmp_path) in path.read_text("latin-1")]
     source = json.loads((folder / "model" / "manifest.json").read_text())["source"]
     assert hashlib.sha256((folder / source["table"]).read_bytes()).hexdigest() == source["sha256"]
     assert rechecked(folder)[1] == 0
@@ -1276,7 +1335,7 @@ def test_a_folder_that_is_there_is_left_alone(whole, tmp_path):
     (tmp_path / "there").mkdir()
     told = read_study_file(whole.parent)
     with pytest.raises(PlanError, match="is there already"):
-        bundle.write(
+        bundle.write_bundle(
             Study(whole.parent).shells(told.factors),
             tmp_path / "there",
             told.path,
@@ -1294,7 +1353,9 @@ def test_a_table_that_has_changed_since_is_not_bundled(tmp_path):
     with pytest.raises(
         PlanError, match="the table that the study was built from isn't there any more"
     ):
-        bundle.write(shells, tmp_path / "b", told.path, told.keys.dialect(told.table), told.rates)
+        bundle.write_bundle(
+            shells, tmp_path / "b", told.path, told.keys.dialect(told.table), told.rates
+        )
     assert not (tmp_path / "b").exists()
 
 
@@ -1307,4 +1368,5 @@ def test_the_command(whole, tmp_path):
     )
     assert ran.returncode == 0, ran.stderr
     digest = hashlib.sha256((tmp_path / "b" / bundle.SUMS).read_bytes()).hexdigest()
-    assert digest in ran.stdout and rechecked(tmp_path / "b")[1] == 0
+    assert digest in ran.stdout
+    assert rechecked(tmp_path / "b")[1] == 0

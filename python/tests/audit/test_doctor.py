@@ -31,10 +31,8 @@ def test_all_is_well_here():
     version = subprocess.run(
         [os.environ["PIT"], "--version"], capture_output=True, text=True
     ).stdout.split("\n")
-    assert (
-        ", ".join(line for line in version if line) in ran.stdout
-        and "\nall is well\n" in ran.stdout
-    )
+    assert ", ".join(line for line in version if line) in ran.stdout
+    assert "\nall is well\n" in ran.stdout
     for step in (
         "read, priced and built",
         "proved and added up",
@@ -46,11 +44,9 @@ def test_all_is_well_here():
 
 def test_a_program_that_is_not_there_is_told_with_what_to_do():
     ran = run(PIT="/nowhere/pit")
-    assert (
-        ran.returncode == 1
-        and "MISSING PIT in the environment is '/nowhere/pit'" in ran.stdout
-        and "the small mine wasn't tried" in ran.stdout
-    )
+    assert ran.returncode == 1
+    assert "MISSING PIT in the environment is '/nowhere/pit'" in ran.stdout
+    assert "the small mine wasn't tried" in ran.stdout
 
 
 def script(path, text):
@@ -76,17 +72,16 @@ def test_a_pit_beside_the_command_is_found_where_none_is_on_the_path(tmp_path, m
 
 def test_another_program_of_this_name_is_told(tmp_path):
     ran = run(PIT=script(tmp_path / "pit", "echo a hole in the ground\n"))
-    assert ran.returncode == 1 and "doesn't answer to --version as pit does" in ran.stdout
+    assert ran.returncode == 1
+    assert "doesn't answer to --version as pit does" in ran.stdout
 
 
 def test_a_pit_that_answers_wrongly_is_told(tmp_path):
     liar = f'if [ "$1" = check ]; then cat >/dev/null; echo "ACCEPTED 6 141501"; else exec {os.environ["PIT"]} "$@"; fi\n'
     ran = run(PIT=script(tmp_path / "pit", liar))
-    assert (
-        ran.returncode == 1
-        and "WRONG   its pits are found" in ran.stdout
-        and "tell the maintainers" in ran.stdout
-    )
+    assert ran.returncode == 1
+    assert "WRONG   its pits are found" in ran.stdout
+    assert "tell the maintainers" in ran.stdout
 
 
 @pytest.mark.parametrize("name, kind", [("matplotlib", "MISSING"), ("ezdxf", "look")])
@@ -94,18 +89,14 @@ def test_a_package_that_is_missing_is_named_with_its_command(monkeypatch, name, 
     monkeypatch.setitem(sys.modules, name, None)
     lines = list(doctor.packages())
     found = [line for line in lines if f"the Python package {name} can't be imported" in line.what]
-    assert (
-        len(found) == 1
-        and found[0].kind == kind
-        and found[0].try_this == f"sudo apt-get install --no-install-recommends python3-{name}"
-    )
+    assert len(found) == 1
+    assert found[0].kind == kind
+    assert found[0].try_this == f"sudo apt-get install --no-install-recommends python3-{name}"
 
 
 def test_what_it_looks_for_is_what_is_installed():
     """Each package that python/packages lists for pitplan itself is one that the doctor looks for, and each that it needs is listed."""
     listed = (TOP / "python" / "packages").read_text().split("# its tests")[0]
     names = {line.strip() for line in listed.splitlines() if line.startswith("python3-")}
-    assert set(doctor.NEEDED.values()) <= names and names <= {
-        *doctor.NEEDED.values(),
-        *doctor.WANTED.values(),
-    }
+    assert set(doctor.NEEDED.values()) <= names
+    assert names <= {*doctor.NEEDED.values(), *doctor.WANTED.values()}

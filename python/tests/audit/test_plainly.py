@@ -185,8 +185,10 @@ def test_several_certificates_are_judged_in_one_reading_of_the_model(tmp_path, c
     names = [*texts, "no.gz", "sound"]
     said, status = plain([*files, *(tmp_path / name for name in names)], capsys)
     alone = [plain([*files, tmp_path / name], capsys) for name in names]
-    assert said.splitlines() == [line for line, _ in alone] and status == 3
-    assert [status for _, status in alone] == [0, 1, 3, 3, 3, 0] and len(read) == 1 + len(names)
+    assert said.splitlines() == [line for line, _ in alone]
+    assert status == 3
+    assert [status for _, status in alone] == [0, 1, 3, 3, 3, 0]
+    assert len(read) == 1 + len(names)
 
 
 @pytest.mark.parametrize(
@@ -215,7 +217,9 @@ def test_a_model_that_cannot_be_read_is_told(tmp_path, capsys, text, what):
         tmp_path / "c",
     ]
     line, status = plain(words, capsys)
-    assert status == 3 and line.startswith("plainly: ") and what in line
+    assert status == 3
+    assert line.startswith("plainly: ")
+    assert what in line
     assert checked(words)[1] == 3
 
 
@@ -238,4 +242,6 @@ def test_settings_that_are_no_text_are_told(tmp_path, capsys):
         tmp_path / "c",
     ]
     line, status = plain(words, capsys)
-    assert status == 3 and line.startswith("plainly: ") and checked(words)[1] == 3
+    assert status == 3
+    assert line.startswith("plainly: ")
+    assert checked(words)[1] == 3

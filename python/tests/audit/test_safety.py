@@ -24,7 +24,6 @@ from pitplan.table import spreadsheets
 from pitplan.cli import shells as commands_shells
 from pitplan.table import csv_text
 from pitplan.tasks import engines
-from pitplan.views.export import csv as export_csv
 from pitplan.audit import recheck
 from pitplan.plans import risk, vary
 from pitplan.model import store
@@ -132,7 +131,8 @@ def test_a_formula_reaches_columns_and_arithmetic_alone(table, tmp_path, text):
     except PlanError as error:
         assert "mining" in str(error)
     else:
-        assert text in NUMBERS and found.dtype == float, found
+        assert text in NUMBERS, found
+        assert found.dtype == float, found
     assert not list(tmp_path.iterdir())
 
 
@@ -140,7 +140,7 @@ def test_a_formula_reaches_columns_and_arithmetic_alone(table, tmp_path, text):
 def test_the_formulas_of_recheck_reach_no_more(tmp_path, text):
     text = text.format(tmp_path / "made") if "{" in text else text
     row = {"CU": 0.5, "ROCK": "a"}
-    told = recheck.Told()
+    told = recheck.Report()
     if not text.startswith("'a' *") and text != "9**9**9**9":
         found = told.attempt(
             "mining", lambda: float(recheck.Formula(text, lambda name: row[name]).value())
@@ -154,7 +154,7 @@ def test_the_formulas_of_recheck_reach_no_more(tmp_path, text):
 
 @pytest.mark.parametrize("text", ["9**9**9**9", "'a' * 999999999"])
 def test_the_formulas_of_recheck_end(text):
-    assert recheck.Told().attempt(
+    assert recheck.Report().attempt(
         "mining", lambda: float(recheck.Formula(text, {}.__getitem__).value())
     ) in (None, math.inf)
 
@@ -182,14 +182,11 @@ def test_no_module_of_the_package_can_run_a_stranger_s_code():
         assert not re.match(
             r"import .*\b(pickle|marshal|shelve|dill|joblib|cloudpickle)\b", name
         ), (path, name)
-        assert name not in (
-            "eval",
-            "exec",
-            "compile",
-            "__import__",
-            "os.system",
-            "os.popen",
-        ) and last not in ("eval", "query", "read_pickle", "to_pickle", "getoutput"), (path, name)
+        assert name not in ("eval", "exec", "compile", "__import__", "os.system", "os.popen"), (
+            path,
+            name,
+        )
+        assert last not in ("eval", "query", "read_pickle", "to_pickle", "getoutput"), (path, name)
         if isinstance(node, ast.Call):
             words = {word.arg: ast.unparse(word.value) for word in node.keywords}
             assert words.get("shell", "False") == "False", (path, name)
@@ -243,7 +240,8 @@ def strange_mine():
 
 def pitplan(*words):
     ran = served.pitplan(*words)
-    assert ran.returncode == 0 and "Traceback" not in ran.stderr, ran.stderr
+    assert ran.returncode == 0, ran.stderr
+    assert "Traceback" not in ran.stderr, ran.stderr
     return ran.stdout
 
 
@@ -269,7 +267,8 @@ def test_nothing_is_written_outside_the_study(strange):
 
 def test_words_are_no_markup_in_the_page(strange):
     page = (strange / "out" / "pits.html").read_text()
-    assert "alert(1)</script>" not in page and "<img src=x" not in page
+    assert "alert(1)</script>" not in page
+    assert "<img src=x" not in page
     plain = mines.written_study(strange.parent / "plain")
     for word in ("build", "shells", "page"):
         pitplan(word, plain)
@@ -304,7 +303,8 @@ def test_ids_are_no_formulas_where_the_table_is_gone(strange, tmp_path):
     finally:
         (tmp_path / "t.csv").rename(strange / "t.csv")
     kept = pd.read_csv(strange / "out" / "blocks.csv")
-    assert kept["id"].str.startswith("'=HYPERLINK").all() and len(kept) == len(shells.study.model)
+    assert kept["id"].str.startswith("'=HYPERLINK").all()
+    assert len(kept) == len(shells.study.model)
 
 
 def test_a_carriage_return_begins_no_row_in_what_is_written(tmp_path):
@@ -328,7 +328,7 @@ def test_all_csv_is_written_by_one_function():
         for path, name, node in calls_and_imports()
         if isinstance(node, ast.Call) and name.endswith(".to_csv")
     }
-    assert found == {"spreadsheets.py", "building.py"}  # the second writes the numbers of `.blocks`
+    assert found == {"spreadsheets.py"}
 
 
 def test_a_packed_table_that_unpacks_without_end_is_refused(tmp_path):
@@ -670,7 +670,8 @@ def test_a_pit_takes_no_negative_time_where_the_clock_is_set_back(asked_for, mon
     monkeypatch.setattr(time, "time", itertools.count(10**9, -1000).__next__)
     study = pp.Study(asked_for)
     study.run_series([777])
-    assert 0 <= study.verdict(777)["seconds"] < 500 and study.verdict(777)["factor"] == 777
+    assert 0 <= study.verdict(777)["seconds"] < 500
+    assert study.verdict(777)["factor"] == 777
     verdict = study.place(777) / "verdict.json"
     verdict.write_text(changed(verdict.read_text(), ["seconds"], -7.5))  # of an older pitplan
     assert (

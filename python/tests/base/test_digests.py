@@ -52,11 +52,11 @@ def test_a_file_that_is_left_alone_is_read_once(tmp_path, at_once):
     path = tmp_path / "a"
     path.write_bytes(b"first")
     time.sleep(GRAIN)
-    assert [digests.sha256_unless_known(path) for _ in range(3)] == [digest(b"first")] * 3 and len(
-        at_once
-    ) == 1
+    assert [digests.sha256_unless_known(path) for _ in range(3)] == [digest(b"first")] * 3
+    assert len(at_once) == 1
     path.read_bytes()  # to read it changes nothing
-    assert digests.sha256_unless_known(path) == digest(b"first") and len(at_once) == 1
+    assert digests.sha256_unless_known(path) == digest(b"first")
+    assert len(at_once) == 1
 
 
 @pytest.mark.parametrize("change", [written_again, put_in_its_place, linked_elsewhere])
@@ -67,7 +67,8 @@ def test_a_file_that_was_changed_is_read_again(tmp_path, at_once, change):
     digests.sha256_unless_known(path)
     time.sleep(GRAIN)
     change(path, b"other")
-    assert digests.sha256_unless_known(path) == digest(b"other") and len(at_once) == 2
+    assert digests.sha256_unless_known(path) == digest(b"other")
+    assert len(at_once) == 2
 
 
 def test_a_file_that_changes_while_it_is_read_isnt_known(tmp_path, at_once, monkeypatch):
@@ -105,10 +106,8 @@ def test_another_file_is_known_by_more_than_its_times(tmp_path, at_once, monkeyp
     path.write_bytes(b"first")
     digests.sha256_unless_known(path)
     change(path, b"other")
-    assert (
-        digests.sha256_unless_known(path) == digest(path.read_bytes()) != digest(b"first")
-        and len(at_once) == 2
-    )
+    assert digests.sha256_unless_known(path) == digest(path.read_bytes()) != digest(b"first")
+    assert len(at_once) == 2
 
 
 def test_a_change_within_the_grain_of_the_clock_is_seen(tmp_path, monkeypatch):

@@ -1,12 +1,15 @@
 """Tables of the terminal are whole at 80 columns."""
 import io
+import os
 import re
 
 import pytest
 from rich.console import Console
 
+from mines import written_study
 from pitplan.cli import console
 from pitplan.base.folding import folded
+from processes import said
 
 PHASES = (
     "pushback",
@@ -71,7 +74,8 @@ def test_a_table_is_whole(monkeypatch, names, words, width, cell):
     monkeypatch.setattr(console, "out", Console(width=width, file=file, highlight=False))
     console.print_columns("a table", names, rows, words=words, has_total=True)
     lines = file.getvalue().splitlines()
-    assert max(len(line.rstrip()) for line in lines) <= width and "\u2026" not in file.getvalue()
+    assert max(len(line.rstrip()) for line in lines) <= width
+    assert "\u2026" not in file.getvalue()
     shown = re.findall(r"\S+", file.getvalue())
     for name in names:
         assert all(word in shown for word in name.split()), name
@@ -81,12 +85,29 @@ def test_a_table_is_whole(monkeypatch, names, words, width, cell):
 
 def test_the_first_columns_stand_in_each_part():
     found = folded(PHASES, cells(PHASES), 80)
-    assert found.is_narrow and len(found.parts) > 1 and all(part[0] == 0 for part in found.parts)
+    assert found.is_narrow
+    assert len(found.parts) > 1
+    assert all(part[0] == 0 for part in found.parts)
     assert sorted(i for part in found.parts for i in part[1:]) == list(range(1, len(PHASES)))
-    assert (
-        folded(("a", "b"), [("1", "2")], 80).parts == [[0, 1]]
-        and not folded(("a", "b"), [("1", "2")], 80).is_narrow
-    )
+    assert folded(("a", "b"), [("1", "2")], 80).parts == [[0, 1]]
+    assert not folded(("a", "b"), [("1", "2")], 80).is_narrow
     assert folded(("a", "b"), [("1" * 90, "2" * 90)], 80).parts == [
         [0, 1]
     ]  # one column beside the first, whatever it takes
+
+
+def test_columns_of_the_environment_count_off_a_terminal(tmp_path):
+    """A table that is piped is as wide as COLUMNS says, each of its figures is there, and without COLUMNS it has more room."""
+    folder = written_study(tmp_path / "s")
+    metals = ", ".join(f'{{ name = "m{i}", grade = "AU", price = 1.0 }}' for i in range(7))
+    text = (folder / "study.toml").read_text()
+    (folder / "study.toml").write_text(re.sub("metals = .*", f"metals = [ {metals} ]", text))
+    bare = {name: value for name, value in os.environ.items() if name != "COLUMNS"}
+    wide, narrow = (said("check", folder, env={**bare, **more}) for more in ({}, {"COLUMNS": "80"}))
+    tables = [out[out.index("in place") : out.index("no errors")] for out in (wide, narrow)]
+    widest = [max(len(line.rstrip()) for line in shown.splitlines()) for shown in tables]
+    assert 80 < widest[0] <= 160
+    assert widest[1] <= 80
+    figures = [set(re.findall(r"[\d,]+\.\d+", shown)) for shown in tables]
+    assert figures[0] == figures[1]
+    assert len(figures[0]) > 3

@@ -4,17 +4,12 @@ import re
 import shlex
 import shutil
 import subprocess
-import tomllib
 
-import numpy as np
 import pandas as pd
 import pytest
 
 from mines import STUDY_TOML, table, written_study
-from pitplan.study import first_look
 from pitplan.base import later
-from pitplan.base.errors import PlanError
-from pitplan.table.formula import worked_out
 from pitplan.base.files import host
 from pitplan.study.study_file import read_study_file
 from processes import TOP
@@ -32,11 +27,9 @@ def test_from_a_table_to_shells(tmp_path):
     assert pitplan("init", "mine.csv", cwd=tmp_path).returncode == 0
     study = tmp_path / "mine"
     told = read_study_file(study)
-    assert (
-        told.keys.size == [20, 20, 15]
-        and [m.name for m in told.economics.metals] == ["copper", "gold"]
-        and told.table.resolve() == tmp_path / "mine.csv"
-    )
+    assert told.keys.size == [20, 20, 15]
+    assert [m.name for m in told.economics.metals] == ["copper", "gold"]
+    assert told.table.resolve() == tmp_path / "mine.csv"
     text = (
         (study / "study.toml")
         .read_text()
@@ -44,32 +37,29 @@ def test_from_a_table_to_shells(tmp_path):
     )
     (study / "study.toml").write_text(text)
     built = pitplan("build", "mine", cwd=tmp_path)  # the other commands name it from elsewhere
-    assert (
-        built.returncode == 0
-        and "pairs" in built.stdout
-        and "SUL" in built.stdout
-        and "MB" in built.stdout
-    )
+    assert built.returncode == 0
+    assert "pairs" in built.stdout
+    assert "SUL" in built.stdout
+    assert "MB" in built.stdout
     ran = pitplan("shells", study)
-    assert (
-        ran.returncode == 0 and "factor 1 proved" in ran.stderr and "pit by pit" in ran.stdout
-    ), ran.stderr
+    assert ran.returncode == 0, ran.stderr
+    assert "factor 1 proved" in ran.stderr, ran.stderr
+    assert "pit by pit" in ran.stdout, ran.stderr
     pits = pd.read_csv(study / "out/pit_by_pit.csv")
     back = pd.read_csv(study / "out/mine.csv")
-    assert pits.factor.tolist() == [0.5, 1.0, 1.5] and back.drop(columns="pit_shell").equals(f)
-    assert (back.pit_shell <= 1.0).sum() == pits.blocks[1] and pd.read_csv(
-        study / "out/benches.csv"
-    ).blocks.sum() == pits.blocks[2]
+    assert pits.factor.tolist() == [0.5, 1.0, 1.5]
+    assert back.drop(columns="pit_shell").equals(f)
+    assert (back.pit_shell <= 1.0).sum() == pits.blocks[1]
+    assert pd.read_csv(study / "out/benches.csv").blocks.sum() == pits.blocks[2]
     again = pitplan("shells", ".", cwd=study)
-    assert again.returncode == 0 and again.stdout.replace(str(study), "").count("pit by pit") == 1
+    assert again.returncode == 0
+    assert again.stdout.replace(str(study), "").count("pit by pit") == 1
     # what was built counts only as long as study.toml says the same
     (study / "study.toml").write_text(text.replace("mining = 2.50", "mining = 2.60"))
     stale = pitplan("shells", study)
-    assert (
-        stale.returncode == 3
-        and "has changed since the study was built" in stale.stderr
-        and hinted(stale) == [PITPLAN, "build", str(study)]
-    )
+    assert stale.returncode == 3
+    assert "has changed since the study was built" in stale.stderr
+    assert hinted(stale) == [PITPLAN, "build", str(study)]
     (study / "study.toml").write_text(text)
     f.assign(CU=f.CU + 1).to_csv(tmp_path / "mine.csv", index=False)
     assert "the table has changed" in pitplan("shells", study).stderr
@@ -88,16 +78,16 @@ def test_from_a_table_to_shells(tmp_path):
 )
 def test_wrong_words_and_files_have_their_status(tmp_path, words, status, said):
     ran = pitplan(*words, cwd=tmp_path)
-    assert ran.returncode == status and said in ran.stderr and "Traceback" not in ran.stderr
+    assert ran.returncode == status
+    assert said in ran.stderr
+    assert "Traceback" not in ran.stderr
 
 
 def test_shells_before_build_says_so(tmp_path):
     ran = pitplan("shells", written_study(tmp_path / "s"))
-    assert (
-        ran.returncode == 3
-        and "never built" in ran.stderr
-        and hinted(ran) == [PITPLAN, "build", str(tmp_path / "s")]
-    )
+    assert ran.returncode == 3
+    assert "never built" in ran.stderr
+    assert hinted(ran) == [PITPLAN, "build", str(tmp_path / "s")]
 
 
 def test_each_hint_can_be_pasted(tmp_path):
@@ -177,31 +167,23 @@ def test_tables_of_the_model_before_are_set_aside(tmp_path):
         }
 
     again = pitplan("build", study)
-    assert (
-        again.returncode == 0
-        and files() == before
-        and "model before" not in again.stdout + again.stderr
-    )  # the same model
+    assert again.returncode == 0
+    assert files() == before
+    assert "model before" not in again.stdout + again.stderr  # the same model
     (study / "study.toml").write_text(text.replace("mining = 2.0", "mining = 2.1"))
     ran = pitplan("build", study)
     stay = {"mine.txt", "benches.csv", "slopes.csv", "slopes.png"}
     assert {name: data for name, data in files().items()} == {
         name if name in stay else f"older/{name}": data for name, data in before.items()
     }
-    assert (
-        ran.returncode == 0
-        and f"{out}/older has what was written of the model before" in ran.stdout
-        and "pit_by_pit.csv" in ran.stdout
-    )
-    assert (
-        ran.stderr.count("model before") == 1
-        and f"{out}/benches.csv is of the model before" in ran.stderr
-    )
+    assert ran.returncode == 0
+    assert f"{out}/older has what was written of the model before" in ran.stdout
+    assert "pit_by_pit.csv" in ran.stdout
+    assert ran.stderr.count("model before") == 1
+    assert f"{out}/benches.csv is of the model before" in ran.stderr
     (study / "study.toml").write_text(text.replace("angles = 45", "angles = 44"))
-    assert "slopes.csv, slopes.png" in pitplan("build", study).stdout and stay - set(files()) == {
-        "slopes.csv",
-        "slopes.png",
-    }
+    assert "slopes.csv, slopes.png" in pitplan("build", study).stdout
+    assert stay - set(files()) == {"slopes.csv", "slopes.png"}
 
 
 def test_help_needs_no_study_and_no_pit(tmp_path):
@@ -212,7 +194,8 @@ def test_help_needs_no_study_and_no_pit(tmp_path):
         text=True,
         env={**os.environ, "PIT": "/nowhere"},
     )  # no fork of the server: its own start
-    assert ran.returncode == 0 and all(name in ran.stdout for name in ("init", "build", "shells"))
+    assert ran.returncode == 0
+    assert all(name in ran.stdout for name in ("init", "build", "shells"))
 
 
 LOADED = """import sys
@@ -274,7 +257,8 @@ def test_what_a_killed_build_and_bundle_left_is_taken_away(tmp_path):
 
 def test_a_missing_pit_is_told(tmp_path):
     ran = pitplan("build", written_study(tmp_path / "s"), PIT="/nowhere/pit")
-    assert ran.returncode == 3 and "PIT in the environment" in ran.stderr
+    assert ran.returncode == 3
+    assert "PIT in the environment" in ran.stderr
 
 
 def test_markup_in_names_does_no_harm(tmp_path):
@@ -282,7 +266,8 @@ def test_markup_in_names_does_no_harm(tmp_path):
     f["ROCK"] = f.ROCK + "[/bold]"
     text = STUDY_TOML.replace("{ OXI = 7.5, SUL = 9.0 }", "9.0")
     ran = pitplan("build", written_study(tmp_path / "s", f, text))
-    assert ran.returncode == 0 and "SUL[/bold]" in ran.stdout, ran.stderr
+    assert ran.returncode == 0, ran.stderr
+    assert "SUL[/bold]" in ran.stdout, ran.stderr
     folder = written_study(tmp_path / "mine [bold]", f, text)
     for words in (
         ("build", folder),
@@ -296,125 +281,8 @@ def test_markup_in_names_does_no_harm(tmp_path):
         ("bundle", tmp_path / "b [bold]", folder),
     ):
         ran = pitplan(*words)
-        assert ran.returncode == 0 and " [bold]" in ran.stdout, (words, ran.stdout, ran.stderr)
-
-
-@pytest.mark.parametrize("angle", [0.0, 30.0, -17.5, 44.0])
-@pytest.mark.parametrize("size", [(20, 20, 15), (25, 10, 5), (10, 25, 12.5)])
-def test_init_finds_the_grid(tmp_path, angle, size):
-    table(9, 8, 4, 3, rotation=angle, size=size).to_csv(tmp_path / "t.csv", index=False)
-    look = first_look.look_at(tmp_path / "t.csv")
-    assert look.size == pytest.approx(size) and look.rotation == pytest.approx(angle, abs=0.01)
-
-
-def test_init_sees_marks_sub_blocks_and_descriptions(tmp_path):
-    f = table(6, 5, 3, 3).assign(XINC=20.0, YINC=20.0, ZINC=15.0)
-    f.loc[4, "CU"] = -99
-    f.loc[3, "XINC"] = 10.0
-    lines = f.to_csv(index=False).splitlines(keepends=True)
-    (tmp_path / "t.csv").write_text(lines[0] + "Variable types:,,,,,,,,,,,\n" + "".join(lines[1:]))
-    look = first_look.look_at(tmp_path / "t.csv")
-    assert (
-        look.absent == ["-99"]
-        and look.has_sub_blocks
-        and look.size == (20, 20, 15)
-        and look.dialect.skip == 1
-    )
-    text = first_look.written(look, "t.csv")
-    (tmp_path / "study.toml").write_text(text)
-    told = read_study_file(tmp_path)
-    assert told.keys.absent == ["-99"] and told.keys.regularise
-
-
-def test_init_names_rocks_without_the_blanks_around_them(tmp_path):
-    """As `build` reads them; else the rocks that init shows are none that the model has."""
-    f = table(6, 5, 3, 3)
-    f.loc[::2, "ROCK"] += "  "
-    f.to_csv(tmp_path / "t.csv", index=False)
-    assert sorted(first_look.look_at(tmp_path / "t.csv").rocks) == ["OXI", "SUL"]
-
-
-def test_init_offers_no_mark_where_a_place_is_none(tmp_path):
-    f = table(4, 4, 3, 3).astype({"XC": object})
-    f.loc[3, "XC"] = ""
-    f.to_csv(tmp_path / "t.csv", index=False)
-    with pytest.raises(
-        PlanError,
-        match="row 5, column XC: the cell is empty\n  try: fill its place in, or take the row out",
-    ):
-        first_look.look_at(tmp_path / "t.csv")
-
-
-@pytest.mark.parametrize(
-    "column, values, wanted",
-    [
-        ("SECTOR", None, ("SECTOR", ["EAST", "WEST"])),
-        ("Dominio geotécnico", None, ("Dominio geotécnico", ["EAST", "WEST"])),
-        ("GEOTECH", [1, 2, None], ("GEOTECH", ["1", "2"])),
-        ("CLASS", None, ("", [])),
-        ("SECTOR", [f"S{n}" for n in range(13)], ("", [])),
-        ("SECTOR", ["all"], ("", [])),
-    ],
-)
-def test_init_names_the_column_of_regions(tmp_path, column, values, wanted):
-    f = table(6, 5, 4, 3)
-    f = f.rename(columns={"SECTOR": column}).assign(
-        **({column: np.resize(np.array(values, object), len(f))} if values else {})
-    )
-    f.to_csv(tmp_path / "t.csv", index=False)
-    look = first_look.look_at(tmp_path / "t.csv")
-    assert (look.region, look.regions) == wanted
-    if (
-        look.region
-    ):  # with the marks of comments taken away it is a study whose slopes go by that column
-        text = (
-            first_look.written(look, "t.csv")
-            .replace('# by = "', 'by = "')
-            .replace("# regions = {", "regions = {")
-        )
-        (tmp_path / "study.toml").write_text(text)
-        slopes = read_study_file(tmp_path).slopes
-        assert slopes.by == column and dict(slopes.regions) == dict.fromkeys(look.regions, 45)
-        said = pitplan("init", "t.csv", cwd=tmp_path)
-        assert (
-            f"regions of slopes, if you want them: {column} ({', '.join(look.regions)})"
-            in said.stdout
-        ), said.stderr
-
-
-def test_no_cell_of_a_table_ends_a_line_of_study_toml(tmp_path):
-    """A cell may have several lines; in study.toml the second would be a line of its own, as a price."""
-    f = table(6, 5, 4, 3)
-    f["ROCK"], f["SECTOR"] = f.ROCK + '"]\nforbid = ["1 > 0"]\n#', f.SECTOR + "\nsafe = true"
-    f.to_csv(tmp_path / "t.csv", index=False)
-    look = first_look.look_at(tmp_path / "t.csv")
-    assert any("\n" in rock for rock in look.rocks) and any("\n" in name for name in look.regions)
-    (tmp_path / "study.toml").write_text(first_look.written(look, "t.csv"))
-    told = read_study_file(tmp_path)
-    assert not told.economics.forbid and not told.slopes.safe
-
-
-def test_a_metal_with_a_few_grades_below_0_is_still_a_metal(tmp_path):
-    f = table(6, 5, 3, 3)
-    f.loc[4, "CU"], f.loc[7, "CU"] = -0.004, -0.003
-    f.to_csv(tmp_path / "t.csv", index=False)
-    look = first_look.look_at(tmp_path / "t.csv")
-    assert "CU" in look.grades and 'grade = "CU"' in first_look.written(look, "t.csv")
-
-
-def test_every_key_that_init_writes_is_known_and_explained(tmp_path):
-    table(6, 5, 3, 3).to_csv(tmp_path / "t.csv", index=False)
-    text = first_look.written(first_look.look_at(tmp_path / "t.csv"), "t.csv")
-    lines = text.splitlines()
-    for before, line in zip(lines, lines[1:]):
-        if " = " in line and not line.startswith(("#", " ", "table", "currency")):
-            assert "#" in line or before.startswith("#"), line
-    from dataclasses import fields
-    from pitplan.model.economics import Economics, Metal
-    from pitplan.model.model import TableKeys
-
-    for f in (*fields(TableKeys), *fields(Economics), *fields(Metal)):
-        assert f.name in text or f.name in ("decimal", "encoding", "skip"), f.name
+        assert ran.returncode == 0, (words, ran.stdout, ran.stderr)
+        assert " [bold]" in ran.stdout, (words, ran.stdout, ran.stderr)
 
 
 def test_commas_beside_marks_and_column_names_of_ones_own(tmp_path):
@@ -423,17 +291,14 @@ def test_commas_beside_marks_and_column_names_of_ones_own(tmp_path):
     f.loc[3, "CU"], f.loc[20, "CU"] = "-", "<0,01"
     f.to_csv(tmp_path / "t.csv", index=False, sep=";", decimal=",")
     lost = pitplan("init", "t.csv", cwd=tmp_path)
-    assert (
-        lost.returncode == 3
-        and "no column is known as x, y" in lost.stderr
-        and "pitplan init t.csv --column x=xx --column y=yy\n" in lost.stderr
-    )
+    assert lost.returncode == 3
+    assert "no column is known as x, y" in lost.stderr
+    assert "pitplan init t.csv --column x=xx --column y=yy\n" in lost.stderr
     found = pitplan("init", "t.csv", "--column", "x=xx", "-c", "y=yy", cwd=tmp_path)
     assert found.returncode == 0, found.stderr
     told = read_study_file(tmp_path / "t")
-    assert list(told.keys.absent) == ["-", "<0,01"] and "CU" in [
-        m.grade for m in told.economics.metals
-    ]
+    assert list(told.keys.absent) == ["-", "<0,01"]
+    assert "CU" in [m.grade for m in told.economics.metals]
     ran = pitplan("build", "t", cwd=tmp_path)
     assert ran.returncode == 0, ran.stderr
 
@@ -444,17 +309,15 @@ def test_spanish_names_are_known_and_the_nearest_is_offered(tmp_path):
     )
     f.to_csv(tmp_path / "t.csv", index=False)
     found = pitplan("init", "t.csv", cwd=tmp_path)
-    assert (
-        found.returncode == 0
-        and "x = X_CENTRO, y = Y_CENTRO, z = Z_CENTRO" in found.stdout
-        and "rock = ZONA" in found.stdout
-    ), found.stderr
+    assert found.returncode == 0, found.stderr
+    assert "x = X_CENTRO, y = Y_CENTRO, z = Z_CENTRO" in found.stdout, found.stderr
+    assert "rock = ZONA" in found.stdout, found.stderr
     f = f.rename(columns={"X_CENTRO": "Coord X", "Y_CENTRO": "NORTINGH", "Z_CENTRO": "Q"})
     f.to_csv(tmp_path / "u.csv", index=False)
     lost = pitplan("init", "u.csv", "--column", "rock=ZONA", cwd=tmp_path)
+    assert lost.returncode == 3, lost.stderr
     assert (
-        lost.returncode == 3
-        and "pitplan init u.csv --column rock=ZONA --column 'x=Coord X' --column y=NORTINGH --column z=NAME\n"
+        "pitplan init u.csv --column rock=ZONA --column 'x=Coord X' --column y=NORTINGH --column z=NAME\n"
         in lost.stderr
     ), lost.stderr
 
@@ -468,46 +331,20 @@ def test_a_table_as_excel_saves_it_in_peru(tmp_path):
     f.loc[11, "LITOLOGÍA"] = "Óxido"
     f.to_csv(tmp_path / "t.csv", index=False, sep=";", decimal=",", encoding="cp1252")
     lost = pitplan("init", "t.csv", cwd=tmp_path)
-    assert (
-        lost.returncode == 3
-        and "t.csv, row 1: isn't text in UTF-8: the byte 0xcd" in lost.stderr
-        and "--encoding cp1252" in lost.stderr
-    )
+    assert lost.returncode == 3
+    assert "t.csv, row 1: isn't text in UTF-8: the byte 0xcd" in lost.stderr
+    assert "--encoding cp1252" in lost.stderr
     assert "no encoding" in pitplan("init", "t.csv", "--encoding", "ansi1252", cwd=tmp_path).stderr
     found = pitplan("init", "t.csv", "--encoding", "cp1252", cwd=tmp_path)
+    assert found.returncode == 0, found.stderr
     assert (
-        found.returncode == 0
-        and 'look: N/D stands for "not estimated" in LEY_ZN, and counts as 0' in found.stderr
+        'look: N/D stands for "not estimated" in LEY_ZN, and counts as 0' in found.stderr
     ), found.stderr
     told = read_study_file(tmp_path / "t")
-    assert (
-        told.keys.encoding == "cp1252"
-        and list(told.keys.absent) == ["N/D"]
-        and [m.grade for m in told.economics.metals][0] == "LEY_ZN"
-    )
+    assert told.keys.encoding == "cp1252"
+    assert list(told.keys.absent) == ["N/D"]
+    assert [m.grade for m in told.economics.metals][0] == "LEY_ZN"
     assert set(told.read_model().blocks.rock) >= {"Óxido"}
-
-
-@pytest.mark.parametrize("name", ["ZC", "Cota (m)", "Elevação m", "RL'0", "class"])
-def test_the_formulas_that_init_shows_name_the_table_s_own_columns(tmp_path, name):
-    f = table(5, 4, 3, 1).rename(columns={"ZC": name, "XC": "x " + name})
-    f.to_csv(tmp_path / "t.csv", index=False)
-    text = first_look.written(
-        first_look.look_at(tmp_path / "t.csv", {"z": name, "x": "x " + name}), "t.csv"
-    )
-    shown = [
-        re.search(pattern, text)[1]
-        for pattern in (
-            r'a formula as ("2\.2 .*? / 10")',
-            r'may not be dug, as \[(".*? > 12000")\]',
-        )
-    ]
-    told = tomllib.loads("formulas = [" + ", ".join(shown) + "]")["formulas"]
-    height, beyond = (worked_out(formula, f, "shown") for formula in told)
-    assert (
-        np.allclose(height, 2.2 + 0.02 * (1500 - f[name]) / 10)
-        and (beyond == (f["x " + name] > 12000)).all()
-    )
 
 
 def test_a_mark_of_a_decimal_that_is_told_is_that_of_the_shells_too(tmp_path):
@@ -519,12 +356,11 @@ def test_a_mark_of_a_decimal_that_is_told_is_that_of_the_shells_too(tmp_path):
     )
     f[["XC", "YC", "ZC", "TONNES"]] = f[["XC", "YC", "ZC", "TONNES"]].round().astype(int)
     f.assign(AU=0).to_csv(study / "t.csv", index=False, sep=";")
-    assert pitplan("build", study).returncode == 0 and pitplan("shells", study).returncode == 0
+    assert pitplan("build", study).returncode == 0
+    assert pitplan("shells", study).returncode == 0
     back = pd.read_csv(study / "out/t.csv", sep=";", dtype=str)
-    assert (
-        "0,6" in set(back.pit_shell)
-        and not back.pit_shell.dropna().str.contains(".", regex=False).any()
-    )
+    assert "0,6" in set(back.pit_shell)
+    assert not back.pit_shell.dropna().str.contains(".", regex=False).any()
 
 
 def test_a_byte_that_is_no_text_is_told_with_its_row(tmp_path):
@@ -534,22 +370,6 @@ def test_a_byte_that_is_no_text_is_told_with_its_row(tmp_path):
     assert (
         "t.csv, row 102: isn't text in UTF-8: the byte 0xd3"
         in pitplan("init", "t.csv", cwd=tmp_path).stderr
-    )
-
-
-def test_a_metal_with_unknown_words_among_its_grades_is_told(tmp_path):
-    f = table(6, 5, 4, 3)
-    f["CU"] = f.CU.astype(object)
-    f.loc[7, "CU"] = "pendiente"
-    f.to_csv(tmp_path / "t.csv", index=False)
-    look = first_look.look_at(tmp_path / "t.csv")
-    assert (
-        "CU" in look.grades
-        and look.absent == []
-        and any(
-            "column CU, row 9: the cell is no number: it is 'pendiente'" in note
-            for note in look.notes
-        )
     )
 
 
@@ -563,8 +383,6 @@ def test_a_mark_that_is_told_is_not_asked_for_again(tmp_path):
         else STUDY_TOML.replace("absent = [", 'absent = ["-", ')
     )
     ran = pitplan("build", written_study(tmp_path / "s", f, text))
-    assert (
-        ran.returncode == 3
-        and "row 9, column CU" in ran.stderr
-        and 'absent = ["<0.01"]' in ran.stderr
-    )
+    assert ran.returncode == 3
+    assert "row 9, column CU" in ran.stderr
+    assert 'absent = ["-", "<0.01"]' in ran.stderr

@@ -25,9 +25,8 @@ def test_copper_has_the_shells_of_the_guide(tmp_path):
     told = read_study_file(tmp_path)
     study = pp.Study.create(tmp_path, told.read_model(), told.economics, told.slopes)
     shells = study.shells(told.factors)
-    assert [
-        (v["factor"], v["count"], int(v["worth"])) for v in shells.verdicts
-    ] == guide_shells() and len(guide_shells()) == 5
+    assert [(v["factor"], v["count"], int(v["worth"])) for v in shells.verdicts] == guide_shells()
+    assert len(guide_shells()) == 5
     amounts = [line.split()[4:7] for line in study.blocks_file.read_text().splitlines()]
     priced = [
         line.split()
@@ -62,4 +61,5 @@ def test_the_mine_of_run_example_is_that_of_the_walk():
     path = TOP / "examples" / "hill" / "study.toml"
     assert path.read_text() == walk.replace('"../examples/hill.csv"', '"../hill.csv"')
     told = read_study_file(path.parent)
-    assert len(told.read_model()) == 5041 and len(told.factors) == 9
+    assert len(told.read_model()) == 5041
+    assert len(told.factors) == 9

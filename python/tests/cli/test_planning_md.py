@@ -140,7 +140,8 @@ def test_options_of_the_text_are_options_of_a_command():
     named = set(
         re.findall(r"(?<![\w-])--[a-z][\w-]*", "\n".join(one.read_text() for one in DOCUMENTS))
     )
-    assert len(named) > 20 and named - known <= {"--help", "--no-install-recommends"}, named - known
+    assert len(named) > 20, named - known
+    assert named - known <= {"--help", "--no-install-recommends"}, named - known
 
 
 def rewrite():

@@ -22,7 +22,8 @@ def test_the_script_runs(tmp_path):
         for line in ran.stdout.splitlines()
         if re.match(r" *\d\.\d ", line)
     }
-    assert len(worths) == 5 and max(worths.values()) == worths[1.0]
+    assert len(worths) == 5
+    assert max(worths.values()) == worths[1.0]
     count, worth = re.search(r"([\d,]+) blocks worth (\d+); certificate", ran.stdout).groups()
     certificate = next((tmp_path / "hill" / "runs" / "base" / "f01000").glob("*.gz"))
     said = subprocess.run(
@@ -41,7 +42,8 @@ def test_the_script_runs(tmp_path):
         capture_output=True,
         text=True,
     ).stdout
-    assert said == f"ACCEPTED {count.replace(',', '')} {worth}\n" and float(worth) == worths[1.0]
+    assert said == f"ACCEPTED {count.replace(',', '')} {worth}\n"
+    assert float(worth) == worths[1.0]
     assert {path.name for path in (tmp_path / "hill" / "out").iterdir()} == {
         "pit-by-pit.png",
         "plan.png",

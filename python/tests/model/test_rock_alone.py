@@ -25,10 +25,8 @@ def both(tmp_path_factory):
         study = study_of(tmp_path_factory.mktemp("m"), frame, pp.Slopes(45), WASTE, size=CUBE)
         every.append(study.shells([600, 800, 1000]))
     lean, whole = every
-    assert (
-        whole.holds(2).sum() > lean.holds(2).sum() > lean.holds(0).sum() > 0
-        and len(lean.study.model) == (f.TONNES > 0).sum()
-    )
+    assert whole.holds(2).sum() > lean.holds(2).sum() > lean.holds(0).sum() > 0
+    assert len(lean.study.model) == (f.TONNES > 0).sum()
     return lean, whole
 
 
@@ -70,16 +68,16 @@ def test_exported_files_have_rock_alone(both, tmp_path):
                 ["id", "x", "y", "z", "tonnes", "shell", "worth", "to"]
             ].sort_values("id", ignore_index=True)
         )
-    assert lines[0] == lines[1] and cells[0] == cells[1] and features[0] == features[1]
+    assert lines[0] == lines[1]
+    assert cells[0] == cells[1]
+    assert features[0] == features[1]
     pd.testing.assert_frame_equal(rows[0], rows[1])
 
 
 def test_pictures_cut_rock_alone(both):
     lean, whole = (shells.study.model for shells in both)
     cut, high = planes.section(whole, "y", 3).number >= 0, lean.grid.shape[2]
-    assert (
-        (cut[:high] == (planes.section(lean, "y", 3).number >= 0)).all()
-        and cut.any()
-        and not cut[high:].any()
-    )
+    assert (cut[:high] == (planes.section(lean, "y", 3).number >= 0)).all()
+    assert cut.any()
+    assert not cut[high:].any()
     assert not (planes.bench(whole, high + 1).number >= 0).any()

@@ -114,11 +114,9 @@ def test_a_penalty_element_moves_the_pit(tmp_path, share):
         ),
         abs=1e-4,
     )
-    assert (
-        pits[1].worth == pits[2].worth
-        and (pits[1].mask == pits[2].mask).all()
-        and float(pits[1].worth) < float(pits[0].worth)
-    )
+    assert pits[1].worth == pits[2].worth
+    assert (pits[1].mask == pits[2].mask).all()
+    assert float(pits[1].worth) < float(pits[0].worth)
 
 
 @given(SIZES, SIZES, st.integers(1, 4), st.integers(0, 10**6), st.floats(-180, 180))
@@ -129,11 +127,9 @@ def test_a_turned_model_is_the_same_model(tmp_path_factory, nx, ny, nz, seed, an
     turned = study_of(b, turned_table, rotation=angle)
     assert plain.blocks_file.read_bytes() == turned.blocks_file.read_bytes()
     x, y, z = turned.model.xyz()
-    assert (
-        np.allclose(x, turned_table.XC)
-        and np.allclose(y, turned_table.YC)
-        and np.allclose(z, turned_table.ZC)
-    )
+    assert np.allclose(x, turned_table.XC)
+    assert np.allclose(y, turned_table.YC)
+    assert np.allclose(z, turned_table.ZC)
 
 
 @given(st.integers(0, 10**6), st.sampled_from([0.01, 0.1, 1.0, 1000.0]))

@@ -1,30 +1,22 @@
-"""Pushbacks against pandas on the planner's own table, and their widths against a plain search."""
-import itertools
+"""Pushbacks against pandas on the planner's own table."""
 import math
 
 import numpy as np
 import pandas as pd
 import pytest
-from hypothesis import example, given, strategies as st
-from hypothesis.extra.numpy import arrays
 
 import pitplan as pp
-from mines import STUDY_TOML, costs, study_of, table, written_study
+from mines import STUDY_TOML, TWO_METALS, costs, study_of, table, written_study
 from pitplan.plans.phases import Phases
-from pitplan.plans.widths import STEPS, rungs, thinnest, widths
+from plain_widths import plain
 from served import pitplan
 
-GOLD = pp.Metal("gold", "AU", price=60, grade_unit="g/t", price_unit="g", recovery=0.7)
 SERIES = [500, 750, 1000, 1250]
 
 
 @pytest.fixture(scope="module")
 def mine(tmp_path_factory):
-    economics = costs(
-        metals=(pp.Metal("copper", "CU", price=8500, recovery=0.85), GOLD),
-        dilution=0.1,
-        mining_recovery=0.9,
-    )
+    economics = costs(**TWO_METALS)
     frame = table(9, 8, 5, 5, rotation=20)
     return (
         Phases(
@@ -58,31 +50,26 @@ def test_pushbacks_by_bench(mine):
     f = told_by_pandas(phases, frame)
     found = phases.benches()
     groups = dict(list(f.groupby(["pushback", f.ZC.round(6)])))
-    assert len(found) == len(groups) > 8 and list(zip(found.pushback, -found.bench)) == sorted(
-        zip(found.pushback, -found.bench)
-    )
+    assert len(found) == len(groups) > 8
+    assert list(zip(found.pushback, -found.bench)) == sorted(zip(found.pushback, -found.bench))
     for row in found.itertuples():
         part = groups[row.pushback, round(row.bench, 6)]
-        assert (
-            row.factor == SERIES[row.pushback - 1] / 1000
-            and row.blocks == len(part)
-            and (row.toe, row.crest) == (row.bench - 7.5, row.bench + 7.5)
-        )
-        assert (
-            row.rock_t == pytest.approx(part.TONNES.sum())
-            and row.ore_t == pytest.approx(part.ore.sum())
-            and row.waste_t == pytest.approx(row.rock_t - row.ore_t)
-        )
-        assert row.feed_t == pytest.approx(part.ore.sum() * 0.99) and row.worth == part.worth.sum()
-        assert row.metal_copper == pytest.approx(
-            part.copper.sum()
-        ) and row.metal_gold == pytest.approx(part.gold.sum())
+        assert row.factor == SERIES[row.pushback - 1] / 1000
+        assert row.blocks == len(part)
+        assert (row.toe, row.crest) == (row.bench - 7.5, row.bench + 7.5)
+        assert row.rock_t == pytest.approx(part.TONNES.sum())
+        assert row.ore_t == pytest.approx(part.ore.sum())
+        assert row.waste_t == pytest.approx(row.rock_t - row.ore_t)
+        assert row.feed_t == pytest.approx(part.ore.sum() * 0.99)
+        assert row.worth == part.worth.sum()
+        assert row.metal_copper == pytest.approx(part.copper.sum())
+        assert row.metal_gold == pytest.approx(part.gold.sum())
         if part.ore.sum():
-            assert row.strip == pytest.approx(
-                row.waste_t / row.ore_t
-            ) and row.grade_copper == pytest.approx(part.cu_ore.sum() / part.ore.sum())
+            assert row.strip == pytest.approx(row.waste_t / row.ore_t)
+            assert row.grade_copper == pytest.approx(part.cu_ore.sum() / part.ore.sum())
         else:
-            assert math.isnan(row.strip) and math.isnan(row.grade_copper)
+            assert math.isnan(row.strip)
+            assert math.isnan(row.grade_copper)
 
 
 def test_pushbacks_add_up_to_the_pits(mine):
@@ -102,20 +89,15 @@ def test_pushbacks_add_up_to_the_pits(mine):
         assert np.allclose(found[column].cumsum(), pits[pit]), column
     for row in found.itertuples():
         part = f[f.pushback == row.pushback]
-        assert row.grade_copper == pytest.approx(
-            part.cu_ore.sum() / part.ore.sum()
-        ) and row.strip == pytest.approx(row.waste_t / row.ore_t)
-        assert (
-            row.top == pytest.approx(part.ZC.max() + 7.5)
-            and row.bottom == pytest.approx(part.ZC.min() - 7.5)
-            and row.benches == part.ZC.round(6).nunique()
-        )
+        assert row.grade_copper == pytest.approx(part.cu_ore.sum() / part.ore.sum())
+        assert row.strip == pytest.approx(row.waste_t / row.ore_t)
+        assert row.top == pytest.approx(part.ZC.max() + 7.5)
+        assert row.bottom == pytest.approx(part.ZC.min() - 7.5)
+        assert row.benches == part.ZC.round(6).nunique()
     blocks = phases.of_blocks()
-    assert (
-        blocks.id.tolist() == frame.IJK.tolist()
-        and (blocks.pushback[f.index] == f.pushback).all()
-        and (blocks.pushback > 0).sum() == len(f)
-    )
+    assert blocks.id.tolist() == frame.IJK.tolist()
+    assert (blocks.pushback[f.index] == f.pushback).all()
+    assert (blocks.pushback > 0).sum() == len(f)
 
 
 def test_the_thinnest_bench_is_named(mine):
@@ -128,7 +110,8 @@ def test_the_thinnest_bench_is_named(mine):
         plane[model.blocks.ix[part.index], model.blocks.iy[part.index]] = True
         room = plain(plane, (20, 20))
         narrow = plane & (room < 60)
-        assert row.width == room[plane].min() and row.narrow_blocks == narrow.sum()
+        assert row.width == room[plane].min()
+        assert row.narrow_blocks == narrow.sum()
         tonnes = {
             (x, y): t
             for x, y, t in zip(
@@ -138,11 +121,9 @@ def test_the_thinnest_bench_is_named(mine):
         assert row.narrow_t == pytest.approx(sum(tonnes[tuple(at)] for at in np.argwhere(narrow)))
     for row in found.itertuples():
         part = benches[benches.pushback == row.pushback]
-        assert (
-            row.width == part.width.min()
-            and part.width[part.bench == row.width_bench].iloc[0] == row.width
-            and row.narrow_blocks == part.narrow_blocks.sum()
-        )
+        assert row.width == part.width.min()
+        assert part.width[part.bench == row.width_bench].iloc[0] == row.width
+        assert row.narrow_blocks == part.narrow_blocks.sum()
 
 
 def test_pits_that_are_the_same_are_no_pushbacks(tmp_path):
@@ -155,129 +136,20 @@ def test_pits_that_are_the_same_are_no_pushbacks(tmp_path):
         Phases(study.shells([1000]), mining_width=-1)
 
 
-def plain(plane, size):
-    """The width at each cell by a plain search: every circle around a centre, side or corner of a cell and every rectangle of
-    whole cells, as wide as fits, on a ladder of half blocks."""
-    sx, sy = size
-    (nx, ny), step, found = plane.shape, min(size) / STEPS, np.zeros(plane.shape)
-    for (i, j), (m, n) in itertools.product(
-        itertools.product(range(nx), range(ny)),
-        itertools.product(range(1, nx + 1), range(1, ny + 1)),
-    ):
-        if i + m <= nx and j + n <= ny and plane[i : i + m, j : j + n].all():
-            side = math.floor(min(m * sx, n * sy) / 2 / step + 1e-9) * 2 * step
-            found[i : i + m, j : j + n] = np.maximum(found[i : i + m, j : j + n], side)
-    points = list(itertools.product(range(2 * nx + 1), range(2 * ny + 1)))
-
-    def is_inside(a, b):
-        return all(
-            0 <= i < nx and 0 <= j < ny and plane[i, j]
-            for i in {(a - 1) // 2, a // 2}
-            for j in {(b - 1) // 2, b // 2}
-        )
-
-    outside = np.array([(a * sx / 2, b * sy / 2) for a, b in points if not is_inside(a, b)])
-    for a, b in points:
-        if is_inside(a, b):
-            x, y = a * sx / 2, b * sy / 2
-            room = math.floor(np.sqrt(((outside - (x, y)) ** 2).sum(axis=1)).min() / step + 1e-9)
-            for i, j in np.argwhere(plane):
-                away = math.hypot((i + 0.5) * sx - x, (j + 0.5) * sy - y)
-                fits = [
-                    2 * k * step
-                    for k in range(1, room + 1)
-                    if away <= k * step + min(size) / 4 + 1e-9
-                ]
-                found[i, j] = max([found[i, j], *fits])
-    return found
-
-
-@example(np.array([[0 <= j - i <= 5 for j in range(13)] for i in range(11)]), (20, 20))
-@given(
-    arrays(
-        bool,
-        st.tuples(st.integers(1, 8), st.integers(1, 8)),
-        elements=st.sampled_from([True, True, True, False]),
-    ),
-    st.sampled_from([(20, 20), (25, 10), (10, 15)]),
-)
-def test_widths_are_those_of_a_plain_search(plane, size):
-    wide = widths(plane, size)
-    assert np.allclose(wide, plain(plane, size))
-    assert not plane.any() or thinnest(wide, size) == pytest.approx(wide[plane].min())
-
-
-def strip(n, length):
-    return np.ones((length, n), bool)
-
-
-@pytest.mark.parametrize("n", [1, 2, 3, 4, 7])
-def test_a_strip_is_as_wide_as_its_blocks(n):
-    assert (widths(strip(n, 12), (20, 20)) == 20 * n).all()
-    bend = np.zeros((14, 14), bool)
-    bend[:, :n] = bend[:n, :] = True
-    assert thinnest(widths(bend, (20, 20)), (20, 20)) == 20 * n  # and its bend is at least as wide
-    ring = np.ones((2 * n + 5, 2 * n + 5), bool)
-    ring[n:-n, n:-n] = False
-    assert thinnest(widths(ring, (20, 20)), (20, 20)) == 20 * n
-
-
-def test_a_neck_and_a_slanting_strip():
-    neck = np.ones((24, 6), bool)
-    neck[10:14, :] = False
-    neck[10:14, 2:4] = True
-    wide = widths(neck, (10, 10), wanted=30)
-    assert (
-        thinnest(wide, (10, 10)) == 20
-        and (wide[11:13, 2:4] == 20).all()
-        and (wide[10:14, 2:4] <= 40).all()
-        and (wide[:10] == 60).all()
-        and (neck & (wide < 30)).sum() == 8
-    )
-    slanting = np.array([[0 <= j - i <= 5 for j in range(30)] for i in range(24)])
-    found = widths(slanting, (20, 20))[8:16]  # without its pointed ends
-    assert (
-        found[slanting[8:16]] == math.floor(5 * 20 / math.sqrt(2) / 10) * 10
-    ).all()  # between its inner corners, down to half a block
-
-
-def test_wide_sets_are_tried_in_larger_steps():
-    assert (
-        rungs(5) == [1, 2, 3, 4, 5]
-        and rungs(0) == []
-        and rungs(34)[-3:] == [31, 32, 34]
-        and rungs(200)[-1] == 200
-        and len(rungs(200)) < 55
-    )
-    assert (widths(strip(41, 41), (20, 20)) == 820).all() and widths(
-        np.ones((90, 41), bool), (20, 20)
-    ).min() == 820
-
-
-def test_a_wanted_width_between_half_blocks():
-    plane = strip(3, 9)
-    assert (
-        not (widths(plane, (20, 20), wanted=60.0) < 60).any()
-        and (widths(plane, (20, 20), wanted=60.1) < 60.1).all()
-    )
-    assert thinnest(widths(strip(5, 9), (20, 20), wanted=93), (20, 20)) == 100
-    assert math.isnan(thinnest(widths(np.zeros((3, 3), bool), (20, 20)), (20, 20)))
-
-
 def test_the_command(tmp_path):
     study = written_study(tmp_path / "s")
-    assert pitplan("build", study).returncode == 0 and pitplan("shells", study).returncode == 0
+    assert pitplan("build", study).returncode == 0
+    assert pitplan("shells", study).returncode == 0
     ran = pitplan("phases", "0.6,1.0", study, "--mining-width", "60")
-    assert ran.returncode == 0 and "pushbacks" in ran.stdout, ran.stderr
+    assert ran.returncode == 0, ran.stderr
+    assert "pushbacks" in ran.stdout, ran.stderr
     phases, benches = pd.read_csv(study / "out/phases.csv"), pd.read_csv(
         study / "out/phase_benches.csv"
     )
     pits = pd.read_csv(study / "out/pit_by_pit.csv")
-    assert (
-        phases.factor.tolist() == [0.6, 1.0]
-        and phases.worth.sum() == pits.worth_at_base[1]
-        and benches.blocks.sum() == pits.blocks[1]
-    )
+    assert phases.factor.tolist() == [0.6, 1.0]
+    assert phases.worth.sum() == pits.worth_at_base[1]
+    assert benches.blocks.sum() == pits.blocks[1]
     thin = benches[benches.narrow_blocks > 0]
     lines = ran.stderr.splitlines()
     for pushback, part in thin.groupby("pushback"):
@@ -299,14 +171,16 @@ def test_the_command(tmp_path):
         == phases.blocks.tolist()
     )
     wide = pitplan("phases", "0.6,1.0", study, "--mining-width", "1")
-    assert "at least 1 m wide" in wide.stdout and wide.stderr == ""
+    assert "at least 1 m wide" in wide.stdout
+    assert wide.stderr == ""
     for words, said in (
         (("1.0,0.6",), "ascending"),
         (("0.6,0.7",), "the nearest that have are 0.6, 1"),
         (("0.6;1",), "no factor"),
     ):
         wrong = pitplan("phases", *words, study)
-        assert wrong.returncode == 3 and said in wrong.stderr, wrong.stderr
+        assert wrong.returncode == 3, wrong.stderr
+        assert said in wrong.stderr, wrong.stderr
 
 
 def test_no_figure_of_the_table_is_cut_off(tmp_path):
@@ -317,10 +191,12 @@ def test_no_figure_of_the_table_is_cut_off(tmp_path):
     )
     text = STUDY_TOML.replace("metals = [ ", "metals = [ " + more)
     study = written_study(tmp_path / "s", text=text)
-    assert pitplan("build", study).returncode == 0 and pitplan("shells", study).returncode == 0
+    assert pitplan("build", study).returncode == 0
+    assert pitplan("shells", study).returncode == 0
     ran = pitplan("phases", "0.6,1.2", study)
     every = pd.read_csv(study / "out/phases.csv")
-    assert ran.returncode == 0 and "…" not in ran.stdout
+    assert ran.returncode == 0
+    assert "…" not in ran.stdout
     for name in ("antimony", "tellurium", "ytterbium"):
         assert all(
             f"{amount:,.0f}" in ran.stdout

@@ -1,6 +1,5 @@
 """The search for offsets: against plain sums, against hulls by shapely, and against the pit that `pit` finds in a deep model."""
 import math
-import re
 import shutil
 import subprocess
 import sys
@@ -15,7 +14,7 @@ from pitplan.slopes import offsets as search
 
 TOP = Path(__file__).resolve().parents[3]
 sys.path.insert(0, str(TOP / "tests"))
-import walls  # noqa: E402  (tests/walls.py, which knows nothing of the search)
+from program import walls  # noqa: E402  (tests/program/walls.py, which knows nothing of the search)
 
 SCRIPT = TOP / "examples" / "offsets.py"
 SIZES = st.sampled_from([(10, 10, 10), (20, 20, 10), (25, 25, 15), (20, 10, 12.5), (10, 25, 10)])
@@ -76,15 +75,18 @@ def test_a_wall_that_is_held_errs_by_no_more_than_is_allowed(size, slope, safe):
     found = search.search(asked, safe=safe)
     off = [slope_of(asked, found.offsets, b) - slope for b in range(0, 360, 3)]
     assume(found.is_held)
-    assert sum(map(abs, off)) / len(off) <= 0.5 + 0.02 and max(map(abs, off)) <= 1 + 1e-6
+    assert sum(map(abs, off)) / len(off) <= 0.5 + 0.02
+    assert max(map(abs, off)) <= 1 + 1e-6
     assert (
         max(off) <= 1e-6
         if safe
         else min(off) < 0 < max(off) and abs(sum(off)) / len(off) <= 0.25 + 0.02
     )
     assert sum(off) / len(off) == pytest.approx(found.error.signed, abs=0.02)
-    assert max(off) <= found.error.steepest + 1e-6 and min(off) >= found.error.flattest - 1e-6
-    assert walls.needed(found.offsets) and set(walls.needed(found.offsets)) == set(found.offsets)
+    assert max(off) <= found.error.steepest + 1e-6
+    assert min(off) >= found.error.flattest - 1e-6
+    assert walls.needed(found.offsets)
+    assert set(walls.needed(found.offsets)) == set(found.offsets)
 
 
 @pytest.mark.parametrize(
@@ -104,7 +106,9 @@ def test_few_levels_make_a_safe_wall_flatter_and_never_steeper(
     """A block out along an axis and so many levels up makes a corner of that tangent, and between two of them the wall is steeper by sqrt 2."""
     found = search.search(search.wall(size, slope), safe=True, levels=levels)
     built = [slope_of(found.wall, found.offsets, bearing) for bearing in range(360)]
-    assert max(built) <= slope and not found.is_held and len(found.offsets) == offsets
+    assert max(built) <= slope
+    assert not found.is_held
+    assert len(found.offsets) == offsets
     assert (min(built), max(built)) == pytest.approx(
         [math.degrees(math.atan(tangent)) for tangent in (corner, edge)]
     )
@@ -128,11 +132,12 @@ def test_few_levels_make_a_safe_wall_flatter_and_never_steeper(
 def test_no_safe_wall_is_steeper_than_asked(size, angles, levels):
     found = search.search(search.wall(size, angles), safe=True, levels=levels)
     slope = str(angles) if isinstance(angles, int) else ",".join("%d:%d" % pair for pair in angles)
-    assert found.levels <= levels and max(steeper(found, slope, range(360))) <= 1e-9
+    assert found.levels <= levels
+    assert max(steeper(found, slope, range(360))) <= 1e-9
 
 
 def steeper(found, slope, bearings):
-    """By how many degrees a wall is steeper than asked at bearings, by the hull of tests/walls.py."""
+    """By how many degrees a wall is steeper than asked at bearings, by the hull of tests/program/walls.py."""
     outline = walls.hull(
         [(i * found.wall.size[0] / k, j * found.wall.size[1] / k) for i, j, k in found.offsets]
     )
@@ -148,9 +153,8 @@ def test_the_steepest_of_a_safe_wall_is_that_of_all_bearings(levels):
     """Where the slope changes with the bearing, also between one degree and the next."""
     found = search.search(search.wall((20, 20, 10), BY_BEARING), safe=True, levels=levels)
     off = steeper(found, "30:38,150:46,270:42", [b / 64 for b in range(360 * 64)])
-    assert (
-        max(off) <= found.error.steepest + 1e-9 <= max(off) + 1e-6 and found.error.steepest <= 1e-9
-    )
+    assert max(off) <= found.error.steepest + 1e-9 <= max(off) + 1e-6
+    assert found.error.steepest <= 1e-9
     at = found.steepest_at()
     assert steeper(found, "30:38,150:46,270:42", [at]) == pytest.approx([max(off)], abs=1e-5)
 
@@ -179,12 +183,10 @@ def test_a_safe_wall_that_no_offsets_make_is_refused(monkeypatch):
 
 
 def test_any_safe_wall_goes_before_any_that_is_too_steep():
-    steep, flat = search.Error(0.01, 0, 1e-6, -0.01), search.Error(80, -80, -70, -84)
+    steep, flat = search.Error(0.01, 0, 1e-3, -0.01), search.Error(80, -80, -70, -84)
     assert flat.badness(True) < steep.badness(True) < search.Error(0.01, 0, 2, -0.01).badness(True)
-    assert (
-        not search.Error(0.2, -0.2, 0.0, -0.9).is_too_steep
-        and search.Error(0.2, -0.2, 0.0, -0.9).badness(True) <= 1
-    )
+    assert not search.Error(0.2, -0.2, 0.0, -0.9).is_too_steep
+    assert search.Error(0.2, -0.2, 0.0, -0.9).badness(True) <= 1
 
 
 def test_usual_walls_are_held():
@@ -204,9 +206,11 @@ def test_known_patterns_err_as_trigonometry_says():
     asked = search.wall((10, 10, 10), 45)
     diagonal = math.degrees(math.atan(math.sqrt(2)))  # of a diamond one block out along the axes
     five = search.error_of(asked, search.Outline(asked, walls.named("five")))
-    assert five.steepest == pytest.approx(diagonal - 45) and five.flattest == pytest.approx(0)
+    assert five.steepest == pytest.approx(diagonal - 45)
+    assert five.flattest == pytest.approx(0)
     nine = search.error_of(asked, search.Outline(asked, walls.named("nine")))
-    assert nine.flattest == pytest.approx(90 - diagonal - 45) and nine.steepest == pytest.approx(0)
+    assert nine.flattest == pytest.approx(90 - diagonal - 45)
+    assert nine.steepest == pytest.approx(0)
     assert not search.search(asked, levels=1).is_held
     for pattern, needed, mean, steepest, flattest in (
         ("cone:3:1:1", 9, 2.3, 3.2, 0),
@@ -238,9 +242,8 @@ def test_the_wall_is_the_hull_of_offset_over_level(
         pit, [bearing - rotation for bearing in bearings]
     )  # it measures by the model's own y axis
     off = [is_now - walls.asked(slope, bearing) for is_now, bearing in zip(measured, bearings)]
-    assert (
-        sum(map(abs, off)) / 16 <= 0.6 and max(map(abs, off)) <= 1.2
-    )  # few levels: a wall without end errs by less
+    assert sum(map(abs, off)) / 16 <= 0.6
+    assert max(map(abs, off)) <= 1.2  # few levels: a wall without end errs by less
     assert measured == pytest.approx([found.built(bearing) for bearing in bearings], abs=0.75)
 
 
@@ -277,27 +280,25 @@ def test_a_dent_is_filled_and_told():
         (10, 10, 10), [(0, 36), (90, 55), (180, 36), (270, 55)]
     )  # steep between flat: the hull is flatter there
     found = search.search(asked, levels=7)
-    assert not found.is_held and found.error.flattest < -1
-    assert (
-        found.built(90) - 55 == pytest.approx(slope_of(asked, found.offsets, 90) - 55)
-        and found.built(90) - 55 < -0.5
-    )
+    assert not found.is_held
+    assert found.error.flattest < -1
+    assert found.built(90) - 55 == pytest.approx(slope_of(asked, found.offsets, 90) - 55)
+    assert found.built(90) - 55 < -0.5
 
 
 def test_what_a_large_model_has_room_for(monkeypatch):
     asked = search.wall((10, 10, 10), 45)
     ten_million = search.search(asked, fits=search.within(10_000_000))
-    assert (
-        len(ten_million.offsets) * 10_000_000 <= 2**27
-        and not ten_million.is_held
-        and ten_million.error.worst < 4
-    )
+    assert len(ten_million.offsets) * 10_000_000 <= 2**27
+    assert not ten_million.is_held
+    assert ten_million.error.worst < 4
     assert search.search(asked, fits=search.within(5_000_000)).is_held
     with pytest.raises(search.SlopeError, match="not even one offset"):
         search.search(asked, fits=search.within(2**27 + 1))
     monkeypatch.setattr(search, "OFFSETS", 24)  # of 25 that hold it
     few = search.search(asked)
-    assert len(few.offsets) <= 24 and not few.is_held
+    assert len(few.offsets) <= 24
+    assert not few.is_held
 
 
 @pytest.mark.parametrize(
@@ -327,31 +328,23 @@ def script(*words):
 def test_the_script_writes_the_offsets_of_the_search():
     ran = script("20", "20", "10", "30:38,150:46,270:42", "--rotation", "-30")
     found = search.search(search.wall((20, 20, 10), BY_BEARING, -30))
-    assert (
-        ran.returncode == 0
-        and walls.offsets_in(ran.stdout) == list(found.offsets)
-        and ran.stderr.strip() == str(found)
-    )
+    assert ran.returncode == 0
+    assert walls.offsets_in(ran.stdout) == list(found.offsets)
+    assert ran.stderr.strip() == str(found)
     safe = script("10", "10", "10", "45", "--safe")
-    assert "at most 0.00 steeper" in safe.stderr and "warning" not in safe.stderr
+    assert "at most 0.00 steeper" in safe.stderr
+    assert "warning" not in safe.stderr
     few = script("20", "20", "10", "44", "--safe", "--levels", "1")
-    assert (
-        set(walls.offsets_in(few.stdout)) == set(walls.named("five"))
-        and "at most 0.00 steeper and 17.43 flatter" in few.stderr
-        and few.stderr.startswith("warning")
-    )
+    assert set(walls.offsets_in(few.stdout)) == set(walls.named("five"))
+    assert "at most 0.00 steeper and 17.43 flatter" in few.stderr
+    assert few.stderr.startswith("warning")
     none = script("20", "20", "10", "44", "--safe", "--blocks", str(2**25))
-    assert (
-        none.returncode == 2
-        and not none.stdout
-        and "the nearest is 90.0 degrees at bearing 0, where 44.0 are asked for" in none.stderr
-    )
+    assert none.returncode == 2
+    assert not none.stdout
+    assert "the nearest is 90.0 degrees at bearing 0, where 44.0 are asked for" in none.stderr
     large = script("10", "10", "10", "45", "--blocks", "10000000")
-    assert (
-        large.returncode == 0
-        and "can't be held with the 13 offsets that 10,000,000 blocks leave room for"
-        in large.stderr
-    )
+    assert large.returncode == 0
+    assert "can't be held with the 13 offsets that 10,000,000 blocks leave room for" in large.stderr
 
 
 @pytest.mark.parametrize(
@@ -370,12 +363,10 @@ def test_the_script_writes_the_offsets_of_the_search():
 )
 def test_wrong_words_of_the_script(words, said):
     ran = script(*words)
-    assert (
-        ran.returncode == 2
-        and said in ran.stderr
-        and not ran.stdout
-        and "Traceback" not in ran.stderr
-    )
+    assert ran.returncode == 2
+    assert said in ran.stderr
+    assert not ran.stdout
+    assert "Traceback" not in ran.stderr
 
 
 @pytest.mark.parametrize("angles", [45, BY_BEARING, [(0, 35), (45, 50), (90, 35), (180, 45)]])
@@ -390,19 +381,45 @@ def test_nothing_better_is_passed_over(angles, safe):
     for stretch in stretches:
         for offsets in cones.needed(stretch):
             error = search.error_of(asked, search.Outline(asked, offsets), safe)
-            every.append(
-                search._rank(
-                    search.Pattern(
-                        asked,
-                        tuple(offsets),
-                        offsets[-1][2],
-                        error,
-                        error.badness(safe) <= 1 + search.SLACK,
-                    ),
-                    safe,
-                )
-            )
-    assert search._rank(found, safe) == pytest.approx(min(every), rel=1e-9)
+            every.append(rank(len(offsets), error.badness(safe)))
+    assert rank(len(found.offsets), found.error.badness(safe)) == pytest.approx(
+        min(every), rel=2e-6
+    )
+
+
+def rank(count, badness):
+    """By what patterns are told apart: those that hold by their offsets, the others by how much they err."""
+    return (0, count, badness) if badness <= 1 + 1e-6 else (1, badness, 0)
+
+
+FEET = 1 / 0.3048
+TWO_TO_ONE = math.degrees(math.atan(2))
+
+
+@pytest.mark.parametrize("safe", [False, True])
+@pytest.mark.parametrize("angle", [TWO_TO_ONE, math.degrees(math.atan(0.5)), 45.0, 55.0])
+def test_a_size_off_in_its_eighth_digit_changes_no_offset(angle, safe):
+    """Blocks of 20 x 20 x 10 m in feet with seven decimals, and one side a ten-millionth of a metre longer: where a column of
+    blocks lies on the very edge of a cone, it does there too."""
+    wanted = search.search(search.wall((20, 20, 10), angle), safe=safe)
+    for size in (
+        [round(side * FEET, 7) for side in (20, 20, 10)],
+        (20, 20.0000001, 10),
+        (20.0000001, 20.0000001, 10),
+        (19.9999999, 20, 10),
+    ):
+        found = search.search(search.wall(size, angle), safe=safe)
+        assert found.offsets == wanted.offsets, size
+    assert search.search(search.wall((20.002, 20, 10), 45)).offsets != (
+        search.search(search.wall((20, 20, 10), 45)).offsets
+    )  # a size that is really another has other offsets
+
+
+def test_steeper_by_less_than_a_millionth_is_as_steep():
+    """By the tangents: 1.0000005 is 1, and 1.000003 isn't."""
+    for tangent, is_steep in ((1.0000005, False), (1.000003, True)):
+        off = math.degrees(math.atan(tangent)) - 45
+        assert search.Error(0.1, 0, off, -0.1).is_too_steep is is_steep
 
 
 def test_a_copied_script_finds_an_installed_pitplan(tmp_path):
@@ -412,9 +429,9 @@ def test_a_copied_script_finds_an_installed_pitplan(tmp_path):
     lost = subprocess.run(
         [sys.executable, *words], capture_output=True, text=True, env={"PATH": str(tmp_path)}
     )
+    assert lost.returncode == 1
     assert (
-        lost.returncode == 1
-        and lost.stderr
+        lost.stderr
         == "offsets.py: no pitplan is installed: install it, or run this script where it lies in the repository\n"
     )
     wanted = subprocess.run(
@@ -426,9 +443,8 @@ def test_a_copied_script_finds_an_installed_pitplan(tmp_path):
         text=True,
         env={"PATH": str(tmp_path), "PYTHONPATH": str(TOP / "python")},
     )
-    assert (
-        wanted.startswith("# 44 degrees") and with_packages.stdout == wanted
-    ), with_packages.stderr
+    assert wanted.startswith("# 44 degrees"), with_packages.stderr
+    assert with_packages.stdout == wanted, with_packages.stderr
     for where in ("lib/pontihaw", "lib/python3/dist-packages"):
         root = tmp_path / where.replace("/", "-")
         (root / where / "pitplan" / "slopes").mkdir(parents=True)

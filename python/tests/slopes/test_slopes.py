@@ -17,7 +17,7 @@ from pitplan.pit.program import Pit
 from served import pitplan
 
 sys.path.insert(0, str(Path(__file__).resolve().parents[3] / "tests"))
-import walls  # noqa: E402  (tests/walls.py, which knows nothing of the search)
+from program import walls  # noqa: E402  (tests/program/walls.py, which knows nothing of the search)
 
 ANGLES = st.one_of(
     st.integers(35, 55),
@@ -36,18 +36,18 @@ def model_of(folder, frame, **keys):
     return pp.read_table(path, **{**dict(size=(20, 20, 15)), **keys})
 
 
-def written(folder, slopes, model, begun=None):
+def written(folder, slopes, model):
     """The pairs of the .prec file, as sets of predecessors by block."""
+    places = zip(model.blocks.ix, model.blocks.iy, model.blocks.iz)
     with open(folder / "m.blocks", "w") as file:
         file.writelines(
-            "%d %d %d %d\n" % (b, *place)
-            for b, place in enumerate(zip(model.blocks.ix, model.blocks.iy, model.blocks.iz))
+            "%d %d %d %d 0 0 0 0 %d\n" % (b, *place, region)
+            for b, (place, region) in enumerate(zip(places, slopes.region_of(model)))
         )
-    module.write_prec(slopes, model, Pit(), folder / "m.blocks", folder / "m.prec", begun)
+    module.write_prec(slopes, model, Pit(), folder / "m.blocks", folder / "m.prec")
     lines = [list(map(int, line.split())) for line in (folder / "m.prec").read_text().splitlines()]
-    assert [line[0] for line in lines] == list(range(len(model))) and all(
-        line[1] == len(line) - 2 for line in lines
-    )
+    assert [line[0] for line in lines] == list(range(len(model)))
+    assert all(line[1] == len(line) - 2 for line in lines)
     return [set(line[2:]) for line in lines]
 
 
@@ -73,7 +73,8 @@ def test_each_block_has_the_slopes_of_its_own_region(
         }
         for (x, y, z), row in zip(at, rows)
     ]
-    assert got == wanted and module.count_pairs(slopes, model) == sum(map(len, wanted))
+    assert got == wanted
+    assert module.count_pairs(slopes, model) == sum(map(len, wanted))
 
 
 def test_offsets_lead_the_way_that_bearings_say():
@@ -86,9 +87,8 @@ def test_offsets_lead_the_way_that_bearings_say():
             way: max((i * way[0] + j * way[1]) / k for i, j, k in offsets)
             for way in ((0, 1), (1, 0), (0, -1), (-1, 0))
         }
-        assert max(out, key=out.get) == flat and out[flat] == pytest.approx(
-            1 / math.tan(math.radians(38)), rel=0.06
-        ), rotation
+        assert max(out, key=out.get) == flat, rotation
+        assert out[flat] == pytest.approx(1 / math.tan(math.radians(38)), rel=0.06), rotation
 
 
 def test_regions_of_numbers_and_of_empty_cells(tmp_path):
@@ -149,20 +149,35 @@ def test_too_many_pairs_are_told_before_pit_runs(tmp_path, monkeypatch):
     levels = int(str(told.value).split("levels = ")[1].split()[0])
     fewer = pp.Slopes(45, levels=levels)
     module.check_limits(fewer, model)
-    assert module.count_pairs(fewer, model) < most and str(
-        fewer.patterns(model.grid)["default"]
-    ) in str(told.value)
+    assert module.count_pairs(fewer, model) < most
+    assert str(fewer.patterns(model.grid)["default"]) in str(told.value)
     monkeypatch.setattr(search, "PAIRS", 10)
     with pytest.raises(PlanError, match="even one level up is too much"):
         module.check_limits(pp.Slopes(45), model)
 
 
-def test_a_part_without_a_line_for_each_block_is_refused(tmp_path):
-    for lines in (2, 4):
-        for i, text in enumerate(("0 0\n1 0\n2 0\n", "".join("%d 0\n" % b for b in range(lines)))):
-            (tmp_path / str(i)).write_text(text)
-        with pytest.raises(PlanError, match="a line for each of the 3 blocks"):
-            module.merge([tmp_path / "0", tmp_path / "1"], np.array([0, 1, 0]), tmp_path / "out")
+def test_pairs_are_counted_by_the_region_of_their_block(tmp_path, monkeypatch):
+    """A region of few blocks may have many offsets: the pairs of all together are bounded."""
+    frame = table(12, 12, 6, 1)
+    frame["SECTOR"] = ["EAST" if i % 9 == 0 else "WEST" for i in range(len(frame))]
+    model = model_of(tmp_path, frame)
+    slopes = pp.Slopes(60, by="SECTOR", regions={"EAST": 35})
+    counts = module.pairs_by_region(slopes, model)
+    offsets = slopes.offsets_by_region(model.grid)
+    there = set(zip(model.blocks.ix, model.blocks.iy, model.blocks.iz))
+    rows = zip(model.blocks.ix, model.blocks.iy, model.blocks.iz, frame.SECTOR)
+    plain = {"default": 0, "EAST": 0}
+    for x, y, z, sector in rows:
+        name = "EAST" if sector == "EAST" else "default"
+        plain[name] += sum((x + i, y + j, z + k) in there for i, j, k in offsets[name])
+    assert counts == plain
+    monkeypatch.setattr(search, "PAIRS", sum(plain.values()))
+    module.check_limits(slopes, model)
+    monkeypatch.setattr(search, "PAIRS", sum(plain.values()) - 1)
+    with pytest.raises(
+        PlanError, match=f"make {plain['default']:,} of {sum(plain.values()):,} pairs"
+    ):
+        module.check_limits(slopes, model)
 
 
 def test_built_is_what_the_offsets_make():
@@ -171,17 +186,15 @@ def test_built_is_what_the_offsets_make():
     found = slopes.built(grid)
     assert found.groupby("region").size().to_dict() == {"default": 24, "N": 24}
     north = found[found.region == "N"].set_index("bearing")
-    assert (
-        north.asked[0] == 38
-        and north.asked[90] == 42
-        and north.asked[180] == 46
-        and north.asked[270] == 42
-    )
-    assert (
-        (found.built - found.asked) - found.error
-    ).abs().max() < 1e-9 and found.error.abs().max() <= 1
+    assert north.asked[0] == 38
+    assert north.asked[90] == 42
+    assert north.asked[180] == 46
+    assert north.asked[270] == 42
+    assert ((found.built - found.asked) - found.error).abs().max() < 1e-9
+    assert found.error.abs().max() <= 1
     safe = pp.Slopes(45, safe=True).built(grid)
-    assert safe.error.max() <= 1e-9 and safe.error.min() < 0
+    assert safe.error.max() <= 1e-9
+    assert safe.error.min() < 0
 
 
 def test_a_safe_wall_is_built_flatter_or_not_at_all(tmp_path):
@@ -190,18 +203,17 @@ def test_a_safe_wall_is_built_flatter_or_not_at_all(tmp_path):
         text=STUDY_TOML.replace("angles = 45", "angles = 44\nsafe = true\nlevels = 1"),
     )
     ran = pitplan("build", few)
-    offsets = re.findall(r"\[(-?\d), (-?\d), 1\]", (few / "model/slope-0.toml").read_text())
-    assert ran.returncode == 0 and sorted(offsets) == sorted(
+    offsets = re.findall(r"\[(-?\d), (-?\d), 1\]", (few / "model/slopes.toml").read_text())
+    assert ran.returncode == 0, ran.stderr
+    assert sorted(offsets) == sorted(
         (str(i), str(j)) for i in (-1, 0, 1) for j in (-1, 0, 1)
     ), ran.stderr
     flattest = math.degrees(
         math.atan(15 / math.hypot(20, 20))
     )  # the five would have walls of atan(15 * sqrt 2 / 20) = 46.7 degrees
-    assert (
-        f"44.0 degrees are asked for there, {flattest:.1f} are built" in ran.stderr
-        and "too steep" not in ran.stderr
-        and "try: more levels" in ran.stderr
-    )
+    assert f"44.0 degrees are asked for there, {flattest:.1f} are built" in ran.stderr
+    assert "too steep" not in ran.stderr
+    assert "try: more levels" in ran.stderr
 
 
 @pytest.mark.parametrize(
@@ -220,9 +232,9 @@ def test_a_build_refuses_a_safe_wall_that_would_be_too_steep(tmp_path, angles, w
     study = written_study(tmp_path / "s", frame, text=text)
     for word in ("build", "slopes"):
         ran = pitplan(word, study)
-        assert (
-            ran.returncode == 3 and "Traceback" not in ran.stderr and not (study / "model").exists()
-        ), ran.stderr
+        assert ran.returncode == 3, ran.stderr
+        assert "Traceback" not in ran.stderr, ran.stderr
+        assert not (study / "model").exists(), ran.stderr
         assert (
             f"[slopes] {where}, safe = true: a wall that is nowhere steeper than asked can't be built in blocks of 2 x 2 x 15"
             in ran.stderr
@@ -239,14 +251,13 @@ def test_the_command_shows_and_draws(tmp_path):
     )
     study = written_study(tmp_path / "s", text=text)
     ran = pitplan("slopes", study)  # before a build: it needs the size alone
-    assert (
-        ran.returncode == 0
-        and "EAST:" in ran.stdout
-        and "a deep wall is" in ran.stdout
-        and "42.0" in ran.stdout
-    ), ran.stderr
+    assert ran.returncode == 0, ran.stderr
+    assert "EAST:" in ran.stdout, ran.stderr
+    assert "a deep wall is" in ran.stdout, ran.stderr
+    assert "42.0" in ran.stdout, ran.stderr
     told = pd.read_csv(study / "out/slopes.csv")
-    assert set(told.region) == {"default", "EAST"} and len(told) == 48
+    assert set(told.region) == {"default", "EAST"}
+    assert len(told) == 48
     from matplotlib import image
 
     picture = image.imread(study / "out/slopes.png")
@@ -262,15 +273,14 @@ def test_the_command_shows_and_draws(tmp_path):
         told = [
             pitplan(word, cannot) for word in ("slopes", "build")
         ]  # the build says it too, and goes on
-        assert "slopes of default, 1 of 1\n" + told[0].stderr == told[1].stderr and [
-            ran.returncode for ran in told
-        ] == [0, 0]
+        assert "slopes of default, 1 of 1\n" + told[0].stderr == told[1].stderr
+        assert [ran.returncode for ran in told] == [0, 0]
         said[name] = told[0].stderr
     assert (
         "default: 0.5 degrees on average and 1 at the worst bearing can't be held with blocks of 20 x 20 x 15 and levels = 1;"
         in said["few"]
-        and "try: more levels" in said["few"]
     )
+    assert "try: more levels" in said["few"]
     bearing, asked, built = map(
         float,
         re.search(
@@ -278,12 +288,10 @@ def test_the_command_shows_and_draws(tmp_path):
             said["dent"],
         ).groups(),
     )
-    assert (
-        bearing == 45
-        and asked == 55
-        and built < 50
-        and "try: angles that change less" in said["dent"]
-    )  # between two flat walls
+    assert bearing == 45
+    assert asked == 55
+    assert built < 50
+    assert "try: angles that change less" in said["dent"]  # between two flat walls
     bearing, asked, built = map(
         float,
         re.search(
@@ -291,39 +299,31 @@ def test_the_command_shows_and_draws(tmp_path):
             said["dent"],
         ).groups(),
     )
-    assert built - asked > 1 and asked == pytest.approx(
+    assert built - asked > 1
+    assert asked == pytest.approx(
         walls.asked("0:35,45:55,90:35,180:45,270:55", bearing), abs=0.5
     )  # the bearing is told in whole degrees
     wrong = written_study(tmp_path / "u", text=STUDY_TOML.replace("angles = 45", "angles = 450"))
     ran = pitplan("slopes", wrong)
-    assert (
-        ran.returncode == 3
-        and "from 5 to 89 degrees" in ran.stderr
-        and "Traceback" not in ran.stderr
-    )
+    assert ran.returncode == 3
+    assert "from 5 to 89 degrees" in ran.stderr
+    assert "Traceback" not in ran.stderr
 
 
-def test_each_region_is_told_as_it_is_begun(tmp_path, monkeypatch):
-    model, events, run = model_of(tmp_path, table(4, 4, 3, 2)), [], Pit.slopes
+def test_the_offsets_of_a_wall_are_searched_once(tmp_path, monkeypatch):
+    model, events, look = model_of(tmp_path, table(4, 4, 3, 2)), [], module.searched
     slopes = pp.Slopes(45, by="SECTOR", regions={"EAST": 38, "WEST": 40})
-    monkeypatch.setattr(
-        Pit, "slopes", lambda self, *words: events.append("pit slopes") or run(self, *words)
-    )
-    written(tmp_path, slopes, model, lambda *told: events.append(told))
-    assert events == [
-        ("default", 1, 3),
-        "pit slopes",
-        ("EAST", 2, 3),
-        "pit slopes",
-        ("WEST", 3, 3),
-        "pit slopes",
-    ]
+    monkeypatch.setattr(module, "searched", lambda *asked: events.append("search") or look(*asked))
+    for _ in range(2):
+        slopes.patterns(model.grid)
+    assert events == ["search"] * 3
 
 
 def test_a_build_off_a_terminal_has_a_line_for_each_region(tmp_path):
     text = STUDY_TOML.replace("angles = 45", 'angles = 45\nby = "SECTOR"\nregions = { EAST = 38 }')
     ran = pitplan("build", written_study(tmp_path / "s", text=text))
-    assert ran.returncode == 0 and ran.stderr.splitlines()[:2] == [
+    assert ran.returncode == 0, ran.stderr
+    assert ran.stderr.splitlines()[:2] == [
         "slopes of default, 1 of 2",
         "slopes of EAST, 2 of 2",
     ], ran.stderr

@@ -7,7 +7,7 @@ import pytest
 import pitplan as pp
 from mines import CUBE, WASTE, below, study_of
 from pitplan.plans import compare, compare_words, design, vary
-from pitplan.model import plausible
+from pitplan.study import plausible
 from pitplan.slopes.steep_ground import led_through, with_air
 from served import pitplan
 
@@ -33,14 +33,14 @@ def test_a_cliff_is_dug_back_whether_or_not_air_has_rows(tmp_path, slopes):
     whole = study_of(tmp_path / "a", f, slopes, WASTE, size=CUBE)
     lean = study_of(tmp_path / "b", f[f.TONNES > 0], slopes, WASTE, size=CUBE)
     ids, worth = dug(lean)
-    assert (ids, worth) == dug(whole) and any(name in ids for name in f.IJK[f.XC >= 90])
+    assert (ids, worth) == dug(whole)
+    assert any(name in ids for name in f.IJK[f.XC >= 90])
     added = lean.model.blocks["row"] < 0
-    assert (
-        added.any()
-        and (lean.model.blocks.tonnes[added] == 0).all()
-        and lean.priced.worth(1000)[added].any() == 0
-    )
-    assert len(lean.model) < len(whole.model) and "blocks of air added" in lean.model.notes[-1]
+    assert added.any()
+    assert (lean.model.blocks.tonnes[added] == 0).all()
+    assert lean.priced.worth(1000)[added].any() == 0
+    assert len(lean.model) < len(whole.model)
+    assert "blocks of air added" in lean.model.notes[-1]
 
 
 @pytest.mark.parametrize(
@@ -72,11 +72,11 @@ def test_a_formula_that_goes_by_the_ground_is_not_asked_of_added_air(tmp_path, m
         replace(WASTE, mining="COST", forbid=["TOPO - ZC > 81"]),
         size=CUBE,
     )
-    assert dug(lean) == dug(whole) and dug(lean)[0] and (lean.model.blocks["row"] < 0).any()
-    assert (
-        not plausible.of_forbid(lean.model, replace(WASTE, forbid=forbid))
-        and lean.priced.forbidden.sum() == whole.priced.forbidden.sum() > 0
-    )
+    assert dug(lean) == dug(whole)
+    assert dug(lean)[0]
+    assert (lean.model.blocks["row"] < 0).any()
+    assert not plausible.of_forbid(lean.model, replace(WASTE, forbid=forbid))
+    assert lean.priced.forbidden.sum() == whole.priced.forbidden.sum() > 0
 
 
 def test_a_formula_without_a_number_names_no_row_of_a_block_that_has_none(tmp_path):
@@ -85,7 +85,8 @@ def test_a_formula_without_a_number_names_no_row_of_a_block_that_has_none(tmp_pa
     model = pp.read_table(tmp_path / "t.csv", size=CUBE, widen=1)
     with pytest.raises(pp.PlanError, match="gives no number here") as error:
         replace(WASTE, mining="2 + sqrt(XC)").priced(model)
-    assert error.value.row is None and "row 1" not in str(error.value)
+    assert error.value.row is None
+    assert "row 1" not in str(error.value)
 
 
 def test_no_air_is_added_where_the_ground_is_nowhere_steeper_than_the_slopes(tmp_path):
@@ -151,9 +152,9 @@ def test_build_says_how_much_air_was_added(tmp_path):
         'metals = [ { name = "copper", grade = "CU", price = 8500 } ]\n[slopes]\nangles = 45\n'
     )
     ran = pitplan("build", tmp_path)
+    assert ran.returncode == 0
     assert (
-        ran.returncode == 0
-        and ran.stdout.count(
+        ran.stdout.count(
             "blocks of air added, without tonnes: slopes lead through them to rock above, where the ground is steep"
         )
         == 1
@@ -167,9 +168,7 @@ def test_a_wall_that_air_leads_to_has_no_block_of_the_table_at_its_foot(tmp_path
     study.shells([1000])
     found = compare.compare(study, design.by_ids(study.model, f.IJK[(f.TONNES > 0) & (f.XC < 50)]))
     said = "\n".join(compare_words.verdict_lines(found, "$"))
-    assert (
-        (found.pairs.id == "").any()
-        and "from block  at" not in said
-        and (("from an added block at" in said) == (found.walls.head(3).id == "").any())
-    )
+    assert (found.pairs.id == "").any()
+    assert "from block  at" not in said
+    assert ("from an added block at" in said) == (found.walls.head(3).id == "").any()
     assert found.repair.held[study.model.blocks.id.isin(f.IJK[f.XC >= 90])].any()

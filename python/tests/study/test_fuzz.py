@@ -1,4 +1,4 @@
-"""A short run of the fuzzer over damaged studies; `python3 python/tests/fuzz_studies.py 20000` is the long one."""
+"""A short run of the fuzzer over damaged studies; `python3 python/tests/support/fuzz_studies.py 20000` is the long one."""
 import fuzz_studies
 import pytest
 
@@ -11,7 +11,8 @@ from pitplan.base.errors import PlanError
 def test_each_damaged_study_is_answered():
     found, bad = fuzz_studies.run(150, 120)
     assert not bad, bad[0]
-    assert found["status 3"] > 20 and found["read"] > 2, found
+    assert found["status 3"] > 20, found
+    assert found["read"] > 2, found
 
 
 def test_a_sample_that_is_not_answered_is_found(monkeypatch):
@@ -107,7 +108,5 @@ def test_words_that_a_terminal_would_obey_are_shown_and_not_sent(tmp_path):
     frame.to_csv(tmp_path / "t.csv", index=False)
     with pytest.raises(PlanError) as told:
         mines.costs().priced(pp.read_table(tmp_path / "t.csv", size=mines.SIZE))
-    assert (
-        "\\x1b[2J\\x07" in str(told.value)
-        and str(told.value).replace("\n  try: ", "").isprintable()
-    )
+    assert "\\x1b[2J\\x07" in str(told.value)
+    assert str(told.value).replace("\n  try: ", "").isprintable()

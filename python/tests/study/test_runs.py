@@ -32,22 +32,20 @@ def test_nobody_but_the_check_makes_an_accepted():
         for line in path.read_text().splitlines()
         if re.search(r"(?<!\w)Accepted\(", line) and "class" not in line
     ]
-    assert len(makers) == 1 and makers[0][0] == "program.py"
+    assert len(makers) == 1
+    assert makers[0][0] == "program.py"
     assert sum("BEGUN" in path.read_text() for path in (TOP / "python/pitplan").rglob("*.py")) == 1
 
 
 def test_a_pit_of_the_checked_bytes(tmp_path):
     study = study_of(tmp_path, table(6, 5, 4, 3))
     found = study.pit(1.0)
-    assert (
-        found.count == found.mask.sum() == len(found.blocks) > 0
-        and found.factor == 1000
-        and found.size == len(study.model)
-    )
+    assert found.count == found.mask.sum() == len(found.blocks) > 0
+    assert found.factor == 1000
+    assert found.size == len(study.model)
     size, factor, blocks, digest = pit_lines(unpacked(study, 1000, tmp_path).read_bytes())
-    assert (size, factor, digest) == (found.size, 1000, found.certificate) and (
-        blocks == found.blocks
-    ).all()
+    assert (size, factor, digest) == (found.size, 1000, found.certificate)
+    assert (blocks == found.blocks).all()
 
 
 def unpacked(study, factor, folder):
@@ -97,11 +95,8 @@ def test_pit_lines_across_pieces(piece):
         + b"SOURCE 1 0 0\nREST 1 2 0 0\nEND\n"
     )
     size, factor, blocks, digest = pit_lines(text, piece)
-    assert (size, factor, digest) == (
-        4000,
-        850,
-        hashlib.sha256(text).hexdigest(),
-    ) and blocks.tolist() == list(range(0, 3000, 3))
+    assert (size, factor, digest) == (4000, 850, hashlib.sha256(text).hexdigest())
+    assert blocks.tolist() == list(range(0, 3000, 3))
     assert pit_lines(HEAD + b"END\n")[2].tolist() == []
 
 
@@ -155,7 +150,8 @@ def test_a_result_that_cannot_be_read_is_told(tmp_path):
         try:
             study.mask(800)  # a byte that nothing reads
         except pp.Disagreement as error:
-            assert "isn't what was stated" in str(error) and "take " in str(error)
+            assert "isn't what was stated" in str(error)
+            assert "take " in str(error)
     path.unlink()
     with pytest.raises(pp.Disagreement, match="isn't what was stated"):
         pp.Shells(study, [600, 800])
@@ -174,10 +170,8 @@ def test_a_verdict_names_the_pit_that_found_it(tmp_path, program):
     other.chmod(0o755)
     own = study.run(1000)["pit"]
     assert own == study.manifest["pit"] == pp.Pit(program).version()
-    assert (
-        pp.Study(study.folder, pp.Pit(other)).run(800)["pit"] == ["pit 9.9.9"]
-        and study.verdict(1000)["pit"] == own
-    )
+    assert pp.Study(study.folder, pp.Pit(other)).run(800)["pit"] == ["pit 9.9.9"]
+    assert study.verdict(1000)["pit"] == own
     again = pp.Study(study.folder, pp.Pit(other))
     again.run_series([600, 700])
     assert [again.verdict(factor)["pit"] for factor in (600, 700)] == [["pit 9.9.9"]] * 2
@@ -206,7 +200,8 @@ def test_a_verdict_or_a_manifest_that_was_damaged_is_none(tmp_path):
             try:
                 found()
             except pp.PlanError as error:
-                assert "manifest.json is damaged" in str(error) and path.name == "manifest.json"
+                assert "manifest.json is damaged" in str(error)
+                assert path.name == "manifest.json"
         path.write_bytes(kept)
         assert found()
     verdict = json.loads((study.place(800) / "verdict.json").read_text())
@@ -272,7 +267,8 @@ def test_a_changed_model_has_no_pits(tmp_path):
 def test_a_pit_in_another_factor_s_folder_is_none(tmp_path):
     study = shells_of(tmp_path).study
     shutil.copytree(study.place(800), study.place(900))
-    assert study.verdict(800) and study.verdict(900) is None
+    assert study.verdict(800)
+    assert study.verdict(900) is None
     with pytest.raises(pp.PlanError, match="0.9 hasn't been run over this model"):
         pp.Shells(study, [800, 900])
     assert study.shells([800, 900]).verdicts[1]["factor"] == 900
@@ -313,11 +309,9 @@ def test_a_folder_is_put_in_its_place_beside_another_process_or_a_ctrl_c(
         place
     ) as work:
         (work / "ours").touch()
-    assert (
-        met
-        and [path.name for path in place.iterdir()] == ["before" if is_stopped else "ours"]
-        and list(tmp_path.iterdir()) == [place]
-    )
+    assert met
+    assert [path.name for path in place.iterdir()] == ["before" if is_stopped else "ours"]
+    assert list(tmp_path.iterdir()) == [place]
 
 
 def test_a_series_goes_on_where_it_was(tmp_path, monkeypatch):
@@ -336,7 +330,8 @@ def test_a_series_goes_on_where_it_was(tmp_path, monkeypatch):
         folder.mkdir()
     study.shells([600, 800, 1000, 1200], certificates=True)
     assert sorted(ran) == [600, 800, 1000, 1200]
-    assert half.exists() and not dead.exists()  # another machine may still be at work on the first
+    assert half.exists()  # another machine may still be at work on it
+    assert not dead.exists()
 
 
 @pytest.mark.parametrize("how", [signal.SIGINT, signal.SIGKILL])
@@ -349,14 +344,15 @@ def test_a_run_that_was_stopped_leaves_no_solver_and_goes_on(tmp_path, program, 
     )
     solvers = waited_for(marks, 2)
     run.send_signal(how)
-    said = run.communicate(timeout=60)[1]
+    said = run.communicate(timeout=600)[1]
     assert run.returncode == (130 if how == signal.SIGINT else -9)
     assert how == signal.SIGKILL or "goes on from there" in said
     assert gone(solvers)
     left = list((folder / "runs/base").iterdir())
     assert how == signal.SIGKILL or not left
     again = command("shells", folder, env={**os.environ, "PIT": program})
-    assert again.communicate(timeout=120) and again.returncode == 0
+    assert again.communicate(timeout=600)
+    assert again.returncode == 0
     assert sorted(path.name for path in (folder / "runs/base").iterdir()) == [
         "f00600",
         "f01000",
@@ -387,7 +383,8 @@ def test_a_killed_solver_is_started_once_more(tmp_path, program):
         )
         == 2
     )
-    assert (1000, "killed") in told and (1000, "done") in told
+    assert (1000, "killed") in told
+    assert (1000, "done") in told
     (tmp_path / "pit").write_text("#!/bin/sh\nkill -9 $$\n")
     with pytest.raises(pp.MachineError, match="SIGKILL"):
         pp.Study(study.folder, Pit(tmp_path / "pit")).shells([700])
@@ -401,7 +398,8 @@ def test_a_full_disk_is_told_and_the_run_goes_on(tmp_path, small_disks):
     small_disks.done(pitplan, "task", folder, "run", "base", 600)
     small_disks.fill(place)
     code, _, errors = small_disks.said(pitplan, "shells", folder, "--workers", 1)
-    assert code == 4 and "disk" in errors, errors
+    assert code == 4, errors
+    assert "disk" in errors, errors
     assert small_disks.done("ls", "-A", place / "base").split() == ["f00600"]
     small_disks.widen(place)
     small_disks.done(pitplan, "shells", folder, "--workers", 1)
@@ -411,14 +409,17 @@ def test_a_full_disk_is_told_and_the_run_goes_on(tmp_path, small_disks):
 @pytest.mark.parametrize("words", [("shells",), ("vary", "price=-10..10"), ("slopes",)])
 def test_a_table_stays_whole_on_a_full_disk_which_is_told_by_the_file(tmp_path, small_disks, words):
     folder, pitplan = written_study(tmp_path / "s", table(12, 12, 6, 5)), TOP / "bin/pitplan"
-    assert command("build", folder).wait() == 0 and command("shells", folder).wait() == 0
+    assert command("build", folder).wait() == 0
+    assert command("shells", folder).wait() == 0
     out = folder / "out"
     small_disks.mount(out, 400)
     small_disks.done(pitplan, words[0], folder, *words[1:])
     small_disks.fill(out)
     before = small_disks.done("sh", "-c", f"cd {out} && sha256sum *.csv")
     code, _, errors = small_disks.said(pitplan, words[0], folder, *words[1:])
-    assert code == 4 and f"error: {out}/" in errors and "make room on that disk" in errors, errors
+    assert code == 4, errors
+    assert f"error: {out}/" in errors, errors
+    assert "make room on that disk" in errors, errors
     assert small_disks.done("sh", "-c", f"cd {out} && sha256sum *.csv") == before
 
 
@@ -535,7 +536,8 @@ def test_forbidden_blocks_stay(tmp_path):
     assert (
         pp.Study(study.folder).priced.forbidden == fence
     ).all()  # as it comes back from its file
-    assert (free & fence).any() and study.pit(1.35).count > 0
+    assert (free & fence).any()
+    assert study.pit(1.35).count > 0
 
 
 def test_a_rich_block_below_a_forbidden_one_stays_at_every_factor(tmp_path):
@@ -543,7 +545,8 @@ def test_a_rich_block_below_a_forbidden_one_stays_at_every_factor(tmp_path):
     f = table(1, 1, 3, 1).sort_values("ZC", ignore_index=True)
     f = f.assign(CU=np.where(f.ZC == f.ZC.min(), 80.0, 0.0))
     study = study_of(tmp_path, f, economics=costs(forbid=["ZC > 110"]))
-    assert study.pit(10.0).count == 0 and study_of(tmp_path, f).pit(10.0).count == len(f)
+    assert study.pit(10.0).count == 0
+    assert study_of(tmp_path, f).pit(10.0).count == len(f)
 
 
 def test_a_pit_that_digs_what_is_forbidden_is_never_shown(tmp_path):
@@ -558,7 +561,8 @@ def test_a_pit_that_digs_what_is_forbidden_is_never_shown(tmp_path):
             forbid=["ZC > 110"],
         ),
     )
-    assert 1e11 < study.priced.revenue.sum() < 5e11 and study.pit(1.0).count == 0
+    assert 1e11 < study.priced.revenue.sum() < 5e11
+    assert study.pit(1.0).count == 0
     for found in (lambda: study.run(10_000), lambda: study.shells([1000, 10_000])):
         with pytest.raises(
             pp.PlanError,
@@ -573,11 +577,9 @@ def test_a_model_comes_back_from_its_file(tmp_path):
     path = tmp_path / "t.csv"
     model = pp.read_table(path, size=SIZE, rotation=30, widen=1)
     again = study.model
-    assert (
-        again.grid == model.grid
-        and again.columns == model.columns
-        and (again.row_block == model.row_block).all()
-    )
+    assert again.grid == model.grid
+    assert again.columns == model.columns
+    assert (again.row_block == model.row_block).all()
     pd.testing.assert_frame_equal(again.blocks, model.blocks)
 
 
@@ -590,9 +592,8 @@ def test_an_empty_cell_among_words_comes_back_as_one(tmp_path):
     study = pp.Study.create(
         tmp_path / "s", pp.read_table(tmp_path / "t.csv", size=SIZE), economics, pp.Slopes(45)
     )
-    assert (economics.priced(study.model).forbidden == (frame.LEASE == "OTHERS")).all() and (
-        study.priced.forbidden == (frame.LEASE == "OTHERS")
-    ).all()
+    assert (economics.priced(study.model).forbidden == (frame.LEASE == "OTHERS")).all()
+    assert (study.priced.forbidden == (frame.LEASE == "OTHERS")).all()
 
 
 def test_a_store_takes_no_pickles(tmp_path):

@@ -22,7 +22,7 @@ from pitplan.pit.program import Pit, Stated
 from pitplan.tasks.status import RUNNING, states
 from pitplan.base.files import host
 from pitplan.plans.task_line import Task
-from processes import command, gone, waited_for
+from processes import TOP, command, gone, started, waited_for
 
 SERIES = [600, 800, 1000, 1200]
 
@@ -50,10 +50,12 @@ def test_stated_pits_are_those_of_the_certificates(tmp_path_factory, seed):
     )
     series = sorted(r.sample(range(0, 3000), r.randint(1, 4)))
     stated = study.shells(series, r.randint(1, 3))
-    assert stated.certified == 0 and certificates(study) == []
+    assert stated.certified == 0
+    assert certificates(study) == []
     for i, factor in enumerate(series):
         found = study.program.best(study.files, factor, study.folder / "one.cert", keeps=False)
-        assert (found.mask == stated.holds(i)).all() and (found.count, found.worth) == (
+        assert (found.mask == stated.holds(i)).all()
+        assert (found.count, found.worth) == (
             stated.verdicts[i]["count"],
             stated.verdicts[i]["worth"],
         )
@@ -163,9 +165,9 @@ def test_more_factors_than_one_run_takes(tmp_path, monkeypatch):
     factors = pp.factors(0.31, 1.0, 0.01)
     study.shells(factors[:3])
     found = study.shells(factors)
-    assert (
-        [len(run) for run in runs] == [3, 64, 3] and sum(runs, []) == factors and len(found) == 70
-    )
+    assert [len(run) for run in runs] == [3, 64, 3]
+    assert sum(runs, []) == factors
+    assert len(found) == 70
     study.shells(factors)
     assert len(runs) == 3  # all are there
 
@@ -174,11 +176,9 @@ def test_certificates_come_later_and_where_they_are_asked_for(tmp_path):
     stated = shells_of(tmp_path)
     study = stated.study
     with_them = stated.with_certificates()
-    assert (
-        with_them.certified == 4
-        and certificates(study) == ["f00600", "f00800", "f01000", "f01200"]
-        and (with_them.shell == stated.shell).all()
-    )
+    assert with_them.certified == 4
+    assert certificates(study) == ["f00600", "f00800", "f01000", "f01200"]
+    assert (with_them.shell == stated.shell).all()
     assert [(v["count"], v["worth"], v["bits"]) for v in with_them.verdicts] == [
         (v["count"], v["worth"], v["bits"]) for v in stated.verdicts
     ]
@@ -200,7 +200,7 @@ def test_another_pit_than_was_stated_is_never_kept(tmp_path, monkeypatch):
 
 def pitplan(*words, **more):
     run = command(*words, **more)
-    out, err = run.communicate(timeout=120)
+    out, err = run.communicate(timeout=600)
     return run.returncode, out, err
 
 
@@ -208,12 +208,10 @@ def test_what_asks_for_certificates_makes_those_that_it_needs(tmp_path):
     folder = written_study(tmp_path / "s")
     assert pitplan("build", folder)[0] == 0
     code, said, err = pitplan("shells", folder)
-    assert (
-        code == 0
-        and "each pit is as pit shells states it" in said
-        and f"pitplan shells {folder} --certificates" in said
-        and "factor 1.2 proved: 1 of 3" in err  # the highest pit first, which holds the others
-    )
+    assert code == 0
+    assert "each pit is as pit shells states it" in said
+    assert f"pitplan shells {folder} --certificates" in said
+    assert "factor 1.2 proved: 1 of 3" in err  # the highest pit first, which holds the others
     study = pp.Study(folder)
     for words in (
         ("page", folder),
@@ -222,27 +220,25 @@ def test_what_asks_for_certificates_makes_those_that_it_needs(tmp_path):
         ("export", folder, "--to", "csv"),
     ):
         code, said, err = pitplan(*words)
-        assert code == 0 and certificates(study) == [], (words, err)
+        assert code == 0, (words, err)
+        assert certificates(study) == [], (words, err)
         if words[0] == "page":
             assert STATED.strip() in (folder / "out/pits.html").read_text()
         if words[0] == "status":
-            assert "3 done" in said and "certificates: of 0 of 3 shells" in said
+            assert "3 done" in said
+            assert "certificates: of 0 of 3 shells" in said
     ids = study.model.blocks["id"][study.mask(1000)]
     pd.DataFrame({"IJK": ids}).to_csv(tmp_path / "best.csv", index=False)
     code, said, err = pitplan("compare", folder, "--ids", tmp_path / "best.csv")
-    assert (
-        code == 0
-        and "the design is the best pit" in said
-        and certificates(study) == ["f01000"]
-        and "factor 1 done" in err
-    )
+    assert code == 0
+    assert "the design is the best pit" in said
+    assert certificates(study) == ["f01000"]
+    assert "factor 1 done" in err
     code, said, err = pitplan("bundle", tmp_path / "bundle", folder)
-    assert (
-        code == 0
-        and certificates(study) == ["f00600", "f01000", "f01200"]
-        and "factor 0.6 done" in err
-        and "factor 1 done" not in err
-    )
+    assert code == 0
+    assert certificates(study) == ["f00600", "f01000", "f01200"]
+    assert "factor 0.6 done" in err
+    assert "factor 1 done" not in err
     ran = subprocess.run(
         ["/usr/bin/python3", "-I", str(tmp_path / "bundle/recheck.py"), os.environ["PIT"]],
         capture_output=True,
@@ -250,11 +246,10 @@ def test_what_asks_for_certificates_makes_those_that_it_needs(tmp_path):
     )
     assert ran.returncode == 0, ran.stdout
     code, said, err = pitplan("shells", folder)
-    assert code == 0 and "each pit has a certificate, which pit check has accepted" in said
-    assert (
-        pitplan("page", folder)[0] == 0
-        and CERTIFIED.strip() in (folder / "out/pits.html").read_text()
-    )
+    assert code == 0
+    assert "each pit has a certificate, which pit check has accepted" in said
+    assert pitplan("page", folder)[0] == 0
+    assert CERTIFIED.strip() in (folder / "out/pits.html").read_text()
 
 
 WAITS = """#!/bin/sh
@@ -274,8 +269,9 @@ def test_a_series_that_was_stopped_leaves_no_solver_and_goes_on(tmp_path, progra
     task = Task("run", "base", (1000,))
     assert states(pp.Study(folder), [task])[0].state == RUNNING
     run.send_signal(how)
-    said = run.communicate(timeout=60)[1]
-    assert run.returncode == (130 if how == signal.SIGINT else -9) and gone(solvers)
+    said = run.communicate(timeout=600)[1]
+    assert run.returncode == (130 if how == signal.SIGINT else -9)
+    assert gone(solvers)
     assert how == signal.SIGKILL or (
         "goes on from there" in said and not list((folder / "runs/base").iterdir())
     )
@@ -285,6 +281,35 @@ def test_a_series_that_was_stopped_leaves_no_solver_and_goes_on(tmp_path, progra
         "f01000",
         "f01200",
     ]
+
+
+DROPS = """import sys, time
+sys.path.insert(0, sys.argv.pop(1))
+from pitplan.study.folder import Folder
+def drops(self):
+    try:
+        time.sleep(25)
+    except KeyboardInterrupt:  # as Python does with what is raised in a callback
+        print("dropped", file=sys.stderr)
+Folder.read_ahead = drops
+from pitplan.cli.main import main
+main()
+"""
+
+
+def test_ctrl_c_that_python_drops_ends_a_series_all_the_same(tmp_path, program):
+    folder, slow, marks = written_study(tmp_path / "s"), tmp_path / "pit", tmp_path / "marks"
+    slow.write_text(WAITS.format(marks=marks, pit=program))
+    slow.chmod(0o755)
+    assert pitplan("build", folder)[0] == 0
+    words = ["/usr/bin/python3", "-I", "-c", DROPS, TOP / "python", "shells", folder]
+    run = started(words, env={**os.environ, "PIT": str(slow)})
+    solvers = waited_for(marks, 1)
+    run.send_signal(signal.SIGINT)
+    said = run.communicate(timeout=600)[1]
+    assert "dropped" in said
+    assert run.returncode == 130
+    assert gone(solvers)
 
 
 def test_a_killed_series_is_started_once_more_with_one_worker(tmp_path, program):
@@ -297,7 +322,9 @@ def test_a_killed_series_is_started_once_more_with_one_worker(tmp_path, program)
     found = pp.Study(study.folder, Pit(tmp_path / "pit")).shells(
         [600, 1000], 2, lambda factor, what, share: told.append(what)
     )
-    assert len(found) == 2 and told.count("killed") == 1 and told.count("done") == 2
+    assert len(found) == 2
+    assert told.count("killed") == 1
+    assert told.count("done") == 2
     assert ["--workers 2" in line for line in marks.read_text().splitlines()] == [True, False]
 
 
@@ -308,7 +335,8 @@ def test_an_older_pit_makes_a_certificate_of_each(tmp_path, program):
     (tmp_path / "pit").chmod(0o755)
     study = study_of(tmp_path, table(6, 5, 4, 3))
     found = pp.Study(study.folder, Pit(tmp_path / "pit")).shells([600, 1000])
-    assert found.certified == 2 and certificates(study) == ["f00600", "f01000"]
+    assert found.certified == 2
+    assert certificates(study) == ["f00600", "f01000"]
 
 
 def test_a_half_made_series_of_another_machine_is_running(tmp_path):

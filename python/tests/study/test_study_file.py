@@ -62,21 +62,17 @@ def test_what_a_study_may_not_say(tmp_path, was, now, said):
     folder = written_study(tmp_path / "s", text=STUDY_TOML.replace(was, now, 1))
     with pytest.raises(pp.PlanError) as error:
         read_study_file(folder)
-    assert said in str(error.value) and "study.toml" in str(error.value)
+    assert said in str(error.value)
+    assert "study.toml" in str(error.value)
 
 
 def test_what_a_study_says(tmp_path):
     told = read_study_file(written_study(tmp_path / "s"))
-    assert told.factors == [600, 1000, 1200] and told.rates == {
-        "mining_rate": 1e6,
-        "mill_rate": 5e5,
-        "discount": 0.08,
-    }
-    assert (
-        told.economics.metals[0].price == 8500
-        and told.keys.size == [20, 20, 15]
-        and told.table == tmp_path / "s" / "t.csv"
-    )
+    assert told.factors == [600, 1000, 1200]
+    assert told.rates == {"mining_rate": 1e6, "mill_rate": 5e5, "discount": 0.08}
+    assert told.economics.metals[0].price == 8500
+    assert told.keys.size == [20, 20, 15]
+    assert told.table == tmp_path / "s" / "t.csv"
     again = read_study_file(
         written_study(
             tmp_path / "s",
@@ -126,19 +122,11 @@ def test_recheck_refuses_such_a_series_too(step):
 
 
 def test_factors():
-    assert factors(0.3, 1.2, 0.3) == [300, 600, 900, 1200] and factors(0.9, 1.0, 0.02) == [
-        900,
-        920,
-        940,
-        960,
-        980,
-        1000,
-    ]
-    assert (
-        len(factors(0.3, 1.2, 0.01)) == 91
-        and series_of([0.001, 10]) == [1, 10000]
-        and thousandths(0.85) == 850
-    )
+    assert factors(0.3, 1.2, 0.3) == [300, 600, 900, 1200]
+    assert factors(0.9, 1.0, 0.02) == [900, 920, 940, 960, 980, 1000]
+    assert len(factors(0.3, 1.2, 0.01)) == 91
+    assert series_of([0.001, 10]) == [1, 10000]
+    assert thousandths(0.85) == 850
     for wrong in (
         lambda: factors(1, 0.5, 0.1),
         lambda: factors(0.5, 1, 0),

@@ -1,7 +1,7 @@
 """The keys of study.toml are described once: what reads, writes and documents them follows from that description."""
 import dataclasses
 import re
-import sys
+import subprocess
 import tomllib
 from pathlib import Path
 
@@ -51,10 +51,8 @@ def text_of(folder):
 
 def test_a_planted_key_is_everywhere(tmp_path, planted):
     text = text_of(tmp_path)
-    assert (
-        re.search(r"^reclaim = 0\.25 +# what closing the mine costs a tonne$", text, re.M)
-        and "premium = 0.5 }" in text
-    )
+    assert re.search(r"^reclaim = 0\.25 +# what closing the mine costs a tonne$", text, re.M)
+    assert "premium = 0.5 }" in text
     assert tomllib.loads(text)["economics"]["reclaim"] == 0.25
     assert (
         "| `reclaim` | what closing the mine costs a tonne | a number from 0 to 9; currency a tonne | `0.25` |\n"
@@ -77,8 +75,8 @@ def test_a_planted_key_is_everywhere(tmp_path, planted):
     assert (
         error.value.said
         == "study.toml: [economics] reclaim is 40, and has to be a number from 0 to 9"
-        and error.value.key == ("economics", "reclaim")
     )
+    assert error.value.key == ("economics", "reclaim")
     (tmp_path / "study.toml").write_text(re.sub("reclaim = .*", "", text))
     assert read_study_file(tmp_path).values["economics"]["reclaim"] == 0.25
 
@@ -175,6 +173,41 @@ UNITS = [
 ]
 
 
+@pytest.mark.parametrize(
+    "column, metal",
+    [
+        ("gold gpt", ("gold", "g/t", "oz", 1900)),
+        ("LEY_COBRE", ("copper", "%", "t", 8500)),
+        ("AUPPB", ("gold", "ppb", "oz", 1900)),
+        ("ag_ppm", ("silver", "ppm", "oz", 23)),
+    ],
+)
+def test_init_knows_a_metal_by_its_sign_and_by_its_name(tmp_path, column, metal):
+    written = metals_of_init(tmp_path, column)
+    assert written == {"CU": ("copper", "%", "t", 8500), column: metal}
+
+
+def metals_of_init(folder, column):
+    """The metals that `init` writes where a column of grades is called so: name, units and price, by their column."""
+    frame = table(6, 5, 4, 7).rename(columns={"AU": column})
+    frame.to_csv(folder / "t.csv", index=False)
+    text = first_look.written(first_look.look_at(folder / "t.csv"), "t.csv")
+    keys = ("name", "grade_unit", "price_unit", "price")
+    found = tomllib.loads(text)["economics"]["metals"]
+    return {metal["grade"]: tuple(metal[key] for key in keys) for metal in found}
+
+
+@pytest.mark.parametrize("column, is_told", [("S_pct", True), ("AU", False), ("Hardness", False)])
+def test_init_tells_a_grade_that_no_metal_uses(tmp_path, column, is_told):
+    assert (column in metals_of_init(tmp_path, column)) == (column == "AU")
+    ran = subprocess.run(
+        [TOP / "bin/pitplan", "init", "t.csv"], cwd=tmp_path, capture_output=True, text=True
+    )
+    assert ran.returncode == 0, ran.stderr
+    words = f"column {column} holds a grade and no metal uses it"
+    assert (words in ran.stdout + ran.stderr) == is_told
+
+
 def test_the_text_of_init_offers_no_unit_that_a_name_contradicts(tmp_path):
     for column, unit in UNITS:
         table(7, 6, 4, 3).rename(columns={"CU": column, "AU": "other"}).to_csv(
@@ -241,18 +274,15 @@ def test_all_wrong_keys_are_told_with_their_lines(tmp_path):
     with pytest.raises(pp.PlanError) as error:
         read_study_file(written_study(tmp_path / "s", text=WRONG))
     found = {each.key: each for each in error.value.each()}
-    assert set(found) == {key for key, _, _ in TOLD} and len(error.value.each()) == len(TOLD)
+    assert set(found) == {key for key, _, _ in TOLD}
+    assert len(error.value.each()) == len(TOLD)
     for key, line, said in TOLD:
-        assert said in str(found[key]) and line_of(WRONG, key) == (
-            line,
-            WRONG.splitlines()[line - 1],
-        ), key
+        assert said in str(found[key]), key
+        assert line_of(WRONG, key) == (line, WRONG.splitlines()[line - 1]), key
     data = found[("model", "size")].as_data()
-    assert (
-        data["key"] == ["model", "size"]
-        and data["table"] == "study.toml"
-        and data["try"] == "size = [20, 20, 10]"
-    )
+    assert data["key"] == ["model", "size"]
+    assert data["table"] == "study.toml"
+    assert data["try"] == "size = [20, 20, 10]"
 
 
 def test_a_line_is_found_whatever_the_blanks():
@@ -271,16 +301,14 @@ def test_a_remedy_is_words_and_data():
     remedy = Remedy(("model", "absent"), ["-99"], 'if that stands for "not estimated"', adds=True)
     assert str(remedy) == 'absent = ["-99"] in [model], if that stands for "not estimated"'
     error = pp.PlanError("the cell is 'x'", table="t.csv", row=3, column="CU", try_this=remedy)
-    assert (
-        error.as_data()["remedy"]
-        == {
-            "key": ["model", "absent"],
-            "value": ["-99"],
-            "when": 'if that stands for "not estimated"',
-            "adds": True,
-        }
-        and error.as_data()["row"] == 5
-    )
+    assert error.as_data()["remedy"] == {
+        "key": ["model", "absent"],
+        "value": ["-99"],
+        "when": 'if that stands for "not estimated"',
+        "adds": True,
+        "other": None,
+    }
+    assert error.as_data()["row"] == 5
 
 
 def test_the_first_wrong_cells_of_a_column_are_told(tmp_path):
@@ -291,17 +319,52 @@ def test_the_first_wrong_cells_of_a_column_are_told(tmp_path):
     told = read_study_file(written_study(tmp_path / "s", frame))
     with pytest.raises(pp.PlanError) as error:
         told.read_model()
-    assert error.value.row == 5 and error.value.column == "XC"
+    assert error.value.row == 5
+    assert error.value.column == "XC"
     frame.loc[5, "XC"] = 5000.0
     frame = frame.drop(5)
     told = read_study_file(written_study(tmp_path / "s", frame))
     with pytest.raises(pp.PlanError) as error:
         told.economics.priced(told.read_model())
-    assert (
-        error.value.row == 4
-        and [cell.row for cell in error.value.cells[:2]] == [6, 29]
-        and len(error.value.cells) == 19
-    )
-    assert error.value.key == ("economics", "metals", "copper", "grade") and {
-        cell.text for cell in error.value.cells
-    } == {"N/S"}
+    assert error.value.row == 4
+    assert [cell.row for cell in error.value.cells[:2]] == [6, 29]
+    assert len(error.value.cells) == 19
+    assert error.value.key == ("economics", "metals", "copper", "grade")
+    assert {cell.text for cell in error.value.cells} == {"N/S"}
+
+
+@pytest.mark.parametrize(
+    "name, value, right, named",
+    [
+        ("price", "9,250", 9250, "',' between thousands"),
+        ("price", "1.250,5", 1250.5, "'.' between thousands, and ',' before the decimals"),
+        ("price", "1,250.5", 1250.5, "',' between thousands"),
+        ("price", "1.250.000", 1250000, "'.' between thousands"),
+        ("price", "9 250", 9250, "' ' between thousands"),
+        ("price", "12,5", 12.5, "',' before the decimals"),
+        ("recovery", "0,85", 0.85, "',' before the decimals"),
+        ("recovery", {"OXI": "0,75", "SUL": 0.88}, {"OXI": 0.75, "SUL": 0.88}, "of OXI is '0,75'"),
+    ],
+)
+def test_a_number_with_separators_is_told_with_what_to_type(name, value, right, named):
+    at = ("economics", METALS, "copper")
+    (error,) = study_keys.wrong_in(METALS, {name: value}, "copper:", at)
+    assert named in error.said
+    assert error.remedy.key == (*at, name)
+    assert error.remedy.value == right
+    is_open = value == "9,250"  # 9.25 where the comma is of decimals
+    assert bool(error.remedy.when) == is_open
+    assert error.remedy.other == (9.25 if is_open else None)
+
+
+def test_both_readings_of_amounts_by_rock_are_whole_tables():
+    by_rock = {"OXI": "1,250", "SUL": 3, "OVB": "2,5"}
+    at = ("economics", "processing")
+    (error,) = study_keys.wrong_in("economics", {"processing": by_rock}, "[economics]", at[:1])
+    assert error.remedy.value == {"OXI": 1250, "SUL": 3, "OVB": 2.5}
+    assert error.remedy.other == {"OXI": 1.25, "SUL": 3, "OVB": 2.5}
+
+
+@pytest.mark.parametrize("value", ["ZC", "2.0, 3", "where(ROCK == 'OXI', 0.7, 0.8)", "1,2,3"])
+def test_a_formula_is_no_number_with_separators(value):
+    assert study_keys.wrong_in(METALS, {"recovery": value}) == []

@@ -1,4 +1,4 @@
-"""Commands over one study take turns, tell what they do as events, and read nothing outside a folder that they were told to stay in."""
+"""Commands over one study take turns, and tell what they do as events."""
 import fcntl
 import json
 import os
@@ -7,8 +7,9 @@ import time
 
 import pytest
 
-from mines import table, written_study
+from mines import STUDY_TOML, table, written_study
 from pitplan.base import events
+from pitplan.cli.taking_turns import WRITERS
 from pitplan.study import last_run, turns
 from pitplan.base.errors import Disagreement, MachineError, PlanError, exit_status
 from processes import command, gone, said
@@ -19,17 +20,16 @@ WORDS = ["pitplan", "shells", "s"]
 def test_a_study_is_had_by_one_command_at_a_time(tmp_path):
     told = []
     with turns.turn(tmp_path, WORDS):
-        assert (
-            turns.is_held(tmp_path).command == "pitplan shells s"
-            and turns.is_held(tmp_path).pid == os.getpid()
-        )
+        assert turns.is_held(tmp_path).command == "pitplan shells s"
+        assert turns.is_held(tmp_path).pid == os.getpid()
         with pytest.raises(
             turns.Held,
             match=r"pitplan shells s \(process \d+ on .*, of .*, since \d\d:\d\d:\d\d\) has the study",
         ) as error:
             with turns.turn(tmp_path, ["pitplan", "build"], waits=False, waiting=told.append):
                 told.append("within")
-        assert exit_status(error.value) == 4 and not told
+        assert exit_status(error.value) == 4
+        assert not told
     assert turns.is_held(tmp_path) is None
     with turns.turn(tmp_path, ["pitplan", "build"], waits=False, waiting=told.append):
         told.append("within")
@@ -52,11 +52,9 @@ def test_what_waits_is_told_who_has_it_and_goes_on(tmp_path):
             WORDS,
             waiting=lambda who: (told.append(who), fcntl.flock(other, fcntl.LOCK_UN)),
         ):
-            assert (
-                len(told) == 1
-                and told[0].startswith("pitplan vary (process 7 on h, of u, since")
-                and turns.is_held(tmp_path).command == "pitplan shells s"
-            )
+            assert len(told) == 1
+            assert told[0].startswith("pitplan vary (process 7 on h, of u, since")
+            assert turns.is_held(tmp_path).command == "pitplan shells s"
 
 
 @pytest.mark.parametrize(
@@ -80,10 +78,10 @@ def test_a_process_that_is_killed_holds_nothing(tmp_path):
     assert turns.is_held(folder).pid == run.pid or run.poll() is not None
     run.send_signal(signal.SIGKILL)
     run.communicate()
-    assert gone([run.pid]) and turns.is_held(folder) is None
-    assert "was ended from outside at" in last_run.told(
-        folder
-    ) and "pitplan build" in last_run.told(folder)
+    assert gone([run.pid])
+    assert turns.is_held(folder) is None
+    assert "was ended from outside at" in last_run.last_line(folder)
+    assert "pitplan build" in last_run.last_line(folder)
 
 
 def test_two_shells_at_once_end_well_twenty_times(tmp_path):
@@ -93,12 +91,12 @@ def test_two_shells_at_once_end_well_twenty_times(tmp_path):
     waited = 0
     for run in runs:
         out, faults = run.communicate(timeout=900)
-        assert run.returncode == 0 and "pit by pit" in out, faults
+        assert run.returncode == 0, faults
+        assert "pit by pit" in out, faults
         waited += "waiting: pitplan shells" in faults
     assert waited >= 10  # the first few may not have met
-    assert turns.is_held(folder) is None and last_run.told(folder).startswith(
-        "last: pitplan shells"
-    )
+    assert turns.is_held(folder) is None
+    assert last_run.last_line(folder).startswith("last: pitplan shells")
 
 
 def test_events_are_told_beside_the_words(tmp_path):
@@ -107,32 +105,77 @@ def test_events_are_told_beside_the_words(tmp_path):
     said("shells", folder, env={**os.environ, "PITPLAN_EVENTS": str(file)})
     found = [json.loads(line) for line in file.read_text().splitlines()]
     kinds = [event["event"] for event in found]
-    assert (
-        kinds.count("begin") == kinds.count("end") == 2
-        and kinds[0] == "begin"
-        and kinds[-1] == "end"
-        and found[0]["command"][:2] == ["pitplan", "build"]
-    )
+    assert kinds.count("begin") == kinds.count("end") == 2
+    assert kinds[0] == "begin"
+    assert kinds[-1] == "end"
+    assert found[0]["command"][:2] == ["pitplan", "build"]
     done = [
         event["factor"] for event in found if event["event"] == "pit" and event["state"] == "done"
     ]
-    assert done == [600, 1000, 1200] and {
-        event["of"] for event in found if event["event"] == "pit"
-    } == {3}
-    assert {"step", "said", "table", "look"} <= set(kinds) and all(
-        event["time"] > 0 for event in found
-    )
+    assert done == [600, 1000, 1200]
+    assert {event["of"] for event in found if event["event"] == "pit"} == {3}
+    assert {"step", "said", "table", "look"} <= set(kinds)
+    assert all(event["time"] > 0 for event in found)
     looks = [event for event in found if event["event"] == "look"]
-    assert (
-        "touches the side of the model" in looks[0]["what"] and "a wider model" in looks[0]["try"]
-    )
+    assert "touches the side of the model" in looks[0]["what"]
+    assert "a wider model" in looks[0]["try"]
     assert [event["event"] for event in events.of_last_run(folder)] == kinds[
         kinds.index("end") + 1 :
     ]
-    assert last_run.told(folder).startswith(
-        "last: pitplan shells"
-    ) and " was done at " in last_run.told(folder)
-    assert last_run.told(folder) in said("status", folder)
+    assert last_run.last_line(folder).startswith("last: pitplan shells")
+    assert " was done at " in last_run.last_line(folder)
+    assert last_run.last_line(folder) in said("status", folder)
+
+
+def test_every_command_that_writes_has_the_study_that_it_names(tmp_path):
+    """And not the folder that it was started in, whatever its study is called among its arguments."""
+    (tmp_path / "here").mkdir()
+    folder = written_study(tmp_path / "s", table(5, 4, 3, 3))
+    said("build", folder)
+    first = {"bundle": [tmp_path / "b"], "phases": ["0.6,1.0"]}
+    with turns.turn(folder, WORDS):
+        for name in WRITERS:
+            words = [*first.get(name, []), folder, *(["price=-9..9"] if name == "vary" else [])]
+            run = command("--no-wait", name, *words, cwd=tmp_path / "here")
+            told = run.communicate(timeout=600)[1]
+            assert run.returncode == 4, (name, told)
+            assert "has the study" in told, (name, told)
+    assert not list((tmp_path / "here").iterdir())
+
+
+def test_a_command_that_waits_says_so_as_an_event(tmp_path):
+    folder, file = written_study(tmp_path / "s", table(5, 4, 3, 3)), tmp_path / "events"
+    with turns.turn(folder, WORDS):
+        run = command("build", folder, env={**os.environ, "PITPLAN_EVENTS": str(file)})
+        for _ in range(1200):
+            if file.exists() and '"wait"' in file.read_text():
+                break
+            time.sleep(0.05)
+    assert run.communicate(timeout=600)
+    assert run.returncode == 0
+    found = [json.loads(line) for line in file.read_text().splitlines()]
+    waits = [at for at, event in enumerate(found) if event["event"] == "wait"]
+    assert len(waits) == 1
+    assert found[waits[0]]["what"].startswith("pitplan shells s (process")
+    assert [event["event"] for event in found[: waits[0]]] == ["begin"]
+
+
+def test_each_region_s_offsets_and_slopes_are_events(tmp_path):
+    text = STUDY_TOML.replace("angles = 45", 'angles = 45\nby = "SECTOR"\nregions = { WEST = 38 }')
+    folder, file = written_study(tmp_path / "s", text=text), tmp_path / "events"
+    said("build", folder, env={**os.environ, "PITPLAN_EVENTS": str(file)})
+    steps = [
+        event["what"]
+        for event in map(json.loads, file.read_text().splitlines())
+        if event["event"] == "step"
+        and (" offsets " in event["what"] or "slopes of" in event["what"])
+    ]
+    assert steps == [
+        "looking for the offsets of default, 1 of 2",
+        "looking for the offsets of WEST, 2 of 2",
+        "slopes of default, 1 of 2",
+        "slopes of WEST, 2 of 2",
+    ]
 
 
 def test_an_error_is_an_event_with_its_key_and_line(tmp_path):
@@ -141,28 +184,27 @@ def test_an_error_is_an_event_with_its_key_and_line(tmp_path):
         (folder / "study.toml").read_text().replace("mining = 2.0", "minning = 2.0")
     )
     run = command("build", folder, env={**os.environ, "PITPLAN_EVENTS": str(file)})
-    run.communicate(timeout=120)
+    run.communicate(timeout=600)
     found = [json.loads(line) for line in file.read_text().splitlines()]
     wrong = [event for event in found if event["event"] == "error"]
     assert [(event["key"], event["line"]) for event in wrong] == [
         (["economics", "minning"], 6),
         (["economics"], 5),
-    ] and found[-1] == {**found[-1], "event": "end", "status": 3}
-    assert "ended with status 3 at" in last_run.told(
-        folder
-    ) and "has no key 'minning'" in last_run.told(folder)
+    ]
+    assert found[-1] == {**found[-1], "event": "end", "status": 3}
+    assert "ended with status 3 at" in last_run.last_line(folder)
+    assert "has no key 'minning'" in last_run.last_line(folder)
 
 
 def test_how_far_a_command_is_that_has_the_study(tmp_path):
     with turns.turn(tmp_path, WORDS), events.of_study(tmp_path):
         events.event("step", what="reading the table")
-        assert last_run.told(tmp_path).startswith(
-            "now: pitplan shells s (process"
-        ) and last_run.told(tmp_path).endswith(", reading the table")
+        assert last_run.last_line(tmp_path).startswith("now: pitplan shells s (process")
+        assert last_run.last_line(tmp_path).endswith(", reading the table")
         for factor, state in ((600, "done"), (700, "solving"), (800, "proved")):
             events.event("pit", factor=factor, state=state, share=0.5, of=19)
-        assert last_run.told(tmp_path).endswith(", 2 of 19 pits")
-    assert last_run.told(tmp_path.parent) is None
+        assert last_run.last_line(tmp_path).endswith(", 2 of 19 pits")
+    assert last_run.last_line(tmp_path.parent) is None
 
 
 @pytest.mark.parametrize(
@@ -180,53 +222,3 @@ def test_how_far_a_command_is_that_has_the_study(tmp_path):
 )
 def test_exit_statuses(error, status):
     assert exit_status(error) == status
-
-
-@pytest.fixture
-def nowhere_else(tmp_path, monkeypatch):
-    from pitplan.base.within import NAME, only_within
-
-    monkeypatch.setenv(NAME, "")
-    (tmp_path / "of").mkdir()
-    only_within(tmp_path / "of")
-    return tmp_path / "of"
-
-
-def test_nothing_is_read_outside_the_folder(tmp_path, nowhere_else):
-    from pitplan.study.check import check
-    from pitplan.plans.design import by_file
-    from pitplan.plans.risk import opened
-    from pitplan.study.study_file import read_study_file
-
-    folder = written_study(nowhere_else / "s")
-    assert not check(folder).errors
-    model = read_study_file(folder).read_model()
-    table(7, 6, 4, 3).to_csv(tmp_path / "t.csv", index=False)
-    text = (folder / "study.toml").read_text()
-    for name in ("../../t.csv", str(tmp_path / "t.csv"), "link.csv"):
-        (nowhere_else / "s" / "link.csv").unlink(missing_ok=True)
-        (nowhere_else / "s" / "link.csv").symlink_to(tmp_path / "t.csv")
-        (folder / "study.toml").write_text(text.replace("t.csv", name))
-        errors = check(folder).errors
-        assert (
-            len(errors) == 1
-            and "lies outside of" in str(errors[0])
-            and errors[0].key == ("model", "table")
-        ), name
-    for name, read in (
-        ("d.dxf", lambda path: by_file(model, path)),
-        ("d.csv", lambda path: by_file(model, path)),
-        ("r.npy", lambda path: opened(path, tmp_path)),
-        ("r.csv", lambda path: opened(path, tmp_path)),
-    ):
-        (tmp_path / name).write_text("x")
-        with pytest.raises(PlanError, match="lies outside of"):
-            read(tmp_path / name)
-    (folder / "study.toml").write_text(text)
-    run = command("--within", nowhere_else / "s", "build", folder)
-    assert run.communicate(timeout=120) and run.returncode == 0
-    (folder / "study.toml").write_text(text.replace("t.csv", "../../t.csv"))
-    run = command("--within", nowhere_else, "build", folder)
-    assert "lies outside of" in run.communicate(timeout=120)[1] and run.returncode == 3
-    run = command("--within", tmp_path / "none", "build", folder)
-    assert "there is no such folder" in run.communicate(timeout=120)[1] and run.returncode == 3

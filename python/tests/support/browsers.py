@@ -55,7 +55,7 @@ def ready(ask):
 class Firefox:
     """Firefox under a virtual screen, by its own protocol (Marionette), since Debian 12 has no geckodriver."""
 
-    def __init__(self):
+    def __init__(self, *more):
         self.folder = tempfile.mkdtemp()
         with socket.socket() as free:
             free.bind(("127.0.0.1", 0))
@@ -74,6 +74,7 @@ class Firefox:
             "--no-remote",
             "--profile",
             self.folder,
+            *more,
         ]
         self.process = subprocess.Popen(
             words,

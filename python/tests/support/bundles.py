@@ -11,7 +11,7 @@ def bundled(folder, text=mines.STUDY_TOML, frame=None):
     study = Study.create(
         told.path.parent, told.read_model(), told.economics, told.slopes, keys=told.digest
     )
-    bundle.write(
+    bundle.write_bundle(
         study.shells(told.factors),
         folder / "for the auditor",
         told.path,

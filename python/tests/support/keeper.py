@@ -63,7 +63,8 @@ class Keeper:
 
     def fill(self, folder):
         status, _, errors = self.said("dd", "if=/dev/zero", f"of={folder / 'ballast'}", "bs=4k")
-        assert status and "No space left" in errors, errors
+        assert status, errors
+        assert "No space left" in errors, errors
 
     def widen(self, folder):
         """Takes away what fills such a disk, where something does, and makes it a larger one."""

@@ -1,15 +1,19 @@
 """Small made-up mines for the tests."""
 import csv
 import math
+import tempfile
 from pathlib import Path
 
 import numpy as np
 import pandas as pd
+import pytest
 
 import pitplan as pp
 
 SIZE = (20, 20, 15)
 COPPER = pp.Metal("copper", "CU", price=8500, recovery=0.85)
+GOLD = pp.Metal("gold", "AU", price=60, grade_unit="g/t", price_unit="g", recovery=0.7)
+TWO_METALS = {"metals": (COPPER, GOLD), "dilution": 0.1, "mining_recovery": 0.9}
 
 
 def table(nx, ny, nz, seed, rotation=0.0, size=SIZE):
@@ -78,6 +82,20 @@ def study_of(folder, frame, slopes=None, economics=None, **keys):
     frame.to_csv(path, index=False)
     model = pp.read_table(path, **{**dict(size=SIZE), **keys})
     return pp.Study.create(Path(folder) / "s", model, economics or costs(), slopes or pp.Slopes(45))
+
+
+def model_of(frame, **keys):
+    """The model of a table."""
+    with tempfile.TemporaryDirectory() as folder:
+        frame.to_csv(Path(folder) / "t.csv", index=False)
+        return pp.read_table(Path(folder) / "t.csv", **{**dict(size=SIZE), **keys})
+
+
+def refusal(call, *words, **keys):
+    """What is said where a call is refused."""
+    with pytest.raises(pp.PlanError) as error:
+        call(*words, **keys)
+    return str(error.value)
 
 
 def shells_of(folder, seed=5, series=(600, 800, 1000, 1200), **keys):

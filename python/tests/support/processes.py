@@ -62,7 +62,7 @@ def runs(pid):
     return found is not None and found[0] != "Z"
 
 
-def gone(pids, seconds=60):
+def gone(pids, seconds=300):
     """Whether processes end."""
     for _ in range(seconds * 20):
         if not any(map(runs, pids)):
@@ -90,7 +90,7 @@ def beneath(top, but=()):
     return [pid for pid in found if runs(pid)]
 
 
-def kill_all(top, but=(), seconds=60):
+def kill_all(top, but=(), seconds=300):
     """Kills what descends from a process, until there is nothing of it."""
     for _ in range(seconds * 50):
         pids = beneath(top, but)

@@ -36,5 +36,8 @@ def test_nothing_is_left(tmp_path, end, status):
     ran = subprocess.run([sys.executable, "-c", text], capture_output=True, text=True)
     assert ran.returncode == status, ran.stderr
     pids = ran.stdout.split()
-    assert len(pids) == 2 and gone(pids) and not any(map(runs, pids))
-    assert not folder.exists() and str(folder) not in Path("/proc/mounts").read_text()
+    assert len(pids) == 2
+    assert gone(pids)
+    assert not any(map(runs, pids))
+    assert not folder.exists()
+    assert str(folder) not in Path("/proc/mounts").read_text()

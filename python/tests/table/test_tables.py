@@ -1,5 +1,6 @@
 """What a table may look like, and what is said where it is wrong."""
 import gzip
+import io
 import math
 
 import numpy as np
@@ -10,8 +11,10 @@ from hypothesis import given, strategies as st
 import pitplan as pp
 from mines import SIZE, STUDY_TOML, costs, table, written_study
 from pitplan.cli import build as commands_build
-from pitplan.table import formula
+from pitplan.base.errors import PlanError
 from pitplan.study.first_look import look_at
+from pitplan.table import formula
+from pitplan.table.csv_text import dialect_of, read_frame
 
 
 def read(folder, frame, name="t.csv", text=None, **keys):
@@ -39,9 +42,8 @@ def test_a_bad_cell_is_told_by_row_and_column(tmp_path_factory, seed, row, colum
     f[column] = f[column].astype(object)
     f.loc[row, column] = cell
     said = refusal(tmp_path_factory.mktemp("s"), f)
-    assert f"row {row + 2}, column {column}" in said and (
-        cell == "" or cell == "1e999" or repr(cell) in said
-    )
+    assert f"row {row + 2}, column {column}" in said
+    assert cell == "" or cell == "1e999" or repr(cell) in said
 
 
 @pytest.mark.parametrize(
@@ -55,11 +57,9 @@ def test_every_way_to_write_a_table_is_read_alike(tmp_path, separator, decimal, 
     plain = read(tmp_path, f)
     found = read(tmp_path, f, "other.csv", text)
     packed = read(tmp_path, f, "other.csv.gz", gzip.compress(text))
-    assert (
-        found.blocks.equals(plain.blocks)
-        and packed.blocks.equals(plain.blocks)
-        and packed.name == "other"
-    )
+    assert found.blocks.equals(plain.blocks)
+    assert packed.blocks.equals(plain.blocks)
+    assert packed.name == "other"
 
 
 PACKAGES = {
@@ -104,7 +104,8 @@ def test_the_usual_names_of_columns_are_known(tmp_path, package):
 )
 def test_a_first_line_that_is_no_header_is_told(tmp_path, change):
     said = refusal(tmp_path, None, text=change(table(4, 3, 3, 1).to_csv(index=False)).encode())
-    assert "the first line isn't the header line" in said and "NAME" not in said
+    assert "the first line isn't the header line" in said
+    assert "NAME" not in said
 
 
 def test_names_of_ones_own(tmp_path):
@@ -127,7 +128,8 @@ def test_ids_and_rock_codes_are_words(tmp_path):
     f["IJK"] = [f"{n:05d}" for n in range(len(f))]
     f["ROCK"] = "007"
     model = read(tmp_path, f)
-    assert model.blocks["id"].tolist() == f.IJK.tolist() and set(model.blocks.rock) == {"007"}
+    assert model.blocks["id"].tolist() == f.IJK.tolist()
+    assert set(model.blocks.rock) == {"007"}
 
 
 def test_lines_between_header_and_blocks_and_blank_lines_keep_the_rows_right(tmp_path):
@@ -145,12 +147,14 @@ def test_lines_between_header_and_blocks_and_blank_lines_keep_the_rows_right(tmp
         ]
     )
     model = read(tmp_path, f, text=text.encode())
-    assert len(model) == len(f) and model.blocks["row"].tolist()[:5] == [2, 3, 4, 5, 7]
+    assert len(model) == len(f)
+    assert model.blocks["row"].tolist()[:5] == [2, 3, 4, 5, 7]
     bad = text.replace(lines[5], lines[5].replace(f"{f.TONNES[4]}", "many", 1))
     assert "row 9, column TONNES: the cell is no number: it is 'many'" in refusal(
         tmp_path, f, text=bad.encode()
     )
-    assert model.row_block[7] == 4 and model.row_block[6] == -1
+    assert model.row_block[7] == 4
+    assert model.row_block[6] == -1
 
 
 @pytest.mark.parametrize("row", [0, 7])
@@ -197,10 +201,8 @@ def test_points_that_must_be_decimals_are_read_beside_commas(tmp_path):
     )
     assert ";0.236;" in lines
     found = read(tmp_path, None, text=lines.encode())
-    assert (
-        np.allclose(costs().priced(found).grade["copper"], f.CU)
-        and (found.numbers("AU", "") == 0.45).all()
-    )
+    assert np.allclose(costs().priced(found).grade["copper"], f.CU)
+    assert (found.numbers("AU", "") == 0.45).all()
 
 
 def test_words_with_a_point_stay_in_a_table_with_decimal_commas(tmp_path):
@@ -231,7 +233,8 @@ def test_a_code_is_one_code_in_all_pieces_of_a_large_table(tmp_path):
     f.loc[n - 1, "ZONE"] = "10A"
     found = read(tmp_path, f, size=(10, 10, 10))
     kept = costs(processing=9.0, forbid=["ZONE == '01'"]).priced(found).forbidden
-    assert (found.blocks.ZONE == f.ZONE).all() and (kept == (f.ZONE == "01")).all()
+    assert (found.blocks.ZONE == f.ZONE).all()
+    assert (kept == (f.ZONE == "01")).all()
     assert (pp.Slopes(45, by="ZONE", regions={"02": 38}).region_of(found) == (f.ZONE == "02")).all()
 
 
@@ -294,7 +297,9 @@ def test_a_block_without_a_place_is_not_absent(tmp_path, cell):
     f["XC"] = f.XC.astype(object)
     f.loc[3, "XC"] = cell
     said = refusal(tmp_path, f, absent=[cell])
-    assert "row 5, column XC" in said and "absent" not in said and "take the row out" in said
+    assert "row 5, column XC" in said
+    assert "absent" not in said
+    assert "take the row out" in said
 
 
 @pytest.mark.parametrize(
@@ -329,7 +334,8 @@ def test_cells_that_stand_for_not_estimated(tmp_path):
     f["CU"] = f["CU"].astype(object)
     f.loc[3, "CU"], f.loc[5, "CU"], f.loc[7, "CU"] = -99, "-", ""
     said = refusal(tmp_path, f)
-    assert "row 7, column CU" in said and 'absent = ["-"]' in said
+    assert "row 7, column CU" in said
+    assert 'absent = ["-"]' in said
     f.loc[5, "CU"] = 0.2
     assert "row 9, column CU: the cell is empty" in refusal(tmp_path, f)
     f.loc[7, "CU"] = 0.3
@@ -338,7 +344,8 @@ def test_cells_that_stand_for_not_estimated(tmp_path):
     f["CU"] = f["CU"].astype(object)
     f.loc[5, "CU"], f.loc[7, "CU"] = "-", ""
     grade = costs().priced(read(tmp_path, f, absent=["-99", "-", ""])).grade["copper"]
-    assert grade[3] == grade[5] == grade[7] == 0 and grade[1] == f.CU[1]
+    assert grade[3] == grade[5] == grade[7] == 0
+    assert grade[1] == f.CU[1]
 
 
 def test_a_mark_may_have_a_decimal_comma_as_its_table_has(tmp_path):
@@ -348,7 +355,8 @@ def test_a_mark_may_have_a_decimal_comma_as_its_table_has(tmp_path):
     for mark in ("-9,5", "-9.5"):
         model = pp.read_table(tmp_path / "t.csv", size=SIZE, absent=[mark])
         assert costs().priced(model).grade["copper"][3] == 0
-        assert model.blocks.CU[3] == 0 and costs(mining="2 + CU").priced(model).mining[3] == round(
+        assert model.blocks.CU[3] == 0
+        assert costs(mining="2 + CU").priced(model).mining[3] == round(
             2 * f.TONNES[3]
         )  # formulas count it as 0 too
 
@@ -373,11 +381,9 @@ def test_several_grades_below_0_are_no_mark(tmp_path):
     f = table(4, 4, 3, 2)
     f.loc[3, "CU"], f.loc[5, "CU"] = -0.004, -0.003
     said = refusal(tmp_path, f)
-    assert (
-        "row 5, column CU: -0.004 is below 0; 2 cells are so" in said
-        and "absent" not in said
-        and "0 in their place" in said
-    )
+    assert "row 5, column CU: -0.004 is below 0; 2 cells are so" in said
+    assert "absent" not in said
+    assert "0 in their place" in said
 
 
 def test_depths_count_downward(tmp_path):
@@ -413,11 +419,9 @@ def test_sub_blocks_are_refused_or_add_up(tmp_path_factory, seed, part):
     a_sorted, b_sorted = (m.blocks.sort_values(order).reset_index(drop=True) for m in (a, b))
     for column in ("tonnes", "CU", "AU"):
         assert np.allclose(a_sorted[column], b_sorted[column])
-    assert (
-        (a_sorted[order] == b_sorted[order]).all(axis=None)
-        and (a_sorted.rock == b_sorted.rock).all()
-        and a.grid == b.grid
-    )
+    assert (a_sorted[order] == b_sorted[order]).all(axis=None)
+    assert (a_sorted.rock == b_sorted.rock).all()
+    assert a.grid == b.grid
     # each sub-block's row knows its whole block
     assert (a.blocks.ix.to_numpy()[a.row_block] == np.rint((g.XC - f.XC.min()) / 20 - 1e-9)).all()
 
@@ -437,15 +441,14 @@ def test_sub_blocks_weigh_by_density_and_size(tmp_path):
         }
     )
     model = read(tmp_path, f.assign(ID=["a", "b", "c"]), size=(20, 20, 10), regularise=True)
-    assert model.blocks["id"].tolist() == ["a", "c"] and model.blocks["row"].tolist() == [
+    assert model.blocks["id"].tolist() == ["a", "c"]
+    assert model.blocks["row"].tolist() == [
         0,
         2,
     ]  # both of the first row, whichever is the heaviest
-    assert (
-        model.blocks.tonnes.tolist() == [10000, 10000]
-        and model.blocks.CU.round(6).tolist() == [0.4, 0.5]
-        and model.blocks.rock.tolist() == ["B", "A"]
-    )
+    assert model.blocks.tonnes.tolist() == [10000, 10000]
+    assert model.blocks.CU.round(6).tolist() == [0.4, 0.5]
+    assert model.blocks.rock.tolist() == ["B", "A"]
 
 
 CODED = pd.DataFrame(
@@ -468,11 +471,9 @@ CODED = pd.DataFrame(
 def test_codes_of_sub_blocks_stay_codes(tmp_path):
     """1.9 times 3 by 1.9 is 2.9999999999999996; the third block has 4 m of sector 1 under the lake, and twice 3 m of sector 2."""
     model = read(tmp_path, CODED, size=(20, 20, 10), regularise=True, widen=1)
-    assert (
-        model.blocks.SECTOR[:2].tolist() == [3, 3]
-        and model.blocks.rock[:3].tolist() == ["A", "A", "A"]
-        and model.blocks.CU[2].round(9) == 0.6
-    )
+    assert model.blocks.SECTOR[:2].tolist() == [3, 3]
+    assert model.blocks.rock[:3].tolist() == ["A", "A", "A"]
+    assert model.blocks.CU[2].round(9) == 0.6
     by, told = pp.Slopes(45, by="SECTOR", regions={"3": 40, "2": 42}), costs(
         mining="where(SECTOR == 3, 1, where(SECTOR == 2, 2, 9))",
         processing="where(CU > 0.7, 5, 6)",
@@ -483,12 +484,10 @@ def test_codes_of_sub_blocks_stay_codes(tmp_path):
         assert (
             by.region_of(now).tolist() == [1, 1, 2] + [1] * 7 + [2] * 5
         )  # a copy beside the model has its block's
-        assert priced.forbidden.tolist() == [False, False, True] + [False] * 12 and priced.mining[
-            :2
-        ].tolist() == [7600, 7600]
-        assert priced.processing[:3].tolist() == [38000, 45600, 45600] and now.blocks.SECTOR[2] == (
-            1.6 if now is model else 2
-        )  # by the mean grade, 0.6
+        assert priced.forbidden.tolist() == [False, False, True] + [False] * 12
+        assert priced.mining[:2].tolist() == [7600, 7600]
+        assert priced.processing[:3].tolist() == [38000, 45600, 45600]
+        assert now.blocks.SECTOR[2] == (1.6 if now is model else 2)  # by the mean grade, 0.6
     assert told.partly_forbidden(model)[:3].tolist() == [False, False, True]
     assert any("SECTOR is taken as a code: of 1 blocks" in note for note in now.notes)
 
@@ -534,9 +533,8 @@ def test_coordinates_of_sub_blocks_may_be_rounded(tmp_path, rotation):
     )
     order = ["ix", "iy", "iz"]
     found, whole = found.sort_values(order), whole.sort_values(order)
-    assert (found[order].to_numpy() == whole[order].to_numpy()).all() and np.allclose(
-        found.tonnes, whole.tonnes
-    )
+    assert (found[order].to_numpy() == whole[order].to_numpy()).all()
+    assert np.allclose(found.tonnes, whole.tonnes)
     g.to_csv(tmp_path / "u.csv", index=False)
     assert look_at(tmp_path / "u.csv").rotation == rotation
     off = g.assign(
@@ -566,7 +564,8 @@ def test_a_centre_off_the_grid_is_told_by_its_row(tmp_path):
     lowest = int(f.XC.idxmin())
     f.loc[lowest, "XC"] -= 4
     said = refusal(tmp_path, f)
-    assert f"row {lowest + 2}, column XC" in said and "0.20 of a block of 20 off the grid" in said
+    assert f"row {lowest + 2}, column XC" in said
+    assert "0.20 of a block of 20 off the grid" in said
     assert "rotation" in refusal(tmp_path, table(5, 5, 3, 1, rotation=20))
     assert "no two blocks are neighbours" in refusal(tmp_path, table(5, 5, 3, 1), size=(10, 20, 15))
     far = table(5, 5, 3, 1)
@@ -593,9 +592,9 @@ def test_missing_rows_are_told_apart(tmp_path):
     inside = f.index[(f.XC == 5040) & (f.YC == 9040)]
     assert "the whole column at (5040, 9040) is missing" in refusal(tmp_path, f.drop(inside))
     air = read(tmp_path, f.drop(hole), missing="air")
-    assert (
-        len(air) == len(f) and air.blocks.tonnes.iloc[-1] == 0 and air.blocks.rock.iloc[-1] == "air"
-    )
+    assert len(air) == len(f)
+    assert air.blocks.tonnes.iloc[-1] == 0
+    assert air.blocks.rock.iloc[-1] == "air"
     assert "fill" in refusal(tmp_path, f.drop(hole), missing="rock")
     rock = read(tmp_path, f.drop(hole), missing="rock", fill={"tonnes": 15000.0, "rock": "SUL"})
     last = rock.blocks.iloc[-1]
@@ -620,12 +619,10 @@ def test_what_fills_a_hole_has_the_columns_of_the_block_above(tmp_path):
     last = read(
         tmp_path, f.drop(hole), missing="rock", fill={"tonnes": 15000.0, "rock": "SUL"}
     ).blocks.iloc[-1]
-    assert (last.CU, last.AU, last.SECTOR) == (
-        above.CU,
-        above.AU,
-        above.SECTOR,
-    ) and last.CU != below.CU
-    assert last.CU == above.CU and last.TONNES == above.TONNES != last.tonnes == 15000
+    assert (last.CU, last.AU, last.SECTOR) == (above.CU, above.AU, above.SECTOR)
+    assert last.CU != below.CU
+    assert last.CU == above.CU
+    assert last.TONNES == above.TONNES != last.tonnes == 15000
 
 
 def test_blocks_that_are_added_to_a_table_of_depths_have_depths_there(tmp_path):
@@ -636,9 +633,10 @@ def test_blocks_that_are_added_to_a_table_of_depths_have_depths_there(tmp_path):
         tmp_path, deep, z="depth", missing="rock", fill={"tonnes": 15000.0, "rock": "SUL"}, widen=1
     )
     added = model.blocks["row"] < 0
+    assert added.sum() > 20
     assert (
-        added.sum() > 20 and (model.blocks.ZC == 400 - 15 * model.blocks.iz).all()
-    )  # the lowest centre is 100 up: 400 down
+        model.blocks.ZC == 400 - 15 * model.blocks.iz
+    ).all()  # the lowest centre is 100 up: 400 down
     mining = costs(mining="1 + 0.01 * ZC").priced(model).mining
     assert (
         np.abs(mining - model.blocks.tonnes * (1 + 0.01 * (400 - 15 * model.blocks.iz))).max()
@@ -672,8 +670,10 @@ def test_widened(tmp_path):
     assert model.grid.shape[:2] == (12, 11)
     added = model.blocks[model.blocks["row"] < 0]
     x, y, z = model.xyz()
-    assert np.allclose(x, model.blocks.XC) and np.allclose(y, model.blocks.YC)
-    assert np.allclose(x[: len(f)], f.XC) and len(added) == len(model) - len(f) > 0
+    assert np.allclose(x, model.blocks.XC)
+    assert np.allclose(y, model.blocks.YC)
+    assert np.allclose(x[: len(f)], f.XC)
+    assert len(added) == len(model) - len(f) > 0
     assert (costs().priced(model).revenue[len(f) :] == 0).all()
     assert set(zip(added.ix, added.iy)) == {(i, j) for i in range(12) for j in range(11)} - {
         (i, j) for i in range(3, 9) for j in range(3, 8)
@@ -700,3 +700,66 @@ def test_the_usual_spanish_names_of_ids_and_rocks():
         "density": "DENS",
         "rock": "LITO",
     }
+
+
+RETURNS = [
+    ("ID,X,Y\n1,2,3\n4,5\r,6\n", 3, "'4,5'"),
+    ("ID,X,Y\r\n1,2,3\r\n4,a\rb,6\r\n", 3, "'4,a'"),
+    ('ID,X,Y\n1,"a\rb",3\n4,a\rb,6\n', 3, "'4,a'"),  # quotes keep the first
+    ("ID;X;Y\n\n1;2;3\n4;5;6\r7;8;9\n", 4, "'4;5;6'"),
+]
+
+
+@pytest.mark.parametrize("text, row, before", RETURNS)
+@pytest.mark.parametrize("ending", ["csv", "csv.gz"])
+def test_a_carriage_return_within_a_row_is_told(tmp_path, text, row, before, ending):
+    path = tmp_path / f"t.{ending}"
+    path.write_bytes(gzip.compress(text.encode()) if ending == "csv.gz" else text.encode())
+    with pytest.raises(PlanError) as error:
+        read_frame(path, dialect_of(path))
+    assert error.value.row is not None
+    assert error.value.row + 2 == row
+    assert f"a carriage return stands within the row, after {before}" in str(error.value)
+    assert "take it out; or quotes around that cell" in str(error.value)
+
+
+@pytest.mark.parametrize(
+    "text", ['ID,X,Y\n1,"a\rb",3\n', "ID,X,Y\r\n1,2,3\r\n4,5,6", "ID,X,Y\n1,2,3\r\r\n4,5,6\r"]
+)
+def test_a_carriage_return_in_quotes_or_at_an_end_is_none(tmp_path, text):
+    (tmp_path / "t.csv").write_text(text, newline="")
+    assert list(read_frame(tmp_path / "t.csv", dialect_of(tmp_path / "t.csv"))["Y"].dropna())
+
+
+def test_a_carriage_return_at_the_end_of_a_piece_is_one_of_two(tmp_path, monkeypatch):
+    """A piece of the file may end between the two letters of a line's end."""
+    from pitplan.table import csv_text
+
+    for size in range(1, 12):
+        monkeypatch.setattr(csv_text, "PIECE", size)
+        assert not csv_text.has_lone_return(io.BytesIO(b"a,b\r\n1,2\r\n"))
+        assert csv_text.has_lone_return(io.BytesIO(b"a,b\r\n1\r,2\r\n"))
+
+
+@pytest.mark.parametrize(
+    "there, asked, wanted",
+    [
+        (["mine_2024.csv", "prices.csv"], "mine2024.csv", "/mine_2024.csv"),
+        (["Mine.CSV"], "mine.csv", "/Mine.CSV, which is there: large and small letters count"),
+        (["blocks.csv.gz"], "blocks.csv", "/blocks.csv.gz"),
+        (["a.csv", "b.csv"], "zzzzzz.csv", "one of the tables of that folder: a.csv, b.csv"),
+        (["notes.pdf"], "zzzzzz.csv", " has none"),
+        (["sub/mine.csv"], "mine.csv", "sub/mine.csv"),
+        (["mine.csv"], "sub/mine.csv", "mine.csv"),
+        ([], "sub/mine.csv", "another folder: there is no "),
+    ],
+)
+def test_a_table_that_isn_t_there_has_a_remedy(tmp_path, there, asked, wanted):
+    for name in there:
+        (tmp_path / name).parent.mkdir(exist_ok=True)
+        (tmp_path / name).write_text("x\n")
+    if asked == "sub/mine.csv" and there:
+        (tmp_path / "sub").mkdir()
+    with pytest.raises(PlanError, match="there is no such file") as error:
+        dialect_of(tmp_path / asked)
+    assert wanted in str(error.value.try_this)

@@ -95,9 +95,8 @@ def test_as_many_at_once_as_cores_and_memory_have_room_for():
             replace(ONE, cores=1),
         )
     ] == [2, 1, 6, 1]
-    assert seconds(four, ONE) == pytest.approx(20 + 20 + 2, abs=2) and seconds(
-        four, replace(ONE, cores=1)
-    ) == pytest.approx(80 + 2, abs=2)
+    assert seconds(four, ONE) == pytest.approx(20 + 20 + 2, abs=2)
+    assert seconds(four, replace(ONE, cores=1)) == pytest.approx(80 + 2, abs=2)
     with pytest.raises(ValueError):
         simulated(replace(WORK, asked_mb=31), ONE)
 
@@ -106,4 +105,5 @@ def test_a_node_that_dies_costs_the_pits_that_were_half_found():
     out = simulated(
         replace(WORK, tasks=2), replace(ONE, nodes=2, cores=1), dies_at=21
     )  # at 21 of 24 seconds each has found a pit
-    assert out.lost_pits == 1 and out.hours * 3600 == pytest.approx(21 + 120 + 10 + 5, abs=2)
+    assert out.lost_pits == 1
+    assert out.hours * 3600 == pytest.approx(21 + 120 + 10 + 5, abs=2)

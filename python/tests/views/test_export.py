@@ -6,9 +6,6 @@ import fiona
 import numpy as np
 import pandas as pd
 import pytest
-from hypothesis import given, strategies as st
-from hypothesis.extra.numpy import arrays
-from scipy import ndimage
 from shapely.geometry import Point, Polygon, shape
 from vtkmodules.util.numpy_support import vtk_to_numpy
 from vtkmodules.vtkFiltersCore import vtkCellCenters
@@ -18,13 +15,13 @@ from vtkmodules.vtkIOXML import vtkXMLUnstructuredGridReader
 import pitplan as pp
 from mines import SIZE, costs, study_of, table, written_study
 from pitplan.table import spreadsheets
+from pitplan.model import outlines
 from pitplan.views.export import (
     csv as export_csv,
     dxf as export_dxf,
     gpkg as export_gpkg,
     vtu as export_vtu,
 )
-from pitplan.model import outlines
 from pitplan.base.files import whole_file
 from served import pitplan
 
@@ -44,48 +41,11 @@ def turned(request, tmp_path_factory):
     )
 
 
-planes = arrays(bool, st.tuples(st.integers(1, 9), st.integers(1, 9)))
-
-
-@given(planes)
-def test_an_outline_has_the_cells_and_no_more(plane):
-    found = outlines.outline(plane)
-    assert found.is_valid and found.area == plane.sum()
-    for (i, j), there in np.ndenumerate(plane):
-        assert found.contains(Point(i, j)) == there
-    _, pieces = ndimage.label(plane)
-    assert len(found.geoms) == pieces
-    _, gaps = ndimage.label(~np.pad(plane, 1), np.ones((3, 3)))
-    assert (
-        sum(len(p.interiors) for p in found.geoms) >= gaps - 1
-    )  # a gap that is cut off by a corner alone is a hole too
-    for points, is_hole in outlines.rings(found):
-        ring = Polygon(points)
-        assert ring.exterior.is_ccw != is_hole
-        ways = np.roll(points, -1, axis=0) - points
-        assert ((ways != 0).sum(axis=1) == 1).all() and (
-            ways[:, 0] * np.roll(ways, -1, axis=0)[:, 0] == 0
-        ).all()  # each corner turns
-
-
-def test_corners_are_cut_to_a_straight_line():
-    stairs = np.array([[j <= i for j in range(6)] for i in range(6)])
-    found = outlines.cut(outlines.outline(stairs))
-    assert found.is_valid and len(found.geoms) == 1
-    slanting = [p for p in np.asarray(found.geoms[0].exterior.coords) if 1 <= p[0] <= 4]
-    upper = [p for p in slanting if p[1] > 0]
-    assert upper and all(abs(p[1] - p[0] - 0.0) <= 0.5 for p in upper)
-    square = outlines.cut(outlines.outline(np.ones((3, 3), bool)))
-    assert square.area == 9 - 4 / 8  # four corners point out
-    ring = np.ones((3, 3), bool)
-    ring[1, 1] = False
-    assert outlines.cut(outlines.outline(ring)).area == 8 - 4 / 8 + 4 / 8
-
-
 def polylines(path, layer):
     """Elevation, polygon, and what it is, of each polyline of a layer."""
     document = ezdxf.readfile(path)
-    assert not document.audit().has_errors and not document.audit().fixes
+    assert not document.audit().has_errors
+    assert not document.audit().fixes
     for line in document.modelspace().query(f'LWPOLYLINE[layer=="{layer}"]'):
         assert line.closed
         yield line.dxf.elevation, Polygon(
@@ -97,7 +57,8 @@ def test_dxf_outlines_hold_the_blocks_of_the_table(tmp_path, turned):
     shells, f = turned
     count = export_dxf.write(shells, tmp_path / "x.dxf")
     document = ezdxf.readfile(tmp_path / "x.dxf")
-    assert len(document.modelspace()) == count and document.units == ezdxf.units.M
+    assert len(document.modelspace()) == count
+    assert document.units == ezdxf.units.M
     for i, factor in enumerate(shells.factors):
         inside = f[shells.holds(i)]
         assert len(inside)
@@ -115,15 +76,25 @@ def test_dxf_outlines_hold_the_blocks_of_the_table(tmp_path, turned):
                 assert around.count("outline") - around.count("hole") == 1
 
 
+def test_outlines_are_traced_once_for_all_files(tmp_path, turned, monkeypatch):
+    shells, f = turned
+    shells, traced = shells.study.shells(shells.factors), []
+    once = outlines.outline
+    monkeypatch.setattr(outlines, "outline", lambda plane: traced.append(1) or once(plane))
+    export_dxf.write(shells, tmp_path / "x.dxf")
+    export_gpkg.write(shells, tmp_path / "x.gpkg")
+    benches = sum(len(set(f[shells.holds(i)].ZC)) for i in range(len(shells)))
+    assert len(traced) == benches + len(shells)  # and a rim for each pit
+
+
 def test_dxf_of_some_pits_with_corners_cut(tmp_path, turned):
     shells, _ = turned
     export_dxf.write(shells, tmp_path / "x.dxf", pits=[2], cuts_corners=True)
     layers = {line.dxf.layer for line in ezdxf.readfile(tmp_path / "x.dxf").modelspace()}
     assert layers == {"SHELL_1000_TOE", "SHELL_1000_CREST"}
     found = list(polylines(tmp_path / "x.dxf", "SHELL_1000_TOE"))
-    assert not any(p.exterior.length < 1 for _, p, _ in found) and all(
-        p.is_valid for _, p, _ in found
-    )
+    assert not any(p.exterior.length < 1 for _, p, _ in found)
+    assert all(p.is_valid for _, p, _ in found)
 
 
 def test_dxf_of_holes(tmp_path):
@@ -146,11 +117,9 @@ def test_dxf_of_holes(tmp_path):
     assert shells.holds(0).sum() == 8
     export_dxf.write(shells, tmp_path / "x.dxf")
     found = {what: p for _, p, what in polylines(tmp_path / "x.dxf", "SHELL_1000_TOE")}
-    assert (
-        found["hole"].area == pytest.approx(400)
-        and found["outline"].area == pytest.approx(9 * 400)
-        and found["hole"].centroid.coords[0] == pytest.approx((40, 40))
-    )
+    assert found["hole"].area == pytest.approx(400)
+    assert found["outline"].area == pytest.approx(9 * 400)
+    assert found["hole"].centroid.coords[0] == pytest.approx((40, 40))
 
 
 def read_vtu(path):
@@ -171,11 +140,8 @@ def test_vtu_blocks_are_those_of_the_table(tmp_path, turned, is_whole):
     words = export_vtu.write(shells, tmp_path / "x.vtu", is_whole=is_whole)
     grid, data = read_vtu(tmp_path / "x.vtu")
     wanted = f if is_whole else f[shells.shell < 4]
-    assert grid.GetNumberOfCells() == len(wanted) > 0 and {
-        grid.GetCellType(n) for n in range(len(wanted))
-    } == {
-        12
-    }  # VTK_HEXAHEDRON
+    assert grid.GetNumberOfCells() == len(wanted) > 0
+    assert {grid.GetCellType(n) for n in range(len(wanted))} == {12}  # VTK_HEXAHEDRON
     sizes = vtkCellSizeFilter()
     sizes.SetInputData(grid)
     sizes.Update()
@@ -189,7 +155,8 @@ def test_vtu_blocks_are_those_of_the_table(tmp_path, turned, is_whole):
     )
     for name in ("CU", "AU", "TONNES"):
         assert np.array_equal(data[name], wanted[name])
-    assert np.array_equal(data["block"], wanted.index) and np.array_equal(data["SEEN"], wanted.SEEN)
+    assert np.array_equal(data["block"], wanted.index)
+    assert np.array_equal(data["SEEN"], wanted.SEEN)
     names = words[words["column"] == "rock"].set_index("number")["word"]
     assert [names[n] for n in data["rock"]] == wanted.ROCK.tolist()
     assert pd.read_csv(tmp_path / "x.vtu.words.csv").equals(words)
@@ -210,10 +177,8 @@ def test_vtu_columns(tmp_path):
     shells = study_of(tmp_path, f).shells([1200])
     export_vtu.write(shells, tmp_path / "x.vtu", ["shell", "NOTE"], is_whole=True)
     _, data = read_vtu(tmp_path / "x.vtu")
-    assert (
-        set(data) == {"block", "shell", "worth", "shell of the table", "NOTE"}
-        and (data["shell of the table"] == 7).all()
-    )
+    assert set(data) == {"block", "shell", "worth", "shell of the table", "NOTE"}
+    assert (data["shell of the table"] == 7).all()
     with pytest.raises(pp.PlanError, match="no column 'CUU'; is 'CU' meant"):
         export_vtu.write(shells, tmp_path / "y.vtu", ["CUU"])
     assert not (tmp_path / "y.vtu").exists()
@@ -227,69 +192,62 @@ def test_geopackage_polygons(tmp_path, turned):
         f.TONNES * f.ROCK.map({"OXI": 7.5, "SUL": 9.0})
     )
     with fiona.open(tmp_path / "x.gpkg", layer="benches") as layer:
-        assert layer.crs["init"] == "epsg:32719" and layer.schema["geometry"] == "MultiPolygon"
+        assert layer.crs["init"] == "epsg:32719"
+        assert layer.schema["geometry"] == "MultiPolygon"
         benches = [(dict(row["properties"]), shape(row["geometry"])) for row in layer]
     for i, factor in enumerate(shells.factors):
         inside = f[shells.holds(i)]
         mine = [(told, polygon) for told, polygon in benches if told["factor"] == factor / 1000]
-        assert len(mine) == inside.ZC.nunique() and sum(
-            told["volume"] for told, _ in mine
-        ) == pytest.approx(len(inside) * BLOCK)
+        assert len(mine) == inside.ZC.nunique()
+        assert sum(told["volume"] for told, _ in mine) == pytest.approx(len(inside) * BLOCK)
         for told, polygon in mine:
             here = inside[np.isclose(inside.ZC, (told["toe"] + told["crest"]) / 2)]
+            assert polygon.is_valid
             assert (
-                polygon.is_valid
-                and polygon.area
+                polygon.area
                 == pytest.approx(told["area"])
                 == pytest.approx(len(here) * SIZE[0] * SIZE[1])
-                and told["blocks"] == len(here)
             )
+            assert told["blocks"] == len(here)
             assert all(polygon.contains(Point(x, y)) for x, y in zip(here.XC, here.YC))
-            assert told["rock_t"] == pytest.approx(here.TONNES.sum()) and told[
-                "ore_t"
-            ] == pytest.approx(here.TONNES[ore].sum())
+            assert told["rock_t"] == pytest.approx(here.TONNES.sum())
+            assert told["ore_t"] == pytest.approx(here.TONNES[ore].sum())
     with fiona.open(tmp_path / "x.gpkg", layer="rims") as layer:
         rims = [(dict(row["properties"]), shape(row["geometry"])) for row in layer]
-    assert len(rims) == len(shells.factors) and count == len(benches) + len(rims)
+    assert len(rims) == len(shells.factors)
+    assert count == len(benches) + len(rims)
     for i, (told, polygon) in enumerate(rims):
         inside = f[shells.holds(i)]
         columns = len(inside[["XC", "YC"]].round(3).drop_duplicates())
-        assert (
-            polygon.area == pytest.approx(columns * SIZE[0] * SIZE[1])
-            and told["blocks"] == len(inside)
-            and told["worth"] == shells.verdicts[i]["worth"]
-        )
+        assert polygon.area == pytest.approx(columns * SIZE[0] * SIZE[1])
+        assert told["blocks"] == len(inside)
+        assert told["worth"] == shells.verdicts[i]["worth"]
 
 
 def test_geopackage_without_a_system_and_of_an_empty_pit(tmp_path):
     shells = study_of(tmp_path, table(4, 4, 3, 1)).shells([0])
-    assert not shells.holds(0).any() and export_gpkg.write(shells, tmp_path / "x.gpkg") == 0
+    assert not shells.holds(0).any()
+    assert export_gpkg.write(shells, tmp_path / "x.gpkg") == 0
     with fiona.open(tmp_path / "x.gpkg", layer="benches") as layer:
-        assert len(layer) == 0 and layer.crs.wkt.startswith(
-            'LOCAL_CS["Undefined Cartesian SRS"'
-        )  # and not degrees
+        assert len(layer) == 0
+        assert layer.crs.wkt.startswith('LOCAL_CS["Undefined Cartesian SRS"')  # and not degrees
     for crs, said in (("EPSG:1", "no coordinate system"), ("EPSG:4326", "in degrees")):
         with pytest.raises(pp.PlanError, match=said):
             export_gpkg.write(shells, tmp_path / "y.gpkg", crs=crs)
-    assert (
-        export_dxf.write(shells, tmp_path / "x.dxf") == 0
-        and not ezdxf.readfile(tmp_path / "x.dxf").audit().has_errors
-    )
+    assert export_dxf.write(shells, tmp_path / "x.dxf") == 0
+    assert not ezdxf.readfile(tmp_path / "x.dxf").audit().has_errors
 
 
 def test_csv_of_blocks(tmp_path, turned):
     shells, f = turned
     assert export_csv.write(shells, tmp_path / "x.csv", ["CU"], is_whole=True) == len(f)
     found = pd.read_csv(tmp_path / "x.csv")
-    assert (
-        found.id.tolist() == f.IJK.tolist()
-        and (found.row == f.index + 2).all()
-        and np.allclose(found[["x", "y", "z"]], f[["XC", "YC", "ZC"]])
-        and np.array_equal(found.CU, f.CU)
-    )
-    assert (found["shell"].notna() == (shells.shell < 4)).all() and (
-        found["to"] == "mill"
-    ).sum() == shells.study.priced.milled(1000).sum()
+    assert found.id.tolist() == f.IJK.tolist()
+    assert (found.row == f.index + 2).all()
+    assert np.allclose(found[["x", "y", "z"]], f[["XC", "YC", "ZC"]])
+    assert np.array_equal(found.CU, f.CU)
+    assert (found["shell"].notna() == (shells.shell < 4)).all()
+    assert (found["to"] == "mill").sum() == shells.study.priced.milled(1000).sum()
     assert (
         found.worth[shells.holds(2)].sum()
         == float(shells.study.mask(1000).dot(shells.study.priced.worth(1000)))
@@ -322,9 +280,8 @@ def test_worths_and_ways_of_blocks_are_the_table_s_in_cents_too(tmp_path):
         ).max()
         < 1e-3
     )
-    assert (found["to"] == np.where(revenue > processing, "mill", "waste")).all() and (
-        found.worth % 1 != 0
-    ).any()
+    assert (found["to"] == np.where(revenue > processing, "mill", "waste")).all()
+    assert (found.worth % 1 != 0).any()
 
 
 def test_a_forbidden_block_has_its_own_worth_and_a_code_is_a_whole_number(tmp_path):
@@ -342,9 +299,11 @@ def test_a_forbidden_block_has_its_own_worth_and_a_code_is_a_whole_number(tmp_pa
         )
     )
     worth = np.maximum(revenue - processing, 0) - np.rint(2 * f.TONNES)
-    assert found.worth.tolist() == worth.tolist() and is_shut.any()
+    assert found.worth.tolist() == worth.tolist()
+    assert is_shut.any()
     assert (found["to"] == "forbidden").tolist() == is_shut.tolist()
-    assert found.SECCOD.dtype.kind == "i" and (found.SECCOD == f.SECCOD).all()
+    assert found.SECCOD.dtype.kind == "i"
+    assert (found.SECCOD == f.SECCOD).all()
     export_vtu.write(shells, tmp_path / "x.vtu", is_whole=True)
     _, data = read_vtu(tmp_path / "x.vtu")
     assert data["worth"].tolist() == worth.tolist()
@@ -376,11 +335,11 @@ def test_words_that_a_spreadsheet_would_run_arent_written_as_formulas(tmp_path):
         for cell in row
         if cell[:1] in "=+-@" and cell and not cell[1:].replace(".", "").isdigit()
     ]
-    assert len(rows) == len(f) and not risky
+    assert len(rows) == len(f)
+    assert not risky
     assert [spreadsheets.as_written(row[0]) for row in rows] == f.IJK.tolist()
-    assert spreadsheets.harmless(fine).tolist() == fine and spreadsheets.harmless(bad).tolist() == [
-        "'" + word for word in bad
-    ]
+    assert spreadsheets.harmless(fine).tolist() == fine
+    assert spreadsheets.harmless(bad).tolist() == ["'" + word for word in bad]
 
 
 def test_a_file_that_fails_leaves_the_older_one(tmp_path):
@@ -389,7 +348,8 @@ def test_a_file_that_fails_leaves_the_older_one(tmp_path):
         with whole_file(tmp_path / "x") as part:
             part.write_text("half")
             1 / 0
-    assert (tmp_path / "x").read_text() == "older" and [p.name for p in tmp_path.iterdir()] == ["x"]
+    assert (tmp_path / "x").read_text() == "older"
+    assert [p.name for p in tmp_path.iterdir()] == ["x"]
 
 
 def test_the_command(tmp_path):
@@ -397,11 +357,9 @@ def test_the_command(tmp_path):
     assert pitplan("export", study).returncode == 3
     assert pitplan("build", study).returncode == 0
     early = pitplan("export", study)
-    assert (
-        early.returncode == 3
-        and "haven't been run" in early.stderr
-        and "pitplan shells " in early.stderr
-    )
+    assert early.returncode == 3
+    assert "haven't been run" in early.stderr
+    assert "pitplan shells " in early.stderr
     assert pitplan("shells", study).returncode == 0
     ran = pitplan("export", study, "--to", "dxf,vtu,csv,gpkg", "--columns", "CU,ROCK")
     assert ran.returncode == 0, ran.stderr
@@ -413,9 +371,11 @@ def test_the_command(tmp_path):
         f"SHELL_{k:04d}_{edge}" for k in (600, 1000, 1200) for edge in ("TOE", "CREST")
     }
     one = pitplan("export", study, "--to", "dxf", "--factors", "1.0")
-    assert one.returncode == 0 and {
-        line.dxf.layer for line in ezdxf.readfile(study / "out/shells.dxf").modelspace()
-    } == {"SHELL_1000_TOE", "SHELL_1000_CREST"}
+    assert one.returncode == 0
+    assert {line.dxf.layer for line in ezdxf.readfile(study / "out/shells.dxf").modelspace()} == {
+        "SHELL_1000_TOE",
+        "SHELL_1000_CREST",
+    }
     for words, said in (
         (("--to", "dxg"), "is 'dxf' meant"),
         (("--columns", "CUU"), "is 'CU' meant"),
@@ -424,6 +384,22 @@ def test_the_command(tmp_path):
         (("--to", "gpkg", "--crs", "here"), "no coordinate system"),
     ):
         wrong = pitplan("export", study, *words)
-        assert (
-            wrong.returncode == 3 and said in wrong.stderr and "Traceback" not in wrong.stderr
-        ), wrong.stderr
+        assert wrong.returncode == 3, wrong.stderr
+        assert said in wrong.stderr, wrong.stderr
+        assert "Traceback" not in wrong.stderr, wrong.stderr
+
+
+@pytest.mark.parametrize(
+    "words, numbers",
+    [
+        (["TRUE", "false", " True ", ""], [1, 0, 1, 0]),
+        (["FALSE", np.nan, "FALSE"], [0, 0, 0]),
+        (["TRUE", "FALSE", "MAYBE"], None),
+        (["SUL", "TRUE"], None),
+        (["", ""], None),
+    ],
+)
+def test_a_column_of_true_and_false_is_told_from_other_words(words, numbers):
+    found = export_vtu.yes_or_no(pd.Series(words, dtype=object))
+    assert (found is None) == (numbers is None)
+    assert numbers is None or found.tolist() == numbers

@@ -1,4 +1,5 @@
 """The page in real browsers, against the tables, the pits and the certificates that it was made of."""
+from decimal import Decimal
 import copy
 import re
 import shutil
@@ -156,23 +157,19 @@ def rows_of(browser, table=0):
 
 
 def test_it_opens_without_a_word_on_the_console(pits_view, shells):
-    assert (
-        pits_view.title == f"{MARKUP}: nested pits"
-        and pits_view.find_element(By.TAG_NAME, "h1").text == pits_view.title
-    )
+    assert pits_view.title == f"{MARKUP}: nested pits"
+    assert pits_view.find_element(By.TAG_NAME, "h1").text == pits_view.title
     assert pits_view.execute_script("return document.documentElement.lang") == "en"
-    assert text_of(pits_view, "step") == "1.00" and slider(pits_view).get_attribute("max") == str(
-        len(shells.factors)
-    )
+    assert text_of(pits_view, "step") == "1.00"
+    assert slider(pits_view).get_attribute("max") == str(len(shells.factors))
     assert not pits_view.find_element(By.ID, "none").is_displayed()
     assert pits_view.get_log("browser") == []
 
 
 def test_the_slider_goes_by_keys(pits_view, shells):
     slider(pits_view).send_keys(Keys.HOME)
-    assert text_of(pits_view, "step") == "none: the ground as it is" and set(
-        facts(pits_view).values()
-    ) == {"-"}
+    assert text_of(pits_view, "step") == "none: the ground as it is"
+    assert set(facts(pits_view).values()) == {"-"}
     assert not pits_view.find_elements(By.CSS_SELECTOR, "tr[aria-current]")
     for factor in ("0.60", "0.80", "1.00", "1.20"):
         slider(pits_view).send_keys(Keys.ARROW_RIGHT)
@@ -197,8 +194,10 @@ def test_facts_are_those_of_the_table_and_of_pit(pits_view, shells, table):
             == shells.verdicts[i]["count"]
             == np.count_nonzero(shells.shell <= i)
         )
-        assert told["Worth at its own factor, proved ($)"].replace(",", "") == str(
-            shells.verdicts[i]["worth"]
+        worth = told["Worth at its own factor, proved ($)"].replace(",", "")
+        assert Decimal(worth) == Decimal(str(shells.verdicts[i]["worth"]))
+        assert len(worth.partition(".")[2]) == max(
+            len(str(verdict["worth"]).partition(".")[2]) for verdict in shells.verdicts
         )
         at = shells.study.model.blocks["iz"][shells.shell <= i]
         assert number(told["Toe of the lowest bench (m)"]) == 100 - 15 / 2 + 15 * at.min()
@@ -210,23 +209,17 @@ def test_facts_are_those_of_the_table_and_of_pit(pits_view, shells, table):
             ("Discounted, worst case", "npv_worst"),
         ):
             assert has(told, name, row[column]), (name, told, row[column])
-        assert (
-            abs(number(told["Strip ratio (t/t)"]) - row["strip"]) < 0.00501
-            and abs(number(told["Years"]) - row["years"]) < 0.0501
-        )
-        assert (
-            rows_of(pits_view)[i][1:] == list(told.values())
-            and text_of(pits_view, "step") == rows_of(pits_view)[i][0]
-        )
+        assert abs(number(told["Strip ratio (t/t)"]) - row["strip"]) < 0.00501
+        assert abs(number(told["Years"]) - row["years"]) < 0.0501
+        assert rows_of(pits_view)[i][1:] == list(told.values())
+        assert text_of(pits_view, "step") == rows_of(pits_view)[i][0]
         assert len(pits_view.find_elements(By.CSS_SELECTOR, "tr[aria-current]")) == 1
 
 
 def test_facts_of_a_pushback_are_its_own(phases_view, phases):
     found = phases.table()
-    assert (
-        slider(phases_view).get_attribute("max") == "2" == text_of(phases_view, "step")
-        and text_of(phases_view, "slides") == "After pushback"
-    )
+    assert slider(phases_view).get_attribute("max") == "2" == text_of(phases_view, "step")
+    assert text_of(phases_view, "slides") == "After pushback"
     slider(phases_view).send_keys(Keys.HOME)
     for row in found.to_dict("records"):
         slider(phases_view).send_keys(Keys.ARROW_RIGHT)
@@ -236,10 +229,8 @@ def test_facts_of_a_pushback_are_its_own(phases_view, phases):
             == row["blocks"]
             == np.count_nonzero(phases.pushback == row["pushback"])
         )
-        assert (
-            number(told["Factor of its pit"]) == row["factor"]
-            and number(told["Thinnest (m)"]) == row["width"]
-        )
+        assert number(told["Factor of its pit"]) == row["factor"]
+        assert number(told["Thinnest (m)"]) == row["width"]
         assert (number(told["From (m)"]), number(told["Down to (m)"])) == (
             row["top"],
             row["bottom"],
@@ -264,19 +255,14 @@ def test_facts_of_a_design_and_of_the_best_pit(design_view, shells, compared):
         ("best pit", study.mask(1000), study.verdict(1000)["worth"]),
     ):
         told = dict(zip(facts(design_view), rows[name]))
-        assert (
-            number(told["Blocks"]) == mask.sum()
-            and told["Worth at factor 1.00, exact ($)"].replace(",", "") == worth
-        )
-        assert has(told, "Ore", b.tonnes[mask & milled].sum()) and has(
-            told, "Waste", b.tonnes[mask & ~milled].sum()
-        )
+        assert number(told["Blocks"]) == mask.sum()
+        assert told["Worth at factor 1.00, exact ($)"].replace(",", "") == worth
+        assert has(told, "Ore", b.tonnes[mask & milled].sum())
+        assert has(told, "Waste", b.tonnes[mask & ~milled].sum())
     said = text_of(design_view, "said")
-    assert (
-        f"pit value says of the design: {compared.said}" in said
-        and "breaks the slopes" in said
-        and f"{int(compared.repair.gap):,}" in said
-    )
+    assert f"pit value says of the design: {compared.said}" in said
+    assert "breaks the slopes" in said
+    assert f"{int(compared.repair.gap):,}" in said
     benches = np.array([[number(cell) for cell in row] for row in rows_of(design_view, 1)])
     for column, mask in (
         (1, compared.design.held),
@@ -320,7 +306,8 @@ def test_the_picture_isnt_blank_and_follows_the_slider_and_the_controls(pits_vie
     slider(pits_view).send_keys(Keys.HOME)
     for _ in range(len(shells.factors) + 1):
         colours, largest, picture = pits_view.execute_script(PIXELS)
-        assert colours > 3 and largest < 0.95
+        assert colours > 3
+        assert largest < 0.95
         seen.append(picture)
         slider(pits_view).send_keys(Keys.ARROW_RIGHT)
     assert len(set(seen)) == len(np.unique(shells.shell[shells.shell < len(shells.factors)])) + 1
@@ -393,8 +380,8 @@ LEFT, TOP, INNER = 98, 10, (-0.28, -0.17, -0.06, 0.06, 0.17, 0.28)
 
 def layout(browser, model, way):
     """Where a place (index along x, y and z, whole at a block's centre) is drawn in a cut, in points of the screen."""
-    grid, room = model.grid, browser.execute_script(
-        "return document.getElementById('section').clientWidth - 34"
+    grid, (room, tall) = model.grid, browser.execute_script(
+        "return [document.getElementById('section').clientWidth - 34, Math.max(360, Math.round(innerHeight * 0.8))]"
     )
     if way == "z":
         east, north = (
@@ -405,7 +392,7 @@ def layout(browser, model, way):
                 0,
             )[:2]
         )
-        scale = min((room - LEFT - 44) / np.ptp(east), 520 / np.ptp(north))
+        scale = min((room - LEFT - 44) / np.ptp(east), tall / np.ptp(north))
 
         def plan(ix, iy, _):
             e, n, _ = grid.world(ix, iy, 0)
@@ -415,7 +402,7 @@ def layout(browser, model, way):
     axis = 0 if way == "y" else 1
     scale = min(
         (room - LEFT - 10) / (grid.shape[axis] * grid.size[axis]),
-        320 / (grid.shape[2] * grid.size[2]),
+        tall / (grid.shape[2] * grid.size[2]),
     )
     return lambda ix, iy, iz: (
         LEFT + ((ix, iy)[axis] + 0.5) * grid.size[axis] * scale,
@@ -462,6 +449,96 @@ def test_sections_and_plans_show_what_each_block_is(all_views, shells, phases, c
                 assert colours[0][0] == key[kind], (way, at, kind)
     assert seen == set(kinds)
     patterns(all_views, True)
+
+
+def test_a_cut_fills_its_canvas_at_every_width(all_views):
+    """The canvas ends where the picture does: 10 points beside a section, 44 beside a plan with its arrow to the north; and the picture
+    is as wide as the page, or as high as four fifths of the window."""
+    chosen(all_views, PITS)
+    try:
+        for width, height in ((1280, 900), (1920, 1080), (700, 1000)):
+            all_views.set_window_size(width, height)
+            room, inner = all_views.execute_script(
+                "drawCut(); return [document.getElementById('section').clientWidth - 34, innerHeight]"
+            )
+            for way, beside in (("y", 10), ("z", 44)):
+                cut(all_views, way, 2)
+                wide, right, foot = all_views.execute_script(
+                    "const c = document.getElementById('profile').getBoundingClientRect(); return [c.width, CUT.right, CUT.foot]"
+                )
+                assert abs(wide - right - beside) <= 2, (width, way, wide, right)
+                assert room - wide <= 2 or foot - 10 >= 0.79 * max(450, inner), (width, way)
+    finally:
+        all_views.set_window_size(1300, 900)
+
+
+def test_colours_are_spaced_by_tonnes(pits_view, shells, table, phases):
+    """From shade to shade it is as far as from middle to middle of the tonnes of two pits, but for a quarter that is shared out evenly."""
+    rock = table["rock_t"].tolist()
+    of_phase = phases.table()["rock_t"].tolist()
+    for view, adds in (
+        (0, [rock[0], *(b - a for a, b in zip(rock, rock[1:]))]),
+        (1, of_phase),
+    ):
+        told = pits_view.execute_script("return D.views[arguments[0]].tones", view)
+        apart = [(a + b) / 2 for a, b in zip(adds, adds[1:])]
+        wanted = [0.0]
+        for gap in apart:
+            wanted.append(wanted[-1] + 0.25 / len(apart) + 0.75 * gap / sum(apart))
+        assert np.allclose(told, wanted), (told, wanted)
+    shades = pits_view.execute_script(
+        "return V.steps.map((_, k) => colourOf(k + 1)).map((c, k) => ramp(V.tones[k]).every((part, n) => part === c[n]))"
+    )
+    assert shades == [True] * len(shells.factors)
+
+
+def test_colours_of_three_pushbacks_go_by_their_tonnes(shells):
+    """What each pushback adds, by the table's tonnes: of two any spacing is the same."""
+    found = Phases(pp.Shells(shells.study, [600, 800, 1200]))
+    rock = [shells.study.model.blocks.TONNES[found.pushback == k].sum() for k in (1, 2, 3)]
+    assert len(set(rock)) == 3
+    first, last = (rock[0] + rock[1]) / 2, (rock[1] + rock[2]) / 2
+    told = page.of_view(page_views.phases(found))["tones"]
+    assert told == pytest.approx([0.0, 0.125 + 0.75 * first / (first + last), 1.0])
+
+
+def test_benches_have_ticks_and_round_labels(pits_view):
+    """Of benches every first, second, fifth or tenth has its elevation: by hand for a floor of 92.5 and benches of 15."""
+    for room, toes in (
+        (10, [92.5, 107.5, 122.5, 137.5, 152.5, 167.5]),
+        (25, [92.5, 122.5, 152.5]),
+        (45, [92.5, 167.5]),
+    ):
+        found = pits_view.execute_script(
+            "return benches(15, arguments[0]).map(k => D.floor + k * SZ)", room
+        )
+        assert found == toes, (room, found)
+
+
+def test_four_metals_have_room_at_1280_points(browser, file, tmp_path):
+    """A table that runs out of the page hides its last columns."""
+    metals = [
+        pp.Metal(name, column, price=price, grade_unit=unit, recovery=0.85)
+        for name, column, price, unit in (
+            ("copper", "CU", 8500, "%"),
+            ("gold", "AU", 5e7, "g/t"),
+            ("silver", "AU", 7e5, "ppm"),
+            ("molybdenum", "CU", 400, "%"),
+        )
+    ]
+    frame = mine(9, 8, 5, 5).assign(TONNES=lambda f: f.TONNES * 100)
+    found = study_of(tmp_path, frame, economics=costs(metals=metals)).shells([600, 1000])
+    browser.set_window_size(1280, 900)
+    try:
+        opened(browser, page.write(found, tmp_path / "p.html"))
+        wide, has = browser.execute_script(
+            "const s = document.querySelector('.scroll'); return [s.scrollWidth, s.clientWidth]"
+        )
+        assert wide <= has < 1280, (wide, has)
+        assert len(facts(browser)) == 18
+    finally:
+        browser.set_window_size(1300, 900)
+        opened(browser, file)
 
 
 def test_a_cut_goes_by_keys(pits_view):
@@ -525,7 +602,8 @@ def test_black_and_white_tells_kinds_apart(all_views, shells, phases, compared):
     chosen(all_views, PITS)
     patterns(all_views, False)
     light = [luminance("#%02x%02x%02x" % tuple(colour[:3])) for colour in swatches(all_views)]
-    assert (np.diff(light) > 0.01).all() and len(light) == len(shells.factors)
+    assert (np.diff(light) > 0.01).all()
+    assert len(light) == len(shells.factors)
 
 
 def swatches(browser):
@@ -579,10 +657,10 @@ def test_the_design_is_dashed_and_the_best_pit_is_a_full_line(
             ):
                 shares[kinds[block.Index]].append(edge_share(design_view, model, "y", block))
     patterns(design_view, True)
-    assert shares["beyond the best pit"] and all(
-        0.3 < share < 0.9 for share in shares["beyond the best pit"]
-    ), shares
-    assert shares["left by the design"] and min(shares["left by the design"]) > 0.95, shares
+    assert shares["beyond the best pit"], shares
+    assert all(0.3 < share < 0.9 for share in shares["beyond the best pit"]), shares
+    assert shares["left by the design"], shares
+    assert min(shares["left by the design"]) > 0.95, shares
 
 
 def test_air_within_rock_is_no_overhang(tmp_path):
@@ -595,9 +673,8 @@ def test_air_within_rock_is_no_overhang(tmp_path):
     levels = page_views.phases(found).levels
     dug = b[found.pushback > 0]
     lowest = dug.groupby(["ix", "iy"]).iz.min()
-    assert (shells.holds(1) & (b.tonnes == 0)).any() and all(
-        levels[-1][at] == low for at, low in lowest.items()
-    )
+    assert (shells.holds(1) & (b.tonnes == 0)).any()
+    assert all(levels[-1][at] == low for at, low in lowest.items())
 
 
 # A mine with blocks that may not be dug, whose corners and benches need one and two decimals, and its easting alone of both.
@@ -641,7 +718,8 @@ def test_what_may_not_be_dug_is_crossed_and_told(keeping_view, keeping):
     model = keeping[0].study.model
     b = model.blocks
     kept = ((b.SECTOR == "EAST") & (b.ZC < 110)).to_numpy()
-    assert kept.any() and not (keeping[0].holds(1) & kept).any()
+    assert kept.any()
+    assert not (keeping[0].holds(1) & kept).any()
     patterns(keeping_view, False)
     for at in range(8):
         cut(keeping_view, "y", at)
@@ -680,19 +758,18 @@ def test_numbers_of_one_kind_have_as_many_decimals(keeping_view):
         e.get_attribute("textContent") for e in keeping_view.find_elements(By.CLASS_NAME, "mark")
     ]
     assert {"4,987.5 E\n8,990.0 N", "5,212.5 E\n9,150.0 N", "96.25 m –", "133.75 m –"} <= set(marks)
-    assert decimals(text for text in marks if "N" in text) == {1} and decimals(
-        text for text in marks if "m" in text
-    ) == {2}
+    assert decimals(text for text in marks if "N" in text) == {1}
+    assert decimals(text for text in marks if "m" in text) == {2}
     cut(keeping_view, "y", 2)
     drawn = keeping_view.execute_script(DRAWN)
-    assert {"4,987.5 E, 9,040.0 N", "5,212.5 E, 9,040.0 N"} <= set(drawn) and decimals(
-        text for text in drawn if "m" in text
-    ) == {2}
+    assert {"4,987.5 E, 9,040.0 N", "5,212.5 E, 9,040.0 N"} <= set(drawn)
+    assert decimals(text for text in drawn if "m" in text) == {2}
     assert text_of(keeping_view, "where") == "northing 9,040 (row 2)"
     cut(keeping_view, "z", 2)
     for end in (" E", " N –"):
         ticks = [text for text in keeping_view.execute_script(DRAWN) if text.endswith(end)]
-        assert len(ticks) > 1 and decimals(ticks) == {0}
+        assert len(ticks) > 1
+        assert decimals(ticks) == {0}
     assert text_of(keeping_view, "where") == "bench 111.25 (toe) to 118.75 m (crest), level 2"
     assert decimals(row[2] for row in rows_of(keeping_view)) == {2}
 
@@ -765,14 +842,10 @@ def shares_of(risk):
 
 def test_pits_by_likelihood(likelihood_view, risk):
     browser, hits, model = likelihood_view, shares_of(risk), risk.study.model
-    assert (
-        browser.title == f"{model.name}: likelihood over 5 realisations"
-        and browser.get_log("browser") == []
-    )
-    assert (
-        text_of(browser, "step") == "50%"
-        and not browser.find_element(By.ID, "which").is_displayed()
-    )
+    assert browser.title == f"{model.name}: likelihood over 5 realisations"
+    assert browser.get_log("browser") == []
+    assert text_of(browser, "step") == "50%"
+    assert not browser.find_element(By.ID, "which").is_displayed()
     assert not browser.find_element(
         By.ID, "patterns"
     ).is_selected()  # nine patterns would tell less than they hide
@@ -782,7 +855,8 @@ def test_pits_by_likelihood(likelihood_view, risk):
     for tenth in tenths:
         slider(browser).send_keys(Keys.ARROW_RIGHT)
         mask, told = 10 * hits >= tenth * risk.count, facts(browser)
-        assert text_of(browser, "step") == f"{10 * tenth}%" and number(told["Blocks"]) == mask.sum()
+        assert text_of(browser, "step") == f"{10 * tenth}%"
+        assert number(told["Blocks"]) == mask.sum()
         assert has(told, "Rock", model.blocks.tonnes[mask].sum())
         assert browser.execute_script(DUG, 10 - tenth) == mask.sum()
         worths = [float(p.worth_of(mask, 1000)) for p in priced]
@@ -793,7 +867,8 @@ def test_pits_by_likelihood(likelihood_view, risk):
         ):
             assert has(told, name, value), (name, told, value)
     light = [luminance("#%02x%02x%02x" % tuple(colour[:3])) for colour in swatches(browser)]
-    assert (np.diff(light) > 0.01).all() and len(light) == 9  # the likeliest is darkest
+    assert (np.diff(light) > 0.01).all()  # the likeliest is darkest
+    assert len(light) == 9
     means = [
         np.mean([float(p.worth_of(10 * hits >= tenth * risk.count, 1000)) for p in priced])
         for tenth in tenths
@@ -841,16 +916,15 @@ def test_a_turned_plan_and_sections_by_likelihood(likelihood_view, risk):
                 if kind == "rock that isn't dug"
                 else colours[0][0] == key[kind]
             ), (way, at, kind, colours)
-    assert len(seen) > 2 and text_of(browser, "where") == "column 2"
+    assert len(seen) > 2
+    assert text_of(browser, "where") == "column 2"
 
 
 def test_the_picture_turns_by_keys_and_leaves_the_slider_alone(pits_view):
     before, at = pits_view.execute_script(PIXELS)[2], slider(pits_view).get_attribute("value")
     pits_view.find_element(By.ID, "picture").send_keys(Keys.ARROW_LEFT, "+")
-    assert (
-        pits_view.execute_script(PIXELS)[2] != before
-        and slider(pits_view).get_attribute("value") == at
-    )
+    assert pits_view.execute_script(PIXELS)[2] != before
+    assert slider(pits_view).get_attribute("value") == at
     pits_view.find_element(By.ID, "slant").click()
 
 
@@ -869,14 +943,14 @@ def test_north_is_where_the_needle_points(pits_view):
     (south, low), (north, high) = sorted(
         ((number(t.split()[2]), p["y"]) for t, p in marks.items())
     )[::3]
-    assert south < north and low > high
+    assert south < north
+    assert low > high
     pits_view.find_element(By.ID, "slant").click()
 
 
 def test_text_of_the_user_stays_text(pits_view):
-    assert pits_view.execute_script("return window.broken") is None and not pits_view.find_elements(
-        By.TAG_NAME, "img"
-    )
+    assert pits_view.execute_script("return window.broken") is None
+    assert not pits_view.find_elements(By.TAG_NAME, "img")
     assert any(MARKUP in name for name in facts(pits_view))
     head = [e.text for e in pits_view.find_elements(By.CSS_SELECTOR, "thead th")]
     assert any(" ".join(MARKUP.split()) in " ".join(h.split()) for h in head)
@@ -965,10 +1039,8 @@ def test_without_webgl_the_numbers_and_the_sections_are_there(browser, file):
     added = browser.execute_cdp_cmd("Page.addScriptToEvaluateOnNewDocument", script)
     try:
         opened(browser, file)
-        assert (
-            "WebGL" in text_of(browser, "none")
-            and not browser.find_element(By.ID, "drawing").is_displayed()
-        )
+        assert "WebGL" in text_of(browser, "none")
+        assert not browser.find_element(By.ID, "drawing").is_displayed()
         slider(browser).send_keys(Keys.HOME, Keys.ARROW_RIGHT)
         assert (
             facts(browser)["Blocks"]
@@ -1005,7 +1077,8 @@ def test_firefox(file, shells, compared):
                 == factor
             )
             colours, largest, picture = firefox.execute_script(PIXELS)
-            assert colours > 3 and largest < 0.95
+            assert colours > 3
+            assert largest < 0.95
             seen.append(picture)
         assert len(set(seen)) == 3
         assert (
@@ -1064,7 +1137,8 @@ def test_rows_of_air_are_no_ground(shells):
     model.blocks.loc[model.blocks["iz"] == top, "tonnes"] = 0.0
     found = levels.surfaces(SimpleNamespace(model=model), [("the pit", shells.holds(3))])
     there = found[0] != levels.NO_COLUMN
-    assert found[0][there].max() == top and (found[1][there] <= found[0][there]).all()
+    assert found[0][there].max() == top
+    assert (found[1][there] <= found[0][there]).all()
 
 
 def test_three_js_that_isnt_there_is_told(shells, tmp_path, monkeypatch):
@@ -1094,6 +1168,7 @@ def test_the_command_takes_pushbacks_and_a_design_in_the_planners_words(tmp_path
                     value=None,
                     factor=1.0,
                     title="North pit",
+                    is_schedule=False,
                 ),
                 **words,
             },
@@ -1101,15 +1176,14 @@ def test_the_command_takes_pushbacks_and_a_design_in_the_planners_words(tmp_path
 
     run()
     path = folder / "out/pits.html"
-    assert (
-        "<title>North pit: nested pits</title>" in path.read_text()
-        and path.read_text().count("<section ") == 1
-    )
+    assert "<title>North pit: nested pits</title>" in path.read_text()
+    assert path.read_text().count("<section ") == 1
     ids = pp.Study(folder).model.blocks["id"][pp.Study(folder).mask(600)]
     (tmp_path / "d.txt").write_text("\n".join(ids) + "\n")
     run(phases="0.6,1.0", design=tmp_path / "d.txt")
     text = path.read_text()
-    assert text.count("<section ") == 3 and "Design d beside the best pit" in text
+    assert text.count("<section ") == 3
+    assert "Design d beside the best pit" in text
     (tmp_path / "d.csv").write_text("X_LOCAL,NORTH,RL\n1,2,3\n")
     for words, said in (
         (

@@ -1,11 +1,14 @@
 """Pictures: where each block is drawn, which colour it gets, what the axes say; without looking at pixels."""
 import copy
+from types import SimpleNamespace
 from pathlib import Path
 
 import matplotlib.image
 import numpy as np
+import pandas as pd
 import pytest
 from hypothesis import given, strategies as st
+from matplotlib import colormaps
 from shapely.geometry import Polygon
 from shapely.ops import unary_union
 
@@ -15,6 +18,7 @@ from pitplan.views import pictures, plane
 from pitplan.model.grid import Grid
 from pitplan.model.model import Model
 from pitplan.views.pictures import Style
+from pitplan.views.tones import tones
 from served import pitplan
 
 
@@ -69,9 +73,8 @@ def test_each_block_is_drawn_where_it_is(model):
         cut = plane.bench(model, level)
         there = cut.number >= 0
         x, y = centres(cut)
-        assert np.allclose(x[there], east[cut.number[there]]) and np.allclose(
-            y[there], north[cut.number[there]]
-        )
+        assert np.allclose(x[there], east[cut.number[there]])
+        assert np.allclose(y[there], north[cut.number[there]])
         seen += cut.number[there].tolist()
     assert sorted(seen) == list(range(len(model)))
 
@@ -123,7 +126,9 @@ def test_borders_are_those_that_shapely_finds(seed, rotation):
 def test_a_bench_has_its_toe_and_not_its_crest(shells):
     model = shells.study.model  # its lowest centre is at 100, its benches are 15 high
     assert [plane.bench_at(model, z) for z in (92.5, 100, 107.49, 107.5)] == [0, 0, 0, 1]
-    assert "bench 107.5 (toe) to 122.5 m (crest)" in title(pictures.plan(shells, 110))
+    assert title(pictures.plan(shells, 110)) == (
+        "Bench 107.5 (toe) to 122.5 m (crest): first pit with each block"
+    )
     for z in (92.4, 92.5 + 15 * model.grid.shape[2], 1e9):
         with pytest.raises(pp.PlanError, match="no bench"):
             plane.bench_at(model, z)
@@ -156,9 +161,8 @@ def test_a_section_shows_a_column_of_the_table(shells):
     model = shells.study.model
     cells = drawn(pictures.section(shells, north=9000 + 3 * 20 + 9, style=Style("CU")))
     row = model.blocks[model.blocks["iy"] == 3]
-    assert np.allclose(cells[row["iz"], row["ix"]], row["CU"]) and np.isfinite(cells).sum() == len(
-        row
-    )
+    assert np.allclose(cells[row["iz"], row["ix"]], row["CU"])
+    assert np.isfinite(cells).sum() == len(row)
     worth = drawn(pictures.section(shells, column=2, style=Style("value")))
     there = model.blocks[model.blocks["ix"] == 2]
     assert np.allclose(
@@ -182,11 +186,9 @@ def test_many_words_are_drawn_as_others(shells):
     )
     other.study.__dict__["model"] = model
     found = pictures.paint(other, "KIND")
-    assert (
-        len(found.ticks) == pictures.MANY_WORDS + 1
-        and found.ticks[-1][1] == "others"
-        and "most" in dict(found.ticks).values()
-    )
+    assert len(found.ticks) == pictures.MANY_WORDS + 1
+    assert found.ticks[-1][1] == "others"
+    assert "most" in dict(found.ticks).values()
 
 
 def test_a_turned_model_names_its_axis_and_no_false_east(turned):
@@ -194,7 +196,8 @@ def test_a_turned_model_names_its_axis_and_no_false_east(turned):
     assert (
         along.axes[0].get_xlabel() == "Distance along the model's x axis (m), towards bearing 120°"
     )
-    assert "looking towards bearing 030°" in title(along) and " E, " in title(along)
+    assert "looking towards bearing 030°" in title(along)
+    assert " E, " in title(along)
     assert "towards bearing 030°" in pictures.section(turned, column=2).axes[0].get_xlabel()
     assert pictures.plan(turned, 100).axes[0].get_xlabel() == "Easting (m)"
     for words in ({"north": 9000.0}, {"east": 5000.0}):
@@ -208,15 +211,14 @@ def test_elevations_of_a_flat_section_dont_overlap(tmp_path):
         figure = pictures.section(shells, row=1, style=style)
         figure.canvas.draw()
         boxes = [label.get_window_extent() for label in figure.axes[0].get_yticklabels()]
-        assert len(boxes) >= 2 and all(low.y1 <= high.y0 for low, high in zip(boxes, boxes[1:]))
+        assert len(boxes) >= 2
+        assert all(low.y1 <= high.y0 for low, high in zip(boxes, boxes[1:]))
 
 
 def test_the_row_of_a_section_has_most_of_the_pit_and_isnt_the_models_last(shells):
     assert pictures.fullest_row(np.array([9, 1, 4, 2, 9])) == 2
-    assert (
-        pictures.fullest_row(np.array([3, 0, 0, 7])) == 3
-        and pictures.fullest_row(np.array([1, 2])) == 1
-    )
+    assert pictures.fullest_row(np.array([3, 0, 0, 7])) == 3
+    assert pictures.fullest_row(np.array([1, 2])) == 1
     here, last = copy.copy(shells), shells.study.model.grid.shape[1] - 1
     rows = shells.study.model.blocks["iy"].to_numpy()
     here.shell = np.where(
@@ -224,9 +226,8 @@ def test_the_row_of_a_section_has_most_of_the_pit_and_isnt_the_models_last(shell
         0,
         len(shells.factors),
     )
-    assert (here.shell[rows == last] == 0).sum() > (
-        here.shell[rows == 2] == 0
-    ).sum() > 0 and pictures.middle_of(here)[1] == 2
+    assert (here.shell[rows == last] == 0).sum() > (here.shell[rows == 2] == 0).sum() > 0
+    assert pictures.middle_of(here)[1] == 2
 
 
 @pytest.mark.parametrize("nx, told", [(5, 1), (6, 1), (7, 2), (25, 7), (400, 20)])
@@ -236,9 +237,8 @@ def test_a_flat_section_is_drawn_higher_and_says_so(tmp_path, nx, told):
     figure = pictures.section(
         study_of(tmp_path, frame, economics=costs(mining=0.01)).shells([1000]), row=1
     )
-    assert figure.axes[0].get_aspect() == told and title(figure).endswith(
-        f"\nvertical exaggeration {told}"
-    ) == (told > 1)
+    assert figure.axes[0].get_aspect() == told
+    assert title(figure).endswith(f"\nvertical exaggeration {told}") == (told > 1)
 
 
 def test_what_may_not_be_dug_has_a_pattern_of_its_own(tmp_path):
@@ -253,16 +253,13 @@ def test_what_may_not_be_dug_has_a_pattern_of_its_own(tmp_path):
         figure = pictures.section(shells, row=3, style=Style(colour))
         assert "May not be dug" in [t.get_text() for t in figure.legends[0].get_texts()]
         crosses = [p for p in figure.axes[0].patches if p.get_hatch() == pictures.FENCE_HATCH]
-        assert (
-            len(crosses) == 1
-            and crosses[0].get_zorder() > figure.axes[0].collections[0].get_zorder()
-        )
+        assert len(crosses) == 1
+        assert crosses[0].get_zorder() > figure.axes[0].collections[0].get_zorder()
         cells = {(x, y) for x, y in np.round(crosses[0].get_path().vertices, 6).tolist()}
         here = blocks[fence & (blocks.iy == 3)]
         runs = np.flatnonzero(np.diff(np.pad(np.isin(np.arange(9), here.ix), 1).astype(int)))
-        assert len(here) and cells == {
-            (5000 + 20 * i - 10.0, 92.5 + 15 * up) for i in runs for up in (0, 1)
-        }
+        assert len(here)
+        assert cells == {(5000 + 20 * i - 10.0, 92.5 + 15 * up) for i in runs for up in (0, 1)}
     above = pictures.plan(shells, 120)
     assert "May not be dug" not in [t.get_text() for t in above.legends[0].get_texts()]
     assert (
@@ -270,15 +267,63 @@ def test_what_may_not_be_dug_has_a_pattern_of_its_own(tmp_path):
     )  # the price of a fence would make all else pale
 
 
+def test_a_grade_is_drawn_with_its_unit(shells):
+    """CU is the grade of copper in percent in that study; ZC is no grade."""
+    labels = [pictures.paint(shells, name).label for name in ("CU", "ZC")]
+    assert labels == ["CU (%)", "ZC"]
+    bars = [axes.get_ylabel() for axes in pictures.plan(shells, 100, style=Style("CU")).axes]
+    assert "CU (%)" in bars
+
+
+def test_colours_of_pits_are_spaced_by_tonnes(shells):
+    """By hand: from the middle of 10 of 100 tonnes to the next it is 10, then 35, then 40, of 85 in all."""
+    found = tones([10, 10, 60, 20])
+    assert np.allclose(
+        np.diff(found), [1 / 12 + 0.75 * 10 / 85, 1 / 12 + 0.75 * 35 / 85, 1 / 12 + 0.75 * 40 / 85]
+    )
+    assert np.allclose(tones([0, 0, 0, 0]), [0, 1 / 3, 2 / 3, 1])
+    assert tones([]) == []
+    assert (
+        min(np.diff(tones([0, 0, 0, 1e9]))) > 0.08
+    )  # a pit that adds nothing has a shade of its own
+    blocks, count = shells.study.model.blocks, len(shells.factors)
+    adds = [blocks.TONNES[shells.shell == i].sum() for i in range(count)]
+    wanted = colormaps["viridis"]([0.9 * at for at in tones(adds)])[:, :3]
+    assert np.allclose(pictures.paint(shells, "shell").colours.colors, wanted, atol=0.01)
+
+
+@pytest.mark.parametrize(
+    "low, high, count, most, told",
+    [
+        (3702, 6, 28, 8, [3720 + 30 * k for k in range(6)]),  # 29 toes and crests, every fifth
+        (3702, 6, 28, 12, [3720 + 30 * k for k in range(6)]),  # every second would be 15
+        (1000, 10, 12, 13, [1000 + 10 * k for k in range(13)]),
+        (1000, 10, 12, 12, [1000 + 20 * k for k in range(7)]),
+        (92.5, 15, 5, 2, [92.5, 167.5]),
+    ],
+)
+def test_labels_of_benches_are_every_first_second_fifth_or_tenth(low, high, count, most, told):
+    toes = low + high * np.arange(count + 1.0)
+    found = pictures.bench_ticks(toes, most)
+    step = np.diff(found)
+    assert len(found) <= most
+    assert set(found) <= set(toes)
+    assert len(step) == 0 or (step == step[0]).all() and step[0] / high in (1, 2, 5, 10)
+    assert found.tolist() == told
+
+
+def test_each_bench_of_a_section_has_a_tick(shells):
+    axes = pictures.section(shells, north=9040.0).axes[0]
+    toes = [92.5 + 15 * k for k in range(shells.study.model.grid.shape[2] + 1)]
+    assert sorted({*axes.get_yticks(), *axes.get_yticks(minor=True)}) == toes
+
+
 def test_sections_say_where_they_look(shells):
     north, east = pictures.section(shells, north=9040.0), pictures.section(shells, east=5040.0)
-    assert (
-        "northing 9,040, looking north" in title(north)
-        and north.axes[0].get_xlabel() == "Easting (m)"
-    )
-    assert (
-        "easting 5,040, looking west" in title(east) and east.axes[0].get_xlabel() == "Northing (m)"
-    )
+    assert "northing 9,040, looking north" in title(north)
+    assert north.axes[0].get_xlabel() == "Easting (m)"
+    assert "easting 5,040, looking west" in title(east)
+    assert east.axes[0].get_xlabel() == "Northing (m)"
     assert "vertical exaggeration 3" in title(
         pictures.section(shells, row=1, style=Style(exaggeration=3.0))
     )
@@ -313,12 +358,20 @@ def luminance(colours):
 
 @pytest.mark.parametrize("count", [1, 2, 9, 64, 200])
 def test_colours_go_from_dark_to_light(count):
+    """Also where nearly all tonnes come with one pit."""
+
     class Series:
         factors = list(range(count))
         shell = np.arange(count + 1)
+        study = SimpleNamespace(
+            model=SimpleNamespace(
+                blocks=pd.DataFrame({"tonnes": np.where(shell == count // 2, 1e6, 1.0)})
+            )
+        )
 
     colours = pictures.paint_shells(Series()).colours(np.arange(count))
-    assert (np.diff(luminance(colours)) > 0).all() and luminance(colours)[-1] < 0.85  # paper is 1
+    assert (np.diff(luminance(colours)) > 0).all()
+    assert luminance(colours)[-1] < 0.85  # paper is 1
     scale = pictures.paint_numbers(np.arange(100.0), "x").colours(np.linspace(0, 1, 50))
     assert (np.diff(luminance(scale)) < 0.005).all()
 
@@ -326,7 +379,8 @@ def test_colours_go_from_dark_to_light(count):
 def test_one_rich_block_doesnt_make_all_others_pale():
     values = np.concatenate([np.linspace(0, 1, 999), [1e6, np.nan]])
     found = pictures.paint_numbers(values, "x")
-    assert found.norm.vmax < 1.1 and found.beyond in ("max", "both")
+    assert found.norm.vmax < 1.1
+    assert found.beyond in ("max", "both")
     assert pictures.paint_numbers(np.full(5, 2.0), "x").norm(2.0) == 0.5
     assert pictures.paint_numbers(np.full(3, np.nan), "x").norm.vmax == 1
 
@@ -336,7 +390,8 @@ def test_outlines_differ_by_their_strokes(shells):
     keys = figure.legends[0].get_lines()
     assert len({line.get_linestyle() for line in keys}) == len(keys) >= 2
     texts = [t.get_text() for t in figure.legends[0].get_texts()]
-    assert texts[0] == "Pit at factor 1.00" and "Rock in no pit" in texts
+    assert texts[0] == "Pit at factor 1.00"
+    assert "Rock in no pit" in texts
     assert (
         pictures.plan(shells, 130, Style(pit=0.8)).legends[0].get_texts()[0].get_text()
         == "Pit at factor 0.80"
@@ -348,10 +403,8 @@ def test_the_scale_bar_is_as_long_as_it_says(shells):
     low, high = figure.axes[0].get_xlim()
     bar = next(a for a in figure.axes[0].artists if type(a).__name__ == "AnchoredSizeBar")
     length = float(bar.txt_label.get_text().replace(",", "").split()[0])
-    assert (
-        bar.size_bar.get_children()[0].get_width() == length
-        and 0.05 * (high - low) < length <= (high - low) / 5
-    )
+    assert bar.size_bar.get_children()[0].get_width() == length
+    assert 0.05 * (high - low) < length <= (high - low) / 5
 
 
 def test_pit_by_pit_has_the_tonnes_and_rings_the_greatest(shells):
@@ -362,9 +415,8 @@ def test_pit_by_pit_has_the_tonnes_and_rings_the_greatest(shells):
     assert np.allclose(bars[0], found["ore_t"] / 1e3) or np.allclose(bars[0], found["ore_t"] / 1e6)
     unit = found["ore_t"].sum() / sum(bars[0])
     assert np.allclose(bars[1], found["waste_t"] / unit)
-    assert {1e3: "(kt)", 1e6: "(Mt)"}[
-        round(unit)
-    ] in left.get_ylabel() and "€" in right.get_ylabel()
+    assert {1e3: "(kt)", 1e6: "(Mt)"}[round(unit)] in left.get_ylabel()
+    assert "€" in right.get_ylabel()
     assert left.get_ylim()[0] == 0
     rings = [line for line in right.lines if line.get_markersize() > 8]
     assert [int(line.get_xdata()[0]) for line in rings] == [
@@ -378,9 +430,8 @@ def test_pit_by_pit_has_the_tonnes_and_rings_the_greatest(shells):
 def test_save_writes_whole_or_nothing(shells, tmp_path, monkeypatch):
     figure = pictures.plan(shells, 100)
     path = pictures.save(figure, tmp_path / "new" / "plan.png")
-    assert matplotlib.image.imread(path).shape[0] > 300 and [
-        p.name for p in path.parent.iterdir()
-    ] == ["plan.png"]
+    assert matplotlib.image.imread(path).shape[0] > 300
+    assert [p.name for p in path.parent.iterdir()] == ["plan.png"]
     before = path.read_bytes()
 
     def torn(where, **_):
@@ -390,17 +441,16 @@ def test_save_writes_whole_or_nothing(shells, tmp_path, monkeypatch):
     monkeypatch.setattr(figure, "savefig", torn)
     with pytest.raises(OSError):
         pictures.save(figure, path)
-    assert path.read_bytes() == before and [p.name for p in path.parent.iterdir()] == ["plan.png"]
+    assert path.read_bytes() == before
+    assert [p.name for p in path.parent.iterdir()] == ["plan.png"]
 
 
 def test_pits_that_dont_pay_are_drawn_as_none(shells):
     poor = copy.copy(shells)
     poor.shell = np.full_like(shells.shell, len(shells.factors))
     figure = pictures.plan(poor, 100)
-    assert (
-        figure.legends[0].get_texts()[0].get_text() == "Pit at factor 1.00: not here"
-        and np.isnan(drawn(figure)).all()
-    )
+    assert figure.legends[0].get_texts()[0].get_text() == "Pit at factor 1.00: not here"
+    assert np.isnan(drawn(figure)).all()
 
 
 def test_plot_and_page_write_what_they_name(tmp_path):
@@ -408,12 +458,11 @@ def test_plot_and_page_write_what_they_name(tmp_path):
     assert pitplan("build", folder).returncode == 0 == pitplan("shells", folder).returncode
     told = pitplan("plot", folder)
     names = sorted(line.rsplit("/", 1)[1] for line in told.stdout.splitlines())
-    assert told.returncode == 0 and len(names) == 3
-    assert (
-        names[0] == "pit-by-pit.png"
-        and names[1].startswith("plan-")
-        and names[2].startswith("section-row-")
-    )
+    assert told.returncode == 0
+    assert len(names) == 3
+    assert names[0] == "pit-by-pit.png"
+    assert names[1].startswith("plan-")
+    assert names[2].startswith("section-row-")
     told = pitplan(
         "plot",
         folder,
@@ -433,16 +482,12 @@ def test_plot_and_page_write_what_they_name(tmp_path):
         "0.6",
     )
     paths = told.stdout.splitlines()
-    assert (
-        told.returncode == 0
-        and len(paths) == 5
-        and all(p.endswith("-CU.png") and Path(p).is_file() for p in paths)
-    )
+    assert told.returncode == 0
+    assert len(paths) == 5
+    assert all(p.endswith("-CU.png") and Path(p).is_file() for p in paths)
     assert pitplan("page", folder, "--title", "North pit").returncode == 0
     assert "<title>North pit: nested pits</title>" in (folder / "out/pits.html").read_text()
     refused = pitplan("plot", folder, "--bench", "5000")
-    assert (
-        refused.returncode == 3
-        and "no bench at elevation 5,000" in refused.stderr
-        and not list((folder / "out").glob("*5000*"))
-    )
+    assert refused.returncode == 3
+    assert "no bench at elevation 5,000" in refused.stderr
+    assert not list((folder / "out").glob("*5000*"))

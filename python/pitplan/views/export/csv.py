@@ -1,4 +1,5 @@
-"""Blocks as a table for any other program: a row for each block with its place, its shell, its worth and where it goes."""
+"""Blocks as a table for any other program: a row for each block with its place, its shell, its
+worth and where it goes."""
 from __future__ import annotations
 
 import os
@@ -15,7 +16,7 @@ from ...table.spreadsheets import write_table
 if TYPE_CHECKING:
     from ...study.shells import Shells
 
-MOST_EXACT = 2**53  # whole numbers below it are floats, to the last digit
+_MOST_EXACT = 2**53  # whole numbers below it are floats, to the last digit
 
 
 def table_of(
@@ -33,10 +34,13 @@ def table_of(
     Returns
     -------
     DataFrame
-        ``id``, ``row`` (of the table, as a spreadsheet counts it; 0 for a block that was added), ``x``, ``y``, ``z`` (the
-        centre; z is an elevation), ``rock``, ``tonnes``, ``shell`` (the factor of the first pit that has it, as a share of the
-        price), ``worth`` (at factor 1) and ``to`` (``mill`` or ``waste``, at factor 1; ``forbidden`` for a block that may not be
-        dug, whose worth is what it would be if it might).
+        ``id``, ``row`` (of the table, as a spreadsheet counts it; 0 for a block that was added),
+        ``x``, ``y``, ``z`` (the centre; z is an elevation), ``rock``, ``class`` where the table
+        has resource classes, ``tonnes``, ``shell`` (the factor of the first pit that has it, as a
+        share of the price; of pushbacks ``pushback`` and of a schedule ``year``, its number),
+        ``worth`` (at factor 1) and
+        ``to`` (``mill`` or ``waste``, at factor 1 or as a schedule sends it; ``forbidden`` for a block that may not be dug,
+        whose worth is what it would be if it might).
     """
     from .vtu import columns_of, free
 
@@ -44,7 +48,8 @@ def table_of(
     kept = np.arange(len(study.model)) if is_whole else np.flatnonzero(shells.dug < count)
     b = study.model.blocks.iloc[kept]
     x, y, z = (np.round(values[kept], 6) for values in study.model.xyz())
-    shares = np.array([*(factor / THOUSAND for factor in shells.factors), np.nan])
+    kinds = study.classes
+    classes = {"class": np.array(kinds.names, object)[kinds.of_block[kept]]} if kinds else {}
     found = pd.DataFrame(
         {
             "id": b["id"].to_numpy(),
@@ -53,37 +58,42 @@ def table_of(
             "y": y,
             "z": z,
             "rock": b["rock"].to_numpy(),
+            **classes,
             "tonnes": b["tonnes"].to_numpy(),
-            "shell": shares[shells.shell[kept]],
-            "worth": np.round(study.priced.worth_unfenced(THOUSAND)[kept], 6),
-            "to": ways_of(study.priced)[kept],
+            shells.called: shells.first[kept],
+            "worth": np.round(shells.priced.worth_unfenced(THOUSAND)[kept], 6),
+            "to": _ways_of(shells.priced)[kept],
         }
     )
     for name in columns_of(study.model, columns or ()):
-        found[free(name) if name not in found else f"{name} of the table"] = whole_numbers(b[name])
+        found[
+            free(name, shells.called) if name not in found else f"{name} of the table"
+        ] = _whole_numbers(b[name])
     return found
 
 
-def ways_of(priced: Priced) -> Array:
+def _ways_of(priced: Priced) -> Array:
     """Where each block goes at factor 1."""
     found: Array = np.where(priced.milled(THOUSAND), "mill", "waste").astype(object)
     found[priced.forbidden] = "forbidden"
     return found
 
 
-def whole_numbers(cells: pd.Series) -> Any:
-    """A column as whole numbers where all of it are some, as codes of sub-blocks or beside added air: 1 and not 1.0."""
+def _whole_numbers(cells: pd.Series) -> Any:
+    """A column as whole numbers where all of it are some, as codes of sub-blocks or beside added
+    air: 1 and not 1.0."""
     values = cells.to_numpy()
     if values.dtype.kind != "f":
         return values
-    told = values[~np.isnan(values)]
-    if (np.abs(told) < MOST_EXACT).all() and (told == np.rint(told)).all():
+    numbers = values[~np.isnan(values)]
+    if (np.abs(numbers) < _MOST_EXACT).all() and (numbers == np.rint(numbers)).all():
         return pd.array(values, dtype="Int64")
     return values
 
 
-def spelled_once(values: Floats) -> Array:
-    """Numbers as CSV has them, where few of them differ, as places on a grid: each is spelled once. Other numbers stay."""
+def _spelled_once(values: Floats) -> Array:
+    """Numbers as CSV has them, where few of them differ, as places on a grid: each is spelled once.
+    Other numbers stay."""
     few, which = np.unique(values, return_inverse=True)
     if 4 * len(few) > len(values):
         return values
@@ -116,6 +126,6 @@ def write(
     found = table_of(shells, columns, is_whole)
     for name in found.columns:
         if found[name].dtype.kind == "f":
-            found[name] = spelled_once(found[name].to_numpy())
+            found[name] = _spelled_once(found[name].to_numpy())
     write_table(found, path)
     return len(found)

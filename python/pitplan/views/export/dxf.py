@@ -1,4 +1,5 @@
-"""Outlines for CAD: DXF with a closed polyline for each outline and hole, toe and crest of each bench."""
+"""Outlines for CAD: DXF with a closed polyline for each outline and hole, toe and crest of each
+bench."""
 from __future__ import annotations
 
 import os
@@ -9,16 +10,15 @@ from typing import TYPE_CHECKING, Any
 
 import numpy as np
 
-from ...base.amounts import THOUSAND
 from ...base.files import whole_file
 from ...model import outlines
 
 if TYPE_CHECKING:
     from ...study.shells import Shells
 
-APP = "PITPLAN"  # of the extended data of each polyline
-METRES = 6  # of $INSUNITS
-COLOURS = (
+_APP = "PITPLAN"  # of the extended data of each polyline
+_METRES = 6  # of $INSUNITS
+_COLOURS = (
     1,
     30,
     2,
@@ -29,13 +29,10 @@ COLOURS = (
 )  # of AutoCAD's index: red, orange, yellow, green, cyan, blue, magenta
 
 
-def layer_of(factor: int, edge: str) -> str:
-    """The layer of a pit's toes or crests.
-
-    >>> layer_of(850, "TOE")
-    'SHELL_0850_TOE'
-    """
-    return f"SHELL_{factor:04d}_{edge}"
+def _layer_of(shells: Shells, i: int, edge: str) -> str:
+    """The layer of a pit's toes or crests, as SHELL_0850_TOE or PUSHBACK_0850_TOE; YEAR_0003_TOE
+    of the third year's end."""
+    return f"{shells.called.upper()}_{shells.factors[i]:04d}_{edge}"
 
 
 def write(
@@ -46,10 +43,10 @@ def write(
 ) -> int:
     """Writes the outlines of pits, bench by bench.
 
-    Each bench of a pit has its outline twice: in layer ``SHELL_<factor>_TOE`` at the elevation of the bench's lower face, and
-    in ``SHELL_<factor>_CREST`` at that of its upper face. A hole, where rock stands within the pit, is a closed polyline
-    of its own. Each polyline's extended data under ``PITPLAN`` has the factor, the elevation of the bench's centre, and
-    ``outline`` or ``hole``.
+    Each bench of a pit has its outline twice: in layer ``SHELL_<factor>_TOE`` at the elevation of
+    the bench's lower face, and in ``SHELL_<factor>_CREST`` at that of its upper face. A hole, where
+    rock stands within the pit, is a closed polyline of its own. Each polyline's extended data under
+    ``PITPLAN`` has the factor or the year, the elevation of the bench's centre, and ``outline`` or ``hole``.
 
     Parameters
     ----------
@@ -59,8 +56,8 @@ def write(
     pits : sequence of int, optional
         Indices into ``shells.factors``. Default: all.
     cuts_corners : bool
-        Whether corners are cut by half a block, so that a staircase becomes a straight line. Areas are then about those of
-        the blocks, and not the same.
+        Whether corners are cut by half a block, so that a staircase becomes a straight line. Areas
+        are then about those of the blocks, and not the same.
 
     Returns
     -------
@@ -75,14 +72,13 @@ def write(
     from ezdxf.filemanagement import new
 
     doc = new("R2010")
-    doc.units = METRES
-    doc.appids.new(APP)
-    cube = outlines.cube_of(shells.study.model, shells.dug, len(shells.factors))
+    doc.units = _METRES
+    doc.appids.new(_APP)
     count = 0
     for i in range(len(shells.factors)) if pits is None else pits:
         for edge in ("TOE", "CREST"):
-            doc.layers.add(layer_of(shells.factors[i], edge), color=COLOURS[i % len(COLOURS)])
-        for level, shape in outlines.by_bench(cube <= i):
+            doc.layers.add(_layer_of(shells, i, edge), color=_COLOURS[i % len(_COLOURS)])
+        for level, shape in shells.outlines(i):
             count += draw(
                 doc.modelspace(), shells, i, level, outlines.cut(shape) if cuts_corners else shape
             )
@@ -93,7 +89,7 @@ def write(
 
 def draw(space: Any, shells: Shells, i: int, level: int, shape: Any) -> int:
     """Draws the toe and the crest of pit i on a level; gives how many polylines they are."""
-    grid, factor = shells.study.model.grid, shells.factors[i]
+    grid = shells.study.model.grid
     _, _, heights = grid.world(0, 0, [level - 0.5, level, level + 0.5])
     toe, centre, crest = heights.tolist()
     count = 0
@@ -103,13 +99,15 @@ def draw(space: Any, shells: Shells, i: int, level: int, shape: Any) -> int:
         values[:, 0], values[:, 1] = np.round(east, 6), np.round(north, 6)
         for edge, height in (("TOE", toe), ("CREST", crest)):
             line = space.add_lwpolyline(
-                [], close=True, dxfattribs={"layer": layer_of(factor, edge), "elevation": height}
+                [],
+                close=True,
+                dxfattribs={"layer": _layer_of(shells, i, edge), "elevation": height},
             )
             line.lwpoints.values = array("d", values.tobytes())
             line.set_xdata(
-                APP,
+                _APP,
                 [
-                    (1040, factor / THOUSAND),
+                    (1040, float(shells.mark(i))),
                     (1040, centre),
                     (1000, "hole" if is_hole else "outline"),
                 ],

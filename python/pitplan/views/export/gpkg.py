@@ -17,11 +17,15 @@ from ...model import outlines
 if TYPE_CHECKING:
     from ...study.shells import Shells
 
-# What a GeoPackage calls coordinates of no known system. Without a word it would say degrees of latitude and longitude.
-UNKNOWN = 'LOCAL_CS["Undefined Cartesian SRS",UNIT["metre",1],AXIS["Easting",EAST],AXIS["Northing",NORTH]]'
-FIELDS = {
-    "benches": ("factor", "toe", "crest", "blocks", "area", "volume", "rock_t", "ore_t"),
-    "rims": ("factor", "blocks", "area", "worth"),
+# What a GeoPackage calls coordinates of no known system. Without a word it would say degrees of
+# latitude and longitude.
+_UNKNOWN = (
+    'LOCAL_CS["Undefined Cartesian'
+    ' SRS",UNIT["metre",1],AXIS["Easting",EAST],AXIS["Northing",NORTH]]'
+)
+_FIELDS = {
+    "benches": ("toe", "crest", "blocks", "area", "volume", "rock_t", "ore_t"),
+    "rims": ("blocks", "area", "worth"),
 }
 
 
@@ -33,10 +37,13 @@ def write(
 ) -> int:
     """Writes two layers of polygons in true coordinates, also of a turned model.
 
-    ``benches`` has a feature for each pit and bench: ``factor`` (a share of the price), ``toe``, ``crest`` (elevations of the
-    bench's faces), ``blocks``, ``area`` (square units of the coordinates), ``volume`` (area times height), ``rock_t``
-    and ``ore_t`` (in place, ore at factor 1). ``rims`` has the outline of each pit as seen from above: ``factor``,
-    ``blocks``, ``area``, ``worth`` (text, as `pit` states it).
+    ``benches`` has a feature for each pit and bench: ``factor`` (a share of the price; of a
+    schedule ``year``, at whose end the mine is so), ``toe``,
+    ``crest`` (elevations of the bench's faces), ``blocks``, ``area`` (square units of the
+    coordinates), ``volume`` (area times height), ``rock_t`` and ``ore_t`` (in place, ore at factor
+    1). ``rims`` has the outline of each pit as seen from above: ``factor`` or ``year``, ``blocks``,
+    ``area``, ``worth`` (text, as `pit` states it; of a year's end what all so far is worth,
+    undiscounted).
 
     Parameters
     ----------
@@ -67,7 +74,7 @@ def write(
     with whole_file(path) as part:
         for layer, rows in (("benches", benches), ("rims", rims)):
             frame = geopandas.GeoDataFrame(
-                {name: [row[name] for row in rows] for name in FIELDS[layer]},
+                {name: [row[name] for row in rows] for name in (shells.by, *_FIELDS[layer])},
                 geometry=[row["geometry"] for row in rows],
                 crs=system,
             )
@@ -82,7 +89,7 @@ def system_of(crs: str | None) -> Any:
     import pyproj
 
     if crs is None:
-        return pyproj.CRS.from_wkt(UNKNOWN)
+        return pyproj.CRS.from_wkt(_UNKNOWN)
     try:
         if not re.fullmatch(
             r"[A-Za-z]+:\w+", crs
@@ -106,24 +113,24 @@ def features(
     shells: Shells, chosen: Sequence[int]
 ) -> tuple[list[dict[str, Any]], list[dict[str, Any]]]:
     """The features of the two layers."""
-    model, priced = shells.study.model, shells.study.priced
+    model, priced = shells.study.model, shells.priced
     grid, count = model.grid, len(shells.factors)
     cube = outlines.cube_of(model, shells.dug, count)
     tonnes = model.blocks.tonnes.to_numpy(float)
     cell = model.blocks.iz.to_numpy().astype(np.int64) * (count + 1) + shells.shell
     rock, ore = (
         np.bincount(cell, weight, grid.shape[2] * (count + 1)).reshape(-1, count + 1).cumsum(axis=1)
-        for weight in (tonnes, tonnes * priced.milled(THOUSAND))
+        for weight in (tonnes, priced.ore_of(tonnes, THOUSAND))
     )
     benches, rims = [], []
     for i in chosen:
-        share, held = shells.factors[i] / THOUSAND, cube <= i
-        for level, shape in outlines.by_bench(held):
+        mark, held = shells.mark(i), cube <= i
+        for level, shape in shells.outlines(i):
             toe, crest = grid.world(0, 0, [level - 0.5, level + 0.5])[2].tolist()
             area = float(shape.area) * grid.size[0] * grid.size[1]
             benches.append(
                 {
-                    "factor": share,
+                    shells.by: mark,
                     "toe": toe,
                     "crest": crest,
                     "blocks": int(held[:, :, level].sum()),
@@ -138,10 +145,10 @@ def features(
         if not rim.is_empty:
             rims.append(
                 {
-                    "factor": share,
+                    shells.by: mark,
                     "blocks": int(held.sum()),
                     "area": float(rim.area) * grid.size[0] * grid.size[1],
-                    "worth": shells.verdicts[i]["worth"],
+                    "worth": shells.worth(i),
                     "geometry": outlines.placed(rim, grid),
                 }
             )

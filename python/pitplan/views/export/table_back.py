@@ -1,9 +1,9 @@
-"""The planner's own table with a column more, byte for byte otherwise."""
+"""The planner's own table with columns more, byte for byte otherwise."""
 from __future__ import annotations
 
 import gzip
 import io
-from collections.abc import Iterable, Iterator
+from collections.abc import Iterable, Iterator, Mapping
 from pathlib import Path
 from typing import IO, TYPE_CHECKING, cast
 
@@ -15,13 +15,14 @@ from ...base.errors import PlanError
 from ...base.next_command import command
 from ...base.files import whole_file
 from ...base.units_shown import share_text
-from ...table.csv_text import dialect_of, head_of, names_of, opened, separator_of
+from ...table.csv_text import dialect_of, head_of, names_of, open_table, separator_of
 
 if TYPE_CHECKING:
     from ...study.shells import Shells
+    from ...study.study import Study
 
-COLUMN = "pit_shell"
-BLANKS = b" \t\n\r\x0b\x0c"  # what `bytes.strip` takes away
+_COLUMN = "pit_shell"
+_BLANKS = b" \t\n\r\x0b\x0c"  # what `bytes.strip` takes away
 PIECE = 1 << 22  # bytes of a table that are written at a time
 
 
@@ -49,9 +50,9 @@ def records(lines: Iterable[bytes]) -> Iterator[bytes]:
         yield held
 
 
-def plain_ends(text: bytes) -> tuple[bytes, Ints] | None:
-    """The line end of a piece that has a record in each line and the same end at each, and the places behind its lines; None for any
-    other piece."""
+def _plain_ends(text: bytes) -> tuple[bytes, Ints] | None:
+    """The line end of a piece that has a record in each line and the same end at each, and the
+    places behind its lines; None for any other piece."""
     if b'"' in text or not text.endswith(b"\n"):
         return None
     each = np.frombuffer(text, np.uint8)
@@ -62,29 +63,30 @@ def plain_ends(text: bytes) -> tuple[bytes, Ints] | None:
         and (each[np.maximum(places - 2, 0)] == ord("\r")).all()
     ):
         return None
-    return None if has_blank_line(text, places) else (end, places)
+    return None if _has_blank_line(text, places) else (end, places)
 
 
-def has_blank_line(text: bytes, places: Ints) -> bool:
-    """Whether one of the lines of a text is blank; such a line begins with a blank or with its end."""
+def _has_blank_line(text: bytes, places: Ints) -> bool:
+    """Whether one of the lines of a text is blank; such a line begins with a blank or with its
+    end."""
     starts = np.append(0, places[:-1])
-    is_blank = np.isin(np.frombuffer(text, np.uint8)[starts], np.frombuffer(BLANKS, np.uint8))
+    is_blank = np.isin(np.frombuffer(text, np.uint8)[starts], np.frombuffer(_BLANKS, np.uint8))
     return any(
         not text[start:stop].strip()
         for start, stop in zip(starts[is_blank].tolist(), places[is_blank].tolist())
     )
 
 
-def with_column(record: bytes, more: bytes) -> bytes:
+def _with_column(record: bytes, more: bytes) -> bytes:
     """A record with a cell more, its line end as it was."""
     body = record.rstrip(b"\r\n")
     return body + more + record[len(body) :]
 
 
 def write(shells: Shells, target: Path, decimal: str | None = None) -> int:
-    """Writes the study's table again, with a column `pit_shell` behind the others: the share of the price at which a pit first
-    has the row's block, with the table's own mark of a decimal, and nothing where none has it. The way back is by row, never by
-    coordinates.
+    """Writes the study's table again, with a column `pit_shell` behind the others: the share of the
+    price at which a pit first has the row's block, with the table's own mark of a decimal, and
+    nothing where none has it. The way back is by row, never by coordinates.
 
     Parameters
     ----------
@@ -105,6 +107,58 @@ def write(shells: Shells, target: Path, decimal: str | None = None) -> int:
         Where the table isn't there any more, or isn't the one that the study was built from.
     """
     study = shells.study
+    path, decimal = unchanged_table(study), decimal or ""
+    if not decimal:  # where 0,5 is a number, 0.5 is a word, and 1.1 a day of January
+        decimal = dialect_of(path, "latin-1").decimal
+    shares = [share_text(factor).replace(".", decimal) for factor in shells.factors] + [""]
+    block = study.model.row_block
+    shell = np.where(block >= 0, shells.shell[np.maximum(block, 0)], len(shells.factors))
+    with_columns(path, target, [_COLUMN], [(share,) for share in shares], shell)
+    return int(np.count_nonzero(shell < len(shells.factors)))
+
+
+def write_columns(study: Study, columns: Mapping[str, Array], target: Path) -> int:
+    """Writes the study's table again, with columns behind the others.
+
+    Parameters
+    ----------
+    study : Study
+    columns : mapping
+        By name, which gets a number behind it where the table has such a column: a word or a number
+        of each block; nothing is written where it is "" or 0.
+    target : Path
+        Packed where its name ends in ``.gz``.
+
+    Returns
+    -------
+    int
+        How many rows have something.
+
+    Raises
+    ------
+    PlanError
+        As `write`.
+    """
+    path, block = unchanged_table(study), study.model.row_block
+    kind, words = np.zeros(len(block), np.int64), list[tuple[str, ...]]([()])
+    for values in columns.values():
+        each, at = np.unique(values, return_inverse=True)
+        kind, old = kind * len(each) + at[np.maximum(block, 0)], words
+        words = [(*before, str(word) if word else "") for before in old for word in each.tolist()]
+    nothing = ("",) * len(columns)
+    kind = np.where(block >= 0, kind, len(words))
+    with_columns(path, target, list(columns), [*words, nothing], kind)
+    return int(np.count_nonzero(np.array([any(each) for each in (*words, nothing)])[kind]))
+
+
+def unchanged_table(study: Study) -> Path:
+    """The table that a study was built from.
+
+    Raises
+    ------
+    PlanError
+        Where it isn't there any more, or is another one.
+    """
     path = study.table
     if path is None:
         raise PlanError("the study was made of no file", try_this="shells.of_blocks()")
@@ -116,55 +170,59 @@ def write(shells: Shells, target: Path, decimal: str | None = None) -> int:
             table=path,
             try_this=command("build", study.named),
         )
+    return path
+
+
+def with_columns(
+    path: Path, target: Path, names: list[str], cells: list[tuple[str, ...]], kind: Array
+) -> None:
+    """Writes a table again with columns more; `kind` says which of the cells each row has, the
+    last ones where it has no more."""
     header = head_of(path, "latin-1", 1)[0]
     mark = separator_of(header)
-    name = free_name(names_of(header, mark))
-    decimal = (
-        decimal or dialect_of(path, "latin-1").decimal
-    )  # where 0,5 is a number, 0.5 is a word, and 1.1 a day of January
-    shares = [share_text(factor).replace(".", decimal) for factor in shells.factors] + [""]
-    cells = [(mark + share).encode() for share in shares]
-    block = study.model.row_block
-    shell = np.where(block >= 0, shells.shell[np.maximum(block, 0)], len(shells.factors))
-    rewrite(path, target, (mark + name).encode(), cells, shell)
-    return int(np.count_nonzero(shell < len(shells.factors)))
+    there = names_of(header, mark)
+    head = "".join(mark + _free_name(there, name) for name in names)
+    texts = ["".join(mark + cell for cell in each).encode() for each in cells]
+    rewrite(path, target, head.encode(), texts, kind)
 
 
-def free_name(names: list[str]) -> str:
-    """`pit_shell`, or with a number where the table has such a column."""
+def _free_name(names: list[str], wanted: str) -> str:
+    """A name, or with a number where the table has such a column."""
     return next(
-        name for name in (COLUMN, *(f"{COLUMN}_{n}" for n in range(2, 1000))) if name not in names
+        name for name in (wanted, *(f"{wanted}_{n}" for n in range(2, 1000))) if name not in names
     )
 
 
 def rewrite(path: Path, target: Path, head: bytes, cells: list[bytes], shell: Array) -> None:
     """The table with a cell more in each record, written beside `target` and renamed."""
-    with whole_file(target) as part, opened(path) as old, cast(
+    with whole_file(target) as part, open_table(path) as old, cast(
         IO[bytes], gzip.open(part, "wb", 1) if target.suffix == ".gz" else open(part, "wb")
     ) as new:
-        new.write(with_column(next(records(old)), head))
+        new.write(_with_column(next(records(old)), head))
         row = 0
         for text in pieces(old):
-            row += write_piece(new, text, cells, shell[row:])
+            row += _write_piece(new, text, cells, shell[row:])
 
 
-def write_piece(new: IO[bytes], text: bytes, cells: list[bytes], shell: Array) -> int:
-    """Writes the records of a piece, each with the cell that `shell` says, the last one where it has no more; returns how many they are."""
-    plain = plain_ends(text)
+def _write_piece(new: IO[bytes], text: bytes, cells: list[bytes], shell: Array) -> int:
+    """Writes the records of a piece, each with the cell that `shell` says, the last one where it
+    has no more; returns how many they are."""
+    plain = _plain_ends(text)
     if plain:  # nearly all of a large table
         new.write(b"".join(with_cells(text, plain, cells, shell)))
         return len(plain[1])
     count = 0
     for count, record in enumerate(records(io.BytesIO(text)), 1):
         cell = cells[shell[count - 1]] if count <= len(shell) else cells[-1]
-        new.write(with_column(record, cell) if record.strip() else record)
+        new.write(_with_column(record, cell) if record.strip() else record)
     return count
 
 
 def with_cells(
     text: bytes, plain: tuple[bytes, Ints], cells: list[bytes], shell: Array
 ) -> Iterator[bytes]:
-    """The lines of a plain piece, each with its cell: those that have the same one and stand below each other go at once."""
+    """The lines of a plain piece, each with its cell: those that have the same one and stand below
+    each other go at once."""
     end, places = plain
     kinds = np.append(
         shell[: len(places)], np.full(max(len(places) - len(shell), 0), len(cells) - 1)

@@ -1,4 +1,5 @@
-"""Blocks for ParaView: VTU with a hexahedron for each block, where it is, with its shell, its worth and the table's columns."""
+"""Blocks for ParaView: VTU with a hexahedron for each block, where it is, with its shell, its worth
+and the table's columns."""
 from __future__ import annotations
 
 import os
@@ -6,11 +7,10 @@ from collections.abc import Sequence
 from typing import TYPE_CHECKING, Any
 
 import numpy as np
-import numpy.typing as npt
 import pandas as pd
 
 from ...base.amounts import THOUSAND
-from ...base.arrays import Array, Floats, Ints
+from ...base.arrays import Array, Floats, Indices, Ints
 from ...base.errors import PlanError, meant
 from ...base.files import whole_file
 from ...model.model import OURS
@@ -20,10 +20,11 @@ if TYPE_CHECKING:
     from ...model.model import Model
     from ...study.shells import Shells
 
-# The corners of a hexahedron in the order of VTK_HEXAHEDRON: the lower face counterclockwise, then the upper one.
-CORNERS = ((0, 0, 0), (1, 0, 0), (1, 1, 0), (0, 1, 0), (0, 0, 1), (1, 0, 1), (1, 1, 1), (0, 1, 1))
-OWN = ("block", "shell", "worth")
-MOST_WORDS = 10_000  # different words of a column that are numbered
+# The corners of a hexahedron in the order of VTK_HEXAHEDRON: the lower face counterclockwise, then
+# the upper one.
+_CORNERS = ((0, 0, 0), (1, 0, 0), (1, 1, 0), (0, 1, 0), (0, 0, 1), (1, 0, 1), (1, 1, 1), (0, 1, 1))
+_OWN = ("block", "shell", "worth")
+_MOST_WORDS = 10_000  # different words of a column that are numbered
 
 
 def write(
@@ -34,9 +35,10 @@ def write(
 ) -> pd.DataFrame:
     """Writes blocks as hexahedra in true coordinates, also of a turned model.
 
-    Each cell has ``shell`` (the factor of the first pit that has it, as a share of the price; not a number where none has),
-    ``worth`` (at factor 1, in units of currency), ``block`` (its number in `pit`'s files), and the table's columns. A
-    column of TRUE and FALSE has 1 and 0; another one of words is numbered, in the order of the words.
+    Each cell has ``shell`` (the factor of the first pit that has it, as a share of the price; not a
+    number where none has; of a schedule ``year``, 0 where none digs it), ``worth`` (at factor 1, in
+    units of currency), ``block`` (its number in `pit`'s files), and the table's columns. A column of TRUE and FALSE has 1 and 0; another one of
+    words is numbered, in the order of the words.
 
     Parameters
     ----------
@@ -50,8 +52,8 @@ def write(
     Returns
     -------
     DataFrame
-        ``column``, ``number``, ``word``: what the numbers of columns of words stand for. It is written too, beside `path`, with
-        the ending ``.words.csv``, where there are such columns.
+        ``column``, ``number``, ``word``: what the numbers of columns of words stand for. It is
+        written too, beside `path`, with the ending ``.words.csv``, where there are such columns.
 
     Raises
     ------
@@ -71,29 +73,29 @@ def write(
 def mesh_of(
     shells: Shells, columns: Sequence[str] | None = None, is_whole: bool = False
 ) -> tuple[Any, pd.DataFrame]:
-    """The blocks as a `meshio.Mesh`, as PyVista and others take it, and what numbers stand for; see `write`."""
+    """The blocks as a `meshio.Mesh`, as PyVista and others take it, and what numbers stand for; see
+    `write`."""
     import meshio
 
     model, count = shells.study.model, len(shells.factors)
     kept = np.arange(len(model)) if is_whole else np.flatnonzero(shells.dug < count)
     points, cells = hexahedra(model, kept)
-    shares = np.array([*(factor / THOUSAND for factor in shells.factors), np.nan])
     data: dict[str, Array] = {
-        "shell": shares[shells.shell[kept]],
-        "worth": shells.study.priced.worth_unfenced(THOUSAND)[kept],
+        shells.called: shells.first[kept],
+        "worth": shells.priced.worth_unfenced(THOUSAND)[kept],
         "block": kept.astype(np.int32),
     }
     legend = []
     for name in columns_of(model, columns):
         values = model.blocks[name].iloc[kept]
         if values.dtype.kind in "iufb":
-            data[free(name)] = values.to_numpy().astype(
+            data[free(name, shells.called)] = values.to_numpy().astype(
                 np.int32 if values.dtype.kind == "b" else values.dtype
             )
             continue
         truths = yes_or_no(values)
         codes, found = (truths, []) if truths is not None else numbered(values, name, model.name)
-        data[free(name)] = codes
+        data[free(name, shells.called)] = codes
         legend += [(name, i, word) for i, word in enumerate(found)]
     mesh = meshio.Mesh(
         points, [("hexahedron", cells)], cell_data={name: [values] for name, values in data.items()}
@@ -102,11 +104,12 @@ def mesh_of(
 
 
 def hexahedra(model: Model, kept: Ints) -> tuple[Floats, Ints]:
-    """The corners of blocks, each once, of shape (corners, 3); and the eight corners of each block, of shape (len(kept), 8)."""
+    """The corners of blocks, each once, of shape (corners, 3); and the eight corners of each block,
+    of shape (len(kept), 8)."""
     nx, ny, nz = (n + 1 for n in model.grid.shape)
     b = model.blocks
     ix, iy, iz = (b[name].to_numpy()[kept].astype(np.int64) for name in ("ix", "iy", "iz"))
-    key = np.stack([((iz + c) * ny + iy + d) * nx + ix + a for a, d, c in CORNERS], axis=1)
+    key = np.stack([((iz + c) * ny + iy + d) * nx + ix + a for a, d, c in _CORNERS], axis=1)
     used = np.zeros(nx * ny * nz, bool)
     used[key] = True
     number = np.cumsum(used) - 1
@@ -116,7 +119,8 @@ def hexahedra(model: Model, kept: Ints) -> tuple[Floats, Ints]:
 
 
 def columns_of(model: Model, wanted: Sequence[str] | None) -> list[str]:
-    """The columns to write: those that are asked for, or all of numbers, those of TRUE and FALSE, and the rock.
+    """The columns to write: those that are asked for, or all of numbers, those of TRUE and FALSE,
+    and the rock.
 
     Raises PlanError where the table has no such column.
     """
@@ -139,28 +143,32 @@ def columns_of(model: Model, wanted: Sequence[str] | None) -> list[str]:
     return list(dict.fromkeys(wanted))
 
 
-def free(name: str) -> str:
-    """The name of a column in the file: the table's own, but for names that this package writes itself."""
-    return f"{name} of the table" if name in OWN else name
+def free(name: str, called: str) -> str:
+    """The name of a column in the file: the table's own, but for names that this package writes
+    itself, one of them what pits are called."""
+    return f"{name} of the table" if name in (*_OWN, called) else name
 
 
-def yes_or_no(values: pd.Series) -> npt.NDArray[np.int32] | None:
-    """1 for each TRUE, in any spelling, and 0 for each FALSE or empty cell; None for a column that has another word, or neither."""
+def yes_or_no(values: pd.Series) -> Indices | None:
+    """1 for each TRUE, in any spelling, and 0 for each FALSE or empty cell; None for a column that
+    has another word, or neither."""
     code, kinds = pd.factorize(values)
-    words = [str(kind).strip().upper() for kind in kinds]
-    if not {"TRUE", "FALSE"} & set(words) or not set(words) <= {"TRUE", "FALSE", ""}:
+    words = []
+    for kind in kinds:
+        words.append(str(kind).strip().upper())
+        if words[-1] not in ("TRUE", "FALSE", ""):
+            return None
+    if not any(words):
         return None
-    found: npt.NDArray[np.int32] = np.array([*(word == "TRUE" for word in words), False], np.int32)[
-        code
-    ]
+    found: Indices = np.array([*(word == "TRUE" for word in words), False], np.int32)[code]
     return found
 
 
-def numbered(values: pd.Series, name: str, table: str) -> tuple[npt.NDArray[np.int32], list[str]]:
+def numbered(values: pd.Series, name: str, table: str) -> tuple[Indices, list[str]]:
     """Words as numbers from 0, in the order of the words."""
     words = values.fillna("").astype(str)
     codes, found = pd.factorize(words, sort=True)
-    if len(found) > MOST_WORDS:
+    if len(found) > _MOST_WORDS:
         raise PlanError(
             f"has {len(found):,} different words, and they are numbered in a file for ParaView",
             table=table,

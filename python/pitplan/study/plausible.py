@@ -1,4 +1,5 @@
-"""What is strange about a model's tonnes and worths, as a unit that is another than the planner thinks makes them.
+"""What is strange about a model's tonnes and worths, as a unit that is another than the planner
+thinks makes them.
 
 Nothing here is refused: an odd mine is a mine. `pitplan build` says it.
 """
@@ -8,21 +9,22 @@ import numpy as np
 
 from ..base.amounts import THOUSAND, Priced
 from ..base.strange import Strange, rounded
+from ..base.units import Units
 from ..table.study_keys import METALS
-from .economics import Economics, holds
-from .model import Model
+from ..model.economics import Economics, holds
+from ..model.model import Model
 
-LIGHTEST, HEAVIEST = (
+_LIGHTEST, _HEAVIEST = (
     0.05,
     10.0,
-)  # tonnes for each cubic unit of the coordinates, be these metres or feet
-RICHEST = 50  # how many times its costs ore may bring
-LEAST = 0.002  # the share that a metal has of what all bring
+)  # tonnes a cubic metre; or a cubic foot, where nothing says that coordinates are in feet
+_RICHEST = 50  # how many times its costs ore may bring
+_LEAST = 0.002  # the share that a metal has of what all bring
 
 
 def strange(model: Model, priced: Priced, economics: Economics) -> list[Strange]:
     """What the planner should look at."""
-    return [*of_tonnes(model), *of_worths(priced, economics), *of_forbid(model, economics)]
+    return [*of_tonnes(model), *_of_worths(priced, economics), *of_forbid(model, economics)]
 
 
 def of_tonnes(model: Model) -> list[Strange]:
@@ -39,27 +41,37 @@ def of_tonnes(model: Model) -> list[Strange]:
             )
         ]
     weight, size = float(tonnes.mean()), " x ".join(f"{side:g}" for side in model.grid.size)
-    density = weight / model.grid.volume
-    if LIGHTEST <= density <= HEAVIEST:
+    density = weight / (model.grid.volume * model.units.weight_of_cube)
+    names_units = model.units != Units()
+    if _LIGHTEST <= density <= _HEAVIEST:
         return []
     return [
         Strange(
-            f"a block of {size} weighs {rounded(weight, 4)} tonnes on average, {rounded(density)} for each cubic unit",
+            (
+                f"a block of {size} weighs {rounded(weight, 4)} {model.units.words} on average,"
+                f" {rounded(density)} {'tonnes a cubic metre' if names_units else 'for each cubic unit'}"
+            ),
             "rock has 1.5 to 5 in a cubic metre",
-            "is that the column of tonnes or density, in tonnes, and is the size in the unit of the coordinates?",
+            (
+                f"is that the column of tonnes or density, in {model.units.words}, and is the size in the unit of"
+                " the coordinates?"
+            ),
             ("model", "size"),
         )
     ]
 
 
-def of_worths(priced: Priced, economics: Economics) -> list[Strange]:
+def _of_worths(priced: Priced, economics: Economics) -> list[Strange]:
     """Where no ore pays, where it pays far too well, and where a metal brings next to nothing."""
     units, key = "price, price_unit, grade_unit and recovery in [economics]", ("economics", METALS)
     ore = priced.milled(THOUSAND)
     if not ore.any():
         return [
             Strange(
-                "no block pays for its treatment at the full price, so each pit up to factor 1 is empty",
+                (
+                    "no block pays for its treatment at the full price, so each pit up to factor 1"
+                    " is empty"
+                ),
                 "",
                 units,
                 key,
@@ -79,22 +91,28 @@ def of_worths(priced: Priced, economics: Economics) -> list[Strange]:
                 key,
             )
         ]
-        if times > RICHEST
+        if times > _RICHEST
         else []
     )
     brings = {
-        metal.name: float(priced.metal[metal.name].sum()) * metal.price * metal.payable
+        metal.name: float(priced.metal[metal.name].sum())
+        * metal.price
+        * economics.rate_of(metal)
+        * metal.payable
         for metal in economics.metals
     }
     return found + [
         Strange(
-            f"{metal.name} brings {percent(brings[metal.name] / sum(brings.values()))} of what all metals bring",
+            (
+                f"{metal.name} brings {_percent(brings[metal.name] / sum(brings.values()))} of what"
+                " all metals bring"
+            ),
             "",
             f"price, price_unit, grade_unit and recovery of {metal.name}",
             (*key, metal.name),
         )
         for metal in economics.metals
-        if metal.price > 0 and brings[metal.name] < LEAST * sum(brings.values())
+        if metal.price > 0 and brings[metal.name] < _LEAST * sum(brings.values())
     ]
 
 
@@ -102,7 +120,10 @@ def of_forbid(model: Model, economics: Economics) -> list[Strange]:
     """The formulas of `forbid` that hold for no block."""
     return [
         Strange(
-            f"[economics] forbid = {formula!r} holds for no block, so it keeps nothing from being dug",
+            (
+                f"[economics] forbid = {formula!r} holds for no block, so it keeps nothing from"
+                " being dug"
+            ),
             "",
             "the numbers in it, by the table's own coordinates and units",
             ("economics", "forbid"),
@@ -112,10 +133,10 @@ def of_forbid(model: Model, economics: Economics) -> list[Strange]:
     ]
 
 
-def percent(share: float) -> str:
+def _percent(share: float) -> str:
     """A share in percent, with two digits that count.
 
-    >>> percent(0.0019), percent(0.0), percent(0.25)
+    >>> _percent(0.0019), _percent(0.0), _percent(0.25)
     ('0.19 %', '0 %', '25 %')
     """
     return f"{100 * share:.2g} %"

@@ -1,0 +1,719 @@
+#!/usr/bin/env python3
+"""Checks the schedule of this bundle and its bound again, by Python's standard library alone (3.11 or later).
+
+    python3 recheck_schedule.py
+
+It reads study.toml, the planner's table, the model in model/, the pit at the full price in certificates/, schedule/ and
+tables/, by the readers of recheck.py, which has to lie beside it. What periods weigh and have and what blocks use is worked
+out again. Of the certificate of the bound it takes the flow alone: no pit needs to be trusted, and none is run. That the pit
+at the full price is a best one, and the slopes, are for recheck.py. A line begins with ok or WRONG; the exit status is 0
+where nothing is WRONG.
+"""
+from __future__ import annotations
+
+import sys
+
+if __name__ == "__main__" and not (sys.flags.isolated or getattr(sys.flags, "safe_path", False)):
+    del sys.path[0]  # no file beside this one is run for one of Python's library
+
+import copy
+import gzip
+import json
+import math
+import tomllib
+from collections.abc import Iterator
+from decimal import Decimal, localcontext
+from pathlib import Path
+from typing import TYPE_CHECKING, Any, NamedTuple
+
+HERE = Path(__file__).resolve().parent
+if TYPE_CHECKING:
+    from . import recheck
+else:
+    sys.dont_write_bytecode = True  # a file that no digest is of would be WRONG
+    sys.path.append(str(HERE))
+    import recheck
+
+THOUSAND, MILLION = 1000, 10**6
+FULL = 0.995  # of a capacity, from which on it is said to bind
+WHEN = {"start": Decimal(0), "mid": Decimal("0.5"), "end": Decimal(1)}
+RESOURCES = ("mining", "mill")
+CUTOFFS = ("fixed", "by year")
+RATE = recheck.Kind(
+    "a number above 0, or a list of such numbers",
+    lambda value: all(
+        recheck.is_number(each, 1e-12) for each in (value if isinstance(value, list) else [value])
+    ),
+)
+COUNT = recheck.Kind("a whole number from 1 on", lambda value: recheck.is_whole(value, 1))
+TERMS = {
+    "years": COUNT,
+    "per_year": COUNT,
+    "when": recheck.one_of(*WHEN),
+    "mining_rate": RATE,
+    "mill_rate": RATE,
+    "discount": recheck.SHARE,
+    "sink": COUNT,
+    "panel": COUNT,
+    "cutoff": recheck.one_of(*CUTOFFS),
+    "pushbacks": recheck.Kind(
+        "a list of numbers above 0",
+        lambda value: isinstance(value, list)
+        and all(recheck.is_number(each, 1e-12) for each in value),
+    ),
+    "lead": recheck.Kind("a whole number from 0 on", lambda value: recheck.is_whole(value, 0)),
+    "fixed_cost": recheck.Kind(
+        "a number of at least 0", lambda value: recheck.is_number(value, 0.0)
+    ),
+}  # of [schedule] in study.toml
+Rows = list[list[int]]  # of each block or unit those that it rests on
+
+
+class Wrong(Exception):
+    """What is wrong."""
+
+
+class Quiet(recheck.Report):
+    """The lines of recheck.py, of which one that is WRONG ends the check."""
+
+    def say(self, kind: str, what: str) -> None:
+        need(kind != "WRONG", what)
+
+
+class Mine(NamedTuple):
+    """The model: its blocks, of each what digging it costs and what it gains by the mill at the full
+    price, in whole units of currency, whether it is rock, and what it rests on."""
+
+    blocks: recheck.Blocks
+    costs: list[int]
+    gains: list[int]
+    is_rock: list[bool]
+    above: Rows
+
+
+class Periods(NamedTuple):
+    """What schedule/ says: weights in millionths, what each period has and what a unit of that is
+    priced at, uses by resource and block, the unit of each block of the pit, the sink rate, the
+    blocks that are sent to the mill (None where all go there that gain by it), the pushback of each
+    block, how far one is ahead of the next, and what a period costs in which rock is dug."""
+
+    weights: list[int]
+    capacities: Rows
+    multipliers: Rows
+    uses: Rows
+    unit: dict[int, int]
+    sink: int | None
+    lag: int
+    sent: set[int] | None
+    pushback: dict[int, int]
+    lead: int
+    fixed_cost: int
+
+    def takes_feed(self, mine: Mine, block: int) -> bool:
+        """Whether a block goes to the mill once it is dug."""
+        return mine.gains[block] > 0 if self.sent is None else block in self.sent
+
+
+def need(holds: bool, what: str) -> None:
+    """Ends the check where something doesn't hold."""
+    if not holds:
+        raise Wrong(what)
+
+
+def words_of(path: Path) -> Iterator[list[str]]:
+    """The lines of a text, as words."""
+    with gzip.open(path, "rt") if path.suffix == ".gz" else open(path) as file:
+        for line in file:
+            yield line.split()
+
+
+def read_mine() -> Mine:
+    """The model as pit was given it."""
+    blocks, costs, gains = recheck.Blocks(), list[int](), list[int]()
+    for number, (revenue, processing, mining) in enumerate(blocks.amounts):
+        gain = max(revenue - processing, 0)
+        is_whole = gain % MILLION == 0 and mining % MILLION == 0
+        need(is_whole, f"block {number} isn't worth whole units of currency")
+        costs.append(mining // MILLION)
+        gains.append(gain // MILLION)
+    above: Rows = [[] for _ in costs]
+    for words in words_of(HERE / "model/mine.prec"):
+        above[int(words[0])] = [int(word) for word in words[2:]]
+        need(int(words[1]) == len(words) - 2, f"the line of block {words[0]} of mine.prec")
+    return Mine(blocks, costs, gains, [tonnes > 0 for tonnes in blocks.tonnes], above)
+
+
+def read_periods(mine: Mine) -> Periods:
+    """What schedule/ says of the periods, each number in its range."""
+    told = tomllib.loads((HERE / "schedule/periods.toml").read_text())
+    terms = json.loads((HERE / "schedule/terms.json").read_text())
+    weights, count = told["weights"], len(told["weights"])
+    need(all(a >= b for a, b in zip(weights, weights[1:])), "weights don't fall")
+    need(min(weights) >= 0, "a weight is below 0")
+    for name in ("capacities", "multipliers"):
+        rows = told[name]
+        need([len(row) for row in rows] == [count, count], f"{name} aren't of two resources")
+        need(min(min(row) for row in rows) >= 0, f"one of the {name} is below 0")
+    uses: Rows = [[], []]
+    for number, words in enumerate(words_of(HERE / "schedule/uses.blocks")):
+        need(int(words[0]) == number, "uses.blocks isn't in the order of its blocks")
+        for row, word in zip(uses, words[4:6]):
+            row.append(int(word))
+    need(len(uses[0]) == len(mine.costs), "uses.blocks isn't of this model")
+    need(min(min(row) for row in uses) >= 0, "a use is below 0")
+    unit = {int(b): int(u) for b, u in words_of(HERE / "schedule/units.txt")}
+    return Periods(
+        weights,
+        told["capacities"],
+        told["multipliers"],
+        uses,
+        unit,
+        terms["sink"],
+        terms["lag"],
+        None if terms["sent"] is None else {int(block) for block in terms["sent"]},
+        read_pushbacks(terms["pushbacks"], unit),
+        terms["lead"],
+        terms["fixed_cost"],
+    )
+
+
+def read_pushbacks(factors: list[int], unit: dict[int, int]) -> dict[int, int]:
+    """The pushback of each block of the pit: how many of the pits of these factors don't have it."""
+    need(all(a < b for a, b in zip(factors, factors[1:])), "the factors of pushbacks don't ascend")
+    pits = [pit_of(factor) for factor in factors]
+    return {block: sum(block not in pit for pit in pits) for block in unit}
+
+
+def pit_of(factor: int) -> set[int]:
+    """The blocks of the pit at a factor, by its certificate."""
+    path = HERE / f"certificates/f{factor:05d}.cert.gz"
+    return {int(words[1]) for words in words_of(path) if words[0] == "PIT"}
+
+
+def sinking(mine: Mine, periods: Periods) -> Rows:
+    """Of each block of the pit the block of rock that the sink rate asks for a year before: so many
+    benches straight above it, where a block lies at each bench between."""
+    found: Rows = [[] for _ in mine.costs]
+    if periods.sink is None:
+        return found
+    number = {place: block for block, place in enumerate(mine.blocks.places)}
+    for block in periods.unit:
+        x, y, z = mine.blocks.places[block]
+        column = [number.get((x, y, z + step)) for step in range(1, periods.sink + 1)]
+        top = column[-1]
+        if None not in column and top is not None and mine.is_rock[block] and mine.is_rock[top]:
+            found[block].append(top)
+    return found
+
+
+def read_schedule(never: int) -> dict[int, int]:
+    """The period of each block that is dug, of so many."""
+    when = dict[int, int]()
+    for words in words_of(HERE / "schedule/schedule.txt"):
+        block, period = map(int, words)
+        need(block not in when and 0 <= period < never, f"schedule.txt, block {block}")
+        when[block] = period
+    return when
+
+
+def check_schedule(mine: Mine, periods: Periods, lagged: Rows, when: dict[int, int]) -> Decimal:
+    """The net present value of a schedule, once it keeps slopes, sink rate and capacities."""
+    never = len(periods.weights)
+    together = dict[int, int]()
+    for block, period in when.items():
+        need(block in periods.unit, f"block {block} isn't of the pit")
+        need(
+            together.setdefault(periods.unit[block], period) == period,
+            f"block {block} isn't dug with its panel",
+        )
+        for other in mine.above[block]:
+            need(when.get(other, never) <= period, f"block {block} is dug before block {other}")
+        for other in lagged[block]:
+            need(
+                when.get(other, never) + periods.lag <= period,
+                f"block {block} breaks the sink rate",
+            )
+    check_pushbacks(mine, periods, when)
+    gaining = {block for block in when if mine.gains[block]}
+    need(
+        periods.sent is None or periods.sent <= gaining,
+        "a block is sent that isn't dug, or gains nothing by the mill",
+    )
+    milled = {block for block in when if periods.takes_feed(mine, block)}
+    for uses, rooms, taking in zip(periods.uses, periods.capacities, (set(when), milled)):
+        used = [0] * never
+        for block in taking:
+            used[when[block]] += uses[block]
+        for period, (amount, room) in enumerate(zip(used, rooms)):
+            need(amount <= room, f"period {period + 1} uses {amount} of {room}")
+    return Decimal(npv_of(mine, periods, when)) / MILLION
+
+
+def npv_of(mine: Mine, periods: Periods, when: dict[int, int]) -> int:
+    """What a schedule is worth, less the fixed costs of the periods in which it digs rock, in
+    millionths."""
+    total = 0
+    for block, period in when.items():
+        gain = mine.gains[block] * periods.takes_feed(mine, block)
+        total += periods.weights[period] * (gain - mine.costs[block])
+    open_in = {period for block, period in when.items() if periods.uses[0][block]}
+    return total - periods.fixed_cost * sum(periods.weights[period] for period in open_in)
+
+
+def check_pushbacks(mine: Mine, periods: Periods, when: dict[int, int]) -> None:
+    """A block waits for all blocks of the pushbacks before its own, down to so many benches below
+    it."""
+    latest, never = dict[tuple[int, int], int](), len(periods.weights)
+    benches = [mine.blocks.places[block][2] for block in periods.unit]
+    low, high = min(benches), max(benches)
+    for block, pushback in periods.pushback.items():
+        place = pushback, mine.blocks.places[block][2]
+        latest[place] = max(latest.get(place, -1), when.get(block, never))
+    for pushback in range(max(periods.pushback.values()) + 1):
+        for bench in range(high, low - 1, -1):
+            latest[pushback, bench] = max(
+                latest.get((pushback, bench), -1),
+                latest.get((pushback, bench + 1), -1),
+                latest.get((pushback - 1, bench), -1),
+            )
+    for block, period in when.items():
+        bench = max(mine.blocks.places[block][2] - periods.lead, low)
+        need(
+            latest.get((periods.pushback[block] - 1, bench), -1) <= period,
+            f"block {block} is dug before the pushbacks ahead of it",
+        )
+
+
+def of_units(rows: Rows, unit: dict[int, int], is_apart: bool) -> list[set[int]]:
+    """What each unit rests on, by its blocks; what lies outside the pit is wrong."""
+    found: list[set[int]] = [set() for _ in range(max(unit.values()) + 1)]
+    for block, mine in unit.items():
+        for other in rows[block]:
+            need(other in unit, f"block {block} of the pit rests on block {other} outside it")
+            if not is_apart or unit[other] != mine:
+                found[mine].add(unit[other])
+    return found
+
+
+def add_gates(mine: Mine, periods: Periods, above: list[set[int]]) -> list[int]:
+    """Adds the gates of pushbacks behind the units: one for each pushback but the last and each
+    bench, from the top down, which rests on all of these pushbacks there and above. Gives the units
+    and gates in an order in which what one rests on comes before it."""
+    benches = {block: mine.blocks.places[block][2] for block in periods.unit}
+    low, high = min(benches.values()), max(benches.values())
+    units, last = len(above), max(periods.pushback.values())
+    rank = {
+        unit: (2 * periods.pushback[block], -benches[block]) for block, unit in periods.unit.items()
+    }
+
+    def gate(pushback: int, bench: int) -> int:
+        return units + pushback * (high - low + 1) + high - max(bench, low)
+
+    for pushback in range(last):
+        for bench in range(high, low - 1, -1):
+            over = {gate(pushback, bench + 1)} if bench < high else set[int]()
+            above.append(over | ({gate(pushback - 1, bench)} if pushback else set()))
+            rank[len(above) - 1] = 2 * pushback + 1, -bench
+    for block, unit in periods.unit.items():
+        pushback = periods.pushback[block]
+        if pushback < last:
+            above[gate(pushback, benches[block])].add(unit)
+        if pushback:
+            above[unit].add(gate(pushback - 1, benches[block] - periods.lead))
+    return sorted(rank, key=lambda unit: rank[unit])
+
+
+def first_periods(
+    periods: Periods, order: list[int], above: list[set[int]], sunk: list[set[int]]
+) -> list[int]:
+    """The first period that the sink rate leaves each unit."""
+    found = [0] * len(above)
+    for unit in order:
+        least = [found[other] for other in above[unit]]
+        least += [found[other] + periods.lag for other in sunk[unit]]
+        found[unit] = min(max(least, default=0), len(periods.weights))
+    return found
+
+
+def check_bound(mine: Mine, periods: Periods, lagged: Rows) -> Decimal:
+    """What no schedule of the pit's blocks is worth more than, by the flow of the certificate."""
+    above = of_units(mine.above, periods.unit, True)
+    sunk = of_units(lagged, periods.unit, False)
+    order, count = add_gates(mine, periods, above), len(periods.weights)
+    sunk += [set() for _ in above[len(sunk) :]]
+    leaves = left_by_units(mine, periods, len(above))
+    node, worths = list[tuple[int, int]](), list[int]()
+    for unit, first in enumerate(first_periods(periods, order, above, sunk)):
+        left = leaves[unit] + [0]
+        for t in range(first, count):
+            node.append((unit, t))
+            worths.append((left[t] - left[t + 1]) * THOUSAND)
+    source = flow_of(node, worths, above, sunk, periods.lag)
+    closed = sum(max(worth, 0) for worth in worths) - source
+    rooms = 0  # a period pays for its capacities and has its fixed cost, or digs nothing
+    for t, weight in enumerate(periods.weights):
+        paid = sum(
+            prices[t] * row[t] for prices, row in zip(periods.multipliers, periods.capacities)
+        )
+        rooms += max(paid - weight * periods.fixed_cost * THOUSAND, 0)
+    return Decimal(closed + rooms) / (MILLION * THOUSAND)
+
+
+def left_by_units(mine: Mine, periods: Periods, units: int) -> Rows:
+    """What each unit leaves in each period: what it is worth less what it uses at the multipliers,
+    in millionths, by the better of mill and waste for each block where a schedule may choose."""
+    values, more = [0] * units, [[0] * len(periods.weights) for _ in range(units)]
+    uses = [[0] * units for _ in periods.uses]
+    rock, feed = periods.uses
+    for block, unit in periods.unit.items():
+        gain = mine.gains[block]
+        values[unit] -= mine.costs[block]
+        uses[0][unit] += rock[block]
+        if periods.sent is None:
+            values[unit] += gain
+            uses[1][unit] += feed[block]
+        elif gain:
+            for t, (weight, price) in enumerate(zip(periods.weights, periods.multipliers[1])):
+                more[unit][t] += max(weight * gain - feed[block] * price // THOUSAND, 0)
+    return [
+        [
+            weight * values[unit]
+            + more[unit][t]
+            - sum(row[unit] * each[t] // THOUSAND for row, each in zip(uses, periods.multipliers))
+            for t, weight in enumerate(periods.weights)
+        ]
+        for unit in range(units)
+    ]
+
+
+def flow_of(
+    node: list[tuple[int, int]],
+    worths: list[int],
+    above: list[set[int]],
+    sunk: list[set[int]],
+    lag: int,
+) -> int:
+    """What the flow takes from the source, once it is one: within what blocks have, along pairs,
+    and as much out of each as comes in."""
+    over, source, is_whole = [0] * len(node), 0, False
+    for words in words_of(HERE / "schedule/bound.cert.gz"):
+        is_whole = words == ["END"]
+        if words[0] not in ("SOURCE", "REST", "SINK"):
+            continue
+        *ends, amount, second = map(int, words[1:])
+        need(amount > 0 and second == 0, f"the certificate's line {' '.join(words)}")
+        if words[0] == "SOURCE":
+            need(amount <= worths[ends[0]], f"more flows into {ends[0]} than it is worth")
+            over[ends[0]] += amount
+            source += amount
+        elif words[0] == "SINK":
+            need(amount <= -worths[ends[0]], f"more flows out of {ends[0]} than it costs")
+            over[ends[0]] -= amount
+        else:
+            (unit, t), (other, s) = node[ends[0]], node[ends[1]]
+            need(
+                unit == other
+                and s == t + 1
+                or s == t
+                and other in above[unit]
+                or s == t - lag
+                and other in sunk[unit],
+                f"the flow goes from {ends[0]} to {ends[1]}, which is no pair",
+            )
+            over[ends[0]] -= amount
+            over[ends[1]] += amount
+    need(is_whole, "the certificate was cut off")
+    need(not any(over), "what flows into a block doesn't flow out of it")
+    return source
+
+
+def check_pit(periods: Periods) -> None:
+    """The blocks that are scheduled are those of the pit at the full price."""
+    need(
+        pit_of(THOUSAND) == set(periods.unit),
+        "the blocks of the schedule aren't the pit at the full price",
+    )
+
+
+class Asked(NamedTuple):
+    """What study.toml says: [schedule], the rates by resource, empty where there is none, and the
+    discount."""
+
+    terms: dict[str, Any]
+    rates: list[list[Decimal]]
+    discount: Decimal
+
+    @classmethod
+    def read(cls) -> Asked:
+        """Rates and the discount are those of [shells] where [schedule] has none."""
+        plan = recheck.toml_of("study.toml")
+        terms = recheck.looked_at("study.toml: [schedule]", plan.get("schedule", {}), TERMS, ())
+        strange = sorted(set(terms) - set(TERMS))
+        need(not strange, f"[schedule] has {', '.join(strange)}, which this script doesn't know")
+        of_shells = recheck.looked_at("study.toml: [shells]", plan.get("shells", {}), TERMS, ())
+        both = {**{name: of_shells[name] for name in TERMS if name in of_shells}, **terms}
+        found = [both.get(f"{name}_rate", []) for name in RESOURCES]
+        rates = [rate if isinstance(rate, list) else [rate] for rate in found]
+        return cls(
+            terms,
+            [[Decimal(str(each)) for each in row] for row in rates],
+            Decimal(str(both.get("discount", 0.1))),
+        )
+
+    @property
+    def per_year(self) -> int:
+        """Periods in a year."""
+        return int(self.terms.get("per_year", 1))
+
+    def weights(self, count: int) -> list[int]:
+        """What money of each of so many periods is worth today, in millionths."""
+        when = WHEN[self.terms.get("when", "mid")]
+        with localcontext() as exact:
+            exact.prec = 50
+            return [
+                round(MILLION / (1 + self.discount) ** ((t + when) / self.per_year))
+                for t in range(count)
+            ]
+
+    def room(self, resource: int, period: int) -> int:
+        """What a period has of a resource, in thousandths of a tonne; the last rate stays."""
+        rates = self.rates[resource]
+        rate = rates[min(period // self.per_year, len(rates) - 1)]
+        return int(rate * THOUSAND / self.per_year)
+
+    def years(self, totals: list[float]) -> int:
+        """How many years there are for so many thousandths of a tonne of each resource: as many as
+        the rates need and one more, where study.toml has no number."""
+        if "years" in self.terms:
+            return int(self.terms["years"])
+        most = 0
+        for rates, total in zip(self.rates, totals):
+            year, left = 0, total / THOUSAND
+            while rates and left > 0:
+                left -= float(rates[min(year, len(rates) - 1)])
+                year += 1
+            most = max(most, year)
+        return most + 1
+
+
+def check_terms(mine: Mine, periods: Periods, asked: Asked) -> None:
+    """What periods weigh and have, the sink rate and the panels are those of study.toml."""
+    count = len(periods.weights)
+    totals = [sum(row[block] for block in periods.unit) for row in periods.uses]
+    years = {
+        asked.years([total * share for total in totals]) for share in (1 - 1e-9, 1.0, 1 + 1e-9)
+    }
+    need(count in {year * asked.per_year for year in years}, f"{count} periods aren't those asked")
+    need(
+        (periods.sink, periods.lag) == (asked.terms.get("sink"), asked.per_year),
+        "the sink rate isn't that of study.toml",
+    )
+    need(
+        (periods.sent is not None) == (asked.terms.get("cutoff") == CUTOFFS[1]),
+        "the cut-off isn't that of study.toml",
+    )
+    factors = [round(share * THOUSAND) for share in asked.terms.get("pushbacks", [])]
+    is_same = periods.pushback == read_pushbacks(factors, periods.unit)
+    need(
+        is_same and periods.lead == asked.terms.get("lead", 0),
+        "the pushbacks aren't those of study.toml",
+    )
+    fixed = Decimal(str(asked.terms.get("fixed_cost", 0))) / asked.per_year
+    need(periods.fixed_cost == round(fixed), "the fixed cost isn't that of study.toml")
+    wanted = asked.weights(count)
+    for t, (weight, ours) in enumerate(zip(periods.weights, wanted)):
+        need(weight == ours, f"period {t + 1} weighs {weight}, and by study.toml {ours}")
+    for resource, (name, row) in enumerate(zip(RESOURCES, periods.capacities)):
+        for t, room in enumerate(row):
+            ours = asked.room(resource, t) if asked.rates[resource] else totals[resource]
+            need(room == ours, f"period {t + 1} has {room} of {name}, and by study.toml {ours}")
+    panel = asked.terms.get("panel", 1)
+    square = {
+        block: (x // panel, y // panel, z, periods.pushback[block] if panel > 1 else 0)
+        for block, (x, y, z) in zip(periods.unit, map(mine.blocks.places.__getitem__, periods.unit))
+    }
+    pairs = {(unit, square[block]) for block, unit in periods.unit.items()}
+    need(
+        len(pairs) == len({unit for unit, _ in pairs}) == len({place for _, place in pairs}),
+        "units.txt isn't the panels of study.toml",
+    )
+
+
+def feed_of(economics: dict[str, Any]) -> float:
+    """The tonnes that the mill gets for each tonne of ore in place."""
+    share: float = economics.get("mining_recovery", 1.0) * (1 + economics.get("dilution", 0.0))
+    return share
+
+
+def ore_of(mine: Mine, block: int, worked: recheck.Worked | None) -> float:
+    """The tonnes of a block that go to the mill at the full price."""
+    found = recheck.Sum()
+    found.add(mine.blocks, block, worked)
+    return found.ore
+
+
+def check_uses(mine: Mine, periods: Periods, worked: list[recheck.Worked | None]) -> None:
+    """What the pit's blocks use is the nearest to what their rows of the planner's table say."""
+    feed = feed_of(recheck.economics_of())
+    for block in periods.unit:
+        row = worked[block]
+        is_mill = row is not None and ore_of(mine, block, row) > 0
+        for name, told, ours in zip(
+            ("rock", "feed"),
+            (uses[block] for uses in periods.uses),
+            (
+                row.tonnes if row else mine.blocks.tonnes[block],
+                row.ore * feed if row and is_mill else 0.0,
+            ),
+        ):
+            off = 0.5 + 1e-6 + 1e-9 * ours * THOUSAND
+            need(
+                abs(told - ours * THOUSAND) <= off,
+                f"block {block} uses {told} of {name}, and by the table {ours * THOUSAND:.3f}",
+            )
+
+
+class Sums(NamedTuple):
+    """What the rock of each period, and of each period, bench and pushback from 1, comes to."""
+
+    periods: dict[int, recheck.Sum]
+    benches: dict[tuple[int, float, int], recheck.Sum]
+
+    @classmethod
+    def of(
+        cls,
+        mine: Mine,
+        periods: Periods,
+        when: dict[int, int],
+        worked: list[recheck.Worked | None],
+        grid: Any,
+    ) -> Sums:
+        """The elevation of a bench is that of its blocks' centres."""
+        found, blocks = cls({}, {}), as_dug(mine, periods)
+        for block, period in when.items():
+            if mine.is_rock[block]:
+                bench = grid["origin"][2] + mine.blocks.places[block][2] * grid["size"][2]
+                place = period, round(bench, 3), periods.pushback[block] + 1
+                of_bench = found.benches.setdefault(place, recheck.Sum())
+                for each in (of_bench, found.periods.setdefault(period, recheck.Sum())):
+                    each.add(blocks, block, worked[block])
+        return found
+
+
+def as_dug(mine: Mine, periods: Periods) -> recheck.Blocks:
+    """The blocks, of which those that go to waste bring nothing."""
+    found = copy.copy(mine.blocks)
+    found.amounts = [
+        amounts if periods.takes_feed(mine, block) else (0, 0, amounts[2])
+        for block, amounts in enumerate(mine.blocks.amounts)
+    ]
+    return found
+
+
+def is_line(
+    line: recheck.Line, found: recheck.Sum, metals: list[str], feed: float, fixed: int = 0
+) -> bool:
+    """Whether a line of a table has these blocks, its cash flow less a fixed cost."""
+    worth = str(Decimal(line.word("cash_flow")) + fixed)
+    told = line._replace(cells={**line.cells, "worth": worth})
+    off = 6e-4 * (1 + found.blocks)
+    return (
+        found.is_line(told, False, feed, metals)
+        and recheck.is_close(line.number("feed_t"), found.ore * feed, off * feed)
+        and (
+            line.word("strip") == ""
+            if not found.ore
+            else math.isclose(
+                line.number("strip"), (found.rock - found.ore) / found.ore, rel_tol=1e-6
+            )
+        )
+    )
+
+
+def check_tables(
+    mine: Mine,
+    periods: Periods,
+    asked: Asked,
+    when: dict[int, int],
+    worked: list[recheck.Worked | None],
+) -> None:
+    """tables/schedule.csv and tables/schedule_benches.csv say what the schedule does."""
+    economics, facts = recheck.economics_of(), recheck.facts_of()
+    metals, feed = [metal["name"] for metal in economics["metals"]], feed_of(economics)
+    sums, npv = Sums.of(mine, periods, when, worked, facts["grid"]), 0.0
+    lines = recheck.read_table("schedule.csv")
+    need(len(lines) == max(when.values()) + 1, "tables/schedule.csv hasn't a line for each period")
+    for t, line in enumerate(lines):
+        what = f"tables/schedule.csv, line {line.at}, isn't what period {t + 1} comes to"
+        found = sums.periods.get(t, recheck.Sum())
+        need((line.whole("period"), line.whole("year")) == (t + 1, t // asked.per_year + 1), what)
+        fixed = periods.fixed_cost if found.rock else 0
+        need(is_line(line, found, metals, feed, fixed), what)
+        flow, weight = found.worth / recheck.NANO - fixed, periods.weights[t] / MILLION
+        npv += flow * weight
+        for name, ours in (("weight", weight), ("discounted", flow * weight), ("npv", npv)):
+            need(recheck.is_close(line.number(name), ours, 1e-3), f"{what}: {name}")
+        check_binding(line, what, asked, t, (found.rock, found.ore * feed))
+    benches = dict[tuple[int, float, int], recheck.Line]()
+    for line in recheck.read_table("schedule_benches.csv"):
+        pushback = line.whole("pushback") if asked.terms.get("pushbacks") else 1
+        benches[line.whole("period") - 1, round(line.number("bench"), 3), pushback] = line
+    need(set(benches) == set(sums.benches), "tables/schedule_benches.csv has other benches")
+    for place, line in benches.items():
+        what = f"tables/schedule_benches.csv, line {line.at}, isn't what its blocks come to"
+        need(line.whole("year") == place[0] // asked.per_year + 1, what)
+        need(is_line(line, sums.benches[place], metals, feed), what)
+
+
+def check_binding(
+    line: recheck.Line, what: str, asked: Asked, period: int, used: tuple[float, float]
+) -> None:
+    """The shares of the rates that a line says a period uses, and which rates it says bind."""
+    binds = []
+    for resource, (name, tonnes) in enumerate(zip(RESOURCES, used)):
+        cell = f"{name}_used"
+        room = asked.room(resource, period) if asked.rates[resource] else 0
+        if not room:
+            need(line.word(cell) == "", f"{what}: {cell}")
+            continue
+        share = tonnes * THOUSAND / room
+        need(recheck.is_close(line.number(cell), share, 1e-6 * (1 + share)), f"{what}: {cell}")
+        binds += [name] if line.number(cell) >= FULL else []
+    need(line.word("binds") == " ".join(binds), f"{what}: binds")
+
+
+def main() -> int:
+    """Says what holds."""
+    try:
+        mine = read_mine()
+        periods = read_periods(mine)
+        lagged, when = sinking(mine, periods), read_schedule(len(periods.weights))
+        check_pit(periods)
+        npv = check_schedule(mine, periods, lagged, when)
+        bound = check_bound(mine, periods, lagged)
+        asked = Asked.read()
+        check_terms(mine, periods, asked)
+        found = recheck.check_table(Quiet(), mine.blocks, recheck.facts_of())
+        worked = found.worked if found else []
+        check_uses(mine, periods, worked)
+        check_tables(mine, periods, asked, when, worked)
+    except (
+        *(Wrong, recheck.Bad, OSError, EOFError),
+        *(ArithmeticError, ValueError, KeyError, IndexError, TypeError),
+    ) as error:
+        print(f"WRONG {error}")
+        return 1
+    print(f"ok    the schedule keeps slopes, sink rate and capacities, and is worth {npv:,f}")
+    print(f"ok    no schedule of the pit's blocks is worth more than {bound:,f}")
+    print(
+        "ok    what periods weigh and have is what study.toml says, and what blocks use and bring"
+    )
+    print("      what it and the planner's table say")
+    print(
+        "ok    tables/schedule.csv and tables/schedule_benches.csv are what the schedule comes to"
+    )
+    return 0
+
+
+if __name__ == "__main__":
+    sys.exit(main())

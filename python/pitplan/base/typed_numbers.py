@@ -1,0 +1,60 @@
+"""Numbers as people type them: with a separator of thousands, or a comma before the decimals."""
+from __future__ import annotations
+
+import re
+from dataclasses import dataclass
+from typing import Union
+
+_GROUPS = re.compile(
+    r"([+-]?\d{1,3})(?P<group>[,.'’ \u00a0\u2009\u202f])(\d{3})((?:(?P=group)\d{3})*)"
+    r"(?:(?P<point>(?!(?P=group))[.,])(\d+))?"
+)
+_COMMA = re.compile(r"([+-]?\d+),(\d+)")
+
+
+@dataclass(frozen=True)
+class _Typed:
+    """A number that was typed with separators.
+
+    Attributes
+    ----------
+    value : int or float
+    said : str
+        Which separators it has.
+    when : str
+        The condition under which it is this number, where it may be another one; else "".
+    other : float or None
+        That other one.
+    """
+
+    value: Union[int, float]
+    said: str
+    when: str = ""
+    other: Union[float, None] = None
+
+
+def typed_number(text: str) -> _Typed | None:
+    """What a text with separators stands for; None where it is no number, or has none of them.
+
+    >>> [typed_number(text).value for text in ("9,250", "1.250,5", "12,5", "1.250.000")]
+    [9250, 1250.5, 12.5, 1250000]
+    >>> typed_number("9250"), typed_number("1.250"), typed_number("ZC, 5")
+    (None, None, None)
+    """
+    text = text.strip()
+    found, comma = _GROUPS.fullmatch(text), _COMMA.fullmatch(text)
+    if found:
+        first, group, second, more, point, decimals = found.groups()
+        whole = first + second + re.sub(r"\D", "", more)
+        if point:
+            sign = "" if point == "." else ", and ',' before the decimals"
+            return _Typed(float(f"{whole}.{decimals}"), f"has {group!r} between thousands{sign}")
+        if more or group not in ",.":
+            return _Typed(int(whole), f"has {group!r} between thousands")
+        if group == ",":
+            other = float(f"{first}.{second}")
+            when = f"if ',' stands between thousands, or {other:g} if it stands before decimals"
+            return _Typed(int(whole), "has ',' between thousands or before decimals", when, other)
+    if comma:
+        return _Typed(float(f"{comma[1]}.{comma[2]}"), "has ',' before the decimals")
+    return None

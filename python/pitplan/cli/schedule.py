@@ -1,0 +1,280 @@
+"""`pitplan schedule`."""
+from __future__ import annotations
+
+import math
+import sys
+import time
+from collections.abc import Iterator
+from contextlib import contextmanager
+from pathlib import Path
+from typing import TYPE_CHECKING, Optional
+
+import typer
+
+from ..base import events
+from ..base.errors import PlanError
+from ..base.next_command import command
+from ..base.units_shown import printed_scale
+from .console import (
+    STUDY,
+    app,
+    described,
+    err,
+    print_columns,
+    results,
+    say,
+    shells_of,
+    warn,
+)
+
+if TYPE_CHECKING:
+    import pandas as pd
+
+    from ..schedule.plan import Schedule
+    from ..schedule.search import Found, Told
+    from ..schedule.tables import Tables
+
+_PERCENT, _MINUTE = 100.0, 60.0
+
+
+@app.command()
+def schedule(
+    folder: Path = STUDY,
+    gap: float = typer.Option(
+        0.1, "--gap", min=0.0, help="End within so many percent of the bound."
+    ),
+    minutes: float = typer.Option(
+        30.0, "--minutes", min=0.0, help="End after so many minutes; what is found is kept."
+    ),
+    mining_width: Optional[float] = typer.Option(
+        None,
+        "--mining-width",
+        min=0.0,
+        help="The least width that machines need, in the unit of the coordinates: how much rock of each year lies where it is less wide.",
+    ),
+) -> None:
+    """Plan by years: a schedule of the best pit, its net present value, and a proved bound of all schedules. Goes on where it was stopped."""
+    from ..schedule.plan import Schedule
+    from ..schedule.tables import Tables
+
+    plan = described(folder)
+    shells, rates = shells_of(folder)
+    with _shown(gap / _PERCENT) as listener:
+        found = Schedule.of(
+            shells, plan.values["schedule"], rates, (gap / _PERCENT, minutes * _MINUTE), listener
+        )
+    tables = Tables(found, mining_width)
+    years = tables.years()
+    _write_tables(found, tables, years)
+    _draw(found, years)
+    _write_page(found, years)
+    _print_years(found, years)
+    _tell(found, years)
+
+
+def last_of(folder: Path) -> Schedule:
+    """The schedule that was found last by the terms of study.toml.
+
+    Raises PlanError where none was.
+    """
+    from ..schedule.plan import Schedule
+
+    plan = described(folder)
+    shells, rates = shells_of(folder)
+    found = Schedule.last(shells, plan.values["schedule"], rates)
+    if found is None:
+        raise PlanError(
+            "no schedule by the terms of study.toml has been found",
+            try_this=command("schedule", folder),
+        )
+    return found
+
+
+@contextmanager
+def _shown(wanted: float) -> Iterator[Told]:
+    """Shows how far a search is: on a terminal a line that changes, else a line for each step."""
+    began, before = time.time(), [""]
+
+    def words(found: Found) -> str:
+        gap = f"{found.gap:.3%} below the bound" if found.gap < 1e9 else "no bound yet"
+        return f"{gap}, {found.filled} periods filled, {found.closures} closures"
+
+    if not err.is_terminal:
+
+        def listener(found: Found, what: str) -> None:
+            if what != before[0]:
+                before[0] = what
+                events.event("step", what=what)
+                print(
+                    f"{what}: {words(found)} after {time.time() - began:.0f} s",
+                    file=sys.stderr,
+                    flush=True,
+                )
+
+        yield listener
+        return
+    from rich.progress import BarColumn, Progress, TextColumn, TimeElapsedColumn
+
+    with Progress(
+        TextColumn("{task.description}"),
+        BarColumn(),
+        TextColumn("{task.fields[text]}"),
+        TimeElapsedColumn(),
+        console=err,
+        transient=True,
+    ) as bars:
+        bar = bars.add_task("schedule", total=1.0, text="")
+
+        def drawn(found: Found, what: str) -> None:
+            events.event("step", what=what)
+            share = min(wanted / found.gap, 1.0) if 0 < found.gap < 1e9 else 0.0
+            bars.update(bar, completed=share, description=what, text=words(found))
+
+        yield drawn
+
+
+def _write_tables(found: Schedule, tables: Tables, years: pd.DataFrame) -> None:
+    """By period, by bench, and the planner's own table with the year of each row, or the period where a year has several, and where it goes."""
+    from ..table.spreadsheets import write_table
+    from ..views.export import table_back
+
+    study = found.shells.study
+    folder = results(study)
+    write_table(years, folder / "schedule.csv")
+    write_table(tables.benches(), folder / "schedule_benches.csv")
+    if study.table is None:
+        return
+    path = folder / f"schedule_{study.table.name}"
+    try:
+        has_parts = found.production.terms.per_year > 1
+        name, numbers = ("period", found.periods) if has_parts else ("year", found.years)
+        rows = table_back.write_columns(study, {name: numbers, "sent": found.ways}, path)
+        say(
+            f"{path}: the table with two columns more, {name} and sent, that {rows:,} of its rows have"
+        )
+    except PlanError as error:
+        warn(str(error))
+
+
+def _draw(found: Schedule, years: pd.DataFrame) -> None:
+    """The years as bars, and a bench and a section by year."""
+    from ..views import pictures, schedule_pictures
+
+    folder = results(found.shells.study)
+    toe, row = schedule_pictures.middle_of(found)
+    for name, figure in (
+        ("schedule-years", schedule_pictures.by_year(found, years)),
+        (f"schedule-plan-{toe:.10g}", schedule_pictures.plan(found, toe)),
+        (f"schedule-section-row-{row}", schedule_pictures.section(found, row)),
+    ):
+        path = folder / f"{name}.png"
+        pictures.save(figure, path)
+        say(str(path))
+
+
+def _write_page(found: Schedule, years: pd.DataFrame) -> None:
+    """The mine at the end of each period, as a page."""
+    from ..views import page, schedule_view
+
+    study = found.shells.study
+    path = results(study) / "schedule.html"
+    try:
+        view = schedule_view.schedule(found, years)
+        page.write_views(path, study, [view], f"{study.model.name}: {view.name.lower()}")
+        say(f"{path}: {path.stat().st_size / 1e6:.1f} MB, opens in any browser")
+    except PlanError as error:  # as where three.js isn't there
+        warn(str(error))
+
+
+def _print_years(found: Schedule, years: pd.DataFrame) -> None:
+    """The schedule on the screen; all of its columns are in the file."""
+    study = found.shells.study
+    metals = study.manifest["metals"]
+    rock = printed_scale(years["rock_t"], study.model.units.weight)
+    money = printed_scale(years[["cash_flow", "npv"]], study.currency)
+    names = (
+        "period" if found.production.terms.per_year > 1 else "year",
+        f"rock {rock.unit}",
+        f"ore {rock.unit}",
+        "strip",
+        f"feed {rock.unit}",
+        *(f"{name} {unit['grade_unit']}" for name, unit in metals.items()),
+        "cash flow",
+        "discounted",
+        "npv so far",
+        f"bottom {study.model.units.length}",
+        *(("narrow",) if "narrow_share" in years else ()),
+        "binds",
+    )
+
+    def text(value: float, places: int = 2) -> str:
+        return "" if value != value else f"{value:,.{places}f}"
+
+    lines = [
+        (
+            str(row["period"]),
+            rock.text(row["rock_t"]),
+            rock.text(row["ore_t"]),
+            text(row["strip"]),
+            rock.text(row["feed_t"]),
+            *(text(row[f"grade_{name}"], 3) for name in metals),
+            money.text(row["cash_flow"]),
+            money.text(row["discounted"]),
+            money.text(row["npv"]),
+            f"{row['bottom']:,.10g}",
+            *((f"{row['narrow_share']:.0%}",) if "narrow_share" in years else ()),
+            row["binds"],
+        )
+        for row in years.to_dict("records")
+    ]
+    print_columns(f"by year, in {money.unit} at the full price", names, lines)
+
+
+def _tell(found: Schedule, years: pd.DataFrame) -> None:
+    """What the schedule is worth, how far it is below the bound, and what to look at."""
+    study, terms = found.shells.study, found.production.terms
+    currency = study.currency
+    say(
+        f"pit schedule says: feasible, {found.count:,} blocks, net present value {currency}"
+        f" {math.floor(found.npv + found.fixed):,}"
+    )
+    if terms.fixed_cost:
+        say(
+            f"less the fixed costs of the {(years['fixed_cost'] > 0).sum()}"
+            f" {'periods' if terms.per_year > 1 else 'years'} in which rock is dug: {currency}"
+            f" {math.floor(found.npv):,}"
+        )
+    say(
+        f"by these rates and slopes no schedule brings more than {currency}"
+        f" {math.ceil(found.bound):,}, which pit check has accepted: this one is at most"
+        f" {found.gap_text} below the best"
+    )
+    if terms.is_by_year:
+        say(
+            f"{found.said.count - found.count:,} of the blocks go to the mill, each in the year in"
+            " which it is dug; pit schedule counts these twice, as dug and as milled"
+        )
+    if terms.sink is not None:
+        say(f"the sink rate of {terms.sink} benches a year is counted by pitplan, not by pit")
+    if terms.pushbacks:
+        say(
+            f"the order of the {len(terms.pushbacks) + 1} pushbacks is counted by pitplan, not by pit"
+        )
+    if terms.fixed_cost:
+        say(
+            "the bound has of a year's fixed cost the share of the rates that the year uses; the gap"
+            " has the rest of it"
+        )
+    left = found.left()
+    if left[0]:
+        rock = printed_scale(years["rock_t"], study.model.units.weight)
+        warn(
+            f"{left[0]:,} {'block of the pit stays' if left[0] == 1 else 'blocks of the pit stay'}"
+            f" in the ground, {rock.said(left[1])} worth {currency}"
+            f" {left[2]:,.0f} undiscounted"
+            + (
+                "\n  try: more years in [schedule]"
+                if (years["rock_t"] > 0).sum() == terms.periods
+                else ""
+            )
+        )

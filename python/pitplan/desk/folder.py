@@ -1,0 +1,192 @@
+"""The folder that the desk was started for: its studies and tables, and nothing outside of it."""
+from __future__ import annotations
+
+import errno
+import fcntl
+import hashlib
+import os
+import re
+import tomllib
+from collections.abc import Iterator
+from contextlib import contextmanager
+from pathlib import Path
+from typing import Any
+
+from ..base.errors import PlanError
+from ..base.files import FULL
+
+_NAME = re.compile(
+    r"\w[\w .+-]{0,79}"
+)  # begins with no sign, so that no command takes it for an option
+TABLES, DESIGNS = (".csv", ".csv.gz"), (".dxf", ".csv", ".txt")
+_SHOWN = ("out", "designs", "log")  # of a study what may be saved, beside study.toml and bundles
+HOME = Path("log", "desk")  # within a study, what is the desk's own
+BUNDLE = "bundle-"
+
+
+class Refused(Exception):
+    """What the desk doesn't do: the status of HTTP, and why, as an error of pitplan's."""
+
+    def __init__(self, status: int, said: str, advice: str | None = None, **more: Any) -> None:
+        super().__init__(said)
+        self.status = status
+        self.told = {"errors": [PlanError(said, try_this=advice).as_data()], **more}
+
+
+class Folder:
+    """Paths are followed to their end before they are used: a link that leads out is outside.
+
+    Parameters
+    ----------
+    root : Path
+    """
+
+    def __init__(self, root: Path) -> None:
+        self.root = root.resolve()
+
+    def within(self, path: Path) -> Path:
+        """The path, followed to its end.
+
+        Raises
+        ------
+        Refused
+            Where it lies outside.
+        """
+        found = path.resolve()
+        if not found.is_relative_to(self.root):
+            raise Refused(403, f"{path.name} lies outside the folder that the desk was started for")
+        return found
+
+    def study(self, name: str) -> Path:
+        """The folder of a study that is there."""
+        path = self.place(name)
+        if not (path / "study.toml").is_file():
+            raise Refused(404, f"there is no study called {name}")
+        return path
+
+    def new_study(self, name: str) -> Path:
+        """The folder of a study that isn't there yet."""
+        path = self.place(name)
+        if (path / "study.toml").exists():
+            raise Refused(409, f"there is a study called {name} already", "another name")
+        if path.exists() and not path.is_dir():
+            raise Refused(409, f"{name} is a file, and a study is a folder", "another name")
+        return path
+
+    def place(self, name: str) -> Path:
+        """Where a study of this name is."""
+        if not _NAME.fullmatch(name) or name.endswith((" ", ".")):
+            raise Refused(
+                404, f"{name!r} is no name of a study", "letters, digits, blanks and . + - _"
+            )
+        path = self.within(self.root / name)
+        if path.parent != self.root:
+            raise Refused(403, f"{name} is a link to another study")
+        return path
+
+    def file(self, name: str, endings: tuple[str, ...], folder: Path | None = None) -> Path:
+        """A file that may be there or come there, by its bare name."""
+        if not _NAME.fullmatch(name) or not name.lower().endswith(endings):
+            raise Refused(
+                415,
+                f"{name!r} can't be taken: a file here ends in {', '.join(endings)}",
+                "a name of letters, digits, blanks and . + - _",
+            )
+        return self.within((folder or self.root) / name)
+
+    def studies(self) -> list[str]:
+        """The names of all studies."""
+        names = sorted(path.parent.name for path in self.root.glob("*/study.toml"))
+        return [name for name in names if self.is_there(name)]
+
+    def is_there(self, name: str) -> bool:
+        """Whether a study may be opened by this name."""
+        try:
+            return self.study(name) == self.root / name
+        except Refused:
+            return False
+
+    def tables(self) -> list[dict[str, Any]]:
+        """The tables of the folder."""
+        return [
+            _told_of(path, path.name)
+            for path in sorted(self.root.iterdir())
+            if path.name.lower().endswith(TABLES) and _NAME.fullmatch(path.name) and path.is_file()
+        ]
+
+    def table_of(self, study: Path) -> Path | None:
+        """The study's table; None where study.toml doesn't say it.
+
+        Raises
+        ------
+        Refused
+            Where it lies outside.
+        """
+        try:
+            said = tomllib.loads((study / "study.toml").read_text("utf-8-sig"))["model"]["table"]
+            return self.within(study / Path(said).expanduser())
+        except (ValueError, KeyError, TypeError, RuntimeError):
+            return None
+
+    def shown(self, study: Path, path: str) -> Path:
+        """A file of a study that may be looked at or saved."""
+        found, parts = self.within(study / path), Path(path).parts
+        top = parts[0] if parts else ""
+        is_shown = top in _SHOWN or top.startswith(BUNDLE)
+        if not found.is_relative_to(study) or not is_shown or not found.is_file():
+            raise Refused(404, f"there is no {path}")
+        return found
+
+    def results(self, study: Path) -> list[dict[str, Any]]:
+        """What there is to take away: tables, pictures, files for CAD, designs, bundles."""
+        found = []
+        for top in (study / "out", study / "designs"):
+            for path in sorted(top.rglob("*")) if top.is_dir() else ():
+                name = path.relative_to(study)
+                if path.is_file() and not any(part.startswith(".") for part in name.parts):
+                    found.append(_told_of(path, name.as_posix()))
+        bundles = sorted(path for path in study.glob(f"{BUNDLE}*") if path.is_dir())
+        return found + [{**_told_of(it, f"{it.name}.zip"), "bytes": None} for it in bundles]
+
+
+def _told_of(path: Path, name: str) -> dict[str, Any]:
+    """A file's name, size and time."""
+    found = path.stat()
+    return {"path": name, "bytes": found.st_size, "when": found.st_mtime}
+
+
+def etag(text: bytes) -> str:
+    """What names a text."""
+    return hashlib.sha256(text).hexdigest()[:16]
+
+
+@contextmanager
+def writing(study: Path) -> Iterator[None]:
+    """One at a time, over all desks, changes study.toml."""
+    try:
+        (study / HOME).mkdir(parents=True, exist_ok=True)
+        with open(study / HOME / "edit.lock", "w") as lock:
+            fcntl.flock(lock, fcntl.LOCK_EX)
+            yield
+    except OSError as error:
+        error.filename = str(study / "study.toml")  # that, and not the lock, is what isn't written
+        raise
+
+
+def refusal(error: OSError, what: str = "") -> Refused:
+    """A disk that is full, or a folder where nothing may be written, in words; `what` is what isn't done, where that is more than
+    a file that isn't written."""
+    where = Path(str(error.filename or "")).name
+    said = f"{where}: {error.strerror}" if where else str(error.strerror)
+    if error.errno in FULL:
+        undone = what or f"{where} wasn't written"
+        return Refused(
+            507,
+            f"{undone}: {error.strerror}; what was there before is kept",
+            "make room on the disk, and do it again",
+        )
+    if error.errno in (errno.EACCES, errno.EPERM, errno.EROFS):
+        return Refused(
+            403, said, f"a folder that {os.environ.get('USER', 'the desk')} may write in"
+        )
+    return Refused(404 if error.errno == errno.ENOENT else 500, said)

@@ -1,0 +1,127 @@
+"""Who may talk to the desk: whoever has its token, from its own pages, by one of its own names."""
+from __future__ import annotations
+
+import hmac
+from collections.abc import Awaitable, Callable, Mapping
+from http.cookies import CookieError, SimpleCookie
+from typing import Any
+from urllib.parse import parse_qs
+
+_App = Callable[[Any, Any, Any], Awaitable[None]]
+# A page of the desk's own goes on to "/": a cookie that is strict isn't sent where another site's page led here.
+_WELCOME = (
+    '<!doctype html><title>pitplan desk</title><meta http-equiv="refresh" content="0;url=/">'
+    '<a href="/">The desk</a>'
+)
+# The desk's own pages take all they need from here, and no text becomes markup: browsers that know trusted types refuse it.
+_POLICY = (
+    "default-src 'none'; script-src 'self'; style-src 'self'; img-src 'self' data:; "
+    "connect-src 'self'; frame-src 'self'; base-uri 'none'; form-action 'none'; "
+    "frame-ancestors 'none'; require-trusted-types-for 'script'; trusted-types 'none'"
+)
+# A file of a study, as pits.html, runs its own scripts as a stranger: without cookies, and without any network.
+SANDBOX = (
+    "sandbox allow-scripts allow-downloads; default-src 'none'; script-src 'unsafe-inline'; "
+    "style-src 'unsafe-inline'; img-src data: blob:; base-uri 'none'; form-action 'none'; "
+    "frame-ancestors 'self'"
+)
+_ALWAYS = {
+    "x-content-type-options": "nosniff",
+    "referrer-policy": "no-referrer",
+    "cross-origin-opener-policy": "same-origin",
+    "cross-origin-resource-policy": "same-origin",
+    "cache-control": "no-store",
+    "content-security-policy": _POLICY,
+}
+_OURS = ("same-origin", "none")  # where a browser says that a request comes from
+
+
+class Guard:
+    """Refuses what doesn't come from the desk's own pages.
+
+    Parameters
+    ----------
+    app : _App
+        What answers the others.
+    token : str
+        In the address that the desk prints; then in a cookie that no script reads and no other site's page sends.
+    names : mapping
+        The names by which browsers call the desk, as the header Host has them, and of each the origin of its pages. So a name that
+        was bent to this address (DNS rebinding) is none.
+    cookie : str
+        Its name.
+    """
+
+    def __init__(self, app: _App, token: str, names: Mapping[str, str], cookie: str) -> None:
+        self.app, self.token, self.names, self.cookie = app, token, names, cookie
+
+    async def __call__(self, scope: Any, receive: Any, send: Any) -> None:
+        if scope["type"] == "lifespan":
+            await self.app(scope, receive, send)
+        if scope["type"] != "http":
+            return
+        headers = {
+            key.decode("latin-1"): value.decode("latin-1") for key, value in scope["headers"]
+        }
+        host = headers.get("host", "")
+        if host not in self.names:
+            await _answer(
+                send, 421, f"The desk isn't called {host!r}; --name gives it a name more."
+            )
+            return
+        asked = parse_qs(scope["query_string"].decode("latin-1"))
+        if self.is_token(asked.get("token", [""])[0]) and scope["path"] == "/":
+            await _answer(send, 200, _WELCOME, self.welcome(host))
+        elif not self.is_ours(scope["method"], headers, self.names[host]):
+            await _answer(send, 403, "This comes from another page than the desk's.")
+        elif not self.is_token(self.kept(headers.get("cookie", ""))):
+            told = "Open the address that `pitplan desk` has printed: it has ?token=.."
+            await _answer(send, 403, told, {"x-desk": "another token"})
+        else:
+            await self.app(scope, receive, _hardened(send))
+
+    def welcome(self, host: str) -> dict[str, str]:
+        """The headers that put the token into a cookie."""
+        secure = "; Secure" if self.names[host].startswith("https:") else ""
+        cookie = f"{self.cookie}={self.token}; Path=/; HttpOnly; SameSite=Strict{secure}"
+        return {"content-type": "text/html; charset=utf-8", "set-cookie": cookie}
+
+    def is_ours(self, method: str, headers: Mapping[str, str], own: str) -> bool:
+        """Whether a request comes from a page of the desk's own; one that only reads may say nothing of where it comes from."""
+        origin = headers.get("origin")
+        if headers.get("sec-fetch-site", "none") not in _OURS:
+            return False
+        return origin == own or (origin is None and method in ("GET", "HEAD"))
+
+    def kept(self, cookies: str) -> str:
+        """The token that a cookie has."""
+        try:
+            jar: SimpleCookie[str] = SimpleCookie(cookies)
+        except CookieError:
+            return ""
+        return jar[self.cookie].value if self.cookie in jar else ""
+
+    def is_token(self, told: str) -> bool:
+        """Whether this is the token, without telling by the time how much of it is right."""
+        return hmac.compare_digest(told.encode(), self.token.encode())
+
+
+def _hardened(send: Any) -> Callable[[Any], Awaitable[None]]:
+    """Adds the headers that every answer has, unless it has its own."""
+
+    async def guarded(message: Any) -> None:
+        if message["type"] == "http.response.start":
+            there = {key.decode().lower() for key, _ in message["headers"]}
+            more = [(k.encode(), v.encode()) for k, v in _ALWAYS.items() if k not in there]
+            message["headers"] = [*message["headers"], *more]
+        await send(message)
+
+    return guarded
+
+
+async def _answer(send: Any, status: int, text: str, headers: Mapping[str, str] = {}) -> None:
+    """Answers with a text."""
+    told = {**_ALWAYS, "content-type": "text/plain; charset=utf-8", **headers}
+    head = [(key.encode(), value.encode()) for key, value in told.items()]
+    await send({"type": "http.response.start", "status": status, "headers": head})
+    await send({"type": "http.response.body", "body": text.encode()})

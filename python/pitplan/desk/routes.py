@@ -1,0 +1,406 @@
+"""What the desk answers. Of all of it nothing is kept between two requests but in files."""
+from __future__ import annotations
+
+import asyncio
+import json
+import math
+import os
+import re
+import shutil
+import tempfile
+import tomllib
+from collections.abc import Awaitable, Callable
+from dataclasses import asdict
+from itertools import count
+from pathlib import Path
+from typing import Any
+
+from starlette.requests import ClientDisconnect, Request
+from starlette.responses import FileResponse, JSONResponse, Response
+from starlette.routing import Route
+
+from ..base.errors import PlanError
+from ..base.files import whole_file
+from ..study import turns
+from ..table.study_keys import KEYS
+from . import runs, toml_text, work
+from .asked import Commands
+from .folder import BUNDLE, DESIGNS, TABLES, Folder, Refused, etag, refusal, writing
+from .guard import SANDBOX
+from .manual import address, page_of
+from .worker import Worker
+
+STATIC = Path(__file__).resolve().parent / "static"
+_MOST = 2_000_000  # bytes of what is told in JSON
+_SHOWN = {".html": "text/html", ".png": "image/png"}  # all else is saved
+_OWN = {".html": "text/html", ".css": "text/css", ".js": "text/javascript"}
+_LARGER = "copy it into the folder, or start the desk with a larger --upload-limit"
+_LONGEST_NAME = 40  # letters of who somebody says to be
+_Told = dict[str, Any]
+_Answer = Callable[[Request], Awaitable[Any]]
+
+
+class Desk:
+    """The routes over a folder.
+
+    Parameters
+    ----------
+    folder : Folder
+    upload_limit : int
+        Bytes of a table or a design that is dropped.
+    """
+
+    def __init__(self, folder: Folder, upload_limit: int) -> None:
+        self.folder, self.upload_limit = folder, upload_limit
+        # what is answered at once doesn't wait for what reads tables
+        self.quick, self.heavy = Worker(folder.root), Worker(folder.root)
+
+    def routes(self) -> list[Route]:
+        """All of them."""
+        at = "/api/studies/{study}"
+        table: list[tuple[str, str, _Answer]] = [
+            ("GET", "/api/folder", self.home),
+            ("PUT", "/api/tables/{name}", self.upload),
+            ("POST", "/api/studies", self.begin),
+            ("GET", at, self.study),
+            ("PATCH", at, self.change),
+            ("GET", at + "/pulse", self.pulse),
+            ("GET", at + "/look", self.asks(self.heavy, work.look)),
+            ("GET", at + "/check", self.asks(self.heavy, work.check)),
+            ("GET", at + "/rose", self.asks(self.quick, work.rose)),
+            ("GET", at + "/ground", self.asks(self.heavy, work.ground, "what")),
+            ("GET", at + "/rose.png", self.asks(self.heavy, work.rose_picture)),
+            ("GET", at + "/cells", self.asks(self.heavy, work.cells, "row")),
+            ("PUT", at + "/designs/{name}", self.upload),
+            ("POST", at + "/commands", self.commands),
+            ("GET", at + "/runs", self.runs),
+            ("POST", at + "/runs", self.start),
+            ("GET", at + "/runs/{number:int}", self.run),
+            ("DELETE", at + "/runs/{number:int}", self.stop),
+            ("GET", at + "/files", self.files),
+            ("GET", "/files/{study}/{path:path}", self.file),
+            ("GET", "/manual/{path:path}", page_of),
+            ("GET", "/{name:path}", _own),
+        ]
+        return [Route(path, _answering(do), methods=[method]) for method, path, do in table]
+
+    def end(self) -> None:
+        """Ends the processes that answer; runs go on."""
+        self.quick.end()
+        self.heavy.end()
+
+    def named(self, request: Request) -> Path:
+        """The study that a request names."""
+        return self.folder.study(request.path_params["study"])
+
+    def readable(self, request: Request) -> Path:
+        """The same, whose table lies within the folder."""
+        study = self.named(request)
+        self.folder.table_of(study)
+        return study
+
+    def asks(self, worker: Worker, do: Callable[..., Any], *words: str) -> _Answer:
+        """A route that has a function of `work` answer, with these words of the address."""
+
+        async def answer(request: Request) -> Any:
+            study = self.readable(request)
+            return await worker(do, study, *(request.query_params[word] for word in words))
+
+        return answer
+
+    async def home(self, request: Request) -> _Told:
+        """The folder, and how studies are described."""
+        found = [
+            {"name": name, **await self.quick(work.overview, self.folder.root / name)}
+            for name in self.folder.studies()
+        ]
+        keys = [{**asdict(key), "must": key.must} for key in KEYS]
+        tables = self.folder.tables()
+        told = {"studies": found, "tables": tables, "keys": keys, "manual": address()}
+        return {"folder": str(self.folder.root), **told}
+
+    async def upload(self, request: Request) -> _Told:
+        """Takes a file as it comes, into one beside its place; nothing that is there is lost before all of it has come."""
+        is_design = "study" in request.path_params
+        where = self.named(request) / "designs" if is_design else self.folder.root
+        endings = DESIGNS if is_design else TABLES
+        path = self.folder.file(request.path_params["name"], endings, where)
+        if path.exists() and "over" not in request.query_params:
+            raise Refused(409, f"{path.name} is there already", "another name", exists=True)
+        where.mkdir(exist_ok=True)
+        handle, part = tempfile.mkstemp(prefix=".upload-", suffix=path.suffix, dir=where)
+        announced = int(request.headers.get("content-length") or 0)
+        size, kind = 0, {}
+        try:
+            with os.fdopen(handle, "wb") as file:
+                async for piece in request.stream():
+                    size += len(piece)
+                    if max(size, announced) > self.upload_limit:
+                        said = f"{path.name} has more than {self.upload_limit:,} bytes"
+                        raise Refused(413, said, _LARGER)
+                    file.write(piece)
+            if is_design:
+                kind = await self.heavy(work.kind_of, Path(part), path.name)
+                if "errors" in kind:
+                    raise Refused(422, kind["errors"][0]["said"], kind["errors"][0]["try"])
+            os.chmod(part, 0o664)
+            os.replace(part, path)
+        except ClientDisconnect:
+            raise Refused(400, "the upload was cut off") from None
+        except OSError as error:
+            error.filename = str(path)
+            raise
+        finally:
+            Path(part).unlink(missing_ok=True)
+        return {"name": path.name, "bytes": size, **kind}
+
+    async def begin(self, request: Request) -> Any:
+        """A study over a table, as `pitplan init`; or a copy of a study's study.toml."""
+        asked = await _told_in(request)
+        table = str(asked.get("table", ""))
+        name = str(asked.get("name") or re.sub(r"(?i)(\.csv)?(\.gz)?$", "", table))
+        study = self.folder.new_study(name)
+        if "copy" in asked:
+            other = self.folder.study(str(asked["copy"]))
+            study.mkdir(exist_ok=True)
+            text = (other / "study.toml").read_bytes()
+            with whole_file(study / "study.toml") as part:
+                part.write_bytes(text)
+            return {"study": name}
+        columns = {str(key): str(value) for key, value in dict(asked.get("columns", {})).items()}
+        encoding = str(asked.get("encoding") or "") or None
+        return await self.heavy(
+            work.begin, study, self.folder.file(table, TABLES), columns, encoding
+        )
+
+    async def study(self, request: Request) -> _Told:
+        """A study, as its forms need it."""
+        return await self.told(self.named(request))
+
+    async def told(self, study: Path) -> _Told:
+        """All of a study that stands in its folder."""
+        text = (study / "study.toml").read_bytes()
+        # of this very text, whatever is written while the rest is found: the page sees that it is old
+        pulse = {**_beat(study), "etag": etag(text)}
+        try:
+            values = tomllib.loads(text.decode("utf-8-sig"))
+        except (ValueError, RecursionError):
+            values = None
+        try:
+            self.folder.table_of(study)
+            outside = []
+        except Refused as refused:
+            outside = [{**refused.told["errors"][0], "key": ["model", "table"]}]
+        designs = sorted(it.name for it in (study / "designs").glob("[!.]*"))
+        return {
+            "name": study.name,
+            "text": text.decode("utf-8-sig", "replace"),
+            "values": values,
+            "outside": outside,
+            "state": await self.quick(work.overview, study),
+            "designs": designs,
+            "pulse": pulse,
+        }
+
+    async def pulse(self, request: Request) -> _Told:
+        """What changes where somebody else did something."""
+        return _beat(self.named(request))
+
+    async def change(self, request: Request) -> _Told:
+        """Writes study.toml: some keys, or the whole text. Refused where somebody has changed the same meanwhile."""
+        study, asked = self.named(request), await _told_in(request)
+        path, kept = study / "study.toml", None
+        with writing(study):
+            before = path.read_bytes()
+            if "text" in asked:
+                if etag(before) != asked["etag"]:
+                    raise _stale("study.toml")
+                new = str(asked["text"]).encode()
+                if asked.get("keeps"):
+                    kept = _put_aside(path, before)
+            else:
+                mark = "\ufeff" if before.startswith(b"\xef\xbb\xbf") else ""
+                try:
+                    text = toml_text.changed(before.decode("utf-8-sig"), asked["changes"])
+                except toml_text.Conflict as conflict:
+                    raise _stale(str(conflict)) from None
+                except (ValueError, KeyError, TypeError) as error:
+                    raise Refused(422, f"study.toml can't be changed so: {error}") from None
+                new = (mark + text).encode()
+            with whole_file(path) as part:
+                part.write_bytes(new)
+        return {**await self.told(study), "kept": kept}
+
+    async def commands(self, request: Request) -> _Told:
+        """What a button would run, as it is typed."""
+        return {"typed": (await self.wanted(request)).typed}
+
+    async def wanted(self, request: Request) -> runs.Wanted:
+        """What is asked for, as commands."""
+        study, asked = self.readable(request), await _told_in(request)
+        steps = Commands(self.folder, study, runs.of(study)).steps(asked)
+        said = "".join(c for c in str(asked.get("who", "")) if c.isprintable())[:_LONGEST_NAME]
+        kept = {key: value for key, value in asked.items() if key != "who"}
+        return runs.Wanted(str(asked["what"]), steps, said.strip() or "somebody", kept)
+
+    async def runs(self, request: Request) -> list[_Told]:
+        """The runs of a study."""
+        return [_shown(run) for run in runs.of(self.named(request))]
+
+    async def start(self, request: Request) -> _Told:
+        """Starts a run."""
+        wanted, study = await self.wanted(request), self.named(request)
+        try:
+            number = await asyncio.to_thread(runs.start, self.folder.root, study, wanted)
+        except turns.Held as held:
+            raise Refused(409, held.said, "stop it, or the same when it is done") from None
+        except OSError as error:
+            raise refusal(error, "the run wasn't begun") from None
+        return {"number": number}
+
+    def found(self, request: Request) -> _Told:
+        """The run that a request names."""
+        number = request.path_params["number"]
+        for run in runs.of(self.named(request)):
+            if run["number"] == number:
+                return run
+        raise Refused(404, f"there is no run {number}")
+
+    async def run(self, request: Request) -> _Told:
+        """A run, and what it has done since a place."""
+        run = self.found(request)
+        events, upto = runs.told_since(run, int(request.query_params.get("from", 0)))
+        return {**_shown(run), "events": events, "upto": upto}
+
+    async def stop(self, request: Request) -> _Told:
+        """Stops a run, as ctrl-C does."""
+        return {"stopped": runs.stop(self.found(request))}
+
+    async def files(self, request: Request) -> list[_Told]:
+        """What there is to take away."""
+        return self.folder.results(self.named(request))
+
+    async def file(self, request: Request) -> Response:
+        """A file of a study: a page or a picture to be looked at, as a stranger's, all else to be saved."""
+        study, path = self.named(request), request.path_params["path"]
+        if path.startswith(BUNDLE) and path.endswith(".zip") and "/" not in path:
+            return await asyncio.to_thread(self.zipped, study, path.removesuffix(".zip"))
+        found = self.folder.shown(study, path)
+        kind = None if "save" in request.query_params else _SHOWN.get(found.suffix)
+        return _sent(found, kind, path.removeprefix("out/"))
+
+    def zipped(self, study: Path, name: str) -> Response:
+        """A bundle in one file."""
+        whole = self.folder.within(study / name)
+        if not whole.is_dir() or whole.parent != study:
+            raise Refused(404, f"there is no {name}")
+        with whole_file(study / f"{name}.zip") as part:
+            shutil.make_archive(str(part.with_suffix("")), "zip", study, name)
+        return _sent(study / f"{name}.zip", None, f"{name}.zip")
+
+
+def _sent(path: Path, kind: str | None, called: str) -> FileResponse:
+    """A file, shown as a stranger's where it has a kind, and else saved under a name that says where it was."""
+    how = "inline" if kind else "attachment"
+    name = re.sub(r"[^\w .+-]", "_", called.replace("/", "-"), flags=re.ASCII)
+    name += "" if path.suffix else ".txt"
+    headers = {
+        "content-security-policy": SANDBOX,
+        "content-disposition": f'{how}; filename="{name}"',
+    }
+    return FileResponse(path, media_type=kind or "application/octet-stream", headers=headers)
+
+
+def _stale(what: str) -> Refused:
+    """The refusal of a change that another one came before."""
+    return Refused(
+        409,
+        f"{what} was changed meanwhile, in another window or by an editor; yours isn't written",
+        "look at what stands there now, and change it again",
+        stale=True,
+    )
+
+
+def _put_aside(path: Path, text: bytes) -> str:
+    """Keeps a text beside its file, under a name that nothing has yet, and gives the name."""
+    for n in count(1):
+        place = path.with_name(f"{path.name}.before" + (f"-{n}" if n > 1 else ""))
+        if not place.exists():
+            with whole_file(place) as part:
+                part.write_bytes(text)
+        if place.read_bytes() == text:
+            return place.name
+    raise AssertionError("names don't end")
+
+
+def _beat(study: Path) -> _Told:
+    """What study.toml and the latest run are now, and who has the study."""
+    found, holder = runs.of(study), turns.is_held(study)
+    latest = {key: found[0][key] for key in ("number", "state")} if found else None
+    return {
+        "etag": etag((study / "study.toml").read_bytes()),
+        "run": latest,
+        "held": str(holder) if holder else None,
+    }
+
+
+def _shown(run: _Told) -> _Told:
+    """A run as the browser takes it."""
+    names = ("number", "what", "typed", "asked", "who", "began", "state", "status", "seconds")
+    return {name: run[name] for name in names} | {"folder": f"log/desk/{run['folder'].name}"}
+
+
+async def _told_in(request: Request) -> _Told:
+    """What a request tells in JSON, of a bounded size."""
+    if request.headers.get("content-type", "") != "application/json":
+        raise Refused(415, "the desk takes JSON here")
+    body = b""
+    async for piece in request.stream():
+        body += piece
+        if len(body) > _MOST:
+            raise Refused(413, f"the desk takes at most {_MOST:,} bytes here")
+    found = json.loads(body)
+    if not isinstance(found, dict):
+        raise Refused(400, "the desk takes a table of JSON here")
+    return found
+
+
+def _answering(do: _Answer) -> _Answer:
+    """Gives what a route answers as JSON, or as a picture, and what it refuses with its words."""
+
+    async def answer(request: Request) -> Response:
+        try:
+            found = await do(request)
+            if isinstance(found, bytes):
+                return Response(found, media_type="image/png")
+            return found if isinstance(found, Response) else JSONResponse(_finite(found))
+        except Refused as error:
+            no = error
+        except PlanError as error:
+            no = Refused(422, error.said, error.try_this)
+        except RecursionError:
+            no = Refused(400, "the desk can't do that: it is nested too deep")
+        except (ValueError, KeyError) as error:
+            no = Refused(400, f"the desk can't do that: {error}")
+        except OSError as error:
+            no = refusal(error)
+        return JSONResponse(no.told, no.status)
+
+    return answer
+
+
+def _finite(value: Any) -> Any:
+    """What JSON can say: nothing in place of a number that is none."""
+    if isinstance(value, dict):
+        return {key: _finite(each) for key, each in value.items()}
+    if isinstance(value, (list, tuple)):
+        return [_finite(each) for each in value]
+    return None if isinstance(value, float) and not math.isfinite(value) else value
+
+
+async def _own(request: Request) -> Response:
+    """The desk's own page, its style and its scripts."""
+    name = request.path_params["name"] or "desk.html"
+    if name not in {path.name for path in STATIC.iterdir()}:
+        raise Refused(404, "there is no such page")
+    return FileResponse(STATIC / name, media_type=_OWN[Path(name).suffix])

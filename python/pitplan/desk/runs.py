@@ -1,0 +1,245 @@
+"""Commands of pitplan that the desk has started, each run in a folder `log/desk/0007-shells` of its study: they outlive the desk.
+
+    asked.json    the commands, with what was asked for, by whom and when
+    process.json  the process that does them
+    log           what they print
+    events.jsonl  what they do, as `base.events` has it
+    study.toml    as it was then
+    going         until they have ended; then it is renamed, which takes no room on a full disk, to `ended-STATUS-STEP`
+
+One at a time over a study: the run holds the study's own lock, as a command in a terminal does, and the system lets it go when the
+last process of the run ends.
+"""
+from __future__ import annotations
+
+import json
+import os
+import shlex
+import shutil
+import signal
+import subprocess
+import sys
+import time
+from collections.abc import Mapping, Sequence
+from contextlib import suppress
+from dataclasses import dataclass, field
+from pathlib import Path
+from typing import Any
+
+from ..base import events
+from ..base.files import whole_file
+from ..base.within import NAME as WITHIN
+from ..study import turns
+from .folder import HOME
+
+_PACKAGE = str(Path(__file__).resolve().parents[2])  # the folder that has pitplan
+_START = f"import sys; sys.path.insert(0, {_PACKAGE!r}); "
+_COMMAND = _START + "from pitplan.cli.main import main; main()"
+_RUNNER = _START + "from pitplan.desk.runs import _do_all; _do_all(sys.argv[1])"
+_LONGEST = 1_000_000  # bytes of events that are told at a time
+_STOPPED = 130
+_BOOT = Path("/proc/sys/kernel/random/boot_id")  # another one after each start of the machine
+_children: list[subprocess.Popen[bytes]] = []  # those that this desk has to bury
+
+
+@dataclass(frozen=True)
+class Wanted:
+    """What a run is to do.
+
+    Attributes
+    ----------
+    what : str
+        As the desk calls it, which its folder's name has.
+    steps : sequence of list of str
+        The words of each command behind `pitplan`, one after the other, each only where those before it were done.
+    who : str
+    asked : mapping
+        As it was asked for, so that it can be asked for again.
+    """
+
+    what: str
+    steps: Sequence[Sequence[str]]
+    who: str = ""
+    asked: Mapping[str, Any] = field(default_factory=dict)
+
+    @property
+    def typed(self) -> list[str]:
+        """The commands as a planner types them in the desk's folder."""
+        return [shlex.join(["pitplan", *step]) for step in self.steps]
+
+
+def start(root: Path, study: Path, wanted: Wanted) -> int:
+    """Starts a run, and gives its number.
+
+    Parameters
+    ----------
+    root : Path
+        The folder that the commands run in, and that nothing outside of is read.
+    study : Path
+    wanted : Wanted
+
+    Raises
+    ------
+    turns.Held
+        Where another command has the study.
+    OSError
+        Where its folder can't be written.
+    """
+    lock = turns.open_lock(study)
+    if lock is None:
+        raise PermissionError(13, "nothing can be written there", str(study))
+    with lock:
+        turns.taken(lock, study, waits=False, waiting=None)
+        number = 1 + max((run["number"] for run in of(study)), default=0)
+        folder = study / HOME / f"{number:04d}-{wanted.what}"
+        folder.mkdir(parents=True)
+        try:
+            shutil.copyfile(study / "study.toml", folder / "study.toml")
+            told = {"what": wanted.what, "typed": wanted.typed, "steps": wanted.steps}
+            more = {"who": wanted.who, "asked": wanted.asked, "began": time.time()}
+            write(folder / "asked.json", {**told, **more, "root": str(root)})
+            (folder / "going").touch()
+            _spawned(folder, root, lock.fileno())
+        except OSError:
+            shutil.rmtree(folder, ignore_errors=True)
+            raise
+    return number
+
+
+def _spawned(folder: Path, root: Path, lock: int) -> None:
+    """Starts the run's own process, in a session of its own, which inherits the lock."""
+    around = {**os.environ, turns.PASSED: str(lock), WITHIN: str(root)}
+    around[events.FILE] = str(folder / "events.jsonl")
+    with open(folder / "log", "wb") as log:
+        run = subprocess.Popen(
+            [sys.executable, "-I", "-c", _RUNNER, str(folder)],
+            cwd=root,
+            env=around,
+            stdin=subprocess.DEVNULL,
+            stdout=log,
+            stderr=log,
+            start_new_session=True,
+            pass_fds=(lock,),
+        )
+    write(folder / "process.json", {"pid": run.pid, "since": since(run.pid), "host": host()})
+    _children.append(run)
+
+
+def _do_all(name: str) -> None:
+    """The run's own process: does the commands, hears ctrl-C for them, and leaves how they ended."""
+    folder, stopped = Path(name), list[int]()
+    told = _read(folder / "asked.json")
+    # a handler, since what is ignored would be ignored by the commands, too
+    signal.signal(signal.SIGINT, lambda *_: stopped.append(1))
+    status, at, lock = 0, 0, int(os.environ[turns.PASSED])
+    with suppress(OSError), open(lock, "a", encoding="utf-8", closefd=False) as held:
+        turns.write_holder(held, ["; ".join(told["typed"])])
+    for at, words in enumerate(told["steps"], 1):
+        with suppress(OSError):  # on a full disk the commands say so
+            os.write(sys.stdout.fileno(), f"$ {told['typed'][at - 1]}\n".encode())
+        command = [sys.executable, "-I", "-c", _COMMAND, *words]
+        ended = subprocess.run(command, stdin=subprocess.DEVNULL, pass_fds=(lock,)).returncode
+        status = _STOPPED if stopped else 128 - ended if ended < 0 else ended
+        if words[0] == "page" and told["what"] == "compare" and not stopped:
+            status = 0  # the design is judged; why the page can't show it stands in the log
+        if stopped or not is_done(status, words):
+            break
+    os.utime(folder / "going")
+    os.rename(folder / "going", folder / f"ended-{status}-{at}")
+
+
+def is_done(status: int, words: Sequence[str]) -> bool:
+    """Whether a command has said all that it was asked for: `compare` ends with 1 where the design breaks the slopes."""
+    return status == 0 or (status == 1 and words[0] == "compare")
+
+
+def of(study: Path) -> list[dict[str, Any]]:
+    """All runs of a study, the latest first."""
+    for child in list(_children):
+        if child.poll() is not None:
+            with suppress(ValueError):  # a run that is started in another thread looks, too
+                _children.remove(child)
+    found = [_run_in(folder) for folder in (study / HOME).glob("[0-9]*-*") if folder.is_dir()]
+    return sorted(filter(None, found), key=lambda run: -int(run["number"]))
+
+
+def _run_in(folder: Path) -> dict[str, Any] | None:
+    """A run, and how far it is; None where it was never begun."""
+    told = _read(folder / "asked.json")
+    if told is None:
+        return None
+    number, _, _ = folder.name.partition("-")
+    end = next(folder.glob("ended-*-*"), None)
+    process = _read(folder / "process.json") or {}
+    run = {**told, "number": int(number), "folder": folder, **process}
+    run.pop("root"), run.pop("steps", None)
+    if end is None:
+        return {**run, **_unended(run), "seconds": time.time() - told["began"]}
+    status, at = (int(part) for part in end.name.split("-")[1:])
+    well = is_done(status, [told["steps"][at - 1][0]] if at else [""])
+    state = "done" if well else "stopped" if status == _STOPPED else "failed"
+    seconds = end.stat().st_mtime - told["began"]
+    return {**run, "state": state, "status": status, "at": at, "seconds": seconds}
+
+
+def _unended(run: Mapping[str, Any]) -> dict[str, Any]:
+    """The state of a run that has left no end: it runs, or was killed."""
+    if run.get("host", host()) != host():
+        return {"state": f"runs on {run['host']}", "status": None}
+    young = "pid" not in run and time.time() - run["began"] < 5
+    runs = young or (run.get("since") is not None and since(run["pid"]) == run["since"])
+    return {"state": "running" if runs else "killed", "status": None}
+
+
+def stop(run: Mapping[str, Any]) -> bool:
+    """As ctrl-C would: what is done is kept. Whether there was something to stop."""
+    if run["state"] != "running" or since(run.get("pid", 0)) != run.get("since", ""):
+        return False
+    os.killpg(run["pid"], signal.SIGINT)
+    return True
+
+
+def told_since(run: Mapping[str, Any], place: int) -> tuple[list[dict[str, Any]], int]:
+    """The events of a run from a byte on, and the byte behind them; a line that isn't whole yet is left for the next time."""
+    try:
+        with open(run["folder"] / "events.jsonl", "rb") as file:
+            file.seek(place)
+            new = file.read(_LONGEST)
+    except OSError:
+        return [], place
+    whole = new[: new.rfind(b"\n") + 1]
+    found = []
+    for line in whole.splitlines():
+        try:
+            found.append(json.loads(line))
+        except ValueError:  # cut off where the disk was full
+            continue
+    return found, place + len(whole)
+
+
+def host() -> str:
+    """This machine's name."""
+    return os.uname().nodename
+
+
+def since(pid: int) -> str | None:
+    """When a process was started: with its number it names one process of this machine. None where it is no more."""
+    try:
+        state, *rest = Path(f"/proc/{pid}/stat").read_text().rpartition(")")[2].split()
+        return None if state == "Z" else f"{_BOOT.read_text().strip()} {rest[18]}"
+    except OSError:
+        return None
+
+
+def write(path: Path, told: Any) -> None:
+    """A small file, there whole or not at all."""
+    with whole_file(path) as part:
+        part.write_text(json.dumps(told, indent=1, ensure_ascii=False))
+
+
+def _read(path: Path) -> Any:
+    """What such a file says; None where it isn't there."""
+    try:
+        return json.loads(path.read_text())
+    except (OSError, ValueError):
+        return None

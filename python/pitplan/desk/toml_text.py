@@ -1,0 +1,177 @@
+"""Changes of a study.toml that leave all else in it as it is: comments, order, spelling, ends of lines."""
+from __future__ import annotations
+
+import copy
+import re
+import tomllib
+from collections.abc import Sequence
+from contextlib import suppress
+from typing import Any
+
+import tomlkit
+from tomlkit.exceptions import TOMLKitError
+
+from ..base.errors import spelled
+from ..base.study_lines import step_of, value_at
+
+_Path = list[
+    Any
+]  # as ["economics", "metals", "copper", "price"]; an item of a list by its place, too
+_NOTHING = None  # what stands where a key isn't there
+
+
+class Conflict(Exception):
+    """What is to be changed isn't any more what whoever changes it has seen."""
+
+
+def changed(text: str, changes: Sequence[dict[str, Any]]) -> str:
+    """The text with some keys set, or taken out where ``value`` is None.
+
+    Parameters
+    ----------
+    text : str
+    changes : sequence of dict
+        Each with ``path``, ``value``, and ``was``: what stood there for whoever asks.
+
+    Raises
+    ------
+    Conflict
+        Where something else stands there now.
+    ValueError
+        Where the text is no TOML, a path leads nowhere, or the outcome isn't exactly what was asked for.
+    """
+    first = tomllib.loads(text)
+    for change in changes:
+        if "was" in change and at(first, list(change["path"])) != change["was"]:
+            raise Conflict(".".join(map(str, change["path"])))
+    for change in changes:
+        path, value = list(change["path"]), change["value"]
+        wanted = tomllib.loads(text)
+        _put(wanted, path, value)
+        try:
+            new = _in_text(text, path, value)
+        except TOMLKitError as error:
+            raise ValueError(str(error)) from None
+        if tomllib.loads(new) != wanted:
+            raise ValueError(f"{_told(path)} can't be written there: change it in the text")
+        text = new
+    return text
+
+
+def _told(path: _Path) -> str:
+    """A path in words."""
+    return f"[{path[0]}] " + ".".join(map(str, path[1:]))
+
+
+def at(tree: Any, path: _Path) -> Any:
+    """What stands at a path; None where nothing does."""
+    with suppress(LookupError, TypeError, StopIteration):
+        return value_at(tree, tuple(path))
+    return _NOTHING
+
+
+def _put(tree: Any, path: _Path, value: Any) -> None:
+    """Sets a value in nested tables and lists; None takes it out.
+
+    Raises
+    ------
+    ValueError
+        Where the path leads nowhere.
+    """
+    try:
+        for step in path[:-1]:
+            step = step_of(tree, step)
+            tree = tree.setdefault(step, {}) if isinstance(tree, dict) else tree[step]
+        last: Any = step_of(tree, path[-1])
+        if value is _NOTHING:
+            if isinstance(tree, list):
+                del tree[last]
+            else:
+                tree.pop(last, None)
+        elif isinstance(tree, list) and last == len(tree):
+            tree.append(value)
+        else:
+            tree[last] = value
+    except (LookupError, TypeError, AttributeError, StopIteration) as error:
+        raise ValueError(f"there is no {_told(path)}: {error}") from None
+
+
+def _in_text(text: str, path: _Path, value: Any) -> str:
+    """The text with one value set. A key that `init` left as a comment comes to stand in that line."""
+    document = tomlkit.parse(text)
+    if len(path) < 2 or not all(isinstance(step, str) for step in path[:2]):
+        raise ValueError("a section and a key are wanted")
+    section, key = path[:2]
+    is_there = key in document.get(section, {})
+    if value is not _NOTHING and not is_there:
+        whole: Any = value
+        if len(path) > 2:  # a table that isn't there yet
+            whole = {}
+            _put(whole, copy.copy(path[2:]), value)
+        end = _newline(text)
+        if section not in document:
+            text = (
+                f"{text.rstrip()}{end}{end}[{section}]{end}"
+                if text.strip()
+                else f"[{section}]{end}"
+            )
+        return _with_new_key(text, section, key, _written(whole))
+    if value is _NOTHING and len(path) == 2:
+        off = _without(text, section, key)
+        if off is not None:
+            return off
+    _put(document, path, _NOTHING if value is _NOTHING else tomlkit.value(_written(value)))
+    return tomlkit.dumps(document)
+
+
+def _without(text: str, section: str, key: str) -> str | None:
+    """The text with a key's line as a comment, in which it stands again once it has a value; None where it has no line of its own."""
+    wanted, lines = tomllib.loads(text), text.splitlines(keepends=True)
+    _put(wanted, [section, key], _NOTHING)
+    for i, line in enumerate(lines):
+        if re.match(rf"{re.escape(key)} = ", line):
+            new = "".join([*lines[:i], f"# {line}", *lines[i + 1 :]])
+            with suppress(ValueError):
+                if tomllib.loads(new) == wanted:
+                    return new
+    return None
+
+
+def _written(value: Any) -> str:
+    """A value as `init` writes it: each table of a list, as the metals are, in a line of its own."""
+    if isinstance(value, list) and value and all(isinstance(each, dict) for each in value):
+        return "[\n" + "".join(f"    {spelled(each)},\n" for each in value) + "]"
+    return spelled(value)
+
+
+def _newline(text: str) -> str:
+    """How the lines of a text end."""
+    return "\r\n" if "\r\n" in text else "\n"
+
+
+def _with_new_key(text: str, section: str, key: str, value: str) -> str:
+    """A key more in a section: in place of its line of comment, or after the section's last line."""
+    end, lines = _newline(text), text.splitlines(keepends=True)
+    head = re.compile(rf"\s*\[\s*{re.escape(section)}\s*\]")
+    start = next((i for i, line in enumerate(lines) if head.match(line)), None)
+    if start is None:
+        raise ValueError(f"the file has no line [{section}]")
+    stop = next(
+        (
+            i
+            for i in range(start + 1, len(lines))
+            if re.match(r"\s*\[[^\],]*\]\]?\s*(#|$)", lines[i])
+        ),
+        len(lines),
+    )
+    value = value.replace("\n", end)
+    for i in range(start + 1, stop):
+        off = re.match(rf"#\s*{re.escape(key)} = .*?(\s\s+#.*)?$", lines[i].rstrip("\r\n"))
+        if off:
+            lines[i] = f"{key} = {value}{off[1] or ''}{end}"
+            return "".join(lines)
+    last = max(i for i in range(start, stop) if lines[i].strip())
+    if not lines[last].endswith("\n"):
+        lines[last] += end
+    lines.insert(last + 1, f"{key} = {value}{end}")
+    return "".join(lines)

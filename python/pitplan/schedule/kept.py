@@ -1,0 +1,131 @@
+"""What is kept of a schedule in ``runs/schedule`` of a study, so that the same command goes on: the
+best bound with its multipliers and certificate, the partition, and the best schedule.
+
+It counts where it names the production that is asked for; what is of another one, as of older
+prices or rates, is never read.
+"""
+from __future__ import annotations
+
+import json
+import shutil
+from dataclasses import asdict, dataclass
+from pathlib import Path
+from typing import Any
+from zipfile import BadZipFile
+
+import numpy as np
+
+from ..base import kept_json
+from ..base.arrays import Array
+from ..base.files import made_whole, sweep, whole_file
+from .production import Production
+from .sending import Timetable
+
+_BOUND: dict[str, kept_json.Holds] = {
+    "production": kept_json.is_digest,
+    "pit_worth": kept_json.is_amount,
+    "multipliers": kept_json.is_list(kept_json.is_list(kept_json.is_count)),
+    "certificate": kept_json.is_digest,
+    "closures": kept_json.is_count,
+    "pit": kept_json.is_list(kept_json.is_word),
+}
+
+
+@dataclass(frozen=True)
+class Bound:
+    """A bound that `pit check` accepted.
+
+    Attributes
+    ----------
+    production : str
+        The digest of the production that it is of.
+    pit_worth : str
+        What the richest pit of the expanded mine is worth, as `pit check` says.
+    multipliers : list of lists of int
+        As `Expanded` takes them: without them the worth says nothing.
+    certificate : str
+        The sha256 of the certificate.
+    closures : int
+        How many such pits were found before.
+    pit : list of str
+        What the program said of itself.
+    """
+
+    production: str
+    pit_worth: str
+    multipliers: list[list[int]]
+    certificate: str
+    closures: int
+    pit: list[str]
+
+
+class Kept:
+    """The folder of what is kept.
+
+    Parameters
+    ----------
+    folder : Path
+        Of the study.
+    production : Production
+        What is read has to be of it.
+    """
+
+    def __init__(self, folder: Path, production: Production) -> None:
+        self.folder = folder / "runs" / "schedule"
+        self.production = production
+        self.folder.mkdir(parents=True, exist_ok=True)
+        sweep(self.folder, ".bound.*")
+
+    def bound(self) -> Bound | None:
+        """The best bound, where there is one of this production."""
+        place = self.folder / "bound"
+        try:
+            found = kept_json.read(place / "bound.json", _BOUND, f"rm -r {self.folder}")
+        except (FileNotFoundError, NotADirectoryError):
+            return None
+        shape = self.production.capacities.shape
+        told = Bound(**{name: found[name] for name in _BOUND})
+        is_whole = len(told.multipliers) == shape[0] and all(
+            len(row) == shape[1] for row in told.multipliers
+        )
+        return told if told.production == self.production.key and is_whole else None
+
+    def keep_bound(self, bound: Bound, certificate: Path) -> None:
+        """Keeps a bound and its certificate, in place of the one before."""
+        with made_whole(self.folder / "bound") as work:
+            (work / "bound.json").write_text(json.dumps(asdict(bound), indent=1))
+            shutil.copyfile(certificate, work / "bound.cert.gz")
+
+    def arrays(self, name: str) -> dict[str, Array]:
+        """The arrays that were kept under a name, none where they aren't of this production."""
+        try:
+            with np.load(self.folder / f"{name}.npz", allow_pickle=False) as file:
+                found: dict[str, Any] = {key: file[key] for key in file.files}
+        except (OSError, ValueError, KeyError, EOFError, BadZipFile):
+            return {}
+        if str(found.pop("production", "")) != self.production.key:
+            return {}
+        return found
+
+    def keep_arrays(self, name: str, **arrays: Array) -> None:
+        """Keeps arrays under a name, in place of those before."""
+        with whole_file(self.folder / f"{name}.npz") as part:
+            np.savez_compressed(part, production=np.array(self.production.key), **arrays)
+
+    def schedule(self) -> Timetable | None:
+        """The best schedule, where there is one of this production that is feasible."""
+        found = self.arrays("schedule")
+        period, sent = found.get("period"), found.get("sent")
+        units, millable = self.production.units, len(self.production.millable.block)
+        if period is None or period.shape != (units,) or period.dtype.kind not in "iu":
+            return None
+        if sent is None or sent.shape != (millable,) or sent.dtype != bool:
+            return None
+        if period.min(initial=0) < 0 or period.max(initial=0) > self.production.periods:
+            return None
+        plan = Timetable(period.astype(np.int64), sent.astype(bool))
+        return None if self.production.wrong(plan) else plan
+
+    def keep_schedule(self, plan: Timetable) -> None:
+        """Keeps a schedule, in place of the one before."""
+        self.keep_arrays("schedule", period=plan.period.astype(np.int16), sent=plan.sent)

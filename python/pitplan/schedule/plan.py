@@ -1,0 +1,253 @@
+"""The schedule of a study: asked for by study.toml, searched, judged by `pit schedule`, and shown
+with its bound."""
+from __future__ import annotations
+
+import math
+from collections.abc import Mapping
+from dataclasses import dataclass
+from decimal import Decimal
+from pathlib import Path
+from typing import TYPE_CHECKING, Any
+
+import numpy as np
+
+from ..base.amounts import THOUSAND
+from ..base.arrays import Array, Bools, Indices
+from ..base.errors import NotAccepted, PlanError
+from ..base.next_command import command
+from ..pit.scheduled import Scheduled
+from .judged import judged
+from .production import Production, feed_of, production_of
+from .search import Search, Told
+from .sending import Timetable
+from .terms import MILLION, terms_of
+
+if TYPE_CHECKING:
+    from ..study.shells import Shells
+    from ..study.study import Study
+
+_WHOLE = Decimal(100)
+
+
+@dataclass(frozen=True)
+class Schedule:
+    """A schedule that `pit schedule` calls feasible, beside a bound that `pit check` accepted.
+
+    Attributes
+    ----------
+    shells : Shells
+    production : Production
+    period : int array of shape (blocks of the model,)
+        When each block is dug, from 0; -1 where it isn't.
+    sent : bool array of that shape
+        Whether it goes to the mill where it is dug.
+    said : Scheduled
+        What `pit schedule` says of it.
+    fixed : Decimal
+        What its fixed costs weigh, in units of currency: `said` doesn't have them.
+    bound : Decimal
+        What no schedule of these terms is worth more than, in units of currency.
+    closures : int
+        Pits of the mine of blocks and periods that were found for it.
+    """
+
+    shells: Shells
+    production: Production
+    period: Indices
+    sent: Bools
+    said: Scheduled
+    fixed: Decimal
+    bound: Decimal
+    closures: int
+
+    @property
+    def npv(self) -> Decimal:
+        """What it is worth: what `pit schedule` says, less the fixed costs."""
+        return Decimal(self.said.npv) - self.fixed
+
+    @property
+    def count(self) -> int:
+        """How many blocks are dug."""
+        return int((self.period >= 0).sum())
+
+    @property
+    def gap(self) -> Decimal:
+        """How far it is below the bound, in percent of the bound."""
+        return _WHOLE * (self.bound - self.npv) / self.bound if self.bound else Decimal(0)
+
+    @property
+    def gap_text(self) -> str:
+        """The gap in percent with two digits that count, rounded up: never smaller than it is."""
+        places = max(2, 2 - math.floor(math.log10(float(self.gap)))) if self.gap > 0 else 2
+        step = 10 ** min(places, 6)
+        return f"{math.ceil(self.gap * step) / step:.{min(places, 6)}f} %"
+
+    @classmethod
+    def of(
+        cls,
+        shells: Shells,
+        told: Mapping[str, Any],
+        rates: Mapping[str, float],
+        limits: tuple[float, float],
+        listener: Told | None = None,
+        folder: Path | None = None,
+    ) -> Schedule:
+        """Searches, from where an earlier search ended.
+
+        Parameters
+        ----------
+        shells : Shells
+            A series that has the full price.
+        told : mapping
+            The values of [schedule].
+        rates : mapping
+            Those that [shells] gives.
+        limits : two floats
+            The gap at which it ends, as a share, and the seconds that it may take.
+        listener : function, optional
+            Is told how far it is.
+        folder : Path, optional
+            In which it is kept. Default: that of the study.
+
+        Raises
+        ------
+        PlanError
+            Where the terms are wrong, or no pit at the full price was found.
+        """
+        made = production_for(shells, told, rates)
+        place = folder or shells.study.folder
+        search = Search(place, made, shells.study.program, listener)
+        search.run(*limits)
+        found = cls.found_by(search, shells)
+        if found is None:
+            raise NotAccepted("no bound was found in this time", try_this="--minutes 30")
+        return found
+
+    @classmethod
+    def last(
+        cls,
+        shells: Shells,
+        told: Mapping[str, Any],
+        rates: Mapping[str, float],
+        folder: Path | None = None,
+    ) -> Schedule | None:
+        """What was found last by these terms; None where nothing was. Nothing is searched, and
+        `pit` judges what is there.
+
+        Parameters
+        ----------
+        shells, told, rates, folder
+            As of `of`.
+
+        Raises
+        ------
+        Disagreement
+            As `judged`.
+        """
+        place = folder or shells.study.folder
+        if not (place / "runs" / "schedule").is_dir():
+            return None
+        try:
+            made = production_for(shells, told, rates)
+        except PlanError:  # of other terms than those that a schedule was found by
+            return None
+        return cls.found_by(Search(place, made, shells.study.program), shells)
+
+    @classmethod
+    def found_by(cls, search: Search, shells: Shells) -> Schedule | None:
+        """The best of what a search has, as `pit` judges it; None where it has no schedule or no
+        bound."""
+        made, plan = search.production, search.plan
+        if search.found.bound is None or plan is None:
+            return None
+        if not (plan.period < made.periods).any():
+            raise PlanError(
+                "[schedule] by these terms nothing is dug that pays: no block fits with all above"
+                " it, or none brings anything in these years",
+                try_this="mining_rate and mill_rate in tonnes a year, or more years",
+                key=("schedule",),
+            )
+        search.tell("pit judges the schedule")
+        said = judged(shells.study, made, plan, search.kept.folder)
+        return cls(
+            shells,
+            made,
+            made.of_blocks(plan),
+            _sent_of(shells.study, made, plan),
+            said,
+            Decimal(made.fixed(plan)) / MILLION,
+            Decimal(search.found.bound) / MILLION,
+            search.found.closures,
+        )
+
+    @property
+    def periods(self) -> Indices:
+        """The period of each block of the model, from 1; 0 where it isn't dug, and of air."""
+        dug = (self.period >= 0) & self.shells.study.model.is_rock
+        return np.where(dug, self.period + 1, 0).astype(np.int32)
+
+    @property
+    def years(self) -> Indices:
+        """The year of each block of the model, from 1; 0 where it isn't dug, and of air."""
+        each = self.production.terms.per_year
+        return ((self.periods + each - 1) // each).astype(np.int32)
+
+    @property
+    def pushbacks(self) -> Indices:
+        """The pushback of each block of the pit, from 1; 0 of other blocks of the model."""
+        made, found = self.production, np.zeros(self.production.size, np.int32)
+        found[made.blocks] = np.broadcast_to(made.pushback, made.units)[made.unit] + 1
+        return found
+
+    @property
+    def ways(self) -> Array:
+        """Where each block of the model goes: "mill" or "waste"; "" where it isn't dug, and of
+        air."""
+        return np.where(self.periods > 0, np.where(self.sent, "mill", "waste"), "")
+
+    def left(self) -> tuple[int, float, float]:
+        """What of the pit stays in the ground: blocks of rock, tonnes, and what they are worth."""
+        study, pit = self.shells.study, self.production.blocks
+        stays = np.zeros(len(self.period), bool)
+        stays[pit] = self.period[pit] < 0
+        stays &= study.model.is_rock
+        tonnes = study.model.blocks.tonnes.to_numpy(float)
+        return (
+            int(stays.sum()),
+            float(tonnes[stays].sum()),
+            float(study.priced.worth(THOUSAND)[stays].sum()),
+        )
+
+
+def _sent_of(study: Study, production: Production, plan: Timetable) -> Bools:
+    """Whether each block of the model goes to the mill where it is dug, of shape
+    (blocks of the model,)."""
+    if not production.terms.is_by_year:
+        return study.priced.milled(THOUSAND)
+    found = np.zeros(production.size, bool)
+    found[production.blocks_sent(plan)] = True
+    return found
+
+
+def production_for(
+    shells: Shells, told: Mapping[str, Any], rates: Mapping[str, float]
+) -> Production:
+    """What the schedule of a study is made of.
+
+    Raises
+    ------
+    PlanError
+        As `terms_of` and `production_of`, and where the series has no pit at the full price.
+    """
+    study = shells.study
+    if THOUSAND not in shells.factors:
+        raise PlanError(
+            "a schedule digs the best pit at the full price, and [shells] factors has no 1.0",
+            try_this=f"1.0 among the factors, and {command('shells', study.named)}",
+            key=("shells", "factors"),
+        )
+    at = shells.factors.index(THOUSAND)
+    held = shells.holds(at)
+    tonnes = study.model.blocks.tonnes.to_numpy(float)
+    terms = terms_of(told, rates, float(tonnes[held].sum()), float(feed_of(study)[held].sum()))
+    return production_of(shells, terms, at)

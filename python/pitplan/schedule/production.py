@@ -1,0 +1,313 @@
+"""The mine of a schedule in whole numbers: what each unit is worth and uses, what each period
+weighs and has, and which unit rests on which.
+
+A unit is a block of the best pit at the full price, a panel of them, or a gate. Only that pit's blocks are
+scheduled: since weights fall, uses aren't negative, and what the sink rate asks for lies within the
+slopes, no schedule gains by a block outside it.
+"""
+from __future__ import annotations
+
+import hashlib
+from dataclasses import dataclass, field
+from functools import cached_property
+from typing import TYPE_CHECKING
+
+import numpy as np
+
+from ..base.amounts import THOUSAND, exact_sum
+from ..base.arrays import Array, Floats, Indices, Ints
+from ..base.errors import PlanError
+from ..base.next_command import command
+from ..base.units_shown import share_text
+from .pairs import Pairs
+from .sending import Millable, Timetable
+from .terms import GRAIN, RESOURCES, Terms
+from .units import Units, gated, of_units, pairs_of, rows_of, units_of
+
+if TYPE_CHECKING:
+    from ..study.shells import Shells
+    from ..study.study import Study
+
+_FORM = 2  # of what is kept: another one is found anew
+_MOST_NODES = 1 << 24  # units by periods that `pit` reads
+
+
+@dataclass(frozen=True)
+class Production:
+    """What a schedule is made of.
+
+    Attributes
+    ----------
+    terms : Terms
+    blocks : int array of shape (blocks of the pit,)
+        Their numbers in the model.
+    unit : int array of that shape
+        The unit of each.
+    size : int
+        Of the model, in blocks.
+    values : int array of shape (units,)
+        What a unit brings at the full price, in whole units of currency.
+    uses : int array of shape (2, units)
+        Rock and feed, in thousandths of a tonne.
+    level : int array of shape (units,)
+        The bench, from the bottom.
+    shell : int array of shape (units,)
+        The first pit of the series that has it.
+    above : Pairs
+        What a unit rests on by the slopes.
+    sinking : Pairs
+        What has to be dug a year before it, by the sink rate.
+    millable : Millable
+        The blocks that may go to the mill or to waste. What they gain by the mill isn't in
+        `values`, nor their feed in `uses`. Default: none.
+    pushback : int array of shape (units,)
+        That of each unit, from 0. Default: all are of one.
+    gates : int
+        How many of the units, the last ones, are gates. Default: none.
+    """
+
+    terms: Terms
+    blocks: Ints
+    unit: Ints
+    size: int
+    values: Ints
+    uses: Ints
+    level: Ints
+    shell: Ints
+    above: Pairs
+    sinking: Pairs
+    millable: Millable = field(default_factory=Millable.none)
+    pushback: Ints = field(default_factory=lambda: np.zeros(1, np.int64))
+    gates: int = 0
+
+    @property
+    def units(self) -> int:
+        """How many there are."""
+        return len(self.values)
+
+    @property
+    def periods(self) -> int:
+        """How many there are."""
+        return self.terms.periods
+
+    @cached_property
+    def weights(self) -> Ints:
+        """Of the periods, in millionths."""
+        return np.array(self.terms.weights, np.int64)
+
+    @cached_property
+    def capacities(self) -> Ints:
+        """Of shape (2, periods); what nothing limits has room for all."""
+        found = np.zeros((len(RESOURCES), self.periods), np.int64)
+        feed = int(self.millable.feeds.sum())
+        for row, (told, more) in enumerate(zip(self.terms.capacities, (0, feed))):
+            found[row] = told if told else int(self.uses[row].sum()) + more
+        return found
+
+    @cached_property
+    def key(self) -> str:
+        """The digest of all that a bound rests on."""
+        digest = hashlib.sha256(
+            f"{_FORM} {self.terms.per_year} {self.terms.fixed_cost} {self.size}".encode()
+        )
+        arrays: tuple[Array, ...] = (self.blocks, self.unit, self.values, self.uses, self.weights)
+        for each in (*arrays, self.capacities, *self.above, *self.sinking, *self.millable):
+            digest.update(f"{each.shape}".encode() + np.ascontiguousarray(each).tobytes())
+        return digest.hexdigest()
+
+    @cached_property
+    def earliest(self) -> Ints:
+        """The first period that the sink rate leaves each unit, of shape (units,)."""
+        found, lag = np.zeros(self.units, np.int64), self.terms.per_year
+        if not len(self.sinking.other):
+            return found
+        for here in np.split(self.order, self.steps):
+            for pairs, later in ((self.above, 0), (self.sinking, lag)):
+                rows, others = rows_of(pairs, here)
+                np.maximum.at(found, rows, found[others] + later)
+        return np.minimum(found, self.periods)
+
+    @cached_property
+    def rank(self) -> Ints:
+        """A number for each unit that is lower for all that it rests on: pushback by pushback, the
+        gates of one behind it, and from the top bench down."""
+        is_gate = np.arange(self.units) >= self.units - self.gates
+        found: Ints = (self.pushback * 2 + is_gate) * (self.level.max() + 1) - self.level
+        return found
+
+    @cached_property
+    def order(self) -> Ints:
+        """The units in such an order."""
+        return np.argsort(self.rank, kind="stable")
+
+    @property
+    def steps(self) -> Ints:
+        """Where in that order each further rank begins."""
+        return np.flatnonzero(np.diff(self.rank[self.order])) + 1
+
+    def npv(self, plan: Timetable) -> int:
+        """What a schedule is worth, in millionths of a unit of currency, exactly."""
+        return self.worth(plan) - self.fixed(plan)
+
+    def fixed(self, plan: Timetable) -> int:
+        """What the fixed costs of the periods in which rock is dug weigh, likewise."""
+        if not self.terms.fixed_cost:
+            return 0
+        return int(self.weights[self.used(plan)[0] > 0].sum()) * self.terms.fixed_cost
+
+    def worth(self, plan: Timetable) -> int:
+        """What a schedule is worth before fixed costs, likewise."""
+        sent, found = self.period_sent(plan), 0
+        for t, weight in enumerate(self.weights):
+            worth = exact_sum(self.values[plan.period == t])
+            found += int(weight) * (worth + exact_sum(self.millable.gains[sent == t]))
+        return found
+
+    def period_sent(self, plan: Timetable) -> Ints:
+        """The period in which each block that may be sent is; that behind all where it isn't."""
+        found: Ints = np.where(plan.sent, plan.period[self.millable.unit], self.periods)
+        return found
+
+    def used(self, plan: Timetable) -> Ints:
+        """What a schedule uses, of shape (2, periods)."""
+        dug = plan.period < self.periods
+        found = np.zeros((len(RESOURCES), self.periods), np.int64)
+        for row in range(len(RESOURCES)):
+            np.add.at(found[row], plan.period[dug], self.uses[row][dug])
+        sent = self.period_sent(plan)
+        np.add.at(found[1], sent[sent < self.periods], self.millable.feeds[sent < self.periods])
+        return found
+
+    def wrong(self, plan: Timetable) -> list[str]:
+        """What keeps a schedule from being feasible, in words."""
+        never, found = self.periods, []
+        for pairs, lag, what in (
+            (self.above, 0, "slopes"),
+            (self.sinking, self.terms.per_year, "sink rate"),
+        ):
+            count = int(pairs.broken(plan.period, lag, never).sum())
+            found += [f"{count:,} pairs break the {what}"] if count else []
+        over = self.used(plan) > self.capacities
+        found += [f"{RESOURCES[r]} in period {t + 1} is exceeded" for r, t in np.argwhere(over)]
+        return found
+
+    def of_blocks(self, plan: Timetable) -> Indices:
+        """The period of each block of the model, -1 where it isn't dug."""
+        found = np.full(self.size, -1, np.int32)
+        of_pit = plan.period[self.unit]
+        found[self.blocks] = np.where(of_pit < self.periods, of_pit, -1)
+        return found
+
+    def blocks_sent(self, plan: Timetable) -> Ints:
+        """The numbers of the blocks that are dug and sent by choice, ascending."""
+        found: Ints = self.millable.block[self.period_sent(plan) < self.periods]
+        return found
+
+
+def production_of(shells: Shells, terms: Terms, at: int) -> Production:
+    """The mine of a schedule, of the blocks of pit `at` of a series, that at the full price.
+
+    Raises
+    ------
+    PlanError
+        Where the pit is empty, amounts aren't whole, the sink rate asks for blocks that the slopes
+        don't, or there are more units and periods than `pit` reads.
+    """
+    study = shells.study
+    priced, model = study.priced, study.model
+    if priced.rounding != int(priced.rounding):
+        raise PlanError(
+            f"[economics] rounding = {priced.rounding:f}, and a schedule counts in whole units of"
+            " currency",
+            try_this="rounding = 1",
+            key=("economics", "rounding"),
+        )
+    blocks = np.flatnonzero(shells.holds(at)).astype(np.int64)
+    if not len(blocks):
+        raise PlanError("the best pit at the full price is empty: there is nothing to schedule")
+    parted = units_of(study, blocks, _pushback_of(shells, terms, blocks), terms.panel)
+    units, *gate_pairs = gated(parted, terms.lead)
+    if units.size * terms.periods > _MOST_NODES:
+        raise PlanError(
+            f"[schedule] {units.size:,} blocks and {terms.periods} periods are more than"
+            f" {_MOST_NODES:,} together",
+            try_this="panel = 2 in [schedule], or fewer years",
+            key=("schedule",),
+        )
+    uses = [
+        np.rint(each * GRAIN).astype(np.int64) for each in (_model_tonnes(study), feed_of(study))
+    ]
+    worth = priced.thousandths(THOUSAND) // THOUSAND * int(priced.rounding)
+    millable = Millable.none()
+    if terms.is_by_year:
+        millable = _millable_of(study, blocks, units.of_blocks, uses[1])
+        worth, uses[1] = -priced.mining * int(priced.rounding), np.zeros(len(model), np.int64)
+    above, sinking = pairs_of(study, terms.sink, blocks)
+    return Production(
+        terms,
+        blocks,
+        units.of_blocks,
+        len(model),
+        units.summed(worth[blocks]),
+        np.stack([units.summed(each[blocks]) for each in uses]),
+        units.level,
+        _shells_of_units(shells, terms, blocks, units),
+        of_units(above, units, True, gate_pairs),
+        of_units(sinking, units, False),
+        millable,
+        units.pushback,
+        units.size - parted.size,
+    )
+
+
+def _pushback_of(shells: Shells, terms: Terms, blocks: Ints) -> Ints:
+    """The pushback of each block of a pit, from 0: those of `terms`, and behind them the rest.
+
+    Raises
+    ------
+    PlanError
+        Where the series has no pit at one of their factors.
+    """
+    missing = [factor for factor in terms.pushbacks if factor not in shells.factors]
+    if missing:
+        share = share_text(missing[0])
+        raise PlanError(
+            f"[schedule] pushbacks has {share}, and [shells] factors has no {share}",
+            try_this=f"{share} among the factors, and {command('shells', shells.study.named)}",
+            key=("schedule", "pushbacks"),
+        )
+    ends = [shells.factors.index(factor) for factor in terms.pushbacks]
+    found: Ints = np.searchsorted(ends, shells.shell[blocks]).astype(np.int64)
+    return found
+
+
+def _shells_of_units(shells: Shells, terms: Terms, blocks: Ints, units: Units) -> Ints:
+    """The first pit of the series that has each unit; of a gate the last pit of its pushback."""
+    found = np.zeros(units.size, np.int64)
+    np.maximum.at(found, units.of_blocks, shells.shell[blocks].astype(np.int64))
+    gates = slice(int(units.of_blocks.max()) + 1, None)
+    ends = np.array([shells.factors.index(factor) for factor in terms.pushbacks], np.int64)
+    found[gates] = ends[units.pushback[gates]]
+    return found
+
+
+def _model_tonnes(study: Study) -> Floats:
+    """The tonnes of each block."""
+    found: Floats = study.model.blocks.tonnes.to_numpy(float)
+    return found
+
+
+def feed_of(study: Study) -> Floats:
+    """The tonnes of each block that the mill gets where the block is sent."""
+    found: Floats = study.priced.ore_of(_model_tonnes(study), THOUSAND) * study.priced.feed
+    return found
+
+
+def _millable_of(study: Study, blocks: Ints, unit: Ints, feeds: Ints) -> Millable:
+    """The blocks of a pit that may go to the mill or to waste; `unit` is that of each of `blocks`,
+    and `feeds` has the feed of each block of the model, in thousandths of a tonne."""
+    priced = study.priced
+    is_so = priced.milled(THOUSAND)[blocks]
+    found = blocks[is_so]
+    gains = (priced.revenue - priced.processing)[found] * int(priced.rounding)
+    return Millable(found, unit[is_so], gains, feeds[found])

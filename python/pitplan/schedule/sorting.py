@@ -1,0 +1,176 @@
+"""Schedules by the relaxation's shares: ore in the order in which the relaxation digs it, each unit
+right after what is left of all above it (Chicoisne and others, 2012), then single moves and swaps
+between neighbouring periods."""
+from __future__ import annotations
+
+from collections.abc import Iterator
+
+import numpy as np
+
+from ..base.arrays import Bools, Floats, Ints
+from . import loops
+from .loops import Mine, Plan
+from .production import Production
+from .sending import Timetable, send
+
+_ALPHAS = (1e-6, 0.5, 0.95)  # shares from which on a unit counts as dug
+_FLOORS = (None, 1e-6, 0.5)  # shares that are needed before a unit may be dug; None: it may always
+_PASSES = 50  # of single moves, at most
+_TURNS = 4  # of moves and of what is sent
+_SLACK = 1e-9
+
+
+class Sorting:
+    """Makes schedules of a mine, and makes them better.
+
+    Parameters
+    ----------
+    production : Production
+    """
+
+    def __init__(self, production: Production) -> None:
+        self.production = production
+        above, sinking = production.above, production.sinking
+        on, sunk = above.turned(), sinking.turned()
+        self.mine = Mine(
+            above.first,
+            above.other,
+            on.first,
+            on.other,
+            sinking.first,
+            sinking.other,
+            sunk.first,
+            sunk.other,
+            production.earliest,
+            production.uses,
+            production.values,
+            production.terms.per_year,
+            production.units - production.gates,
+        )
+        self.order = production.order
+        self.by_gain = production.millable.by_gain()
+
+    def mine_of(self, sent: Bools) -> Mine:
+        """The mine where some blocks are sent."""
+        millable = self.production.millable
+        if not len(sent):
+            return self.mine
+        more = [millable.summed(each * sent, self.production.units) for each in millable[2:]]
+        uses = self.mine.uses.copy()
+        uses[1] += more[1]
+        return self.mine._replace(values=self.mine.values + more[0], uses=uses)
+
+    def sent_in(self, period: Ints) -> Timetable:
+        """A schedule of some periods, in which those blocks are sent that gain most for their feed."""
+        made, millable = self.production, self.production.millable
+        of_blocks = period[millable.unit]
+        nothing = np.zeros(len(millable.block), bool)
+        left = (made.capacities - made.used(Timetable(period, nothing)))[1]
+        return Timetable(period, send(of_blocks, self.by_gain, millable.feeds, left))
+
+    def by_shares(self, shares: Floats, multipliers: Ints) -> Iterator[Timetable]:
+        """Schedules by some orders of the relaxation's shares, of shape (units, periods)."""
+        made, rank = self.production, np.empty(self.production.units, np.int64)
+        rank[self.order] = np.arange(made.units)
+        mean = np.round(made.periods - shares.sum(axis=1), 6)
+        is_better = made.millable.left(made.weights, multipliers[1]) > 0
+        for alpha in _ALPHAS:
+            first = (shares < alpha - _SLACK).sum(axis=1)
+            sent = self.sent_at(first, is_better)
+            is_wanted = self.is_wanted(sent) & (first < made.periods)
+            if not sent.all():  # a schedule that sends all that pays is one of these too
+                every = sent | True
+                wanted = np.flatnonzero(self.is_wanted(every) & (first < made.periods))
+                wanted = wanted[np.lexsort([rank[wanted], mean[wanted], first[wanted]])]
+                yield self.by_order(wanted, np.zeros(made.units, np.int64), every)
+            for share in _FLOORS:
+                floor = (
+                    np.zeros(made.units, np.int64)
+                    if share is None
+                    else (shares < share - _SLACK).sum(axis=1).astype(np.int64)
+                )
+                for keys in ((first, mean, made.shell, rank), (first, made.shell, mean, rank)):
+                    wanted = np.flatnonzero(is_wanted)
+                    wanted = wanted[np.lexsort([key[wanted] for key in reversed(keys)])]
+                    yield self.by_order(wanted, floor, sent)
+
+    def sent_at(self, period: Ints, is_better: Bools) -> Bools:
+        """Which blocks are sent where units are dug in some periods, by whether that is the better
+        way in each."""
+        at = np.minimum(period, self.production.periods - 1)[self.production.millable.unit]
+        found: Bools = is_better[np.arange(len(at)), at]
+        return found
+
+    def is_wanted(self, sent: Bools) -> Bools:
+        """Whether a unit is dug for itself: it brings something, or has feed."""
+        mine = self.mine_of(sent)
+        found: Bools = (mine.values > 0) | (mine.uses[1] > 0)
+        return found
+
+    def by_shells(self) -> Timetable:
+        """The schedule of the order that needs no relaxation: shell after shell, bench by bench."""
+        made = self.production
+        order = self.order[np.argsort(made.shell[self.order], kind="stable")]
+        every = np.ones(len(made.millable.block), bool)
+        return self.by_order(order, np.zeros(made.units, np.int64), every)
+
+    def by_order(self, wanted: Ints, floor: Ints, sent: Bools) -> Timetable:
+        """The schedule of an order of wanted units of which some blocks are sent, after single
+        moves."""
+        mine = self.mine_of(sent)
+        order = loops.cone_order(mine, wanted)
+        left = self.production.capacities.copy()
+        return self.moved(self.sent_in(loops.sort_into(mine, order, floor, left)))
+
+    def moved(self, plan: Timetable) -> Timetable:
+        """A schedule after single moves, each to the period where the unit is worth most, in turns
+        with what is sent."""
+        for _ in range(_TURNS):
+            mine, more = self.mine_of(plan.sent), self.loose(plan)
+            for _ in range(_PASSES):
+                if not loops.move_units(mine, more, self.order, self.production.weights):
+                    break
+            moved = Timetable(more.period, plan.sent)
+            if not len(plan.sent):
+                return moved
+            before, plan = self.production.npv(plan), self.better(self.sent_in(more.period), moved)
+            if self.production.npv(plan) <= before:
+                break
+        return plan
+
+    def better(self, one: Timetable, other: Timetable) -> Timetable:
+        """That of two schedules which is worth more."""
+        return max(one, other, key=self.production.npv)
+
+    def swapped(self, plan: Timetable, tries: int, seed: int) -> Timetable:
+        """A schedule after swaps between each two neighbouring periods, and single moves. With every
+        second seed the poorest of what is sent leaves the mill before, so that richer blocks find
+        room."""
+        if seed % 2 and plan.sent.any():
+            poorest = self.by_gain[plan.sent[self.by_gain]]
+            keep = np.random.default_rng(seed).integers(len(poorest))
+            sent = plan.sent.copy()
+            sent[poorest[keep:]] = False
+            plan = Timetable(plan.period, sent)
+        mine, more = self.mine_of(plan.sent), self.loose(plan)
+        for s in range(self.production.periods):
+            loops.swap_units(mine, more, s, tries, seed * self.production.periods + s)
+        return self.moved(self.sent_in(more.period))
+
+    def shortened(self, plan: Timetable) -> Timetable:
+        """A schedule that ends where what follows doesn't pay its fixed costs."""
+        made, sent = self.production, self.production.period_sent(plan)
+        if not made.terms.fixed_cost:
+            return plan
+        so_far = [0]
+        for t, weight in enumerate(made.weights.tolist()):
+            here = plan.period == t
+            flow = int(made.values[here].sum()) + int(made.millable.gains[sent == t].sum())
+            flow -= made.terms.fixed_cost * bool(made.uses[0][here].any())
+            so_far.append(so_far[-1] + weight * flow)
+        end = int(np.argmax(np.array(so_far, object)))
+        return Timetable(np.where(plan.period < end, plan.period, made.periods), plan.sent)
+
+    def loose(self, plan: Timetable) -> Plan:
+        """A schedule as loops change it."""
+        return Plan(plan.period.copy(), self.production.capacities - self.production.used(plan))

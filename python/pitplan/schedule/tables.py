@@ -1,0 +1,178 @@
+"""The tables of a schedule: a row for each period, and for each bench of each period."""
+from __future__ import annotations
+
+from dataclasses import dataclass
+from functools import cached_property
+from typing import TYPE_CHECKING, Any
+
+import numpy as np
+import pandas as pd
+
+from ..base.amounts import THOUSAND
+from ..base.arrays import Bools, Floats, Indices
+from ..model import outlines
+from ..plans import widths
+from .terms import MILLION, RESOURCES
+
+if TYPE_CHECKING:
+    from .plan import Schedule
+
+_FULL = 0.995  # of a capacity, from which on it is said to bind
+
+
+@dataclass(frozen=True)
+class Tables:
+    """The tables of a schedule.
+
+    Parameters
+    ----------
+    schedule : Schedule
+    mining_width : float, optional
+        The least width that machines need, in the unit of the coordinates.
+    """
+
+    schedule: Schedule
+    mining_width: float | None = None
+
+    @cached_property
+    def amounts(self) -> dict[str, Floats]:
+        """What is added up, by block: tonnes, what is dug for and what is worth."""
+        study, sent = self.schedule.shells.study, self.schedule.sent
+        priced, tonnes = study.priced, study.model.blocks.tonnes.to_numpy(float)
+        ore = priced.ore_of(tonnes, THOUSAND) * sent
+        gain = (priced.revenue - priced.processing) * float(priced.rounding)
+        found = {
+            "rock_t": tonnes,
+            "ore_t": ore,
+            "waste_t": tonnes - ore,
+            "feed_t": ore * priced.feed,
+            "cash_flow": priced.worth(THOUSAND) - gain * (priced.milled(THOUSAND) & ~sent),
+        }
+        for name in priced.metal:
+            found[f"grade_{name}"] = priced.grade[name] * ore
+            found[f"metal_{name}"] = priced.metal[name] * sent
+        return found
+
+    def summed(self, here: Bools) -> dict[str, Any]:
+        """The amounts of some blocks: grades by tonnes of ore."""
+        row: dict[str, Any] = {"blocks": int(here.sum())}
+        row |= {name: float(each[here].sum()) for name, each in self.amounts.items()}
+        ore = row["ore_t"]
+        strip = {"strip": row["waste_t"] / ore if ore else np.nan}
+        for name in self.schedule.shells.study.priced.metal:
+            row[f"grade_{name}"] = row[f"grade_{name}"] / ore if ore else np.nan
+        return row | strip
+
+    def years(self) -> pd.DataFrame:
+        """A row for each period up to the last in which something is dug.
+
+        Returns
+        -------
+        DataFrame
+            ``period`` and ``year`` (from 1), ``blocks``; ``rock_t``, ``ore_t``, ``waste_t``,
+            ``strip``, ``feed_t``; for each metal ``grade_<metal>`` (of the ore in place) and
+            ``metal_<metal>`` (recovered); ``fixed_cost`` where there is one, ``cash_flow``
+            (undiscounted, less the fixed cost), ``weight`` (what money of
+            the period is worth today), ``discounted``, ``npv`` (so far); ``mining_used`` and
+            ``mill_used`` (shares of the capacities), ``binds``, ``bottom`` (the toe of its lowest
+            bench), and with a mining width ``narrow_share`` of its rock.
+        """
+        made, period = self.schedule.production, self.schedule.period
+        rows, npv = list[dict[str, Any]](), 0.0
+        for t in range(int(period.max()) + 1):
+            here = period == t
+            found = self.summed(here & self.schedule.shells.study.model.is_rock)
+            fixed = made.terms.fixed_cost if found["rock_t"] else 0
+            flow, weight = found.pop("cash_flow") - fixed, made.terms.weights[t] / MILLION
+            npv += flow * weight
+            rows.append(
+                {"period": t + 1, "year": t // made.terms.per_year + 1}
+                | found
+                | ({"fixed_cost": fixed} if made.terms.fixed_cost else {})
+                | {"cash_flow": flow, "weight": weight, "discounted": flow * weight, "npv": npv}
+                | self.binding(t, here)
+                | self.shape(t, here)
+            )
+        return pd.DataFrame(rows)
+
+    def binding(self, t: int, here: Bools) -> dict[str, Any]:
+        """What share of each capacity a period uses, and which of them binds."""
+        terms, amounts = self.schedule.production.terms, self.amounts
+        shares = {}
+        for name, room, column in zip(RESOURCES, terms.capacities, ("rock_t", "feed_t")):
+            used = float(amounts[column][here].sum()) * THOUSAND
+            shares[name] = used / room[t] if room and room[t] else np.nan
+        tight = [name for name, share in shares.items() if share >= _FULL]
+        return {f"{name}_used": share for name, share in shares.items()} | {
+            "binds": " ".join(tight)
+        }
+
+    def shape(self, t: int, here: Bools) -> dict[str, Any]:
+        """How deep a period comes, and how much of its rock lies where it is narrow."""
+        model = self.schedule.shells.study.model
+        rock = here & model.is_rock
+        levels = model.blocks.iz.to_numpy()[rock]
+        row: dict[str, Any] = {
+            "bottom": float(model.grid.world(0, 0, levels.min() - 0.5)[2])
+            if len(levels)
+            else np.nan
+        }
+        if self.mining_width is not None:
+            total = float(self.amounts["rock_t"][rock].sum())
+            row["narrow_share"] = self.narrow(t, rock) / total if total else np.nan
+        return row
+
+    def narrow(self, t: int, rock: Bools) -> float:
+        """The tonnes of a period that lie where it is less wide on its bench than the mining width,
+        with the floor beside it."""
+        model, width = self.schedule.shells.study.model, self.mining_width or 0.0
+        sx, sy, _ = model.grid.size
+        found = 0.0
+        for level in np.unique(model.blocks.iz.to_numpy()[rock]).tolist():
+            here, floor = self.cube[:, :, level] == t, self.floor(t, level)
+            wide = widths.widths(here | floor, (sx, sy), width)
+            found += float(self.tonnes_cube[:, :, level][here & (wide < width)].sum())
+        return found
+
+    def floor(self, t: int, level: int) -> Bools:
+        """Which cells of a bench were dug before a period, and what is below them wasn't."""
+        found: Bools = (self.cube[:, :, level] >= 0) & (self.cube[:, :, level] < t)
+        if level:
+            below = self.cube[:, :, level - 1]
+            found &= (below < 0) | (below >= t)
+        return found
+
+    @cached_property
+    def cube(self) -> Indices:
+        """The period of each place, -1 where nothing is dug."""
+        model = self.schedule.shells.study.model
+        dug = np.where(model.is_rock, self.schedule.period, -1).astype(np.int16)
+        return outlines.cube_of(model, dug, -1)
+
+    @cached_property
+    def tonnes_cube(self) -> Floats:
+        """The tonnes of each place."""
+        model = self.schedule.shells.study.model
+        return outlines.cube_of(model, model.blocks.tonnes.to_numpy(float), 0.0)
+
+    def benches(self) -> pd.DataFrame:
+        """A row for each period and bench that it digs rock on, from the top: ``period``, ``year``,
+        ``bench`` (elevation of its blocks' centres), ``pushback`` (from 1) where [schedule] has
+        pushbacks, and the columns of `years` up to ``cash_flow``, before fixed costs."""
+        schedule, model = self.schedule, self.schedule.shells.study.model
+        rock, terms = model.is_rock, schedule.production.terms
+        pushback = schedule.pushbacks
+        keys = np.column_stack([schedule.period, -model.blocks.iz.to_numpy(), pushback])
+        dug, rows = (schedule.period >= 0) & rock, []
+        for t, level, number in np.unique(keys[dug], axis=0).tolist():
+            here = dug & (keys == (t, level, number)).all(axis=1)
+            rows.append(
+                {
+                    "period": t + 1,
+                    "year": t // terms.per_year + 1,
+                    "bench": float(model.grid.world(0, 0, -level)[2]),
+                }
+                | ({"pushback": number} if terms.pushbacks else {})
+                | self.summed(here)
+            )
+        return pd.DataFrame(rows)

@@ -1,0 +1,228 @@
+"""What [schedule] of study.toml says, in whole numbers: what money of each period weighs, and how
+much rock and feed each has."""
+from __future__ import annotations
+
+import math
+from collections.abc import Mapping, Sequence
+from dataclasses import dataclass
+from decimal import Decimal, localcontext
+from typing import Any
+
+from ..base.amounts import THOUSAND
+from ..base.errors import PlanError, about
+from ..study.shells import thousandths
+
+MILLION = 10**6  # weights are in millionths
+GRAIN = 1000  # parts of a tonne in which rock and feed are counted
+_MOST_PERIODS = 200
+_MOST_CAPACITY = 10**12  # of a period, that `pit` reads
+_WHEN = {"start": Decimal(0), "mid": Decimal("0.5"), "end": Decimal(1)}
+_CUTOFFS = ("fixed", "by year")
+RESOURCES = ("mining", "mill")  # in the order of the rows of capacities
+
+
+@dataclass(frozen=True)
+class Terms:
+    """The periods of a schedule.
+
+    Attributes
+    ----------
+    weights : tuple of int
+        What money of each period is worth today, in millionths.
+    capacities : tuple of two tuples of int
+        Rock that may be dug and feed that may be milled in each period, in thousandths of a tonne;
+        an empty one where nothing limits it.
+    per_year : int
+        Periods in a year.
+    sink : int, optional
+        Benches that may be dug in a column of blocks within a year.
+    panel : int
+        Blocks by blocks on a bench that are dug together.
+    is_by_year : bool
+        Whether a block that the mill may take goes there or to waste, whichever the schedule says.
+    pushbacks : tuple of int
+        Factors in thousandths of the pits after which a pushback ends; the last pushback is the
+        rest. Empty where there is one.
+    lead : int
+        Benches that a pushback is ahead of those after it.
+    fixed_cost : int
+        Whole units of currency that each period costs in which rock is dug.
+    """
+
+    weights: tuple[int, ...]
+    capacities: tuple[tuple[int, ...], ...]
+    per_year: int = 1
+    sink: int | None = None
+    panel: int = 1
+    is_by_year: bool = False
+    pushbacks: tuple[int, ...] = ()
+    lead: int = 0
+    fixed_cost: int = 0
+
+    @property
+    def periods(self) -> int:
+        """How many there are."""
+        return len(self.weights)
+
+
+def terms_of(
+    told: Mapping[str, Any], rates: Mapping[str, float], rock: float, feed: float
+) -> Terms:
+    """The terms of a schedule.
+
+    Parameters
+    ----------
+    told : mapping
+        The values of [schedule], None where it says nothing.
+    rates : mapping
+        Those that [shells] gives of ``mining_rate``, ``mill_rate`` and ``discount``.
+    rock, feed : float
+        Tonnes of the pit, which say how many years there are where nothing else does.
+
+    Raises
+    ------
+    PlanError
+        Where neither rate is given, a list has other years than `years`, or a number is out of
+        range.
+    """
+    yearly = [_by_year(told.get(name) or rates.get(name)) for name in ("mining_rate", "mill_rate")]
+    if not any(yearly):
+        raise PlanError(
+            "[schedule] has neither mining_rate nor mill_rate, and [shells] hasn't either",
+            try_this="mining_rate = 20e6 in [schedule]: tonnes of rock a year",
+            key=("schedule",),
+        )
+    per_year = int(told.get("per_year") or 1)
+    years = told.get("years")
+    years = int(years) if years is not None else _years_for(yearly, (rock, feed))
+    _refuse_lists(yearly, years)
+    if years * per_year > _MOST_PERIODS:
+        raise PlanError(
+            f"[schedule] {years:,} years of {per_year} periods each come to more than"
+            f" {_MOST_PERIODS} periods",
+            try_this=f"years = {_MOST_PERIODS // per_year}, or higher rates in tonnes a year",
+            key=("schedule",),
+        )
+    if told.get("lead") and not told.get("pushbacks"):
+        raise PlanError(
+            "[schedule] lead says how far pushbacks are ahead, and there are none",
+            try_this="pushbacks = [0.5, 0.75], of the factors in [shells]; or take lead out",
+            key=("schedule", "lead"),
+        )
+    discount = told.get("discount")
+    return Terms(
+        _weights(
+            years * per_year,
+            Decimal(str(rates.get("discount", 0.1) if discount is None else discount)),
+            _WHEN[str(told.get("when") or "mid")],
+            per_year,
+        ),
+        tuple(_capacities(name, rate, years, per_year) for name, rate in zip(RESOURCES, yearly)),
+        per_year,
+        told.get("sink"),
+        int(told.get("panel") or 1),
+        told.get("cutoff") == _CUTOFFS[1],
+        pushbacks_of(told.get("pushbacks") or ()),
+        int(told.get("lead") or 0),
+        _fixed_cost_of(told.get("fixed_cost") or 0, per_year),
+    )
+
+
+def _fixed_cost_of(a_year: float, per_year: int) -> int:
+    """What a period costs in which rock is dug, rounded to whole units of currency.
+
+    Raises
+    ------
+    PlanError
+        Where it is too large to count with.
+    """
+    found = int((Decimal(str(a_year)) / per_year).to_integral_value())
+    if found > _MOST_CAPACITY:
+        raise PlanError(
+            f"[schedule] fixed_cost = {a_year:g} is more than {_MOST_CAPACITY:,} in a period",
+            try_this="fixed_cost in units of currency a year",
+            key=("schedule", "fixed_cost"),
+        )
+    return found
+
+
+def pushbacks_of(shares: Sequence[float]) -> tuple[int, ...]:
+    """The factors of pushbacks, in thousandths.
+
+    Raises
+    ------
+    PlanError
+        Where they don't ascend, or go beyond the full price.
+    """
+    with about("schedule", "pushbacks"):
+        found = tuple(thousandths(share) for share in shares)
+        if any(b <= a for a, b in zip(found, found[1:])) or found and found[-1] >= THOUSAND:
+            raise PlanError(
+                f"[schedule] pushbacks = {list(shares)} don't ascend to below 1: the rest of the pit"
+                " at the full price is the last",
+                try_this="pushbacks = [0.5, 0.75]",
+            )
+    return found
+
+
+def _weights(periods: int, discount: Decimal, when: Decimal, per_year: int) -> tuple[int, ...]:
+    """What money of each period is worth today, rounded to millionths: that of period t, from 0,
+    counts as at (t + when) / per_year years.
+
+    >>> _weights(3, Decimal("0.1"), Decimal(0), 1)
+    (1000000, 909091, 826446)
+    """
+    with localcontext() as exact:
+        exact.prec = 50
+        return tuple(
+            int((MILLION / (1 + discount) ** ((Decimal(t) + when) / per_year)).to_integral_value())
+            for t in range(periods)
+        )
+
+
+def _by_year(rate: Any) -> list[float]:
+    """A rate, or those of the years; empty where there is none."""
+    if rate is None:
+        return []
+    return [float(rate)] if isinstance(rate, (int, float)) else [float(each) for each in rate]
+
+
+def _years_for(yearly: list[list[float]], tonnes: tuple[float, float]) -> int:
+    """As many years as the rates need for these tonnes, and one more: what binds alternates."""
+    return 1 + max(_years_of(rates, total) for rates, total in zip(yearly, tonnes) if rates)
+
+
+def _years_of(rates: list[float], total: float) -> int:
+    """The years that some tonnes take, of which the last rate stays."""
+    for year, rate in enumerate(rates):
+        total -= rate
+        if total <= 0:
+            return year + 1
+    return len(rates) + min(math.ceil(total / rates[-1]), 10**9)
+
+
+def _refuse_lists(yearly: list[list[float]], years: int) -> None:
+    """Refuses a rate by year that goes beyond the last year."""
+    for name, rates in zip(("mining_rate", "mill_rate"), yearly):
+        if len(rates) > years:
+            raise PlanError(
+                f"[schedule] {name} has {len(rates)} years, and the schedule {years}",
+                try_this=f"years = {len(rates)}, or a shorter list: its last rate stays",
+                key=("schedule", name),
+            )
+
+
+def _capacities(name: str, rates: list[float], years: int, per_year: int) -> tuple[int, ...]:
+    """What each period has, in thousandths of a tonne, rounded down; the last rate stays."""
+    if not rates:
+        return ()
+    found = [int(Decimal(str(rate)) * GRAIN / per_year) for rate in rates]
+    if max(found) > _MOST_CAPACITY:
+        raise PlanError(
+            f"[schedule] {name}_rate = {max(rates):g} is more than {_MOST_CAPACITY / GRAIN:,.0f}"
+            " tonnes in a period",
+            try_this=f"{name}_rate in tonnes a year",
+            key=("schedule", f"{name}_rate"),
+        )
+    found += [found[-1]] * (years - len(found))
+    return tuple(each for each in found for _ in range(per_year))

@@ -1,0 +1,332 @@
+"""What-ifs of a schedule: the plan by years with one thing changed at a time, each beside a bound of
+its own.
+
+A price, a recovery, a cost or a slope makes a study of its own in ``vary/price+20/``, as those of
+`plans.vary`; rates, the discount and the sink rate change the terms alone. ``vary/schedule.json``
+says what was asked for, and ``runs/schedule`` of each folder has what was found.
+"""
+from __future__ import annotations
+
+import hashlib
+import json
+from collections.abc import Mapping, Sequence
+from dataclasses import asdict, dataclass
+from pathlib import Path
+from typing import TYPE_CHECKING, Any
+
+import pandas as pd
+
+from ..base import kept_json
+from ..base.amounts import THOUSAND
+from ..base.errors import PlanError, meant
+from ..base.files import whole_file
+from ..base.next_command import command
+from ..plans import vary
+from ..plans.task_line import BASE, SCHEDULE, Task
+from ..plans.vary import DISCOUNT, RATES, SINK, WHAT, Change
+from ..study.shells import Shells
+from ..study.study import Study
+from .terms import pushbacks_of
+
+if TYPE_CHECKING:
+    from matplotlib.figure import Figure
+
+    from ..model.economics import Economics
+    from ..slopes.slopes import Slopes
+    from .plan import Schedule
+
+KNOWN = (*WHAT, SINK)
+PERCENT, MINUTE = 100.0, 60.0
+
+
+@dataclass(frozen=True)
+class Asked:
+    """What ``schedule.json`` says.
+
+    Attributes
+    ----------
+    study : str
+        The key of the model.
+    changes : list of (what, by)
+    told, rates : dict
+        The values of [schedule], and those that [shells] gives, as of `Schedule.of`.
+    gap, minutes : float
+        At which each search ends: a gap in percent, and a time.
+    """
+
+    study: str
+    changes: list[tuple[str, float]]
+    told: dict[str, Any]
+    rates: dict[str, float]
+    gap: float
+    minutes: float
+
+    def each(self) -> list[Change]:
+        """The changes."""
+        return [Change(what, by) for what, by in self.changes]
+
+    def named(self, name: str) -> Change | None:
+        """The change of a name; None is the study itself. Raises PlanError where there is none."""
+        names = {change.name: change for change in self.each()}
+        if name != BASE and name not in names:
+            raise PlanError(f"no schedule of {name!r} was asked for{meant(name, list(names))}")
+        return names.get(name)
+
+
+def is_term(value: Any) -> bool:
+    """Whether this may be a value of [schedule]."""
+    return (
+        value is None
+        or kept_json.is_number(value)
+        or kept_json.is_word(value)
+        or kept_json.is_list(kept_json.is_number)(value)
+    )
+
+
+_ASKED: dict[str, kept_json.Holds] = {
+    "study": kept_json.is_word,
+    "changes": kept_json.is_list(vary.is_change),
+    "told": kept_json.is_table(is_term),
+    "rates": kept_json.is_table(kept_json.is_number),
+    "gap": kept_json.is_number,
+    "minutes": kept_json.is_number,
+}
+
+
+def prepare(
+    study: Study, economics: Economics, slopes: Slopes, changes: Sequence[Change], asked: Asked
+) -> None:
+    """Builds what the changes need, and writes down what is to be found. No pit is found yet.
+
+    Parameters
+    ----------
+    economics, slopes
+        What the study was built with.
+
+    Raises
+    ------
+    PlanError
+        Where a change can't be made: it names the change.
+    """
+    for change in changes:
+        try:
+            if change.keeps_pit:
+                _changed_terms(asked.told, asked.rates, change)
+            else:
+                e, s = vary.changed(economics, slopes, change, study.model)
+                Study.create(vary.place(study, change.name), study.model, e, s, study.program)
+        except PlanError as error:
+            for each in error.each():
+                each.what = f"{change}: {each.what}"
+            raise
+    path = study.folder / "vary" / "schedule.json"
+    path.parent.mkdir(exist_ok=True)
+    with whole_file(path) as part:
+        part.write_text(json.dumps(asdict(asked)))
+
+
+def asked_of(study: Study) -> Asked | None:
+    """What was asked for by `prepare` over this very model, None where nothing was."""
+    try:
+        path = study.folder / "vary" / "schedule.json"
+        again = command("vary", study.named, "--schedule", "discount=-2..2")
+        found = kept_json.read(path, _ASKED, again)
+    except (FileNotFoundError, NotADirectoryError):
+        return None
+    told = Asked(**{name: found[name] for name in _ASKED})
+    return told if told.study == study.key else None
+
+
+def must_be_asked(study: Study) -> Asked:
+    """As `asked_of`. Raises PlanError where nothing was."""
+    asked = asked_of(study)
+    if asked is None:
+        raise PlanError(
+            "no schedules of what-ifs were asked for over the model that stands there",
+            try_this=command("vary", study.named, "--schedule", "discount=-2..2", "price=-10..10"),
+        )
+    return asked
+
+
+def _changed_terms(
+    told: Mapping[str, Any], rates: Mapping[str, float], change: Change | None
+) -> dict[str, Any]:
+    """The values of [schedule] with a change.
+
+    Raises
+    ------
+    PlanError
+        Where the discount or the sink rate can't be so, or study.toml has no such rate.
+    """
+    found = dict(told)
+    if change is None or not change.keeps_pit:
+        return found
+    if change.kind == DISCOUNT:
+        planned = rates.get("discount", 0.1) if told.get("discount") is None else told["discount"]
+        found["discount"] = round(float(planned) + change.by / PERCENT, 12)
+        if not 0 <= found["discount"] < 1:
+            raise PlanError(f"a discount of {found['discount']:g} isn't from 0 to below 1")
+    elif change.kind in RATES:
+        rate = told.get(change.kind) or rates.get(change.kind)
+        if rate is None:
+            raise PlanError(f"study.toml has no {change.kind}")
+        share = 1 + change.by / PERCENT
+        found[change.kind] = (
+            [each * share for each in rate] if isinstance(rate, list) else rate * share
+        )
+    else:
+        sink = told.get(SINK)
+        if sink is None or change.by != int(change.by) or sink + change.by < 1:
+            raise PlanError(
+                "the sink rate is whole benches a year, at least 1"
+                if sink is not None
+                else "[schedule] of study.toml has no sink rate",
+                try_this="sink=-1..1, beside sink = 4 in [schedule]",
+            )
+        found[SINK] = int(sink + change.by)
+    return found
+
+
+def study_named(base: Study, name: str) -> Study:
+    """The study of a what-if, the study itself where it changes the terms alone. Raises PlanError
+    where none of that name was asked for over this very model."""
+    change = must_be_asked(base).named(name)
+    if change is None or change.keeps_pit:
+        return base
+    return Study(vary.place(base, name), base.given)
+
+
+def tasks(study: Study) -> list[Task]:
+    """The tasks of the what-ifs that were asked for, the study itself first."""
+    asked = asked_of(study)
+    names = [BASE, *(change.name for change in asked.each())] if asked else []
+    return [Task(SCHEDULE, name, (THOUSAND,)) for name in names]
+
+
+def _place(base: Study, name: str) -> Path:
+    """The folder in which the schedule of a what-if is kept."""
+    return base.folder if name == BASE else vary.place(base, name)
+
+
+def ended(base: Study, asked: Asked, name: str) -> tuple[Path, str]:
+    """The file that says that a search has ended, and what stands in it then."""
+    terms = _changed_terms(asked.told, asked.rates, asked.named(name))
+    told = [study_named(base, name).key, terms, asked.rates, asked.gap, asked.minutes]
+    digest = hashlib.sha256(json.dumps(told, sort_keys=True).encode()).hexdigest()
+    return _place(base, name) / "runs" / "schedule" / "ended", digest
+
+
+def is_done(base: Study, name: str) -> bool:
+    """Whether the schedule of a what-if was searched for as was asked."""
+    path, digest = ended(base, must_be_asked(base), name)
+    try:
+        return path.read_text("utf-8") == digest
+    except (OSError, ValueError):
+        return False
+
+
+def _shells_of(study: Study, terms: Mapping[str, Any]) -> Shells:
+    """The pits of a study from which its schedule begins: all that were run up to the full price,
+    which order the blocks, and that at the full price; those of pushbacks are run where they
+    weren't."""
+    missing = [
+        each for each in pushbacks_of(terms.get("pushbacks") or ()) if not study.verdict(each)
+    ]
+    if missing:
+        study.shells(missing)
+    known = [int(path.name[1:]) for path in study.place(THOUSAND).parent.glob("f[0-9]*")]
+    return Shells(study, [each for each in known if each <= THOUSAND and study.verdict(each)])
+
+
+def find(base: Study, name: str) -> None:
+    """Searches for the schedule of a what-if, from where an earlier search ended."""
+    from .plan import Schedule
+
+    asked = must_be_asked(base)
+    terms = _changed_terms(asked.told, asked.rates, asked.named(name))
+    path, digest = ended(base, asked, name)
+    limits = (asked.gap / PERCENT, asked.minutes * MINUTE)
+    shells = _shells_of(study_named(base, name), terms)
+    Schedule.of(shells, terms, asked.rates, limits, folder=_place(base, name))
+    with whole_file(path) as part:
+        part.write_text(digest, "utf-8")
+
+
+def found_last(base: Study, asked: Asked, name: str) -> Schedule:
+    """The schedule of a what-if, judged again. Raises PlanError where none was found."""
+    from .plan import Schedule
+
+    terms = _changed_terms(asked.told, asked.rates, asked.named(name))
+    shells = _shells_of(study_named(base, name), terms)
+    found = Schedule.last(shells, terms, asked.rates, _place(base, name))
+    if found is None:
+        raise PlanError(
+            f"the schedule of {name} hasn't been found",
+            try_this=command("vary", base.named, "--schedule"),
+        )
+    return found
+
+
+def table(base: Study) -> pd.DataFrame:
+    """The schedules of the what-ifs, each judged by `pit` as it is read.
+
+    Returns
+    -------
+    DataFrame
+        A row for the study itself and for each change: what, by, unit, blocks, rock_t, years (the
+        last in which something is dug), npv, npv_difference (less that of the study itself), bound,
+        bound_difference, gap (how far the npv is below the bound, in percent of that).
+
+    Raises
+    ------
+    PlanError
+        Where one hasn't been found over the model that stands there.
+    """
+    asked, rows = must_be_asked(base), []
+    for change in (None, *asked.each()):
+        found = found_last(base, asked, change.name if change else BASE)
+        tonnes = found.shells.study.model.blocks.tonnes.to_numpy(float)
+        rows.append(
+            {
+                "what": change.what if change else BASE,
+                "by": change.by if change else 0.0,
+                "unit": change.unit.strip() if change else "",
+                "blocks": found.count,
+                "rock_t": float(tonnes[found.period[: len(tonnes)] >= 0].sum()),
+                "years": int(found.years.max()),
+                "npv": float(found.npv),
+                "bound": float(found.bound),
+                "gap": float(found.gap),
+            }
+        )
+    made = pd.DataFrame(rows)
+    for name in ("npv", "bound"):
+        made.insert(
+            list(made.columns).index(name) + 1,
+            f"{name}_difference",
+            made[name] - made[name].iloc[0],
+        )
+    return made
+
+
+def tornado(found: pd.DataFrame, currency: str = "$") -> Figure:
+    """The tornado chart of `table`: for each thing a bar from its lowest npv to its highest, the
+    longest on top, and by a line up to where its bound is."""
+    from matplotlib.figure import Figure
+
+    from ..base.units_shown import scale_of
+
+    figure = Figure(figsize=(9, 1.9 + 0.6 * found.iloc[1:].what.nunique()), layout="constrained")
+    axes = figure.subplots()
+    money = scale_of(found["npv"], currency)
+    order = vary.draw(axes, found, "npv", currency, "schedule")
+    for row in found.iloc[1:].to_dict("records"):
+        at = order.index(row["what"])
+        ends = [row["npv"] / money.divisor, row["bound"] / money.divisor]
+        axes.plot(ends, [at - 0.36] * 2, color="#a3341f", marker="|", markersize=7, linewidth=1.2)
+    axes.set_title(
+        "What moves the net present value of the schedule\n"
+        "(below each bar's end: up to what no schedule brings more)",
+        fontsize=12,
+    )
+    return figure

@@ -1,0 +1,243 @@
+"""A schedule in pictures: its years as bars beside the rates and the bound, and a bench or a
+section by year."""
+from __future__ import annotations
+
+from typing import Any
+
+import numpy as np
+import pandas as pd
+from matplotlib.colors import BoundaryNorm, ListedColormap
+from matplotlib.figure import Figure
+from matplotlib.patches import Patch
+
+from ..base.amounts import THOUSAND
+from ..base.units_shown import Scale, scale_of
+from ..schedule.plan import Schedule
+from . import plane as planes
+from .pictures import (
+    CASING,
+    LIGHTEST,
+    ROCK_EDGE,
+    ROCK_HATCH,
+    SEPARATED,
+    Paint,
+    add_colour_bar,
+    add_north_and_scale,
+    exaggeration_of,
+    fullest_row,
+    hatch,
+    second_line,
+    shades,
+    sheet,
+)
+from .plane import Plane
+
+_ORE, _WASTE, _FLOW, _DISCOUNTED = "#8a8a8a", "#f1efe9", "#c9d9e6", "#5b86a8"
+_MINING, _MILL, _WORTH = "#a3341f", "#1b5e8c", "black"
+_LEFT, _WIDE, _GAP = 0.09, 0.87, 0.09  # of the figure's width, between grades the last
+
+
+def by_year(found: Schedule, years: pd.DataFrame) -> Figure:
+    """Ore and waste of each period beside the rates; below them the grades of its ore, its cash
+    flow, and what all so far are worth beside the bound.
+
+    Parameters
+    ----------
+    found : Schedule
+    years : DataFrame
+        As `Tables.years` gives it.
+    """
+    figure = Figure(figsize=(10.5, 10.8))
+    tonnes = figure.add_axes((_LEFT, 0.66, _WIDE, 0.29))
+    money = figure.add_axes((_LEFT, 0.12, _WIDE, 0.26))
+    _add_tonnes(tonnes, found, years)
+    _add_money(money, found, years)
+    grades = _add_grades(figure, found, years)
+    at = years["period"].to_numpy()
+    for axes in (tonnes, money, *grades):
+        step = -(-len(at) * len(grades if axes in grades else [axes]) // 24)
+        axes.set_xticks(at[::step])
+        axes.set_xlim(0.4, len(at) + 0.6)
+    for axes in (tonnes, money):
+        axes.yaxis.set_major_formatter(SEPARATED)
+    money.set_xlabel("Period" if found.production.terms.per_year > 1 else "Year")
+    name = found.shells.study.model.name
+    tonnes.set_title(f"{name}: schedule, at most {found.gap_text} below the best", fontsize=12)
+    return figure
+
+
+def _add_grades(figure: Figure, found: Schedule, years: pd.DataFrame) -> list[Any]:
+    """The grade of each metal in the ore of each period, each metal at a scale of its own."""
+    metals = found.shells.study.manifest["metals"]
+    each = (_WIDE - _GAP * (len(metals) - 1)) / len(metals)
+    made = []
+    for i, (name, units) in enumerate(metals.items()):
+        axes = figure.add_axes((_LEFT + i * (each + _GAP), 0.45, each, 0.12))
+        axes.plot(
+            years["period"],
+            years[f"grade_{name}"],
+            color="black",
+            marker="o",
+            markersize=4,
+            linewidth=1.2,
+        )
+        axes.margins(y=0.15)
+        axes.set_ylim(bottom=0)
+        axes.set_ylabel(f"{name} ({units['grade_unit']})")
+        made.append(axes)
+    made[0].set_title("Grade of ore", fontsize=10, loc="left")
+    return made
+
+
+def _add_tonnes(axes: Any, found: Schedule, years: pd.DataFrame) -> None:
+    """Bars of ore and waste, the mill's feed by dots, and the two rates by steps."""
+    at, unit = years["period"].to_numpy(), found.shells.study.model.units.weight
+    rock = scale_of(years["rock_t"], unit)
+    ore, waste = (years[name] / rock.divisor for name in ("ore_t", "waste_t"))
+    axes.bar(at, ore, color=_ORE, edgecolor="black", linewidth=0.4, label="Ore")
+    axes.bar(
+        at,
+        waste,
+        bottom=ore,
+        color=_WASTE,
+        edgecolor="#777777",
+        hatch="///",
+        linewidth=0.4,
+        label="Waste",
+    )
+    axes.plot(
+        at,
+        years["feed_t"] / rock.divisor,
+        linestyle="none",
+        marker="o",
+        markersize=4,
+        color=_MILL,
+        path_effects=CASING,
+        label="Feed of the mill",
+    )
+    for told, stroke, colour, label in zip(
+        found.production.terms.capacities,
+        ("--", ":"),
+        (_MINING, _MILL),
+        ("Rock that may be dug", "Feed that may be milled"),
+    ):
+        if told:
+            room = np.array(told[: len(at)]) / THOUSAND / rock.divisor
+            axes.step(
+                np.append(at - 0.5, at[-1] + 0.5),
+                np.append(room, room[-1]),
+                where="post",
+                linestyle=stroke,
+                color=colour,
+                linewidth=1.8,
+                path_effects=CASING,
+                label=label,
+            )
+    axes.set_ylabel(f"In a period ({rock.unit})")
+    axes.legend(loc="upper center", bbox_to_anchor=(0.5, -0.08), ncol=5, frameon=False)
+
+
+def _add_money(axes: Any, found: Schedule, years: pd.DataFrame) -> None:
+    """Bars of the cash flow and of what it is worth today, and the line of the worth so far."""
+    at = years["period"].to_numpy()
+    bound = float(found.bound)
+    unit: Scale = scale_of(pd.Series([bound, *years["npv"]]), found.shells.study.currency)
+    for column, colour, aside, label in (
+        ("cash_flow", _FLOW, -0.2, "Cash flow"),
+        ("discounted", _DISCOUNTED, 0.2, "Discounted"),
+    ):
+        axes.bar(
+            at + aside,
+            years[column] / unit.divisor,
+            width=0.4,
+            color=colour,
+            edgecolor="black",
+            linewidth=0.4,
+            label=label,
+        )
+    axes.plot(
+        at,
+        years["npv"] / unit.divisor,
+        color=_WORTH,
+        marker="s",
+        markersize=4,
+        linewidth=1.6,
+        path_effects=CASING,
+        label="Net present value so far",
+    )
+    axes.axhline(
+        bound / unit.divisor,
+        color=_MINING,
+        linestyle="--",
+        linewidth=1.4,
+        label="No schedule brings more",
+    )
+    axes.axhline(0, color="black", linewidth=0.6)
+    axes.set_ylabel(f"Worth at factor 1 ({unit.unit})")
+    axes.legend(loc="upper center", bbox_to_anchor=(0.5, -0.17), ncol=4, frameon=False)
+
+
+def middle_of(found: Schedule) -> tuple[float, int]:
+    """The toe of the bench on which most periods dig, and the row with most dug blocks."""
+    model, period = found.shells.study.model, found.years
+    blocks = model.blocks[period > 0]
+    count = blocks.assign(year=period[period > 0]).groupby("iz")["year"].nunique()
+    level = int(count.idxmax())
+    row = fullest_row(np.bincount(blocks["iy"], minlength=model.grid.shape[1]))
+    return model.grid.origin[2] + (level - 0.5) * model.grid.size[2], row
+
+
+def plan(found: Schedule, elevation: float) -> Figure:
+    """The plan of the bench at an elevation, each block in the colour of its period."""
+    model = found.shells.study.model
+    figure, axes = _draw(found, planes.bench(model, planes.bench_at(model, elevation)), 1.0)
+    add_north_and_scale(axes, model.units.length)
+    return figure
+
+
+def section(found: Schedule, row: int) -> Figure:
+    """The section along a row of the model, each block in the colour of its period."""
+    cut = planes.section(found.shells.study.model, "y", row)
+    return _draw(found, cut, exaggeration_of(cut))[0]
+
+
+def _paint(found: Schedule) -> Paint:
+    """A colour for each period, the darker the earlier."""
+    count = int(found.period.max()) + 1
+    dug = (found.period >= 0) & found.shells.study.model.is_rock
+    table = ListedColormap(shades(LIGHTEST * np.linspace(0, 1, count)))
+    label = "Period" if found.production.terms.per_year > 1 else "Year"
+    return Paint(
+        np.where(dug, found.period, np.nan),
+        table,
+        BoundaryNorm(np.arange(count + 1) - 0.5, count),
+        label,
+        [(float(t), str(t + 1)) for t in range(count)],
+    )
+
+
+def _draw(found: Schedule, cut: Plane, exaggeration: float) -> tuple[Figure, Any]:
+    """The blocks of a plane by their period, and rock that stays."""
+    model, colours = found.shells.study.model, _paint(found)
+    figure, axes, beside = sheet(float(np.ptp(cut.across)), float(np.ptp(cut.up)) * exaggeration)
+    there = cut.number >= 0
+    shown = np.where(there, colours.values[cut.number], np.nan)
+    image = axes.pcolormesh(cut.across, cut.up, shown, cmap=colours.colours, norm=colours.norm)
+    hatch(axes, there & np.isnan(shown), cut)
+    axes.plot(*planes.borders(there, cut), color="#555555", linewidth=0.6)
+    for t in np.unique(shown[~np.isnan(shown)]).tolist():
+        line = planes.borders(shown <= t, cut)
+        axes.plot(*line, color="black", linewidth=0.9, path_effects=CASING)
+    add_colour_bar(figure, beside, image, colours)
+    rock = {"facecolor": "white", "edgecolor": ROCK_EDGE, "hatch": ROCK_HATCH}
+    figure.legend(
+        handles=[Patch(label="Rock that stays", **rock)], loc="lower center", frameon=False
+    )
+    axes.set_aspect(exaggeration)
+    axes.set(xlabel=cut.labels[0], ylabel=cut.labels[1])
+    for each in (axes.xaxis, axes.yaxis):
+        each.set_major_formatter(SEPARATED)
+    axes.locator_params(axis="x", nbins=7)
+    title = f"{model.name}: {cut.title}, by {colours.label.lower()}"
+    axes.set_title(title + second_line(cut, exaggeration), fontsize=12)
+    return figure, axes

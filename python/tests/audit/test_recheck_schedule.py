@@ -1,0 +1,292 @@
+"""A bundle's schedule is checked again by a script that shares nothing with the package; whatever is changed in it is
+told."""
+import gzip
+import json
+import os
+import re
+import shutil
+import subprocess
+import sys
+from dataclasses import replace
+from decimal import Decimal
+from pathlib import Path
+
+import mines
+import numpy as np
+import pytest
+from pitplan import Study
+from pitplan.audit.bundle import write_bundle
+from pitplan.schedule import Schedule, judged, plan as of_plan
+from pitplan.study.study_file import read_study_file
+
+RICH = mines.STUDY_TOML.replace("price = 8500", "price = 24000").replace(
+    "mining = 2.0", "mining = 2.0\ndilution = 0.05"
+)
+TERMS = "\n[schedule]\nyears = 6\nmining_rate = [600e3, 500e3]\nmill_rate = 400e3\n"
+
+
+def bundled(folder, terms):
+    """A bundle with a schedule, and that schedule."""
+    mines.written_study(folder / "s", mines.table(9, 8, 5, 5), RICH + terms)
+    plan = read_study_file(folder / "s")
+    Study.create(folder / "s", plan.read_model(), plan.economics, plan.slopes, None, plan.digest)
+    shells, told = Study(folder / "s").shells(plan.factors), plan.values["schedule"]
+    found = Schedule.of(shells, told, plan.rates, (0.005, 10))
+    dialect = plan.keys.dialect(plan.table)
+    write_bundle(shells, folder / "bundle", plan.path, dialect, plan.rates, told)
+    return folder / "bundle", found
+
+
+def checked(bundle):
+    ran = subprocess.run(
+        [sys.executable, "-I", bundle / "recheck_schedule.py"], capture_output=True, text=True
+    )
+    assert not ran.stderr
+    return ran.returncode, ran.stdout
+
+
+@pytest.mark.parametrize(
+    "more",
+    [
+        "",
+        "sink = 2\n",
+        "per_year = 2\nsink = 2\n",
+        "panel = 2\n",
+        'cutoff = "by year"\nfixed_cost = 2e6\n',
+        'cutoff = "by year"\npushbacks = [0.6]\nlead = 2\npanel = 2\nsink = 3\n',
+    ],
+)
+def test_it_comes_to_the_same_amounts(tmp_path, more):
+    bundle, found = bundled(tmp_path, TERMS + more)
+    status, said = checked(bundle)
+    assert status == 0, said
+    npv, bound = re.findall(r"worth (?:more than )?([\d,.]+)\n", said)
+    assert Decimal(npv.replace(",", "")) == found.npv
+    wanted = found.bound
+    assert 0 <= wanted - Decimal(bound.replace(",", "")) < Decimal("0.00001")  # rounded up there
+
+
+@pytest.fixture(scope="module")
+def with_ways(tmp_path_factory):
+    """A bundle of a schedule with a choice of ways, pushbacks and a fixed cost."""
+    more = 'cutoff = "by year"\npushbacks = [0.6]\nfixed_cost = 2e6\n'
+    return bundled(tmp_path_factory.mktemp("ways"), TERMS + more)[0]
+
+
+def told(**changes):
+    """A change of terms.json: a new value, or what becomes of the one that is there."""
+
+    def made(bundle):
+        path = bundle / "schedule" / "terms.json"
+        terms = json.loads(path.read_text())
+        for name, change in changes.items():
+            terms[name] = change(terms[name]) if callable(change) else change
+        path.write_text(json.dumps(terms))
+
+    return made
+
+
+def later(bundle):
+    """A block of the first pushback on the lowest bench of it is dug last."""
+    last = bundle / "certificates" / "f00600.cert.gz"
+    pit = [int(line.split()[1]) for line in gzip.open(last, "rt") if line.startswith("PIT")]
+    place = {int(w[0]): int(w[3]) for w in map(str.split, open(bundle / "model" / "mine.blocks"))}
+    low = min(pit, key=place.get)
+    of_schedule(bundle, lambda text: re.sub(rf"^{low} \d+$", f"{low} 5", text, flags=re.M))
+
+
+@pytest.mark.parametrize(
+    "change, words",
+    [
+        (told(sent=lambda sent: sent[1:]), "schedule.csv"),
+        (told(sent=lambda sent: [*sent, 10**6]), "a block is sent that isn't dug"),
+        (told(sent=None), "uses|no pair|flows|schedule.csv|cut-off"),
+        (told(fixed_cost=0), "flows|fixed cost|schedule.csv"),
+        (told(fixed_cost=lambda cost: cost + 1), "fixed cost|schedule.csv"),
+        (told(pushbacks=[]), "pushbacks|no pair|IndexError|list index"),
+        (told(lead=1), "ahead of it|no pair|pushbacks"),
+        (later, "ahead of it|is dug before|uses"),
+    ],
+)
+def test_what_is_changed_of_ways_pushbacks_and_costs_is_told(with_ways, tmp_path, change, words):
+    bundle = tmp_path / "bundle"
+    shutil.copytree(with_ways, bundle)
+    change(bundle)
+    status, said = checked(bundle)
+    assert status == 1, said
+    assert re.search(words, said), said
+    assert said.startswith("WRONG"), said
+
+
+@pytest.fixture(scope="module")
+def whole(tmp_path_factory):
+    return bundled(tmp_path_factory.mktemp("bundle"), TERMS + "sink = 2\n")[0]
+
+
+def test_the_checker_of_pits_takes_a_study_with_a_schedule(whole):
+    words = [sys.executable, "-I", whole / "recheck.py", os.environ["PIT"]]
+    ran = subprocess.run(words, capture_output=True, text=True)
+    assert ran.returncode == 0, ran.stdout
+    assert ran.stdout.count("schedule/") == 6  # digests
+
+
+@pytest.mark.parametrize("script", ["recheck.py", "plainly.py", "recheck_schedule.py"])
+def test_no_file_beside_a_script_is_run_for_one_of_the_library(whole, tmp_path, script):
+    bundle, ran = Path(shutil.copytree(whole, tmp_path / "bundle")), tmp_path / "ran"
+    for name in ("argparse", "ast", "copy", "csv", "decimal", "gzip", "json", "math", "re"):
+        (bundle / f"{name}.py").write_text(f"open({str(ran)!r}, 'a').write({name!r})\n")
+    subprocess.run([sys.executable, bundle / script], capture_output=True)
+    assert not ran.exists(), ran.read_text()
+
+
+def of_schedule(bundle, change):
+    path = bundle / "schedule" / "schedule.txt"
+    path.write_text(change(path.read_text()))
+
+
+def earlier(text):
+    """The last block is dug in the first year."""
+    *lines, last = text.splitlines()
+    latest = max(lines, key=lambda line: int(line.split()[1]))
+    return text.replace(latest + "\n", latest.split()[0] + " 0\n")
+
+
+def of_periods(name, change):
+    def made(bundle):
+        path = bundle / "schedule" / "periods.toml"
+        found = re.search(rf"^{name} = (.*)$", path.read_text(), re.M)
+        path.write_text(path.read_text().replace(found[1], str(change(json.loads(found[1])))))
+
+    return made
+
+
+def of_certificate(old, new):
+    def made(bundle):
+        path = bundle / "schedule" / "bound.cert.gz"
+        text = gzip.decompress(path.read_bytes()).decode()
+        path.write_bytes(gzip.compress(re.sub(old, new, text, count=1, flags=re.M).encode()))
+
+    return made
+
+
+def of_line(name, old, new):
+    def made(bundle):
+        path = bundle / name
+        text = re.sub(old, new, path.read_text(), count=1, flags=re.M)
+        assert text != path.read_text()
+        path.write_text(text)
+
+    return made
+
+
+def of_cell(name, row, column, change):
+    """A cell of a table of the bundle."""
+
+    def made(bundle):
+        path = bundle / "tables" / name
+        lines = [line.split(",") for line in path.read_text().splitlines()]
+        at = lines[0].index(column)
+        lines[row][at] = str(change(float(lines[row][at])))
+        path.write_text("".join(",".join(line) + "\n" for line in lines))
+
+    return made
+
+
+def of_terms(bundle):
+    path = bundle / "schedule" / "terms.json"
+    path.write_text(json.dumps({**json.loads(path.read_text()), "sink": 1, "lag": 1}))
+
+
+@pytest.mark.parametrize(
+    "change, words",
+    [
+        (lambda b: of_schedule(b, earlier), "is dug before|sink rate|uses"),
+        (lambda b: of_schedule(b, lambda text: text + text.splitlines()[0]), "schedule.txt"),
+        (of_periods("capacities", lambda rows: [[1] * len(row) for row in rows]), "uses"),
+        (of_periods("weights", lambda row: row[::-1]), "weights don't fall"),
+        (of_periods("weights", lambda row: [row[0]] * len(row)), "flows|pair"),
+        (of_periods("multipliers", lambda rows: [[-1, *row[1:]] for row in rows]), "below 0"),
+        (of_periods("multipliers", lambda rows: [[0] * len(row) for row in rows]), "flows"),
+        (of_certificate(r"^SOURCE (\d+) (\d+) 0$", r"SOURCE \1 9\2 0"), "flows"),
+        (of_certificate(r"^REST (\d+) \d+ ", r"REST \1 \1 "), "no pair"),
+        (of_certificate(r"^END\n", ""), "cut off"),
+        (of_terms, "sink rate|no pair|flows"),
+        (of_line("study.toml", "discount = 0.08", "discount = 0.09"), "period 1 weighs"),
+        (of_line("study.toml", r"years = 6", 'years = 6\nwhen = "end"'), "period 1 weighs"),
+        (of_line("study.toml", r"\[600e3, 500e3\]", "[600e3, 510e3]"), "period 2 has .* of mining"),
+        (of_line("study.toml", r"mill_rate = 400e3", "mill_rate = 401e3"), "period 1 .* of mill"),
+        (of_line("study.toml", "years = 6", "years = 7"), "6 periods"),
+        (of_line("study.toml", "sink = 2", "sink = 3"), "sink rate"),
+        (of_line("study.toml", "sink = 2", "sink = 2\npanel = 2"), "panels"),
+        (of_line("study.toml", "sink = 2", "sink = 2\nblend = 2"), "has blend"),
+        (of_line("study.toml", "dilution = 0.05", "dilution = 0.06"), "brings and costs"),
+        (of_line("table/t.csv", r"^(b\d+,[\d.]+,[\d.]+,[\d.]+),(\d+)", r"\1,9\2"), "tonnage"),
+        (of_line("schedule/uses.blocks", r"^(\d+ \d+ \d+ \d+) 1(\d+)", r"\1 12\2"), "uses"),
+        (of_cell("schedule.csv", 2, "rock_t", lambda v: v + 1000), "line 3"),
+        (of_cell("schedule.csv", 2, "feed_t", lambda v: v / 1.05), "line 3"),
+        (of_cell("schedule.csv", 1, "discounted", lambda v: v * 0.96), "discounted"),
+        (of_cell("schedule.csv", 3, "npv", lambda v: v + 1), "npv"),
+        (of_cell("schedule.csv", 2, "mining_used", lambda v: v / 2), "mining_used"),
+        (of_cell("schedule.csv", 1, "grade_copper", lambda v: v * 1.1), "line 2"),
+        (
+            of_cell("schedule_benches.csv", 2, "cash_flow", lambda v: v + 1000),
+            "benches.csv, line 3",
+        ),
+        (of_cell("schedule_benches.csv", 2, "bench", lambda v: v + 15), "benches"),
+    ],
+)
+def test_what_is_changed_is_told(whole, tmp_path, change, words):
+    bundle = tmp_path / "bundle"
+    shutil.copytree(whole, bundle)
+    change(bundle)
+    status, said = checked(bundle)
+    assert status == 1, said
+    assert re.search(words, said), said
+    assert said.startswith("WRONG"), said
+
+
+def with_terms(change):
+    """Terms that are read wrongly: weights and capacities of all that is found."""
+
+    def made(patch):
+        right = of_plan.terms_of
+        patch.setattr(of_plan, "terms_of", lambda *words: change(right(*words)))
+
+    return made
+
+
+def feed_without_dilution(patch):
+    made, uses = of_plan.production_of, judged.block_uses
+
+    def less(array):
+        return np.stack([array[0], array[1] * 100 // 105])
+
+    def production(*words):
+        found = made(*words)
+        return replace(found, uses=less(found.uses))
+
+    patch.setattr(of_plan, "production_of", production)
+    patch.setattr(judged, "block_uses", lambda *words: less(uses(*words)))
+
+
+@pytest.mark.parametrize(
+    "mistake, words",
+    [
+        (with_terms(lambda t: replace(t, weights=tuple(w + 1 for w in t.weights))), "weighs"),
+        (with_terms(lambda t: replace(t, weights=(10**6, *t.weights[:-1]))), "period 1 weighs"),
+        (
+            with_terms(lambda t: replace(t, capacities=(t.capacities[0][::-1], t.capacities[1]))),
+            "period 1 has 500000000 of mining, and by study.toml 600000000",
+        ),
+        (with_terms(lambda t: replace(t, sink=3)), "sink rate"),
+        (feed_without_dilution, "of feed, and by the table"),
+    ],
+)
+def test_a_schedule_that_was_found_by_other_terms_is_told(tmp_path, monkeypatch, mistake, words):
+    """Texts, bound and certificate agree with each other, and not with study.toml or the table."""
+    mistake(monkeypatch)
+    bundle, _ = bundled(tmp_path, TERMS + "sink = 2\n")
+    status, said = checked(bundle)
+    assert status == 1, said
+    assert re.search(words, said), said
+    assert said.startswith("WRONG"), said

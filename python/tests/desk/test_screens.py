@@ -1,0 +1,344 @@
+"""The desk's pages: by keys alone, at two widths, with enough contrast, and with texts that would be markup."""
+import json
+import os
+import shutil
+
+import pytest
+
+pytest.importorskip("selenium")
+pytest.importorskip("starlette")
+from selenium.webdriver.common.keys import Keys
+
+from desks import Chromium, Desk
+from processes import TOP, said
+
+SCREENS = ("table", "money", "slopes", "pits", "pushbacks", "designs", "vary", "history")
+PARTS = ("pits/pictures", "pits/files", "pits/page")
+MARKUP = '<img src=x onerror="document.title=1">'
+
+
+@pytest.fixture(scope="module")
+def folder(tmp_path_factory):
+    """A study with pits, and one whose columns, rocks and errors are markup."""
+    folder = tmp_path_factory.mktemp("mines")
+    shutil.copytree(TOP / "examples" / "hill", folder / "hill")
+    shutil.copy(TOP / "examples" / "hill.csv", folder)
+    text = (folder / "hill" / "study.toml").read_text()
+    (folder / "hill" / "study.toml").write_text(
+        text + "factors = [0.6, 1.0]\n" * ("factors" not in text)
+    )
+    for words in (["build"], ["shells"], ["page"], ["plot"]):
+        said(*words, "hill", cwd=folder)
+    rows = (folder / "hill.csv").read_text().replace("SECTOR", MARKUP.replace('"', "'"), 1)
+    (folder / "odd.csv").write_text(rows.replace("OVB", "<b>OVB</b>"))
+    said("init", "odd.csv", cwd=folder)
+    odd = folder / "odd" / "study.toml"
+    odd.write_text(odd.read_text().replace("mining = 2.50", f"mining = '{MARKUP}'"))
+    return folder
+
+
+@pytest.fixture(scope="module")
+def desk(folder):
+    found = Desk(folder)
+    from processes import STARTED
+
+    STARTED.remove(found.process)  # it is for all tests of this file
+    yield found
+    found.end()
+
+
+@pytest.fixture(scope="module")
+def browser(desk):
+    found = Chromium()
+    found.get(desk.door)
+    found.sees("Studies")
+    yield found
+    assert not found.complaints()
+    found.close()
+
+
+def shown(browser, desk, where):
+    browser.get(f"{desk.address}/#/{where}")
+    browser.there("main section.card, main iframe, main .tabs, main .drop")
+    browser.until(lambda: browser.script("return document.body.innerText.length > 100"), where)
+    loaded = "return [...document.images].every(i => i.complete)"
+    browser.until(lambda: browser.script(loaded), "its pictures")
+
+
+WIDE = """
+const wide = [];
+const main = document.getElementById("main");
+if (document.documentElement.scrollWidth > innerWidth) wide.push("the page");
+if (main.scrollWidth > main.clientWidth) wide.push("main");
+for (const card of document.querySelectorAll("#main .card")) {
+  const right = card.getBoundingClientRect().right;
+  for (const e of card.querySelectorAll("*")) {
+    if (e.closest(".scroll") && !e.matches(".scroll")) continue;
+    const box = e.getBoundingClientRect();
+    if (box.width && box.right > right + 1) wide.push(e.outerHTML.slice(0, 120));
+  }
+}
+for (const e of document.querySelectorAll("#top > *, #nav > *")) {
+  if (e.getBoundingClientRect().right > innerWidth + 1) wide.push(e.outerHTML.slice(0, 120));
+}
+return wide.slice(0, 4)
+"""
+
+
+@pytest.mark.parametrize("size", [(1280, 800), (1920, 1080)], ids=str)
+@pytest.mark.parametrize("screen", [*SCREENS, *PARTS])
+def test_nothing_is_cut_off(browser, desk, size, screen):
+    browser.resized(*size)
+    shown(browser, desk, f"hill/{screen}")
+    assert browser.script(WIDE) == []
+    shots = os.environ.get("DESK_SHOTS")
+    if shots:
+        browser.shot(f"{shots}/{screen.replace('/', '-')}-{size[0]}.png")
+
+
+# WCAG 2: at least 4.5 for texts, 3 for large ones; what can't be pressed is excepted.
+CONTRAST = """
+const light = c => { const [r, g, b] = c.map(v => { v /= 255; return v <= 0.03928 ? v / 12.92 : ((v + 0.055) / 1.055) ** 2.4; }); return 0.2126 * r + 0.7152 * g + 0.0722 * b; };
+const parts = text => text.match(/[\\d.]+/g).map(Number);
+const back = e => { for (; e; e = e.parentElement) { const [r, g, b, a = 1] = parts(getComputedStyle(e).backgroundColor); if (a > 0.5) return [r, g, b]; } return [255, 255, 255]; };
+const low = new Set();
+const walker = document.createTreeWalker(document.body, NodeFilter.SHOW_TEXT);
+let count = 0;
+for (let n = walker.nextNode(); n; n = walker.nextNode()) {
+  const e = n.parentElement, style = getComputedStyle(e);
+  if (!n.data.trim() || !e.getClientRects().length || e.closest(":disabled, .old, script")) continue;
+  count += 1;
+  const [a, b] = [light(parts(e instanceof SVGElement ? style.fill : style.color).slice(0, 3)), light(back(e))];
+  const ratio = (Math.max(a, b) + 0.05) / (Math.min(a, b) + 0.05);
+  const size = parseFloat(style.fontSize), isLarge = size >= 24 || (size >= 18.66 && style.fontWeight >= 700);
+  if (ratio < (isLarge ? 3 : 4.5)) low.add(`${ratio.toFixed(2)} ${style.color} ${n.data.trim().slice(0, 40)}`);
+}
+return [count, [...low]]
+"""
+
+
+@pytest.mark.parametrize("where", [*(f"hill/{screen}" for screen in SCREENS), "odd/money", ""])
+def test_texts_stand_out_from_what_is_behind_them(browser, desk, where):
+    browser.resized(1280, 800)
+    shown(browser, desk, where)
+    count, low = browser.script(CONTRAST)
+    assert count > 10
+    assert low == []
+
+
+NAMELESS = """
+return [...document.querySelectorAll("#main :is(input, select, button, textarea, a, img, iframe), #top input")]
+  .filter(e => !(e.getAttribute("aria-label") || e.title || e.alt || e.textContent.trim() || e.labels?.length))
+  .map(e => e.outerHTML.slice(0, 120))
+"""
+
+
+@pytest.mark.parametrize("screen", [*SCREENS, *PARTS])
+def test_every_field_has_a_name(browser, desk, screen):
+    shown(browser, desk, f"hill/{screen}")
+    nameless = browser.script(NAMELESS)
+    assert nameless == []
+
+
+def tab_to(browser, ident, most=160):
+    """Presses Tab until a field has the focus; each on the way shows that it has it."""
+    for _ in range(most):
+        browser.keys(Keys.TAB)
+        code = "const e = document.activeElement; return [e.id, getComputedStyle(e).outlineStyle, e.matches('input[type=file]'), e.tagName]"
+        found, outline, is_file, tag = browser.script(code)
+        assert outline != "none" or is_file or tag == "BODY" or found == "main", found
+        if found == ident:
+            return
+    raise AssertionError(f"no way to {ident} by keys")
+
+
+def test_all_of_it_is_done_by_keys(browser, desk, folder):
+    shutil.copytree(folder / "hill", folder / "keys")
+    browser.get(f"{desk.address}/#/keys/money")
+    browser.sees("In the ground")
+    browser.there("[id='i.economics.metals.0.price']")
+    tab_to(browser, "i.economics.metals.0.price")
+    browser.keys(Keys.CONTROL, "a")
+    browser.keys("9100", Keys.TAB)
+    browser.until(lambda: "9100" in (folder / "keys" / "study.toml").read_text(), "the price")
+    assert browser.script("return document.activeElement.id") != "i.economics.metals.0.price"
+    browser.script("document.activeElement.blur()")
+    browser.get("about:blank")
+    browser.get(f"{desk.address}/#/keys/money")
+    browser.sees("In the ground")
+    tab_to(browser, "skip", 1)
+    tab_to(browser, "to.pits")
+    browser.keys(Keys.ENTER)
+    browser.sees("Series of pits")
+    tab_to(browser, "build")
+    browser.keys(Keys.SPACE)
+    browser.sees("build done by", "#main")
+    browser.sees("built in keys")
+
+
+def test_an_older_study_is_taken_again_and_results_of_another_one_are_marked(browser, desk, folder):
+    shutil.copytree(folder / "hill", folder / "again")
+    study = folder / "again" / "study.toml"
+    browser.get(f"{desk.address}/#/again/pits")
+    browser.click("#build")
+    browser.sees("build done by", "#main")
+    ran = study.read_text()
+    browser.get("about:blank")  # a page that knows nothing of the run, nor of other studies
+    browser.get(f"{desk.address}/#/again/money")
+    browser.sees("Nothing looks wrong")
+    browser.types("i.economics.metals.0.price", "7777")
+    browser.until(lambda: study.read_text() != ran, "the price is written")
+    typed = study.read_text()
+    for part in ("page", "pictures", "files", "run"):
+        browser.get(f"{desk.address}/#/again/pits/{part}")
+        browser.sees("of the study before it was changed", "#main .before")
+    for answer, wanted in (("#no", typed), ("#yes", ran)):
+        browser.click("[id='to.history']")
+        browser.press_on("button", "take its study.toml again")
+        browser.click(answer)
+        browser.until(lambda: study.read_text() == wanted, answer)
+    browser.sees("kept as study.toml.before", "#say")
+    assert study.with_name("study.toml.before").read_text() == typed
+    browser.until(lambda: not browser.text("#main .before"), "no mark")
+
+
+SLOW = """const asks = window.fetch;
+window.fetch = async (path, how) => {
+  if (path.endsWith('/odd')) await new Promise(done => { setTimeout(done, 4000); });
+  return asks(path, how);
+};
+location.hash = '#/odd/pits'"""
+
+
+def test_nothing_of_another_study_is_left_to_press_while_one_is_read(browser, desk):
+    shown(browser, desk, "hill/pits")
+    browser.there("#build")
+    browser.script(SLOW)
+    browser.sees("is read", "#main")
+    assert not browser.script("return Boolean(document.querySelector('#build'))")
+    browser.there("#build")
+    assert browser.text("#top h1") == "odd"
+    browser.get("about:blank")  # the next test asks as the page does
+
+
+def test_a_page_that_is_not_there_is_made_alone_and_a_picture_is_of_a_bench(browser, desk, folder):
+    shutil.copytree(folder / "hill", folder / "pageless")
+    (folder / "pageless" / "out" / "pits.html").unlink()
+    browser.get(f"{desk.address}/#/pageless/pits/page")
+    browser.sees("pitplan page pageless")
+    browser.click("#make")
+    browser.there("iframe.page")
+    browser.click("[id='part.pictures']")
+    rows = (folder / "hill.csv").read_text().splitlines()[1:]
+    benches = sorted({float(row.split(",")[3]) for row in rows}, reverse=True)
+    middle = benches[len(benches) // 2]
+    browser.sees(f"pitplan plot pageless --bench {middle:g}", "#main")
+    browser.click("#draw")
+    browser.sees("picture done by", "#main")
+    browser.click("[id='part.files']")
+    browser.sees("pitplan bundle pageless/bundle-0001 pageless", "#main")
+
+
+def test_an_older_page_is_marked_where_the_latest_run_was_stopped(browser, desk, folder):
+    shutil.copytree(folder / "hill", folder / "stopped")
+    browser.get(f"{desk.address}/#/stopped/pits/page")
+    browser.there("iframe.page")
+    assert not browser.text("#earlier")
+    run = folder / "stopped" / "log" / "desk" / "0001-shells"
+    run.mkdir(parents=True)
+    steps = [["shells", "stopped"]]
+    asked = {"what": "shells", "typed": ["pitplan shells stopped"], "steps": steps, "who": "Ana"}
+    written = (folder / "stopped" / "out" / "pits.html").stat().st_mtime
+    told = {**asked, "asked": {"what": "shells"}, "began": written + 60, "root": str(folder)}
+    (run / "asked.json").write_text(json.dumps(told))
+    (run / "study.toml").write_bytes((folder / "stopped" / "study.toml").read_bytes())
+    (run / "ended-130-1").touch()
+    for part in ("page", "pictures", "files"):
+        browser.get("about:blank")
+        browser.get(f"{desk.address}/#/stopped/pits/{part}")
+        browser.sees("is stopped, and hasn't made it anew", "#earlier")
+    os.utime(folder / "stopped" / "out" / "pits.html", (written + 90, written + 90))
+    browser.get("about:blank")
+    browser.get(f"{desk.address}/#/stopped/pits/page")
+    browser.there("iframe.page")
+    assert not browser.text("#earlier")
+
+
+def test_who_has_never_seen_a_terminal_is_told_what_comes_next(browser, desk, folder):
+    said("init", "hill.csv", "--study", "fresh", cwd=folder)
+    browser.get(f"{desk.address}/#/fresh")
+    for words in ("The table was read", "are made up", "how steep", "Build, and find the pits"):
+        browser.sees(words, ".guide")
+        assert "pitplan" not in browser.text(".guide")
+        if browser.text("#then"):
+            browser.click("#then")
+    assert not browser.text("#then")
+
+
+def test_a_number_with_a_separator_is_named_and_put_right_by_a_button(browser, desk, folder):
+    shutil.copytree(folder / "hill", folder / "typed")
+    study = folder / "typed" / "study.toml"
+    browser.get(f"{desk.address}/#/typed/money")
+    price = "i.economics.metals.0.price"
+    for text, named, right in (
+        ("9,250", "',' between thousands", "price = 9250"),
+        ("1.250,5", "'.' between thousands, and ',' before the decimals", "price = 1250.5"),
+    ):
+        browser.sees("In the ground")
+        browser.types(price, text)
+        browser.sees(named, ".k-metals .fault")
+        browser.sees(right, ".k-metals .fault .mend")
+        browser.click(".k-metals .fault .mend")
+        browser.until(lambda: f"{right}," in study.read_text(), right)
+        browser.until(lambda: not browser.text(".fault"), "no error")
+
+
+def test_the_manual_is_a_link_where_it_is_there(browser, desk):
+    browser.get(f"{desk.address}/#/")
+    browser.sees("The manual")
+    address = browser.script(
+        "return [...document.links].find(a => a.innerText === 'The manual').href"
+    )
+    browser.get(address)
+    browser.sees("pitplan")
+    assert address.startswith(f"{desk.address}/manual/")
+
+
+def test_texts_stay_texts(browser, desk):
+    """Columns, rocks and formulas that would be markup."""
+    browser.get(f"{desk.address}/#/odd/table")
+    browser.sees("<b>OVB</b>")
+    browser.sees("<img src=x onerror=")
+    browser.click("[id='to.money']")
+    browser.sees(MARKUP, "[id='f.economics.mining'] .fault")
+    assert browser.script("return document.querySelectorAll('img[src=x], main b b').length") == 0
+    assert browser.script("return document.title") == "odd - pitplan desk"
+    refused = "try { document.body.innerHTML = '<p>x'; return 'taken' } catch { return 'refused' }"
+    assert browser.script(refused) == "refused"
+    assert any("TrustedHTML" in line for line in browser.complaints())
+
+
+def test_an_advice_is_put_in_and_a_row_is_shown(browser, desk, folder):
+    rows = (folder / "hill.csv").read_text().splitlines()
+    cells = rows[125].split(",")
+    cells[5] = "trace"
+    rows[125] = ",".join(cells)
+    (folder / "north.csv").write_text("\n".join(rows) + "\n")
+    said("init", "north.csv", cwd=folder)
+    text = (folder / "north" / "study.toml").read_text()
+    absent = next(line for line in text.splitlines() if line.startswith("absent"))
+    (folder / "north" / "study.toml").write_text(text.replace(absent, 'absent = ["-99"]'))
+    browser.get(f"{desk.address}/#/north/table")
+    browser.sees("1 error on Prices and costs")
+    browser.click("#nav a.wrong")
+    browser.sees("'trace'", "[id='f.economics.metals']")
+    browser.click(".row")
+    browser.there("tr.this td.mark")
+    assert browser.text("tr.this td.mark") == "trace"
+    assert browser.text("tr.this th") == "126"
+    browser.click(".mend")
+    browser.until(
+        lambda: 'absent = ["-99", "trace"]' in (folder / "north" / "study.toml").read_text(),
+        "the advice",
+    )
+    browser.sees("Nothing looks wrong")

@@ -1,0 +1,174 @@
+"""The first screens in a browser: a table whose columns aren't known, metals that are added, numbers that can be read in two ways."""
+import tomllib
+
+import pytest
+
+pytest.importorskip("selenium")
+pytest.importorskip("starlette")
+
+from desks import Chromium, Desk
+from processes import TOP
+
+HILL = (TOP / "examples" / "hill.csv").read_text()
+PRICE = "i.economics.metals.0.price"
+
+
+@pytest.fixture(scope="module")
+def browser():
+    found = Chromium()
+    yield found
+    assert not found.complaint()
+    assert not found.complaints()
+    found.close()
+
+
+@pytest.fixture
+def begin(browser, tmp_path):
+    """Opens a desk over one table, and begins a study of it."""
+    desks = []
+
+    def begun(text, name="mine.csv"):
+        (tmp_path / name).write_bytes(text if isinstance(text, bytes) else text.encode())
+        desks.append(Desk(tmp_path))
+        browser.get(desks[-1].door)
+        browser.press_on("button", "begin a study")
+        return tmp_path / name.removesuffix(".csv")
+
+    yield begun
+    for desk in desks:
+        desk.end()
+
+
+def told(study):
+    return tomllib.loads((study / "study.toml").read_text())
+
+
+def marked(browser, place):
+    """The fields of a metal that have the mark of an example."""
+    code = (
+        "return [...document.querySelectorAll('.metals tbody:nth-of-type(' + %s + ') .example')]"
+        ".map(e => e.parentElement.querySelector('input').id.split('.').pop())"
+    )
+    return set(browser.script(code, place))
+
+
+def test_a_grade_that_no_metal_uses_is_told_and_added_with_marks(browser, begin):
+    study = begin(HILL.replace(",AU,", ",S_pct,", 1))
+    words = "column S_pct holds a grade and no metal uses it"
+    browser.sees(words, "#main .looks")
+    assert [metal["grade"] for metal in told(study)["economics"]["metals"]] == ["CU"]
+    browser.click("[id='to.money']")
+    browser.sees(words, "#main .looks")
+    browser.press_on(".looks button", "add metal of S_pct")
+    browser.there("[id='i.economics.metals.1.price']")
+    assert told(study)["economics"]["metals"][1]["grade"] == "S_pct"
+    browser.until(lambda: words not in browser.text(), "nothing is left to tell")
+    assert marked(browser, 2) == {"price", "payable", "recovery"} == marked(browser, 1)
+    for key, text in (("price", "0"), ("payable", "1"), ("recovery", "0.9")):
+        browser.types(f"i.economics.metals.1.{key}", text)
+    browser.until(lambda: marked(browser, 2) == set(), "no mark")
+
+
+def test_gold_by_its_name_is_gold_and_what_is_taken_out_is_told(browser, begin):
+    study = begin(HILL.replace(",AU,", ",gold gpt,", 1))
+    browser.sees("5,041 rows")
+    assert browser.script("return document.activeElement.id") == "main"  # whence Tab goes on
+    gold = told(study)["economics"]["metals"][1]
+    known = {"name": "gold", "grade_unit": "g/t", "price_unit": "oz", "price": 1900}
+    assert gold == {**gold, **known, "grade": "gold gpt"}
+    browser.click("[id='to.money']")
+    browser.press_on(".metals tbody:nth-of-type(2) button", "×")
+    browser.press_on(".looks button", "add gold of gold gpt")
+    browser.there("[id='i.economics.metals.1.price']")
+    assert told(study)["economics"]["metals"][1] == gold
+    browser.picks(
+        "i.economics.metals.1.grade", "CU"
+    )  # the price is none of the planner's so either
+    assert marked(browser, 2) == {"price", "payable", "recovery"}
+    browser.picks("i.economics.metals.1.grade", "gold gpt")
+    browser.press_on("button", "+ a metal")
+    browser.there("[id='i.economics.metals.2.price']")
+    names = [metal["name"] for metal in told(study)["economics"]["metals"]]
+    assert names == ["copper", "gold", "metal"]
+
+
+def test_the_boxes_of_columns_hold_the_guesses_and_one_button_goes_on(browser, begin):
+    study = begin(HILL.replace("XC,YC,ZC,SG", "X_LOC,Y_LOC,Z_LOC,WT", 1))
+    browser.sees("no column is known as x, y, z")
+    boxes = "return ['x', 'y', 'z', 'rock', 'density'].map(k => document.getElementById('n.' + k).value)"
+    assert browser.script(boxes) == ["X_LOC", "Y_LOC", "Z_LOC", "ROCK", ""]
+    text = browser.text(".card")
+    assert "--" not in text
+    assert "pitplan" not in text
+    assert 'press "Go on"' in text
+    buttons = (
+        "return [...document.querySelectorAll('#main .card')][0].querySelectorAll('button').length"
+    )
+    assert browser.script(buttons) == 1
+    browser.sees("No column is known as tonnes or density", ".card .look")
+    browser.picks("n.density", "WT")
+    browser.until(lambda: "No column is known as tonnes" not in browser.text(), "no question")
+    browser.click("#named")
+    browser.sees("5,041 blocks")
+    columns = told(study)["model"]["columns"]
+    assert columns == {**columns, "x": "X_LOC", "y": "Y_LOC", "z": "Z_LOC", "density": "WT"}
+
+
+def test_a_column_that_was_chosen_wrong_is_chosen_again_and_nothing_else_is_lost(browser, begin):
+    study = begin(
+        HILL.replace("XC,YC,ZC,SG", "ROCKS_X,Nordwert,Kote,WT", 1).replace("ROCK,", "X,", 1)
+    )
+    browser.sees("no column is known as")
+    for key, name in {"x": "X", "y": "Nordwert", "z": "Kote", "density": "WT"}.items():
+        browser.picks(f"n.{key}", name)
+    browser.click("#named")
+    browser.sees("choose another column in its place", ".fault")
+    boxes = "return ['x', 'y', 'z', 'density'].map(k => document.getElementById('n.' + k).value)"
+    assert browser.script(boxes) == ["X", "Nordwert", "Kote", "WT"]
+    browser.picks("n.x", "ROCKS_X")
+    browser.click("#named")
+    browser.sees("5,041 blocks")
+    columns = told(study)["model"]["columns"]
+    assert columns == {**columns, "x": "ROCKS_X", "y": "Nordwert", "z": "Kote", "density": "WT"}
+
+
+def test_a_table_in_another_encoding_is_asked_for_it(browser, begin):
+    study = begin(HILL.replace("SUL", "SÜL").encode("cp1252"))
+    browser.sees("isn't text in UTF-8", ".fault")
+    assert "--" not in browser.text(".fault")
+    assert "init" not in browser.text(".fault")
+    browser.fills("[id='n.encoding']", "cp1252")
+    browser.click("#named")
+    browser.sees("5,041 rows")
+    assert told(study)["model"]["encoding"] == "cp1252"
+
+
+def test_a_number_with_two_readings_has_a_button_for_each_and_stretches_nothing(browser, begin):
+    study = begin(HILL)
+    browser.click("[id='to.money']")
+    browser.there(f"[id='{PRICE}']")
+    places = "return [...document.querySelectorAll('.metals th')].map(e => Math.round(e.getBoundingClientRect().left))"
+    for reading in (9.25, 9250):
+        browser.until(lambda: not browser.text(".fault"), "no error")
+        before = browser.script(places)
+        browser.types(PRICE, "9,250")
+        browser.sees("price = 9250", ".k-metals .fault")
+        assert browser.script(places) == before
+        browser.press_on(".mend", f"put it in: price = {reading:g}")
+        browser.until(
+            lambda: told(study)["economics"]["metals"][0]["price"] == reading, str(reading)
+        )
+
+
+def test_errors_elsewhere_are_told_by_their_screens(browser, begin):
+    study = begin(HILL)
+    browser.sees("5,041 rows")
+    text = (study / "study.toml").read_text()
+    text = text.replace("dilution = 0", "dilution = 3").replace("mining = 2.50", "mining = -1")
+    (study / "study.toml").write_text(text.replace("angles = 45", "angles = 1"))
+    browser.sees("2 errors on Prices and costs")
+    browser.sees("1 error on Slopes")
+    browser.press_on("#main .look a", "Slopes")
+    browser.sees("What is asked for")
+    browser.sees("2 errors on Prices and costs")
+    assert "on Slopes" not in browser.text("#main")

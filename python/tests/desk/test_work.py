@@ -1,0 +1,454 @@
+"""What the desk says of a table and a study is what a command in a terminal says."""
+import asyncio
+import gzip
+import io
+import os
+import re
+import resource
+import signal
+import subprocess
+import sys
+import time
+
+import ezdxf
+import pytest
+
+pytest.importorskip("starlette")
+from starlette.applications import Starlette
+from starlette.testclient import TestClient
+
+from pitplan.desk import manual, work, worker
+from pitplan.desk.folder import Folder
+from pitplan.desk.guard import Guard
+from pitplan.desk.routes import Desk
+from pitplan.desk.worker import Worker
+from processes import TOP, gone, started
+from served import pitplan
+
+ASKED = ("look", "check", "rose", "cells?row=3", "ground", "pulse", "files", "runs")
+HILL = (TOP / "examples" / "hill.csv").read_text()
+ORIGIN = "http://desk"
+
+
+@pytest.fixture
+def root(tmp_path):
+    (tmp_path / "hill.csv").write_text(HILL)
+    return tmp_path
+
+
+@pytest.fixture(scope="module")
+def anywhere(tmp_path_factory):
+    """A desk whose processes are kept for all tests of this file."""
+    desk = Desk(Folder(tmp_path_factory.mktemp("desk")), 10**9)
+    yield desk
+    desk.end()
+
+
+@pytest.fixture
+def desk(anywhere):
+    client = TestClient(
+        Guard(Starlette(routes=anywhere.routes()), "t", {"desk": ORIGIN}, "c"), base_url=ORIGIN
+    )
+    client.headers["origin"] = ORIGIN
+    client.cookies.set("c", "t")
+    root = anywhere.folder.root
+    for path in root.iterdir():
+        if path.is_file():
+            path.unlink()
+    (root / "hill.csv").write_text(HILL)
+    client.root = root
+    return client
+
+
+def begun(desk, name, table="hill.csv", **more):
+    told = desk.post("/api/studies", json={"table": table, "name": name, **more}).json()
+    assert told == {"study": name}, told
+    return desk.root / name
+
+
+def changed(desk, name, *changes):
+    changes = [{"path": path, "value": value} for path, value in changes]
+    return desk.patch(f"/api/studies/{name}", json={"changes": changes})
+
+
+def test_a_study_is_begun_as_init_does(desk, tmp_path):
+    study = begun(desk, "begun")
+    (tmp_path / "hill.csv").write_text(HILL)
+    ran = pitplan("init", "hill.csv", "--study", "begun", cwd=tmp_path)
+    assert ran.returncode == 0, ran.stderr
+    wanted = (tmp_path / "begun" / "study.toml").read_text()
+    assert (study / "study.toml").read_text() == wanted
+    again = desk.post("/api/studies", json={"table": "hill.csv", "name": "begun"})
+    assert again.status_code == 409
+    assert desk.post("/api/studies", json={"copy": "begun", "name": "copied"}).status_code == 200
+    assert (desk.root / "copied" / "study.toml").read_text() == wanted
+
+
+def test_the_check_is_the_one_of_the_terminal(desk):
+    study = begun(desk, "checked")
+    changes = (["economics", "metals", "copper", "price_unit"], "lb"), (["slopes", "angles"], 50)
+    assert changed(desk, "checked", *changes).status_code == 200
+    told = desk.get("/api/studies/checked/check").json()
+    ran = pitplan("check", study)
+    assert ran.returncode == 0
+    looks = re.findall(r"look: (.*)\n  try: (.*)", ran.stderr)
+    assert told["looks"]
+    assert [it["said"] for it in told["looks"]] == [
+        f"{what}; try: {advice}" for what, advice in looks
+    ]
+    rows = [line.split() for line in ran.stdout.splitlines() if line.split()[:1] == ["all"]]
+    assert told["tonnage"]["rows"][-1] == [cell for cell in rows[0]]
+    assert f"{told['blocks']:,} blocks of 20 x 20 x 10" in ran.stdout
+    heights = sorted({float(row.split(",")[3]) for row in HILL.splitlines()[1:]}, reverse=True)
+    assert told["benches"] == heights
+
+
+def test_errors_are_pitplans_with_their_key_their_line_and_their_remedy(desk):
+    rows = HILL.splitlines()
+    cells = rows[125].split(",")
+    cells[5] = "trace"
+    rows[125] = ",".join(cells)
+    (desk.root / "north.csv").write_text("\n".join(rows) + "\n")
+    study = begun(desk, "north", "north.csv")
+    changed(desk, "north", (["economics", "dilution"], 3), (["slopes", "angles"], 1))
+    text = (study / "study.toml").read_text()
+    text = re.sub(r"absent = \[.*?\]", 'absent = ["-99"]', text)
+    (study / "study.toml").write_text(text)
+    told = {tuple(e["key"][:2]): e for e in desk.get("/api/studies/north/check").json()["errors"]}
+    lines = text.splitlines()
+    dilution = told["economics", "dilution"]
+    assert lines[dilution["line"] - 1].startswith("dilution = 3")
+    assert ("slopes", "angles") in told
+    cell = next(e for e in told.values() if e["row"])
+    assert (cell["row"], cell["column"]) == (126, "CU")
+    assert "'trace'" in cell["said"]
+    remedy = cell["remedy"]
+    assert (remedy["key"], remedy["value"], remedy["adds"]) == (
+        ["model", "absent"],
+        ["trace"],
+        True,
+    )
+    ran = pitplan("check", study)
+    assert all(error["said"] in ran.stderr for error in told.values())
+    near = desk.get("/api/studies/north/cells?row=126").json()["rows"]
+    assert [row for row, _ in near] == [1, 125, 126, 127]
+    assert near[2][1][5] == "trace"
+    assert near[0][1] == HILL.splitlines()[0].split(",")
+    changed(desk, "north", (["model", "absent"], ["-99", "trace"]), (["economics", "dilution"], 0))
+    changed(desk, "north", (["slopes", "angles"], 45))
+    assert desk.get("/api/studies/north/check").json()["errors"] == []
+
+
+def test_columns_whose_names_are_not_known_are_asked_for(desk):
+    (desk.root / "odd.csv").write_text(HILL.replace("XC,YC,ZC", "un,deux,trois", 1))
+    told = desk.post("/api/studies", json={"table": "odd.csv", "name": "odd"}).json()
+    assert told["header"][1:4] == ["un", "deux", "trois"]
+    assert told["found"] == {"id": "BLOCKID", "density": "SG", "rock": "ROCK"}
+    assert told["errors"][0]["try"] == work.ASK_COLUMNS
+    assert not (desk.root / "odd").exists()
+    begun(desk, "odd", "odd.csv", columns={"x": "un", "y": "deux", "z": "trois"})
+
+
+def test_what_is_written_while_a_study_is_read_is_noticed(desk, anywhere, monkeypatch):
+    path = begun(desk, "meanwhile") / "study.toml"
+    quick = anywhere.quick
+
+    async def slow(do, *words):
+        found = await quick(do, *words)
+        path.write_text(path.read_text() + "# more\n")
+        return found
+
+    monkeypatch.setattr(anywhere, "quick", slow)
+    read = desk.get("/api/studies/meanwhile").json()
+    now = desk.get("/api/studies/meanwhile/pulse").json()
+    assert read["pulse"]["etag"] != now["etag"]
+
+
+def test_what_a_table_looks_like(desk):
+    begun(desk, "looked")
+    told = desk.get("/api/studies/looked/look").json()
+    assert (told["rows"], told["size"], told["rotation"]) == (5041, [20, 20, 10], 30)
+    assert told["regions"] == ["NORTH", "SOUTH"]
+    assert told["grades"] == ["CU", "AU"]
+    column = {each["name"]: each for each in told["columns"]}
+    cu = [float(row.split(",")[5]) for row in HILL.splitlines()[1:]]
+    least, mean, most = column["CU"]["numbers"]
+    assert (least, most) == (min(cu), max(cu))
+    assert mean == pytest.approx(sum(cu) / len(cu))
+    assert column["AU"]["without"] == sum(",-99," in f"{row}," for row in HILL.splitlines()[1:])
+    assert column["ROCK"]["words"] == ["SUL", "OXI", "OVB"]
+    assert column["CU"]["is"] == "grade"
+    assert told["init"]["economics"]["metals"][0]["price"] == 8500
+
+
+def test_pictures_and_the_rose(desk):
+    begun(desk, "drawn")
+    for what in ("ground", "CU", "ROCK"):
+        told = desk.get(f"/api/studies/drawn/ground?what={what}")
+        assert told.headers["content-type"] == "image/png"
+        assert told.content[:4] == b"\x89PNG"
+    no = desk.get("/api/studies/drawn/ground?what=NOWHERE").json()
+    assert "there is no column 'NOWHERE'" in no["errors"][0]["said"]
+    regions = desk.get("/api/studies/drawn/rose").json()["regions"]
+    assert [r["name"] for r in regions] == ["default"]
+    assert set(regions[0]["asked"]) == {45.0}
+    ran = pitplan("slopes", desk.root / "drawn")
+    assert all(line in ran.stdout for line in regions[0]["said"]), (ran.stdout, regions)
+    assert max(abs(b - 45) for b in regions[0]["built"]) < 1
+    told = desk.get("/api/studies/drawn/rose.png")
+    assert told.headers["content-type"] == "image/png"
+    assert told.content[:4] == b"\x89PNG"
+
+
+def test_a_word_that_is_meant_otherwise_and_a_look_have_a_change_that_mends_them(desk):
+    begun(desk, "meant")
+    changed(desk, "meant", (["economics", "mining"], "2.0 + ZD / 100 + ZDX"))
+    told = desk.get("/api/studies/meant/check").json()["errors"]
+    right = {"key": ["economics", "mining"], "value": "2.0 + ZC / 100 + ZDX"}
+    assert [each["remedy"] for each in told] == [
+        {**right, "when": "", "adds": False, "other": None}
+    ]
+    mill = ["OXl", "SUL"]
+    changed(desk, "meant", (["economics", "mining"], 2.5), (["economics", "mill"], mill))
+    told = desk.get("/api/studies/meant/check").json()["errors"]
+    assert [each["remedy"]["value"] for each in told] == [["OXI", "SUL"]]
+    changed(desk, "meant", (["economics", "mill"], None))
+    price = (["economics", "metals", 0, "price"], 8.5), (["economics", "metals", 0, "selling"], 0.4)
+    changed(desk, "meant", *price)
+    looks = desk.get("/api/studies/meant/check").json()["looks"]
+    unit = ["economics", "metals", "copper", "price_unit"]
+    assert [look["remedy"] for look in looks if look["remedy"]] == [
+        {"key": unit, "value": "kg", "when": "", "adds": False, "other": None}
+    ]
+    assert changed(desk, "meant", (unit, "kg")).json()["values"]["economics"]["metals"][0] == {
+        **desk.get("/api/studies/meant").json()["values"]["economics"]["metals"][0],
+        "price_unit": "kg",
+    }
+
+
+def test_the_manual_is_served_and_nothing_beside_it(desk, tmp_path, monkeypatch):
+    site = tmp_path / "doc" / "manual"
+    site.mkdir(parents=True)
+    (site / "index.html").write_text("<p>the manual</p>")
+    (tmp_path / "doc" / "secret.html").write_text("secret")
+    (site / "away.html").symlink_to(tmp_path / "doc" / "secret.html")
+    monkeypatch.setattr(manual, "PLACES", (tmp_path / "no.html", site / "index.html"))
+    assert desk.get("/api/folder").json()["manual"] == "/manual/index.html"
+    assert "the manual" in desk.get("/manual/index.html").text
+    for path in ("away.html", "..%2fsecret.html", "%2e%2e/secret.html", "/etc/passwd", ""):
+        assert desk.get(f"/manual/{path}").status_code in (403, 404), path
+    monkeypatch.setattr(manual, "PLACES", ())
+    assert desk.get("/api/folder").json()["manual"] is None
+    assert desk.get("/manual/index.html").status_code == 404
+
+
+def test_a_stale_change_is_refused_and_another_key_is_not(desk):
+    study = begun(desk, "two")
+    price = {"path": ["economics", "metals", 0, "price"], "was": 8500}
+    first = desk.patch("/api/studies/two", json={"changes": [{**price, "value": 9000}]})
+    assert first.json()["values"]["economics"]["metals"][0]["price"] == 9000
+    other = {"path": ["slopes", "angles"], "was": 45, "value": 44}
+    assert desk.patch("/api/studies/two", json={"changes": [other]}).status_code == 200
+    late = desk.patch("/api/studies/two", json={"changes": [{**price, "value": 7000}]})
+    assert late.status_code == 409
+    assert late.json()["stale"]
+    text = desk.get("/api/studies/two").json()
+    late = desk.patch(
+        "/api/studies/two", json={"text": "x = 1\n", "etag": first.json()["pulse"]["etag"]}
+    )
+    assert late.status_code == 409
+    assert (study / "study.toml").read_text() == text["text"]
+    etag = text["pulse"]["etag"]
+    taken = desk.patch("/api/studies/two", json={"text": "# mine\n" + text["text"], "etag": etag})
+    assert taken.status_code == 200
+    assert taken.json()["text"].startswith("# mine\n")
+
+
+def test_a_text_that_another_one_replaces_is_kept_where_it_is_asked_for(desk):
+    study = begun(desk, "kept")
+    first = (study / "study.toml").read_text()
+    for text, kept in (("a = 1\n", ""), ("b = 2\n", "-2"), (first, "-3"), ("a = 1\n", "")):
+        there, etag = (study / "study.toml").read_text(), desk.get("/api/studies/kept").json()
+        body = {"text": text, "etag": etag["pulse"]["etag"], "keeps": True}
+        told = desk.patch("/api/studies/kept", json=body).json()
+        assert told["kept"] == f"study.toml.before{kept}"
+        assert (study / told["kept"]).read_text() == there
+
+
+def test_a_text_that_is_no_toml_is_kept_and_told(desk):
+    begun(desk, "broken")
+    told = desk.get("/api/studies/broken").json()
+    bad = told["text"].replace("rotation = 30", "rotation = = 30")
+    desk.patch("/api/studies/broken", json={"text": bad, "etag": told["pulse"]["etag"]})
+    found = desk.get("/api/studies/broken").json()
+    assert found["values"] is None
+    assert found["text"] == bad
+    assert "isn't TOML" in desk.get("/api/studies/broken/check").json()["errors"][0]["said"]
+    assert changed(desk, "broken", (["slopes", "angles"], 44)).status_code == 422
+
+
+def test_a_table_that_unpacks_to_far_too_much_is_refused(desk):
+    with gzip.open(desk.root / "bomb.csv.gz", "wb", 9) as file:
+        file.write(b"XC,YC,ZC,SG,CU\n")
+        for _ in range(100):
+            file.write(b"0,0,0,2.5,0.00\n" * 70_000)
+    told = desk.post("/api/studies", json={"table": "bomb.csv.gz", "name": "bomb"}).json()
+    assert "unpacks to more than" in told["errors"][0]["said"], told
+    (desk.root / "bomb.csv.gz").unlink()
+
+
+def test_what_takes_too_long_is_ended_and_the_next_question_is_answered(tmp_path, monkeypatch):
+    monkeypatch.setattr(worker, "PATIENCE", 1)
+    ask = Worker(tmp_path)
+
+    async def both():
+        await asyncio.wrap_future(ask.begin().submit(work.warm))
+        began, pids = time.monotonic(), list(ask.pool._processes)
+        late = await ask(time.sleep, 60)
+        took = time.monotonic() - began
+        monkeypatch.setattr(worker, "PATIENCE", 120)
+        return late, took, pids, await ask(len, "four")
+
+    late, took, pids, then = asyncio.run(both())
+    ask.end()
+    assert "longer than 1 seconds" in late["errors"][0]["said"]
+    assert took < 30
+    assert then == 4
+    assert len(pids) == 1
+    assert gone(pids, 20)
+
+
+def test_a_process_that_wants_too_much_memory_says_so(tmp_path):
+    ask = Worker(tmp_path)
+    least, most = asyncio.run(ask(resource.getrlimit, resource.RLIMIT_AS))
+    ask.end()
+    pages = os.sysconf("SC_PAGE_SIZE") * os.sysconf("SC_PHYS_PAGES")
+    assert 0.5 * pages < least <= most < pages
+    told = work.in_words(lambda: len(bytearray(1 << 60)))()  # as a larger table would
+    assert told["errors"][0]["said"] == "memory was refused"
+
+
+def test_a_process_that_was_killed_costs_no_question(tmp_path):
+    ask = Worker(tmp_path)
+
+    async def both():
+        first = await ask(os.getpid)
+        os.kill(first, signal.SIGKILL)
+        return first, await ask(os.getpid)
+
+    first, second = asyncio.run(both())
+    ask.end()
+    assert isinstance(second, int)
+    assert second != first
+    assert gone([first], 20)
+
+
+ENDS = """
+def ends(path):
+    import os
+    with open(path, "a") as marks:
+        marks.write("x\\n")
+    os._exit(9)
+"""
+
+
+def test_a_question_that_ends_its_process_is_asked_twice_alone_and_told(tmp_path, monkeypatch):
+    (tmp_path / "deadly.py").write_text(ENDS)
+    monkeypatch.syspath_prepend(str(tmp_path))
+    from deadly import ends
+
+    ask = Worker(tmp_path)
+
+    async def both():
+        return await ask(ends, str(tmp_path / "marks")), await ask(len, "four")
+
+    dead, then = asyncio.run(both())
+    ask.end()
+    assert "was ended" in dead["errors"][0]["said"]
+    assert then == 4
+    assert (tmp_path / "marks").read_text() == "x\n" * 2
+
+
+def test_a_question_behind_one_that_takes_too_long_is_answered(tmp_path, monkeypatch):
+    monkeypatch.setattr(worker, "PATIENCE", 5)
+    ask = Worker(tmp_path)
+
+    async def both():
+        await asyncio.wrap_future(ask.begin().submit(work.warm))
+        slow = asyncio.create_task(ask(time.sleep, 60))
+        await asyncio.sleep(2)
+        monkeypatch.setattr(worker, "PATIENCE", 120)
+        return await asyncio.gather(slow, ask(len, "four"))
+
+    late, then = asyncio.run(both())
+    ask.end()
+    assert "longer than" in late["errors"][0]["said"]
+    assert then == 4
+
+
+def test_a_design_is_looked_at_when_it_comes(desk):
+    begun(desk, "designed")
+    outlines = ezdxf.new("R2010")
+    square = [(0, 0), (100, 0), (100, 100), (0, 100)]
+    outlines.modelspace().add_lwpolyline(square, dxfattribs={"layer": "SHELL_1000_TOE"})
+    text = io.StringIO()
+    outlines.write(text)
+    at = "/api/studies/designed/designs"
+    told = desk.put(f"{at}/shells.dxf", content=text.getvalue().encode())
+    assert told.status_code == 422
+    error = told.json()["errors"][0]
+    assert error["said"] == "shells.dxf: has no faces, but LWPOLYLINE"
+    assert "triangulate it" in error["try"]
+    assert desk.put(f"{at}/none.dxf", content=b"no DXF").status_code == 422
+    assert not list((desk.root / "designed" / "designs").iterdir())
+    faces = (TOP / "examples" / "hill-design.dxf").read_bytes()
+    for name, content, kind in (
+        ("faces.dxf", faces, "surface"),
+        ("points.csv", b"x,y,z\n1,2,3\n", "surface"),
+        ("ids.csv", b"BLOCKID,note\nb1,x\n", "ids"),
+        ("ids.txt", b"b1\nb2\n", "ids"),
+    ):
+        assert desk.put(f"{at}/{name}", content=content).json()["as"] == kind, name
+    assert len(desk.get("/api/studies/designed").json()["designs"]) == 4
+
+
+def test_what_is_nested_too_deep_is_told_so(desk):
+    study = begun(desk, "deep")
+    deep = "[" * 20_000 + "]" * 20_000
+    told = desk.patch(
+        "/api/studies/deep", content=deep, headers={"content-type": "application/json"}
+    )
+    assert told.status_code == 400
+    assert told.json()["errors"][0]["what"].endswith("too deep")
+    (study / "study.toml").write_text(f"[model]\ntable = {deep}\n")
+    assert desk.get("/api/studies/deep").json()["values"] is None
+    told = desk.get("/api/studies/deep/check").json()["errors"]
+    assert [error["what"] for error in told] == ["isn't TOML: it is nested too deep"]
+    told = changed(desk, "deep", (["slopes", "angles"], 44))
+    assert told.status_code == 400
+    assert "nested too deep" in told.json()["errors"][0]["said"]
+    assert all("recursion" not in str(desk.get(f"/api/studies/deep/{it}").json()) for it in ASKED)
+
+
+A_DESK = """import sys; sys.path.insert(0, {python!r})
+import asyncio, os, threading
+from pathlib import Path
+from pitplan.desk.worker import Worker
+ask = Worker(Path({root!r}))
+thread = threading.Thread(target=ask.begin)
+thread.start()
+thread.join()
+print(*[asyncio.run(ask(os.getpid)) for _ in range(2)], flush=True)
+sys.stdin.read()
+"""
+
+
+def test_the_processes_of_a_desk_that_is_killed_end_and_not_with_the_thread_that_began_them(
+    tmp_path,
+):
+    code = A_DESK.format(python=str(TOP / "python"), root=str(tmp_path))
+    desk = started([sys.executable, "-c", code], stdin=subprocess.PIPE)
+    first, second = map(int, desk.stdout.readline().split())
+    assert first == second
+    desk.kill()
+    assert gone([first], 60)

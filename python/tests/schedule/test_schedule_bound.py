@@ -1,0 +1,265 @@
+"""The bound of made-up mines so small that every schedule is tried, and the relaxation is one linear
+program."""
+import itertools
+from dataclasses import replace
+
+import numpy as np
+import pytest
+from pitplan.pit.program import Pit
+from pitplan.schedule.expanded import Expanded
+from pitplan.schedule.kept import Kept
+from pitplan.schedule.pairs import Pairs
+from pitplan.schedule.production import Production
+from pitplan.schedule.search import Search
+from pitplan.schedule.sending import Millable
+from pitplan.schedule.terms import Terms
+from pitplan.schedule.units import Units, gated
+from scipy.optimize import linprog
+
+BLOCKS, PERIODS, MILLION = 6, 3, 10**6
+LEVEL = np.array([2, 2, 2, 1, 1, 0])
+PUSHBACK = np.array([0, 0, 1, 0, 1, 1])
+
+
+def made_up(seed, sinks=False, chooses=False, lead=None, fixed_cost=0):
+    """Six blocks on three benches, of which a lower one rests on some that are higher; where it `chooses`, a schedule says
+    which ore goes to the mill, and with a `lead` there are two pushbacks."""
+    r = np.random.default_rng(seed)
+    pairs = [(3, 0), (3, 1), (4, 1), (4, 2), (5, 3), (5, 4)]
+    sinking = [(5, 1)] if sinks else []
+    rock = r.integers(5000, 20000, BLOCKS)
+    ore = r.random(BLOCKS) < 0.6
+    ore[5] = True
+    values = np.where(ore, r.integers(10_000, 90_000, BLOCKS), -r.integers(500, 9000, BLOCKS))
+    rooms = (int(rock.sum() * 0.5), int((rock * ore).sum() * 0.45))
+    weights = (953_463, 866_784, 787_986)
+    terms = Terms(
+        weights,
+        tuple((room,) * PERIODS for room in rooms),
+        sink=2 if sinks else None,
+        is_by_year=chooses,
+        pushbacks=() if lead is None else (500,),
+        lead=lead or 0,
+        fixed_cost=fixed_cost,
+    )
+    millable = Millable.none()
+    if chooses:
+        costs = r.integers(500, 9000, BLOCKS)
+        places = np.flatnonzero(ore)
+        millable = Millable(places, places, (values + costs)[places], rock[places])
+        values, ore = -costs, ore & False
+
+    each, shell = np.arange(BLOCKS), r.integers(0, 3, BLOCKS)
+    units = Units(each, LEVEL, PUSHBACK * (lead is not None))
+    units, low, up = gated(units, lead or 0)
+    gates = units.size - BLOCKS
+
+    def rows(found):
+        both = np.array(found, np.int64).reshape(-1, 2)
+        return Pairs.of(both[:, 0], both[:, 1], units.size)
+
+    made = Production(
+        terms,
+        each,
+        each,
+        BLOCKS,
+        np.append(values, np.zeros(gates, np.int64)),
+        np.hstack([[rock, rock * ore], np.zeros((2, gates), np.int64)]),
+        units.level,
+        np.append(shell, np.full(gates, 2)),
+        rows([*pairs, *zip(low, up)]),
+        rows(sinking),
+        millable,
+        units.pushback,
+        gates,
+    )
+    if (
+        lead is not None
+    ):  # each block of the second pushback waits for those of the first that are so deep
+        later, first = np.flatnonzero(PUSHBACK), np.flatnonzero(PUSHBACK == 0)
+        pairs += [(b, a) for b in later for a in first if LEVEL[a] >= LEVEL[b] - lead]
+    return made, pairs, sinking
+
+
+def ways_of(made):
+    """Of each block what it is worth and uses by each way that it may go, with Python's whole numbers alone."""
+    uses = list(zip(*made.uses.tolist()))[:BLOCKS]
+    ways = [[(value, use)] for value, use in zip(made.values.tolist(), uses)]
+    for block, _, gain, feed in zip(*(each.tolist() for each in made.millable)):
+        (value, (rock, none)) = ways[block][0]
+        assert none == 0
+        ways[block].append((value + gain, (rock, feed)))
+    return ways
+
+
+def best_of_all(made, pairs, sinking):
+    """What the best schedule is worth, by trying each, in millionths; with Python's whole numbers alone."""
+    ways, rooms, weights = ways_of(made), made.terms.capacities, made.terms.weights
+    most = 0
+    for plan in itertools.product(range(PERIODS + 1), repeat=BLOCKS):
+        if any(plan[b] < PERIODS and plan[a] > plan[b] for b, a in pairs):
+            continue
+        if any(plan[b] < PERIODS and plan[a] >= plan[b] for b, a in sinking):
+            continue
+        dug = [b for b in range(BLOCKS) if plan[b] < PERIODS]
+        for chosen in itertools.product(*(ways[b] for b in dug)):
+            used = [[0] * PERIODS, [0] * PERIODS]
+            for b, (_, use) in zip(dug, chosen):
+                for r in range(2):
+                    used[r][plan[b]] += use[r]
+            if any(used[r][t] > rooms[r][t] for r in range(2) for t in range(PERIODS)):
+                continue
+            worth = sum(weights[plan[b]] * way[0] for b, way in zip(dug, chosen))
+            fixed = sum(weights[t] for t in {plan[b] for b in dug}) * made.terms.fixed_cost
+            most = max(most, worth - fixed)
+    return most
+
+
+def whole_relaxation(made, pairs, sinking):
+    """What the best schedule that may dig blocks and open periods in parts is worth, in millionths, by one linear program:
+    so much of a block, by a way, in a period; and so much of each period."""
+    ways = ways_of(made)
+    parts = [(b, d, t) for b in range(BLOCKS) for d in range(len(ways[b])) for t in range(PERIODS)]
+    gain = [ways[b][d][0] * made.terms.weights[t] / 1e6 for b, d, t in parts]
+    gain += [-made.terms.fixed_cost * weight / 1e6 for weight in made.terms.weights]
+    rows, limits = [], []
+
+    def row(entries, limit):
+        rows.append([entries.get((b, t), 0) for b, _, t in parts] + [0] * PERIODS)
+        limits.append(limit)
+
+    for b in range(BLOCKS):
+        row({(b, t): 1 for t in range(PERIODS)}, 1)
+    for pair, lag in [*((pair, 0) for pair in pairs), *((pair, 1) for pair in sinking)]:
+        for t in range(PERIODS):
+            below = {(pair[0], s): 1 for s in range(t + 1)}
+            row(below | {(pair[1], s): -1 for s in range(t + 1 - lag)}, 0)
+    for r, rooms in enumerate(made.terms.capacities):
+        for t in range(PERIODS):
+            opened = [-rooms[t] * (s == t) for s in range(PERIODS)]
+            rows.append([ways[b][d][1][r] * (s == t) for b, d, s in parts] + opened)
+            limits.append(0)
+    found = linprog(
+        -np.array(gain), A_ub=np.array(rows), b_ub=limits, bounds=(0, 1), method="highs"
+    )
+    assert found.status == 0
+    return -found.fun * 1e6
+
+
+@pytest.mark.parametrize(
+    "terms",
+    [
+        {},
+        {"sinks": True},
+        {"chooses": True},
+        {"chooses": True, "sinks": True},
+        {"lead": 0},
+        {"lead": 1, "chooses": True, "sinks": True},
+        {"fixed_cost": 20_000},
+        {"fixed_cost": 9_000, "lead": 2, "chooses": True},
+    ],
+)
+@pytest.mark.parametrize("seed", range(1, 5))
+def test_no_schedule_is_worth_more_than_the_bound(tmp_path, seed, terms):
+    """It lies between the best of all schedules and next to the relaxation; so does what was found. Mines of six blocks are
+    lumpy: what is found with a choice of ways may lie further below the best."""
+    made, pairs, sinking = made_up(seed, **terms)
+    search = Search(tmp_path, made, Pit())
+    search.run(0.0, 20)
+    best, relaxed = best_of_all(made, pairs, sinking), whole_relaxation(made, pairs, sinking)
+    assert best > 0
+    assert best <= search.found.bound
+    assert relaxed * (1 - 1e-9) <= search.found.bound <= relaxed * (1 + 1e-4)
+    near = 0.6 if "chooses" in terms else 0.97
+    assert near * best <= search.found.npv <= best
+    assert not made.wrong(search.plan)
+
+
+@pytest.mark.parametrize("seed", range(4))
+def test_any_multipliers_give_a_bound(tmp_path, seed):
+    """Also those that nobody would take."""
+    made, pairs, sinking = made_up(seed, True, seed % 2 == 1)
+    search, best = Search(tmp_path, made, Pit()), best_of_all(made, pairs, sinking)
+    r = np.random.default_rng(seed)
+    from pitplan.pit.program import Texts
+
+    for k in range(4):
+        prices = r.integers(0, 4_000_000, (2, PERIODS)) * (k > 0)
+        texts = Texts(tmp_path / "m.prec", tmp_path / "m.upit")
+        expanded = Expanded(made)
+        expanded.write_pairs(texts.prec)
+        expanded.write_worths(texts.upit, prices)
+        pit = Pit().richest(texts, tmp_path / "m.cert")
+        worth = round(float(pit.worth) * MILLION) + expanded.capacity_worth(prices)
+        assert worth >= best
+    with pytest.raises(ValueError, match="below 0"):
+        search.expanded.left_in(np.full((2, PERIODS), -1))
+
+
+def test_the_expanded_mine_is_what_its_definition_says(tmp_path):
+    """Block by block and pair by pair, as `pit` reads them."""
+    made, pairs, sinking = made_up(1, True)
+    expanded, prices = Expanded(made), np.array([[7, 11, 13], [1_000_003, 2, 999_999]])
+    expanded.write_pairs(tmp_path / "m.prec")
+    expanded.write_worths(tmp_path / "m.upit", prices)
+    first = [0, 0, 0, 0, 0, 1]  # block 5 comes a year after block 1, by the sink rate
+    number, count = {}, 0
+    for b in range(BLOCKS):
+        for t in range(first[b], PERIODS):
+            number[b, t] = count
+            count += 1
+    wanted = {}
+    for (b, t), place in number.items():
+        on = [(b, t + 1)] + [(a, t) for c, a in pairs if c == b]
+        on += [(a, t - 1) for c, a in sinking if c == b]
+        wanted[place] = sorted(number[pair] for pair in on if pair in number)
+    rows = [list(map(int, line.split())) for line in (tmp_path / "m.prec").read_text().splitlines()]
+    assert {row[0]: sorted(row[2:]) for row in rows} == wanted
+    assert all(row[1] == len(row) - 2 for row in rows)
+
+    def left(b, t):
+        if t == PERIODS:
+            return 0
+        priced = sum(int(use[b]) * int(price[t]) // 1000 for use, price in zip(made.uses, prices))
+        return made.terms.weights[t] * int(made.values[b]) - priced
+
+    lines = (tmp_path / "m.upit").read_text().splitlines()
+    worths = {int(a): round(float(v) * MILLION) for a, v in map(str.split, lines[4:-1])}
+    assert lines[2] == f"NBLOCKS: {count}"
+    assert lines[-1] == "EOF"
+    assert worths == {place: left(b, t) - left(b, t + 1) for (b, t), place in number.items()}
+    term = sum(
+        int(p) * int(c) for row, room in zip(prices, made.capacities) for p, c in zip(row, room)
+    )
+    assert expanded.capacity_worth(prices) == -(-term // 1000)
+
+
+def test_a_production_of_which_anything_differs_has_another_key(tmp_path):
+    """So what was kept of the one is never read for the other."""
+    made, _, _ = made_up(1, True)
+    terms = made.terms
+    others = [
+        replace(made, values=made.values + 1),
+        replace(made, uses=made.uses + 1),
+        replace(made, blocks=made.blocks + 1),
+        replace(made, unit=made.unit[::-1].copy()),
+        replace(made, size=made.size + 1),
+        replace(made, above=made.sinking),
+        replace(made, sinking=made.above),
+        replace(made, millable=Millable(*[made.blocks] * 4)),
+        replace(made, terms=replace(terms, fixed_cost=1)),
+        replace(made, terms=replace(terms, per_year=2)),
+        replace(made, terms=replace(terms, weights=(1_000_000, 866_784, 787_986))),
+        replace(made, terms=replace(terms, capacities=((1,) * PERIODS, terms.capacities[1]))),
+    ]
+    assert len({made.key, *(other.key for other in others)}) == len(others) + 1
+    search = Search(tmp_path, made, Pit())
+    search.run(0.0, 5)
+    assert Kept(tmp_path, made).bound()
+    assert Kept(tmp_path, made).arrays("schedule")
+    for other in others:
+        kept = Kept(tmp_path, other)
+        assert kept.bound() is None
+        assert kept.schedule() is None
+        assert not kept.arrays("schedule")
+        assert not kept.arrays("partition")

@@ -1,0 +1,198 @@
+"""What `pitplan init` finds in a table, and the study.toml that it writes."""
+import re
+import tomllib
+
+import numpy as np
+import pytest
+
+from mines import table
+from pitplan.study import first_look
+from pitplan.table import study_keys
+from pitplan.base.errors import PlanError
+from pitplan.table.formula import worked_out
+from pitplan.study.study_file import read_study_file
+from served import pitplan
+
+
+@pytest.mark.parametrize("angle", [0.0, 30.0, -17.5, 44.0])
+@pytest.mark.parametrize("size", [(20, 20, 15), (25, 10, 5), (10, 25, 12.5)])
+def test_init_finds_the_grid(tmp_path, angle, size):
+    table(9, 8, 4, 3, rotation=angle, size=size).to_csv(tmp_path / "t.csv", index=False)
+    look = first_look.look_at(tmp_path / "t.csv")
+    assert look.size == pytest.approx(size)
+    assert look.rotation == pytest.approx(angle, abs=0.01)
+
+
+def test_init_sees_marks_sub_blocks_and_descriptions(tmp_path):
+    f = table(6, 5, 3, 3).assign(XINC=20.0, YINC=20.0, ZINC=15.0)
+    f.loc[4, "CU"] = -99
+    f.loc[3, "XINC"] = 10.0
+    lines = f.to_csv(index=False).splitlines(keepends=True)
+    (tmp_path / "t.csv").write_text(lines[0] + "Variable types:,,,,,,,,,,,\n" + "".join(lines[1:]))
+    look = first_look.look_at(tmp_path / "t.csv")
+    assert look.absent == ["-99"]
+    assert look.has_sub_blocks
+    assert look.size == (20, 20, 15)
+    assert look.dialect.skip == 1
+    text = first_look.written(look, "t.csv")
+    (tmp_path / "study.toml").write_text(text)
+    told = read_study_file(tmp_path)
+    assert told.keys.absent == ["-99"]
+    assert told.keys.regularise
+
+
+def test_init_names_rocks_without_the_blanks_around_them(tmp_path):
+    """As `build` reads them; else the rocks that init shows are none that the model has."""
+    f = table(6, 5, 3, 3)
+    f.loc[::2, "ROCK"] += "  "
+    f.to_csv(tmp_path / "t.csv", index=False)
+    assert sorted(first_look.look_at(tmp_path / "t.csv").rocks) == ["OXI", "SUL"]
+
+
+def test_init_offers_no_mark_where_a_place_is_none(tmp_path):
+    f = table(4, 4, 3, 3).astype({"XC": object})
+    f.loc[3, "XC"] = ""
+    f.to_csv(tmp_path / "t.csv", index=False)
+    with pytest.raises(
+        PlanError,
+        match="row 5, column XC: the cell is empty\n  try: fill its place in, or take the row out",
+    ):
+        first_look.look_at(tmp_path / "t.csv")
+
+
+@pytest.mark.parametrize(
+    "column, values, wanted",
+    [
+        ("SECTOR", None, ("SECTOR", ["EAST", "WEST"])),
+        ("Dominio geotécnico", None, ("Dominio geotécnico", ["EAST", "WEST"])),
+        ("GEOTECH", [1, 2, None], ("GEOTECH", ["1", "2"])),
+        ("CLASS", None, ("", [])),
+        ("SECTOR", [f"S{n}" for n in range(13)], ("", [])),
+        ("SECTOR", ["all"], ("", [])),
+    ],
+)
+def test_init_names_the_column_of_regions(tmp_path, column, values, wanted):
+    f = table(6, 5, 4, 3)
+    f = f.rename(columns={"SECTOR": column}).assign(
+        **({column: np.resize(np.array(values, object), len(f))} if values else {})
+    )
+    f.to_csv(tmp_path / "t.csv", index=False)
+    look = first_look.look_at(tmp_path / "t.csv")
+    assert (look.region, look.regions) == wanted
+    if (
+        look.region
+    ):  # with the marks of comments taken away it is a study whose slopes go by that column
+        text = (
+            first_look.written(look, "t.csv")
+            .replace('# by = "', 'by = "')
+            .replace("# regions = {", "regions = {")
+        )
+        (tmp_path / "study.toml").write_text(text)
+        slopes = read_study_file(tmp_path).slopes
+        assert slopes.by == column
+        assert dict(slopes.regions) == dict.fromkeys(look.regions, 45)
+        said = pitplan("init", "t.csv", cwd=tmp_path)
+        assert (
+            f"regions of slopes, if you want them: {column} ({', '.join(look.regions)})"
+            in said.stdout
+        ), said.stderr
+
+
+@pytest.mark.parametrize(
+    "code, wanted",
+    [
+        (lambda f: np.where(f.XC < 5060, 101, 205), ["101", "205"]),
+        (lambda f: np.where(f.XC < 5060, 1.0, np.nan) + (f.YC > 9040), ["1", "2"]),
+        (lambda f: np.where(f.ZC < 130, 1, 2), []),  # as rock
+        (lambda f: np.arange(len(f)) % 3 + 1, []),  # as a class of resources
+        (lambda f: np.where(f.XC < 5060, 0, 1), []),  # as a flag
+        (lambda f: np.where(f.XC < 5060, 1.5, 2.5), []),
+        (lambda f: f.XC * 100 + f.YC, []),
+    ],
+    ids=["codes", "with empty cells", "by level", "mixed", "yes and no", "halves", "many"],
+)
+def test_init_names_a_column_of_codes_that_go_up(tmp_path, code, wanted):
+    """A name says nothing here: whole numbers that are the same over whole columns are offered, and others aren't."""
+    f = table(6, 5, 4, 3).drop(columns="SECTOR")
+    f.assign(GTC=code(f)).to_csv(tmp_path / "t.csv", index=False)
+    look = first_look.look_at(tmp_path / "t.csv")
+    assert look.regions == wanted
+    assert look.region == ("GTC" if wanted else "")
+
+
+def test_the_numbers_of_many_sectors_are_no_grade(tmp_path):
+    f = table(6, 5, 4, 3)
+    f.assign(SECTOR=np.arange(len(f)) % 14).to_csv(tmp_path / "t.csv", index=False)
+    assert first_look.look_at(tmp_path / "t.csv").grades == ["CU", "AU"]
+
+
+def test_no_cell_of_a_table_ends_a_line_of_study_toml(tmp_path):
+    """A cell may have several lines; in study.toml the second would be a line of its own, as a price."""
+    f = table(6, 5, 4, 3)
+    f["ROCK"], f["SECTOR"] = f.ROCK + '"]\nforbid = ["1 > 0"]\n#', f.SECTOR + "\nsafe = true"
+    f.to_csv(tmp_path / "t.csv", index=False)
+    look = first_look.look_at(tmp_path / "t.csv")
+    assert any("\n" in rock for rock in look.rocks)
+    assert any("\n" in name for name in look.regions)
+    (tmp_path / "study.toml").write_text(first_look.written(look, "t.csv"))
+    told = read_study_file(tmp_path)
+    assert not told.economics.forbid
+    assert not told.slopes.safe
+
+
+def test_a_metal_with_a_few_grades_below_0_is_still_a_metal(tmp_path):
+    f = table(6, 5, 3, 3)
+    f.loc[4, "CU"], f.loc[7, "CU"] = -0.004, -0.003
+    f.to_csv(tmp_path / "t.csv", index=False)
+    look = first_look.look_at(tmp_path / "t.csv")
+    assert "CU" in look.grades
+    assert 'grade = "CU"' in first_look.written(look, "t.csv")
+
+
+def test_every_key_that_init_writes_is_known_and_explained(tmp_path):
+    table(6, 5, 3, 3).to_csv(tmp_path / "t.csv", index=False)
+    text = first_look.written(first_look.look_at(tmp_path / "t.csv"), "t.csv")
+    lines = text.splitlines()
+    for before, line in zip(lines, lines[1:]):
+        if " = " in line and not line.startswith(("#", " ", "table", "currency")):
+            assert "#" in line or before.startswith("#"), line
+    from dataclasses import fields
+    from pitplan.model.economics import Economics, Metal
+    from pitplan.model.model import TableKeys
+
+    written = {key.name for key in study_keys.KEYS if key.is_written}
+    for f in (*fields(TableKeys), *fields(Economics), *fields(Metal)):
+        assert f.name in text or f.name not in written, f.name
+
+
+@pytest.mark.parametrize("name", ["ZC", "Cota (m)", "Elevação m", "RL'0", "class"])
+def test_the_formulas_that_init_shows_name_the_table_s_own_columns(tmp_path, name):
+    f = table(5, 4, 3, 1).rename(columns={"ZC": name, "XC": "x " + name})
+    f.to_csv(tmp_path / "t.csv", index=False)
+    text = first_look.written(
+        first_look.look_at(tmp_path / "t.csv", {"z": name, "x": "x " + name}), "t.csv"
+    )
+    shown = [
+        re.search(pattern, text)[1]
+        for pattern in (
+            r'a formula as ("2\.2 .*? / 10")',
+            r'may not be dug, as \[(".*? > 12000")\]',
+        )
+    ]
+    told = tomllib.loads("formulas = [" + ", ".join(shown) + "]")["formulas"]
+    height, beyond = (worked_out(formula, f, "shown") for formula in told)
+    assert np.allclose(height, 2.2 + 0.02 * (1500 - f[name]) / 10)
+    assert (beyond == (f["x " + name] > 12000)).all()
+
+
+def test_a_metal_with_unknown_words_among_its_grades_is_told(tmp_path):
+    f = table(6, 5, 4, 3)
+    f["CU"] = f.CU.astype(object)
+    f.loc[7, "CU"] = "pendiente"
+    f.to_csv(tmp_path / "t.csv", index=False)
+    look = first_look.look_at(tmp_path / "t.csv")
+    assert "CU" in look.grades
+    assert look.absent == []
+    assert any(
+        "column CU, row 9: the cell is no number: it is 'pendiente'" in note for note in look.notes
+    )
