@@ -25,6 +25,7 @@ RUNS = [
     ("`.blocks` alone, three columns of which none is chosen", ["check.py", "--blocks"]),
     ("`pit slopes`: reading, looking up and writing", ["slopes.py"]),
     ("Whole runs of `pit solve`, by pseudoflow", ["solve_peers.py"]),
+    ("Instructions of `pit solve` and `pit check`", ["instructions.py"]),
     (
         "Mines of 3 to 15 million blocks, solved with no further options",
         ["large.py", "--rounds", "1"],
@@ -40,6 +41,7 @@ RUNS = [
     ("The bench table: `rows` and `write_report` alone", ["report.py"]),
     ("pitplan beside pandas, and beside `pit` alone", ["pitplan.py"]),
     ("The page of pitplan", ["page.py"]),
+    ("The desk of pitplan", ["desk.py"]),
     ("Files, pushbacks and designs of pitplan", ["pitplan_export.py"]),
 ]
 

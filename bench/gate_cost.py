@@ -19,7 +19,7 @@ from pathlib import Path
 TOP = Path(__file__).resolve().parent.parent
 TICK = os.sysconf("SC_CLK_TCK")
 KINDS = ("proof", "tests", "edits", "by function")
-# The folders in which edits are tried: by the kit, over a proof of their whole crate, and by tests/must_fail.py, by a check of their function.
+# The folders in which edits are tried: by the kit, over a proof of their whole crate, and by tests/edits/must_fail.py, by a check of their function.
 ROOMS = {"rt-edit-": "edits", "pit-edit-": "by function"}
 
 

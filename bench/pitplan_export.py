@@ -12,7 +12,6 @@ import os
 import subprocess
 import sys
 import time
-from pathlib import Path
 
 from pitplan import FACTORS, OUT, STUDY, TOP, mine, timed
 

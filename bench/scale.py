@@ -35,6 +35,7 @@ except ModuleNotFoundError:
 
 HERE = Path(__file__).resolve().parent
 ROWS = HERE / "scale.csv"
+SCHEDULES = HERE / "schedules.csv"  # of bench/schedules.py
 FACTORS = (600, 1000, 1200)
 # A table's columns, rows and levels of blocks, and how many levels up a predecessor may lie: 13 predecessors for 2, 25 for 5.
 MODELS = {
@@ -617,6 +618,25 @@ def show_clusters(case):
     lines(["", "tasks at once", "hours", "GB over the network", "pits lost"], rows)
 
 
+def show_schedules(path):
+    """What schedules took."""
+    rows = [
+        [
+            row["case"],
+            f"{row['blocks']:,}",
+            f"{row['pit_blocks']:,}",
+            f"{row['years']}",
+            f"{row['closures']}",
+            f"{row['gap']:.3f} %",
+            f"{row['cpu_s']:,.0f}",
+            f"{row['memory_mb']:,.0f}",
+        ]
+        for row in pd.read_csv(path).to_dict("records")
+    ]
+    head = ["", "blocks", "in the pit", "years", "closures", "below the bound", "s", "memory MB"]
+    lines(head, rows)
+
+
 def show():
     model = Model(pd.read_csv(ROWS))
     case = Case(model)
@@ -626,6 +646,7 @@ def show():
         (show_case, case),
         (show_clusters, case),
         (show_limits, case),
+        (show_schedules, SCHEDULES),
     ):
         part(of)
 
