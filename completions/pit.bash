@@ -2,7 +2,7 @@
 _pit() {
     local word=${COMP_WORDS[COMP_CWORD]} before=${COMP_WORDS[COMP_CWORD-1]} words= files=
     if [ "$COMP_CWORD" = 1 ]; then
-        words="check slopes solve shells report value replay"
+        words="check slopes solve shells report value schedule bound replay"
         case "$word" in -*) words="-h --help -V --version" ;; esac
     else
         case "${COMP_WORDS[1]} $before" in
@@ -25,6 +25,8 @@ _pit() {
         "solve --workers") : ;;
         "solve --trace") files=1 ;;
         "solve --room") : ;;
+        "solve --periods") files=1 ;;
+        "solve --uses") files=1 ;;
         "shells --prec") files=1 ;;
         "shells --blocks") files=1 ;;
         "shells --settings") files=1 ;;
@@ -45,6 +47,19 @@ _pit() {
         "value --settings") files=1 ;;
         "value --factor") : ;;
         "value --best") files=1 ;;
+        "schedule --prec") files=1 ;;
+        "schedule --upit") files=1 ;;
+        "schedule --blocks") files=1 ;;
+        "schedule --settings") files=1 ;;
+        "schedule --periods") files=1 ;;
+        "schedule --uses") files=1 ;;
+        "schedule --factor") : ;;
+        "bound --prec") files=1 ;;
+        "bound --upit") files=1 ;;
+        "bound --blocks") files=1 ;;
+        "bound --settings") files=1 ;;
+        "bound --periods") files=1 ;;
+        "bound --uses") files=1 ;;
         "replay --prec") files=1 ;;
         "replay --upit") files=1 ;;
         "replay --blocks") files=1 ;;
@@ -55,10 +70,12 @@ _pit() {
             case "${COMP_WORDS[1]}" in
             check) words="--prec --upit --blocks --settings --verbose -h --help" files=1 ;;
             slopes) words="--blocks --pattern --up --settings --reduce --verbose -h --help" ;;
-            solve) words="--prec --upit --blocks --settings --factor --method --group --steps --workers --progress --verbose --trace --room -h --help" ;;
+            solve) words="--prec --upit --blocks --settings --factor --method --group --steps --workers --progress --verbose --trace --room --periods --uses -h --help" ;;
             shells) words="--prec --blocks --settings --method --steps --workers --by-block --progress --verbose -h --help" ;;
             report) words="--prec --blocks --settings --method --steps --workers --by-block --progress --verbose -h --help" ;;
             value) words="--prec --upit --blocks --settings --factor --best --verbose -h --help" files=1 ;;
+            schedule) words="--prec --upit --blocks --settings --periods --uses --factor --verbose -h --help" files=1 ;;
+            bound) words="--prec --upit --blocks --settings --periods --uses --verbose -h --help" files=1 ;;
             replay) words="--prec --upit --blocks --settings --factor --group --verbose -h --help" files=1 ;;
             esac
             case "$word" in -*) files= ;; *) words= ;; esac ;;

@@ -9,6 +9,8 @@ _pit() {
         'shells:Finds the shells'
         'report:Prints the bench table'
         'value:Judges a design'
+        'schedule:Judges a schedule'
+        'bound:Bounds the worth of every schedule, by a certificate of blocks and periods'
         'replay:Repeats a run of push-relabel step by step from its trace'
     )
     if (( CURRENT == 2 )); then
@@ -45,6 +47,8 @@ _pit() {
             '--verbose[Reports on standard error which file failed, and the system'\''s reason]' \
             '--trace[Writes each step of push-relabel'\''s run to this file, and replaces what is in it]:trace:_files' \
             '--room[The most steps of a trace, from 1 to 16777216 (1048576 by default); no effect without --trace]:room: ' \
+            '--periods[Solves the mine of blocks and periods]:periods:_files' \
+            '--uses[With --periods, the blocks with the columns of what they use]:uses:_files' \
             '-h[Print help (see a summary with '\''-h'\'')]' '--help[Print help (see a summary with '\''-h'\'')]' ;;
         shells) _arguments '--prec[The predecessors of each block]:prec:_files' \
             '--blocks[The blocks with columns of revenues and costs, or of a mill'\''s charges]:blocks:_files' \
@@ -72,6 +76,23 @@ _pit() {
             '--settings[The columns of revenues and costs, or of a mill'\''s charges instead of costs, and the factors of the shells]:settings:_files' \
             '--factor[The share of the revenues that counts, in thousandths, from 0 to 10000, with --blocks]:factor: ' \
             '--best[A certificate of the best pit, with which the design is compared]:best:_files' \
+            '--verbose[Reports on standard error which file failed, and the system'\''s reason]' \
+            '-h[Print help (see a summary with '\''-h'\'')]' '--help[Print help (see a summary with '\''-h'\'')]' '*:file:_files' ;;
+        schedule) _arguments '--prec[The predecessors of each block]:prec:_files' \
+            '--upit[What each block is worth]:upit:_files' \
+            '--blocks[The blocks with columns of revenues and costs, or of a mill'\''s charges]:blocks:_files' \
+            '--settings[The columns of revenues and costs, or of a mill'\''s charges instead of costs, and the factors of the shells]:settings:_files' \
+            '--periods[What periods weigh, which columns have what blocks use of resources, and what each period has]:periods:_files' \
+            '--uses[The blocks with the columns of what they use]:uses:_files' \
+            '--factor[The share of the revenues that counts, in thousandths, from 0 to 10000, with --blocks]:factor: ' \
+            '--verbose[Reports on standard error which file failed, and the system'\''s reason]' \
+            '-h[Print help (see a summary with '\''-h'\'')]' '--help[Print help (see a summary with '\''-h'\'')]' '*:file:_files' ;;
+        bound) _arguments '--prec[The predecessors of each block]:prec:_files' \
+            '--upit[What each block is worth]:upit:_files' \
+            '--blocks[The blocks with columns of revenues and costs, or of a mill'\''s charges]:blocks:_files' \
+            '--settings[The columns of revenues and costs, or of a mill'\''s charges instead of costs, and the factors of the shells]:settings:_files' \
+            '--periods[What periods weigh, which columns have what blocks use of resources, what each period has, and the multipliers]:periods:_files' \
+            '--uses[The blocks with the columns of what they use]:uses:_files' \
             '--verbose[Reports on standard error which file failed, and the system'\''s reason]' \
             '-h[Print help (see a summary with '\''-h'\'')]' '--help[Print help (see a summary with '\''-h'\'')]' '*:file:_files' ;;
         replay) _arguments '--prec[The predecessors of each block]:prec:_files' \

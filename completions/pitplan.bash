@@ -2,12 +2,12 @@
 _pitplan() {
     local word=${COMP_WORDS[COMP_CWORD]} before=${COMP_WORDS[COMP_CWORD-1]} words= files=
     if [ "$COMP_CWORD" = 1 ]; then
-        words="init check build slopes shells plot page phases export compare risk vary submit status task bundle schema doctor"
+        words="init check build slopes shells plot page phases schedule export compare risk vary report submit status task bundle schema desk doctor"
         case "$word" in -*) words="--version --no-wait --within --install-completion --show-completion -h --help" ;; esac
     else
         case "${COMP_WORDS[1]} $before" in
         "init --study") files=1 ;;
-        "init -c"|"init --column") words="id x y z dx dy dz tonnes density rock" ;;
+        "init -c"|"init --column") words="id x y z dx dy dz tonnes density rock class topography ore" ;;
         "init --encoding") : ;;
         "slopes --every") : ;;
         "shells --workers") : ;;
@@ -27,8 +27,13 @@ _pitplan() {
         "page --factor") : ;;
         "page --title") : ;;
         "phases --mining-width") : ;;
+        "phases --widen") : ;;
+        "schedule --gap") : ;;
+        "schedule --minutes") : ;;
+        "schedule --mining-width") : ;;
         "export --to") : ;;
         "export --factors") : ;;
+        "export --phases") : ;;
         "export --columns") : ;;
         "export --crs") : ;;
         "compare --ids") files=1 ;;
@@ -41,13 +46,23 @@ _pitplan() {
         "risk --realisations") files=1 ;;
         "risk --factors") : ;;
         "risk --metal") : ;;
+        "risk --gap") : ;;
+        "risk --minutes") : ;;
         "risk --workers") : ;;
         "vary --factor") : ;;
+        "vary --gap") : ;;
+        "vary --minutes") : ;;
         "vary --workers") : ;;
+        "report --phases") : ;;
+        "report --title") : ;;
         "submit --engine") words="local slurm snakemake" ;;
         "submit --workers") : ;;
         "submit --minutes") : ;;
         "submit --at-once") : ;;
+        "desk --port") : ;;
+        "desk --host") : ;;
+        "desk --name") files=1 ;;
+        "desk --upload-limit") : ;;
         *)
             case "${COMP_WORDS[1]}" in
             init) words="--study -c --column --encoding --force -h --help" files=1 ;;
@@ -56,17 +71,20 @@ _pitplan() {
             slopes) words="--every -h --help" files=1 ;;
             shells) words="--workers --certificates -h --help" files=1 ;;
             plot) words="--bench --north --east --row --column --colour --pit --exaggerate -h --help" files=1 ;;
-            page) words="--phases --design --layer --column --value --factor --title -h --help" files=1 ;;
-            phases) words="--mining-width -h --help" files=1 ;;
-            export) words="--to --factors --columns --whole --cut-corners --crs -h --help" files=1 ;;
+            page) words="--phases --design --layer --column --value --factor --schedule --title -h --help" files=1 ;;
+            phases) words="--mining-width --widen -h --help" files=1 ;;
+            schedule) words="--gap --minutes --mining-width -h --help" files=1 ;;
+            export) words="--to --factors --phases --schedule --columns --whole --cut-corners --crs -h --help" files=1 ;;
             compare) words="--ids --column --value --surface --layer --factor --bench -h --help" files=1 ;;
-            risk) words="--realisations --factors --metal --later --workers -h --help" files=1 ;;
-            vary) words="--factor --later --workers -h --help" files=1 ;;
+            risk) words="--realisations --factors --metal --schedule --gap --minutes --later --workers -h --help" files=1 ;;
+            vary) words="--factor --schedule --gap --minutes --later --workers -h --help" files=1 ;;
+            report) words="--pdf --xlsx --phases --title -h --help" files=1 ;;
             submit) words="--engine --dry --workers --minutes --at-once --again -h --help" files=1 ;;
             status) words="-h --help" files=1 ;;
             task) words="-h --help" files=1 ;;
             bundle) words="-h --help" files=1 ;;
             schema) words="-h --help" ;;
+            desk) words="--port --host --name --upload-limit -h --help" files=1 ;;
             doctor) words="-h --help" ;;
             esac
             case "$word" in -*) files= ;; *) words= ;; esac ;;

@@ -11,19 +11,22 @@ _pitplan() {
         'plot:Draw the pit-by-pit graph, a plan and a section'
         'page:Write one HTML file with pits in three dimensions, sections, plans and tables'
         'phases:Cut the mine into pushbacks'
+        'schedule:Plan by years'
         'export:Write the pits for CAD (dxf), ParaView (vtu), GIS (gpkg) and any other program (csv), in true coordinates'
         'compare:Put a designed pit beside the proved best one'
         'risk:Find the proved pit of each realisation of the grades, and how likely each block is'
-        'vary:Find the proved pit with one thing changed at a time, and which of them moves the worth most'
+        'vary:Find the proved pit with one thing changed at a time, and which of them moves the worth most, and the npv'
+        'report:Write a report'
         'submit:Hand in what isn'\''t done yet of shells, realisations and what-ifs'
         'status:Show what is done, running, waiting and failed, and how long the rest will take'
         'task:Find the pits of one task, for clusters'
         'bundle:All that the numbers rest on, with scripts that check it again'
         'schema:Print a JSON Schema of study.toml, by which an editor completes its keys and marks what is wrong'
+        'desk:Serve the same commands and the same study.toml as a page in the browser, over a folder of tables and studies'
         'doctor:Look whether all that pitplan needs is here, and take a small mine through it'
     )
     if (( CURRENT == 2 )); then
-        [[ $words[2] == -* ]] && _arguments -S '--version[Print the version]' '--no-wait[End where another command has the study, and don'\''t wait for it]' '--within[Refuse studies, tables, designs and realisations outside this folder]:within:_files' '--install-completion[Install completion for the specified shell]:install-completion:(bash zsh fish powershell pwsh)' '--show-completion[Show completion for the specified shell, to copy it or customize the installation]:show-completion:(bash zsh fish powershell pwsh)' '-h[Show this message and exit]' '--help[Show this message and exit]' || _describe -t commands command commands
+        [[ $words[2] == -* ]] && _arguments -S '--version[Print the version]' '--no-wait[End where another command has the study, and don'\''t wait for it]' '--within[Read and write nothing outside this folder]:within:_files' '--install-completion[Install completion for the specified shell]:install-completion:(bash zsh fish powershell pwsh)' '--show-completion[Show completion for the specified shell, to copy it or customize the installation]:show-completion:(bash zsh fish powershell pwsh)' '-h[Show this message and exit]' '--help[Show this message and exit]' || _describe -t commands command commands
         return
     fi
     local command=$words[2]
@@ -31,7 +34,7 @@ _pitplan() {
     (( CURRENT-- ))
     case $command in
         init) _arguments '--study[The folder of the new study]:study:_files' \
-            '-c[What a column is, as x=este, where its name isn'\''t a usual one]:column:(id x y z dx dy dz tonnes density rock)' '--column[What a column is, as x=este, where its name isn'\''t a usual one]:column:(id x y z dx dy dz tonnes density rock)' \
+            '-c[What a column is, as x=este, where its name isn'\''t a usual one]:column:(id x y z dx dy dz tonnes density rock class topography ore)' '--column[What a column is, as x=este, where its name isn'\''t a usual one]:column:(id x y z dx dy dz tonnes density rock class topography ore)' \
             '--encoding[Of the table where it isn'\''t UTF-8, as cp1252]:encoding: ' \
             '--force[Write over a study.toml that is there]' \
             '-h[Show this message and exit]' '--help[Show this message and exit]' '*:file:_files' ;;
@@ -58,12 +61,20 @@ _pitplan() {
             '--column[In place of --design]:column: ' \
             '--value[With --column]:value: ' \
             '--factor[The pit that the design is compared with, by its factor of the price]:factor: ' \
+            '--schedule[Show the mine at the end of each year too, as `schedule` found it last]' \
             '--title[The heading]:title: ' \
             '-h[Show this message and exit]' '--help[Show this message and exit]' '*:file:_files' ;;
-        phases) _arguments '--mining-width[The least width that machines need, in metres]:mining-width: ' \
+        phases) _arguments '--mining-width[The least width that machines need, in the unit of the coordinates]:mining-width: ' \
+            '--widen[Make each pushback this wide, in the unit of the coordinates, by blocks of the next pit that it takes in, or that it leaves for it]:widen: ' \
+            '-h[Show this message and exit]' '--help[Show this message and exit]' '*:file:_files' ;;
+        schedule) _arguments '--gap[End within so many percent of the bound]:gap: ' \
+            '--minutes[End after so many minutes]:minutes: ' \
+            '--mining-width[The least width that machines need, in the unit of the coordinates]:mining-width: ' \
             '-h[Show this message and exit]' '--help[Show this message and exit]' '*:file:_files' ;;
         export) _arguments '--to[Any of dxf, vtu, csv, gpkg, with commas]:to: ' \
             '--factors[The pits to export, as 0.5,0.75,1.0]:factors: ' \
+            '--phases[Export pushbacks in place of pits]:phases: ' \
+            '--schedule[Export the mine at the end of each year in place of pits, as `schedule` found it last]' \
             '--columns[Columns of the table for vtu and csv, with commas]:columns: ' \
             '--whole[All blocks of the model in vtu and csv]' \
             '--cut-corners[Draw staircases in dxf as straight lines]' \
@@ -80,12 +91,23 @@ _pitplan() {
         risk) _arguments '--realisations[An .npy (realisations x rows of the table), or a CSV with a column for each]:realisations:_files' \
             '--factors[Shares of the price, as 0.8,1,1.2]:factors: ' \
             '--metal[Whose grades these are]:metal: ' \
+            '--schedule[What the schedule that `schedule` found last is worth under each realisation, beside a bound of the schedules of that realisation, in place of pits]' \
+            '--gap[With --schedule]:gap: ' \
+            '--minutes[With --schedule]:minutes: ' \
             '--later[Look through the realisations and find no pit yet]' \
             '--workers[Realisations at a time]:workers: ' \
             '-h[Show this message and exit]' '--help[Show this message and exit]' '*:file:_files' ;;
         vary) _arguments '--factor[Share of the price]:factor: ' \
+            '--schedule[A plan by years for each change, beside a bound of its own, in place of a pit]' \
+            '--gap[With --schedule]:gap: ' \
+            '--minutes[With --schedule]:minutes: ' \
             '--later[Build what is needed and find no pit yet]' \
             '--workers[Pits at a time]:workers: ' \
+            '-h[Show this message and exit]' '--help[Show this message and exit]' '*:file:_files' ;;
+        report) _arguments '--pdf[As PDF, to read and to print]' \
+            '--xlsx[As a workbook, with a sheet for each table and its numbers as numbers]' \
+            '--phases[Tell of pushbacks too]:phases: ' \
+            '--title[Of the cover]:title: ' \
             '-h[Show this message and exit]' '--help[Show this message and exit]' '*:file:_files' ;;
         submit) _arguments '--engine[local]:engine:(local slurm snakemake)' \
             '--dry[Show what would be handed in, and hand in nothing]' \
@@ -98,6 +120,11 @@ _pitplan() {
         task) _arguments '-h[Show this message and exit]' '--help[Show this message and exit]' '*:file:_files' ;;
         bundle) _arguments '-h[Show this message and exit]' '--help[Show this message and exit]' '*:file:_files' ;;
         schema) _arguments '-h[Show this message and exit]' '--help[Show this message and exit]' ;;
+        desk) _arguments '--port[Where it listens]:port: ' \
+            '--host[The address that it listens at]:host: ' \
+            '--name[A further address by which browsers call it, as https\://desk.mine.example behind a proxy]:name:_files' \
+            '--upload-limit[Bytes of a table that is dropped, at most]:upload-limit: ' \
+            '-h[Show this message and exit]' '--help[Show this message and exit]' '*:file:_files' ;;
         doctor) _arguments '-h[Show this message and exit]' '--help[Show this message and exit]' ;;
     esac
 }

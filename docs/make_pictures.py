@@ -1,14 +1,16 @@
 #!/usr/bin/python3
-"""Makes the pictures of docs/PLANNING.md anew, from examples/hill.csv and the study.toml that the document shows.
+"""Makes the pictures of docs/PLANNING.md and docs/DESK.md anew, from examples/hill.csv and the study.toml that the document shows.
 
-    docs/make_pictures.py [FOLDER]
+    docs/make_pictures.py [--desk] [FOLDER]
 
-writes hill-slopes.png, hill-pit-by-pit.png, hill-plan.png, hill-section.png and hill-design.png, and of the page in a headless
-Chromium hill-page.png, hill-page-pushbacks.png, hill-page-design.png and hill-likelihood.png, into FOLDER, docs/pictures unless
-told. Needs `pit` (PIT, or the repository's build) and the packages of python/packages.
+writes hill-slopes.png, hill-pit-by-pit.png, hill-plan.png, hill-section.png, hill-schedule-years.png, hill-schedule-section.png,
+hill-report.png and hill-design.png, and of the page in a headless Chromium hill-page.png, hill-page-pushbacks.png, hill-page-design.png
+and hill-likelihood.png, into FOLDER, docs/pictures unless told; and desk-prices.png, desk-slopes.png and desk-run.png, with --desk
+these alone. Needs `pit` (PIT, or the repository's build) and the packages of python/packages.
 """
 import base64
 import re
+import shutil
 import subprocess
 import sys
 import tempfile
@@ -89,8 +91,10 @@ def walked(study):
     for command in ("build", "slopes", "shells"):
         pitplan(command, study)
     graph, plan, section = pitplan("plot", study)
+    years, _, by_year = pitplan("schedule", study)
     pitplan("compare", study, "--surface", TOP / "examples/hill-design.dxf", may_refuse=True)
     design = next((study / "out/compare-hill-design").glob("plan-*.png"))
+    pitplan("phases", "0.4,1.0", study, "--widen", "40")
     pages = pitplan(
         "page", study, "--phases", "0.4,1.0", "--design", TOP / "examples/hill-design.dxf"
     )
@@ -102,22 +106,99 @@ def walked(study):
             "plan": plan,
             "section": section,
             "design": design,
+            "schedule-years": years,
+            "schedule-section": by_year,
         },
         pages[0],
         study / "out/likelihood.html",
     )
 
 
+def of_the_desk(place):
+    """The desk over the example: an error beside its field, slopes with their rose, a run. Their paths by name."""
+    from desks import Chromium, Desk
+
+    shots = {name: place / f"{name}.png" for name in ("prices", "slopes", "run")}
+    folder = place / "mines"
+    shutil.copytree(TOP / "examples/hill", folder / "hill")
+    shutil.copy(TOP / "examples/hill.csv", folder)
+    desk, browser = Desk(folder), Chromium("1280,760")
+    try:
+        browser.get(desk.door)
+        browser.press_on("a", "hill")
+        browser.sees("5,041 rows")
+        browser.click("[id='to.money']")
+        browser.types("i.economics.metals.1.price", "1950")
+        browser.types("i.economics.mining", "2.0 + 0.03 * (1125 - ZD) / 10")
+        browser.sees("there is no column 'ZD'")
+        browser.script("document.querySelector('.k-metals').scrollIntoView({ block: 'start' })")
+        browser.shot(shots["prices"])
+        browser.types("i.economics.mining", "2.0 + 0.03 * (1125 - ZC) / 10")
+        browser.click("[id='to.slopes']")
+        browser.types("i.slopes.regions.NORTH.0.1", "39")
+        browser.sees("39.0", "table.data")
+        browser.resized(1500, 860)
+        browser.shot(shots["slopes"])
+        browser.resized(1280, 760)
+        browser.click("[id='to.pits']")
+        browser.click("#all")
+        browser.sees("pits proved", "#running")
+        browser.script("document.querySelector('#main').scrollTop = 230")
+        browser.shot(shots["run"])
+        browser.sees("build, and pits done by", "#main")
+    finally:
+        browser.close()
+        desk.end()
+    return shots
+
+
+def written(pictures, target, kind):
+    """Writes pictures with few colours; each has to be small."""
+    for name, picture in pictures.items():
+        file = target / f"{kind}-{name}.png"
+        Image.open(picture).convert("RGB").quantize(
+            COLOURS, method=Image.Quantize.MAXCOVERAGE, dither=Image.Dither.NONE
+        ).save(file, optimize=True)
+        size = file.stat().st_size
+        print(f"{file}: {size:,} bytes")
+        if size > MOST:
+            sys.exit(f"{file} has more than {MOST:,} bytes")
+
+
+def leafed(study):
+    """Two pages of the report, one below the other: the cover and the first tables."""
+    pitplan("report", study, "--pdf", "--phases", "0.4,1.0")
+    words = ["pdftoppm", "-r", "72", "-png", study / "out/report.pdf", study / "leaf"]
+    subprocess.run(words, check=True)
+    leaves = [Image.open(path) for path in sorted(study.glob("leaf*.png"))]
+    wide, high = leaves[0].size
+    both = Image.new("RGB", (wide + 2, 2 * high + 3), "#888888")
+    both.paste(leaves[0], (1, 1))
+    both.paste(leaves[2], (1, high + 2))
+    both.save(study / "report.png")
+    return study / "report.png"
+
+
 def main():
-    target = Path(sys.argv[1]) if len(sys.argv) > 1 else TOP / "docs/pictures"
+    words = [word for word in sys.argv[1:] if word != "--desk"]
+    target = Path(words[0]) if words else TOP / "docs/pictures"
     target.mkdir(parents=True, exist_ok=True)
-    sys.path.insert(0, str(TOP / "python/tests"))
+    sys.path[:0] = [str(TOP / "python/tests/support"), str(TOP / "python")]
+    with tempfile.TemporaryDirectory() as place:
+        written(of_the_desk(Path(place)), target, "desk")
+    if "--desk" not in sys.argv:
+        of_the_walk(target)
+
+
+def of_the_walk(target):
+    """The pictures of PLANNING.md."""
     from browsers import chromium
 
     with tempfile.TemporaryDirectory() as place:
         study = Path(place) / "hill"
         study.mkdir()
         pictures, page, likelihood = walked(study)
+        pictures["report"] = leafed(study)
         browser = chromium(size="1180,1000")
         try:
             for name, wide, path, steps, part in (
@@ -137,15 +218,7 @@ def main():
                 photographed(browser, path, pictures[name], steps, part)
         finally:
             browser.quit()
-        for name, picture in pictures.items():
-            file = target / f"hill-{name}.png"
-            Image.open(picture).convert("RGB").quantize(
-                COLOURS, method=Image.Quantize.MAXCOVERAGE, dither=Image.Dither.NONE
-            ).save(file, optimize=True)
-            size = file.stat().st_size
-            print(f"{file}: {size:,} bytes")
-            if size > MOST:
-                sys.exit(f"{file} has more than {MOST:,} bytes")
+        written(pictures, target, "hill")
 
 
 if __name__ == "__main__":

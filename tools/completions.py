@@ -7,12 +7,11 @@ import re
 SHELLS = ("bash", "zsh", "fish")
 # A value of one of these names is no file; a value of any other name is one.
 NO_FILE = re.compile(r"(INTEGER|FLOAT|TEXT|FACTORS?|STEPS|ROOM|WORKERS|N|KEY=NAME|CHANGES|WORDS)\b")
-# What an option may have, where that isn't a block of the help text, as "Patterns" is of <PATTERN>. tests/scripts.py asks that the text has each.
+# What an option may have, where that isn't a block of the help text, as "Patterns" is of <PATTERN>. tests/scripts/small_repository.py asks that the text has each.
 VALUES = {
     ("pit", "--group"): "pair scaled worth",
     ("pit", "--up"): "plus minus",
     ("pit", "--method"): "auto pseudoflow push-relabel",
-    ("pitplan", "--engine"): "local slurm snakemake",
 }
 
 

@@ -141,8 +141,9 @@ def tarball(name, program, about, time):
     return zipped(tarred({"%s/%s" % (name, path): its for path, its in files.items()}, time))
 
 
-def debian_files(program, about, package="pit"):
-    """What the Debian package of the program installs, by its path below /; with its documents below the name of this package."""
+def debian_files(program, about, site, package="pit"):
+    """What the Debian package of the program installs, by its path below /; with its documents, and the manual's site, below the name of this
+    package."""
     own = "usr/share/doc/%s/" % package
     files = {
         **programs("usr/bin/", "usr/", program),
@@ -155,6 +156,7 @@ def debian_files(program, about, package="pit"):
     files.update(
         {own + path: file(path) for path in documents() if path not in ("LICENSE", "CHANGELOG.md")}
     )
+    files.update((own + "manual/" + path, File(data, 0o644)) for path, data in site.items())
     return files
 
 

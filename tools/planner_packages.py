@@ -1,4 +1,5 @@
-"""What is published of pitplan: a wheel, and a Debian package of it with the program, whose Depends are python/packages' own."""
+"""What is published of pitplan: a wheel, a Debian package of it with the program, and one of its desk, whose Depends are python/packages'
+own."""
 import io
 import os
 import shutil
@@ -13,10 +14,10 @@ from packages import File
 
 INTO = "usr/lib/python3/dist-packages/"
 # Debian compiles what Python packages have when they are installed, and takes that away when they are removed.
-SCRIPTS = {
-    "postinst": '#!/bin/sh\nset -e\nif [ "$1" = configure ]; then\n    py3compile -p pitplan\nfi\n',
-    "prerm": "#!/bin/sh\nset -e\npy3clean -p pitplan\n",
-}
+POSTINST = '#!/bin/sh\nset -e\nif [ "$1" = configure ]; then\n    py3compile -p %s\nfi\n'
+PRERM = "#!/bin/sh\nset -e\npy3clean -p %s\n"
+DESK = INTO + "pitplan/desk/"  # what the package of the desk has
+OF_DESK, OF_TESTS = "# pitplan desk", "# its tests"  # what comes below them in python/packages
 DESCRIPTION = """from a table of blocks to proved pits, tables, pictures and a page
  pitplan takes a planner's table of blocks, prices, costs and slope angles, and
  gives back shells, pushbacks, CAD files, risk and one HTML page. Each best pit
@@ -25,9 +26,30 @@ DESCRIPTION = """from a table of blocks to proved pits, tables, pictures and a p
 """
 
 
+DESK_DESCRIPTION = """the commands and the studies of pitplan as a page in the browser
+ pitplan desk serves one page over a folder of tables and studies: tables are
+ dropped there, prices and slopes typed, pits built, watched and looked at. It
+ listens to its own machine alone, and runs the commands that pitplan has.
+"""
+
+
 def needed():
     """Debian's packages that pitplan needs."""
-    text = (tree.TOP / "python" / "packages").read_text().partition("# its tests")[0]
+    return named_in(listed().partition(OF_TESTS)[0])
+
+
+def needed_by_desk():
+    """Those that its desk needs beside them."""
+    return named_in(listed().partition(OF_DESK)[2].partition("\n")[2])
+
+
+def listed():
+    """The text of python/packages."""
+    return (tree.TOP / "python" / "packages").read_text()
+
+
+def named_in(text):
+    """The packages that a part of it names."""
     return [line for line in text.splitlines() if line and not line.startswith("#")]
 
 
@@ -69,17 +91,10 @@ def wheel(time, room):
     return found.name, found.read_bytes()
 
 
-def debian_files(program, about, made_wheel):
-    """What the Debian package installs, by its path below /: all that the program's does, and what the wheel holds."""
-    files = packages.debian_files(program, about, "pitplan")
-    with zipfile.ZipFile(io.BytesIO(made_wheel)) as held:
-        files.update(
-            {
-                INTO + name: File(held.read(name), 0o644)
-                for name in held.namelist()
-                if not name.endswith("/RECORD")
-            }
-        )
+def debian_files(program, about, site, made_wheel):
+    """What the Debian package installs, by its path below /: all that the program's does, and what the wheel holds but the desk."""
+    files = packages.debian_files(program, about, site, "pitplan")
+    files.update({at: it for at, it in held_in(made_wheel).items() if not at.startswith(DESK)})
     files["usr/bin/pitplan"] = packages.file("bin/pitplan")
     files["usr/share/man/man1/pitplan.1.gz"] = File(
         packages.zipped(packages.read("docs/pitplan.1")), 0o644
@@ -88,9 +103,33 @@ def debian_files(program, about, made_wheel):
     return files
 
 
-def debian(program, facts, about, made_wheel, time, room):
-    """The bytes of the Debian package. `facts` has the version, and the C library that the program needs."""
-    files = debian_files(program, about, made_wheel)
+def held_in(made_wheel):
+    """What a wheel installs, by its path below /."""
+    with zipfile.ZipFile(io.BytesIO(made_wheel)) as held:
+        names = [name for name in held.namelist() if not name.endswith("/RECORD")]
+        return {INTO + name: File(held.read(name), 0o644) for name in names}
+
+
+def scripts(package):
+    """What is run as a package is installed and removed."""
+    texts = {"postinst": POSTINST % package, "prerm": PRERM % package}
+    return {name: File(text.encode(), 0o755) for name, text in texts.items()}
+
+
+def desk(facts, made_wheel, time, room):
+    """The bytes of the Debian package of the desk, over that of pitplan of the same version."""
+    own = "usr/share/doc/pitplan-desk/"
+    files = {at: it for at, it in held_in(made_wheel).items() if at.startswith(DESK)}
+    files[own + "copyright"] = packages.file("LICENSE")
+    files[own + "changelog.gz"] = File(packages.zipped(packages.read("CHANGELOG.md")), 0o644)
+    depends = ", ".join(["pitplan (= %s)" % facts["version"], *needed_by_desk()])
+    control = packages.control("pitplan-desk", facts["version"], depends, files, DESK_DESCRIPTION)
+    return packages.debian(files, control, time, room, scripts("pitplan-desk"))
+
+
+def debian(program, facts, about, site, made_wheel, time, room):
+    """The bytes of the Debian package. `facts` has the version, and the C library that the program needs; `site` is the manual's."""
+    files = debian_files(program, about, site, made_wheel)
     more = "Provides: pit (= %(version)s)\nConflicts: pit\nReplaces: pit\n" % facts
     depends = ", ".join(
         [
@@ -99,10 +138,4 @@ def debian(program, facts, about, made_wheel, time, room):
         ]
     )
     control = packages.control("pitplan", facts["version"], depends, files, DESCRIPTION, more)
-    return packages.debian(
-        files,
-        control,
-        time,
-        room,
-        {name: File(text.encode(), 0o755) for name, text in SCRIPTS.items()},
-    )
+    return packages.debian(files, control, time, room, scripts("pitplan"))

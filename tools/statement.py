@@ -1,5 +1,5 @@
 #!/usr/bin/env python3
-"""Writes docs/STATEMENT.md: every definition on which the answer of `pit check` rests, in reading order.
+"""Writes docs/STATEMENT.md: every definition on which an answer of `pit check` or a bound rests, in reading order.
 
     tools/statement.py [--check]     with --check it writes nothing, and its status is 1 where the page is another
 
@@ -16,10 +16,9 @@ TOP = Path(__file__).resolve().parent.parent
 PAGE = TOP / "docs" / "STATEMENT.md"
 
 HEAD = re.compile(
-    r"^(?:(?:abbrev|unfoldable) )?(?:pub )?(?:(?:record|data) )?(?P<name>[^\W\d][\w'-]*)(?= [:({]|$)",
+    r"^(?:(?:abbrev|unfoldable) )?(?:pub )?(?:(?:record|data) )?(?P<name>[^\W\d][\w'-]*|◌\S+◌)(?= [:({]|$)",
     re.M,
 )
-OPERATOR = re.compile(r"^infix[lr]? +\d+ +(?P<name>\S+)", re.M)
 DEFINES = re.compile(r"^(?:abbrev|unfoldable|pub|record|data) (?!use |mod )")
 USE = re.compile(
     r"^(?P<pub>pub )?(?:(?:ghost|unfoldable) )?(?:pub )?use Rattle\.(?P<path>[\w.«»]+?)(?:\.\{(?P<names>[^}]*)\}| as (?P<alias>\w+));?$",
@@ -81,7 +80,11 @@ def blocks(text):
                 found.append((words, held, begun))
                 words, held = [], []
             words = words + [line[2:].strip()]
-        elif DEFINES.match(line) or line.startswith("infix"):
+        elif line.startswith("infix"):  # the words above it are of the operator that follows
+            if held:
+                found.append((words, held, begun))
+                words, held = [], []
+        elif DEFINES.match(line):
             if held:
                 found.append((words, held, begun))
                 words = []
@@ -99,8 +102,6 @@ def module_of(path, name):
     module = Module(path)
     imports(text, module)
     for words, lines, number in blocks(text):
-        if lines[0].startswith("infix"):
-            continue
         head = HEAD.match(lines[0])
         if head:
             if " data " in lines[0]:
@@ -165,8 +166,10 @@ def cited(text, module):
             yield module.names[first]
         elif first in module.definitions:
             yield module.definitions[first].module, first
-    for name, source in module.names.items():
-        if name.startswith("◌") and name.strip("◌") in bare:
+    own = {name: (it.module, name) for name, it in module.definitions.items()}
+    for name, source in {**own, **module.names}.items():
+        written = name.strip("◌")
+        if name != written and (written in bare or written == ">>=" and "←" in bare):
             yield source
 
 
@@ -212,7 +215,7 @@ def clause_of(path, function, name):
     module = Module(path)
     imports(re.sub(r"^ghost use", "use", text, flags=re.M), module)
     found = re.search(
-        r"fn %s\b.*?ensures %s (\{.*?\})\n    (?:ensures|requires|//|\{)|fn %s\b.*?ensures %s (\{.*?\})\n\{"
+        r"fn %s\b.*?ensures %s (\{.*?\})\n\s*    (?:ensures|requires|//|\{)|fn %s\b.*?ensures %s (\{.*?\})\n\{"
         % (function, name, function, name),
         text,
         re.S,
@@ -275,6 +278,18 @@ def leaves(cone):
     ]
 
 
+def shown(function, path, clause):
+    """A clause as the page shows it."""
+    return [
+        "The clause `answer` of `%s` in [`%s`](../%s):" % (function, path, path),
+        "",
+        "```",
+        re.sub(r"\n {4,}", "\n    ", clause),
+        "```",
+        "",
+    ]
+
+
 def page(sources):
     """The text of the page."""
     clause, module = clause_of(sources.top / ENGINE, "check_engine", "answer")
@@ -283,18 +298,17 @@ def page(sources):
         sources, "WritesAccepted", sources.modules["engines.specs.Checking"]
     ).definitions
     rest = {key: every.definitions[key] for key in every.definitions if key not in accepted}
+    bounding, module = clause_of(sources.top / BOUNDS, "bound_engine", "answer")
+    bound = cone_of(sources, bounding, module)
+    own = {key: bound.definitions[key] for key in bound.definitions if key not in every.definitions}
     files = {name for name, _ in accepted}
     lines = [
-        "# What you have to believe, in %d definitions" % len(every.definitions),
+        "# What you have to believe, in %d definitions; of a bound, in %d"
+        % (len(every.definitions), len(bound.definitions)),
         "",
         HEAD_WORDS,
         "",
-        "The clause `answer` of `check_engine` in [`%s`](../%s):" % (ENGINE, ENGINE),
-        "",
-        "```",
-        re.sub(r"\n {4,}", "\n    ", clause),
-        "```",
-        "",
+        *shown("check_engine", ENGINE, clause),
     ]
     lines += part(
         sources,
@@ -309,12 +323,25 @@ def page(sources):
         "Whoever asks why a certificate was refused reads these too.",
         rest,
     )
+    lines += part(
+        sources,
+        "A `BOUND`: %d more" % len(own),
+        BOUND_WORDS % (len(bound.definitions), len(bound.definitions) - len(own))
+        + "\n\n"
+        + "\n".join(shown("bound_engine", BOUNDS, bounding)).rstrip(),
+        own,
+    )
+    every.types |= bound.types
+    every.library |= bound.library
     return "\n".join(lines + leaves(every))
 
 
 ENGINE = "crates/engines/src/checking_engine.rt"
-HEAD_WORDS = """`tools/statement.py` wrote this page from the sources, and the tests compare it. It has every definition on which the answer of
-`pit check` rests, and no other. A file stands after those it uses.
+BOUNDS = "crates/bound_engines/src/bounding_engine.rt"
+BOUND_WORDS = """Whoever relies on a bound on the worth of every schedule has to believe %d definitions: %d of those above, and these.
+The last but those of its line is `IsBounded`."""
+HEAD_WORDS = """`tools/statement.py` wrote this page from the sources, and the tests compare it. It has every definition on which an answer of
+`pit check` or a bound on schedules rests, and no other. A file stands after those it uses.
 
 Whoever relies on an `ACCEPTED` has to believe that these definitions say what [DEFINITIONS.md](DEFINITIONS.md) says in words.
 That the code meets them is proved. A set of blocks is a test, a text is a list of bytes, and a worth is a whole number of
