@@ -54,6 +54,7 @@ _pit() {
         "schedule --periods") files=1 ;;
         "schedule --uses") files=1 ;;
         "schedule --factor") : ;;
+        "schedule --best") files=1 ;;
         "bound --prec") files=1 ;;
         "bound --upit") files=1 ;;
         "bound --blocks") files=1 ;;
@@ -74,7 +75,7 @@ _pit() {
             shells) words="--prec --blocks --settings --method --steps --workers --by-block --progress --verbose -h --help" ;;
             report) words="--prec --blocks --settings --method --steps --workers --by-block --progress --verbose -h --help" ;;
             value) words="--prec --upit --blocks --settings --factor --best --verbose -h --help" files=1 ;;
-            schedule) words="--prec --upit --blocks --settings --periods --uses --factor --verbose -h --help" files=1 ;;
+            schedule) words="--prec --upit --blocks --settings --periods --uses --factor --best --verbose -h --help" files=1 ;;
             bound) words="--prec --upit --blocks --settings --periods --uses --verbose -h --help" files=1 ;;
             replay) words="--prec --upit --blocks --settings --factor --group --verbose -h --help" files=1 ;;
             esac

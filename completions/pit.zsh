@@ -85,6 +85,7 @@ _pit() {
             '--periods[What periods weigh, which columns have what blocks use of resources, and what each period has]:periods:_files' \
             '--uses[The blocks with the columns of what they use]:uses:_files' \
             '--factor[The share of the revenues that counts, in thousandths, from 0 to 10000, with --blocks]:factor: ' \
+            '--best[A certificate of blocks and periods, which bounds the worth of every schedule]:best:_files' \
             '--verbose[Reports on standard error which file failed, and the system'\''s reason]' \
             '-h[Print help (see a summary with '\''-h'\'')]' '--help[Print help (see a summary with '\''-h'\'')]' '*:file:_files' ;;
         bound) _arguments '--prec[The predecessors of each block]:prec:_files' \

@@ -1,9 +1,9 @@
-"""Bounds the worth of every schedule of mines that are made up: `pit solve --periods` and `pit bound` of the built program against an
-enumeration, which shares no line with it and counts in whole numbers by docs/FORMATS.md alone.
+"""Bounds the worth of every schedule of mines that are made up: `pit solve --periods`, `pit bound` and `pit schedule --best` of the
+built program against an enumeration, which shares no line with it and counts in whole numbers by docs/FORMATS.md alone.
 
 Mines are those of schedules.py, five blocks and three periods, half of them with prices at a factor. Each of the 4^5 ways to
 give every block a period or none is looked at. The greatest worth above the multipliers of those that keep precedence, and all
-capacities at their multipliers, is the bound that must come; and what each feasible one is worth may not exceed it.
+capacities at their multipliers, is the bound that must come; and what each feasible one is worth may not exceed it. A schedule of schedules.py is held against the bound too.
 """
 import os
 import random
@@ -13,7 +13,16 @@ from itertools import product
 from pathlib import Path
 
 from program.refused_calls import run
-from program.schedules import BLOCKS, PERIODS, RESOURCES, decimal, made_up, written
+from program.schedules import (
+    BLOCKS,
+    PERIODS,
+    RESOURCES,
+    decimal,
+    judged,
+    made_up,
+    npv_of,
+    written,
+)
 
 VALUES = "--prec m.prec --upit m.upit --uses m.blocks --periods p.toml".split()
 PRICES = "--prec m.prec --blocks m.blocks --settings s.toml --periods p.toml".split()
@@ -85,6 +94,15 @@ def is_within(plan, periods):
     )
 
 
+def beside(plan, worths, bound):
+    """What must come of a schedule beside the bound: the gap where it is feasible."""
+    status, lines = judged(plan, worths)
+    lines += "BOUND %s\n" % decimal(bound, 15)
+    if status == 0:
+        lines += "GAP %s\n" % decimal(bound - npv_of(plan, worths), 15)
+    return status, lines.encode(), b""
+
+
 def changed(certificate):
     """Certificates that differ in a line: an amount, a block of the pit, a line that is gone."""
     lines = certificate.splitlines(keepends=True)
@@ -120,11 +138,19 @@ def wrong_in(program, seed, folder):
     answer = run(program, ["bound", *files, "c.cert"], folder)
     if solved[0] or answer != must:
         return "%s where %s must come, by %s" % (answer, must, solved)
+    compared = beside(plan, worths, bound)
+    words = ["schedule", *files, "--best", "c.cert", "s.txt"]
+    answer = run(program, words, folder)
+    if answer != compared:
+        return "%s where %s must come, by %s" % (answer, compared, solved)
     for other in changed(certificate) if seed % 10 < 2 else ():
         (folder / "c.cert").write_text(other)
         answer = run(program, ["bound", *files, "c.cert"], folder)
         if answer[0] not in (1, 3) and answer != must:
             return "%s where %s or a refusal must come, by %r" % (answer, must, other)
+        told = run(program, words, folder)
+        if told != (answer if answer != must else compared):
+            return "%s of a schedule where bound says %s, by %r" % (told, answer, other)
     return ""
 
 

@@ -1,5 +1,5 @@
 -- A bound by figures that were read is one by the texts.
-use Rattle.fixed_worth.proofs.Common.{◌≡◌, ℕ, ◌+◌, ◌*◌, ◌/◌, ◌%◌, ◌<◌, ℤ, pos, ◌+ℤ◌, ◌-ℤ◌, ◌*ℤ◌, ◌≤ℤ◌, Bool, cond, ◌&&◌, ◌||◌, ◌==◌, nat_lt, List, length, map, slice_index, slice_index_or, Option, Some, None, Ok, IfSome, refl, sym, ap, ap₂, subst, ◌∙◌, arith, IsTrue, length-map, get_or-map}
+use Rattle.fixed_worth.proofs.Common.{◌≡◌, ℕ, ◌+◌, ◌*◌, ◌/◌, ◌%◌, ◌<◌, ℤ, pos, ◌+ℤ◌, ◌-ℤ◌, ◌*ℤ◌, ◌≤ℤ◌, Bool, cond, ◌&&◌, ◌||◌, ◌==◌, nat_lt, List, length, map, slice_index, slice_index_or, Option, Some, None, Result, Ok, Err, IfOk, IfSome, refl, sym, ap, ap₂, subst, ◌∙◌, arith, IsTrue, length-map, get_or-map}
 use Rattle.std.proofs.lemmas.Nat.{mod_below, div_below}
 use Rattle.ordered_group.specs.Prelude.{Amount, zero_amount, worth_block, worth_told}
 use Rattle.prec_file.specs.Records as prec
@@ -20,9 +20,12 @@ use Rattle.production_figures.specs.Figures.{FiguresView, figures_view, producti
 use Rattle.expanded_mine.specs.Prelude.{AreNodePairs, AreNodeWorths, IsBound, node_worth, price_by}
 use Rattle.schedule_engines.specs.Prelude.{ReadsPeriodsText, ReadsUses, plan_of}
 use Rattle.schedule_engines.proofs.Scheduled.{rests_same}
-use Rattle.bound_engines.specs.Prelude.{DenotePlan, IsBounded, IsExpanded, IsJudgedOf, IsPlanNet, IsRefusal, node_net, priced_by}
+use Rattle.bound_engines.specs.Prelude.{DenotePlan, IsBounded, IsExpanded, IsJudgedOf, IsPlanNet, IsRefusal, IsToldFor, IsToldOf, node_net, priced_by}
 use Rattle.bound_engines.specs.declared.nodes_judge.NodesJudged.{NodesJudged}
 use Rattle.bound_engines.specs.declared.nodes_judge.NodesJudged.TheVariants as nodes
+use Rattle.bound_engines.specs.declared.bound_fault.BoundFault.{BoundFault}
+use Rattle.bound_engines.specs.declared.bound_judge.Told.{Told}
+use Rattle.bound_engines.specs.declared.bound_judge.Told.TheVariants as told
 
 module _ (texts : MineTexts) (periods uses : List ℕ) (nanos : List ℤ) (rests : RestsView) (said : PeriodsView) (used prices : List ℕ)
     (a : AreRead texts nanos rests) (pr : ReadsPeriodsText periods said) (ur : ReadsUses rests.blocks said.resources uses used) where
@@ -124,6 +127,17 @@ module _ (texts : MineTexts) (periods uses : List ℕ) (nanos : List ℤ) (rests
         exact = exact;
         holds = λ schedule feasible. subst (λ (z : ℤ). npv_of by_texts schedule ≤ℤ z) (sym exact) (no_schedule_is_worth_more by_texts price j.0 schedule rich feasible);
       }
+
+  -- and it is one of this mine and these periods
+  pub bounded_for : (f : FiguresView) (pairs : RestsView) (worths : List ℤ) → IsExpanded nanos rests said used f prices pairs worths → (ps : List ℕ) → ps ≡ prices → (xs : List ℤ) → xs ≡ worths
+      → (worth bound : ℤ) → IsJudgedOf pairs xs (nodes.Richest worth) → bound ≡ worth +ℤ price_of_capacities (production_of rests.pairs f) (price_by f ps) → IsToldFor texts periods uses rests.blocks said (told.Bound bound)
+  unfolding bounded
+  bounded_for f pairs worths x ps same xs listed worth bound j sum = (bounded f pairs worths x ps same xs listed worth bound j sum, refl, refl)
+
+pub told_of : (texts : MineTexts) (periods uses : List ℕ) (n : ℕ) (said : PeriodsView) (r : Result Told BoundFault) → IfOk r (IsToldFor texts periods uses n said) → IfOk r (IsToldOf texts periods uses)
+told_of texts periods uses n said (Ok (told.Bound bound)) h = h.0
+told_of texts periods uses n said (Ok (told.Refused fault)) h = tt
+told_of texts periods uses n said (Err fault) h = tt
 
 -- where nothing is proved nothing is told
 pub refusal_told : (pairs : RestsView) (worths : List ℤ) (j : NodesJudged) → IsRefusal j → IsJudgedOf pairs worths j

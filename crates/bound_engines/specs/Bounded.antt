@@ -44,6 +44,11 @@ abbrev pub IsToldOf : MineTexts → List ℕ → List ℕ → Told → Type 0
 IsToldOf texts periods uses (told.Bound bound) = IsBounded texts periods uses bound
 IsToldOf texts periods uses (told.Refused fault) = Unit {0}
 
+-- the same of a mine of n blocks, over periods of which the text says this
+abbrev pub IsToldFor : MineTexts → List ℕ → List ℕ → ℕ → PeriodsView → Told → Type 0
+IsToldFor texts periods uses n said (told.Bound bound) = (b : IsBounded texts periods uses bound) × (b.denotes.count ≡ n) × (b.denotes.said ≡ said)
+IsToldFor texts periods uses n said (told.Refused fault) = Unit {0}
+
 -- these are the pairs and the worths of the nodes of what was read
 pub record IsExpanded (nanos : List ℤ) (rests : RestsView) (said : PeriodsView) (used : List ℕ) (f : FiguresView) (listed : List ℕ) (node_pairs : RestsView) (node_worths : List ℤ) : Type 0 where
   pub size : length nanos ≡ rests.blocks

@@ -4,6 +4,12 @@ pub mod BesideTexts
 pub mod Bounded
 -- the line of a bound, and what is written
 pub mod BoundLines
+-- what is read where a bound is asked for beside a schedule
+pub mod GapTexts
+-- a schedule below a bound
+pub mod Gaps
+-- the lines that tell it, and what is written
+pub mod GapLines
 -- what is written of the expanded mine where it is solved
 pub mod PlanSolving
 -- the names of all of them

@@ -1,7 +1,9 @@
 //! Reads what a bound needs beside a mine: periods, and what blocks use.
 
-ghost use Rattle.std.specs.Prelude.{◌≡◌, ◌+◌, ◌≤◌, length, IfOk, IsErrOf};
+ghost use Rattle.std.specs.Prelude.{◌≡◌, ◌+◌, ◌-◌, ◌^◌, ◌<◌, ◌≤◌, length, IfOk, IfSome, IsErrOf};
 ghost use Rattle.mine_inputs.specs.declared.engine_fault.EngineFault.TheVariants as engine;
+ghost use Rattle.periods_file.specs.Periods.{periods_view};
+ghost use Rattle.schedule_engines.specs.PlanTexts.{ReadsPeriodsText};
 ghost use Rattle.schedule_engines.specs.declared.schedule_fault.PlanFault.TheVariants as plan;
 ghost use Rattle.bound_engines.specs.BesideTexts.{BesideCanCount, ForBeside, IsBesideRead, beside_failures};
 
@@ -28,7 +30,31 @@ pub(crate) struct BesideRead {
     pub uses: Vec<u64>,
 }
 
-// Periods and what n blocks use, in this order. Of periods without multipliers no bound is asked.
+// What a text says of periods. Of periods without multipliers no bound is asked.
+pub(crate) fn priced_periods_from<D: CountedRead>(
+    alloc: Global,
+    from: &mut D,
+) -> Result<Periods, PlanFault>
+    requires { D.failed from.old < 2 ^ 64 - 1 }
+    ensures read { IfSome (D.remaining from.old) (λ text. IfOk result (λ p. ReadsPeriodsText text (periods_view p))) }
+    ensures few { IfOk result (λ p. (length p.weights.items ≤ 1000) × (length p.resources.items ≤ 8)) }
+    ensures device { IsErrOf result (plan.Engine engine.Device)
+        → D.failed from.new ≡ D.failed from.old + 1 }
+    ensures kept { ¬ IsErrOf result (plan.Engine engine.Device)
+        → D.failed from.new ≡ D.failed from.old }
+{
+    let periods = match periods_from(alloc, from) {
+        Ok(periods) => periods,
+        Err(fault) => return Err(fault),
+    };
+    if periods.multipliers.is_none() {
+        let fault = PeriodsFault::Missing(PeriodKey::Multipliers);
+        return Err(PlanFault::Periods(PeriodsProblem::Fault(fault)));
+    }
+    Ok(periods)
+}
+
+// Periods and what n blocks use, in this order.
 pub(crate) fn beside_from<D: CountedRead>(
     alloc: Global,
     beside: &mut BoundInputs<D>,
@@ -44,14 +70,10 @@ pub(crate) fn beside_from<D: CountedRead>(
     ensures kept { ¬ IsErrOf result (plan.Engine engine.Device)
         → beside_failures beside.new D.failed ≡ beside_failures beside.old D.failed }
 {
-    let periods = match periods_from(alloc, &mut beside.periods) {
+    let periods = match priced_periods_from(alloc, &mut beside.periods) {
         Ok(periods) => periods,
         Err(fault) => return Err(fault),
     };
-    if periods.multipliers.is_none() {
-        let fault = PeriodsFault::Missing(PeriodKey::Multipliers);
-        return Err(PlanFault::Periods(PeriodsProblem::Fault(fault)));
-    }
     let columns = periods.resources.as_slice();
     let uses = match uses_from(alloc, &mut beside.uses, columns, n) {
         Ok(uses) => uses,

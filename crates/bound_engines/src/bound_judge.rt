@@ -1,6 +1,6 @@
 //! Judges a certificate of the expanded mine of what was read, and gives the bound that it proves.
 
-ghost use Rattle.std.specs.Prelude.{◌≡◌, ◌+◌, ◌-◌, ◌*◌, ◌^◌, ◌<◌, ◌≤◌, List, ℕ, length, IfOk, IfSome, IsErrOf};
+ghost use Rattle.std.specs.Prelude.{◌≡◌, ◌+◌, ◌-◌, ◌*◌, ◌^◌, ◌<◌, ◌≤◌, List, ℕ, ℤ, length, IfOk, IfSome, IsErrOf};
 ghost use Rattle.std.specs.Thread.{IsSync};
 ghost use Rattle.ordered_group.specs.declared.groups.Group.TheVariants as group;
 ghost use Rattle.check_pit.specs.CertStreams.{IsReadFor};
@@ -8,16 +8,17 @@ ghost use Rattle.engines.specs.Judging.{IsFresh, IsUndecided, factor_in};
 ghost use Rattle.mine_inputs.specs.Mines.{MineTexts};
 ghost use Rattle.mine_inputs.specs.ReadMines.{AreRead, IsMineRead};
 ghost use Rattle.mine_inputs.specs.declared.engine_fault.EngineFault.TheVariants as engine;
-ghost use Rattle.periods_file.specs.Periods.{periods_view};
+ghost use Rattle.periods_file.specs.Periods.{PeriodsView, periods_view};
+ghost use Rattle.prec_file.specs.Rests.{RestsView};
 ghost use Rattle.schedule_engines.specs.PlanTexts.{ReadsPeriodsText, ReadsUses};
 ghost use Rattle.schedule_engines.specs.declared.schedule_fault.PlanFault.TheVariants as plan;
 ghost use Rattle.bound_engines.specs.declared.bound_fault.BoundFault.TheVariants as bound;
-ghost use Rattle.bound_engines.specs.Bounded.{IsToldOf};
+ghost use Rattle.bound_engines.specs.Bounded.{IsExpanded, IsToldFor, IsToldOf};
 
 use crate::bound_fault::{BoundFault, NodesProblem};
 use crate::bound_inputs::BesideRead;
 use crate::nodes_judge::{NodesJudged, factor_from, judge_nodes};
-use crate::planned::{Planned, expanded_of};
+use crate::planned::{Expanded, Planned, expanded_of};
 use check_pit::{CertStream, PitFault, StreamBytes};
 use expanded_mine::bound_by;
 use fixed_worth::{CountedRead, MOST_BLOCKS};
@@ -55,6 +56,41 @@ fn nodes_of(blocks: u32, periods: usize) -> Result<u32, BoundFault>
     }
 }
 
+// What a certificate whose header was read tells of nodes that were made of what was read.
+pub(crate) fn told_by<C: CountedRead>(
+    alloc: Global,
+    expanded: Expanded,
+    stream: &mut CertStream<C>,
+) -> Result<Told, BoundFault>
+    requires count { C.failed stream.old.lines.from < 2 ^ 64 - 1 }
+    requires open { IsUndecided stream.old }
+    requires header { IsReadFor expanded.pairs.blocks group.Worth stream.old.header stream.old.fault }
+    ensures told { (texts : MineTexts) (p u : List ℕ) (nanos : List ℤ) (rests : RestsView) (said : PeriodsView) (used : List ℕ)
+        → AreRead texts nanos rests
+        → ReadsPeriodsText p said
+        → ReadsUses rests.blocks said.resources u used
+        → IsExpanded nanos rests said used expanded.figures expanded.prices.items expanded.pairs expanded.worths.items
+        → IfOk result (IsToldFor texts p u rests.blocks said) }
+    ensures device { IsErrOf result (bound.Plan (plan.Engine engine.Device))
+        → C.failed stream.new.lines.from ≡ C.failed stream.old.lines.from + 1 }
+    ensures kept { ¬ IsErrOf result (bound.Plan (plan.Engine engine.Device))
+        → C.failed stream.new.lines.from ≡ C.failed stream.old.lines.from }
+{
+    let judged = match judge_nodes(alloc, expanded.pairs, expanded.worths.as_slice(), stream) {
+        Ok(judged) => judged,
+        Err(fault) => return Err(fault),
+    };
+    match judged {
+        NodesJudged::Richest(worth) => {
+            match bound_by(&expanded.figures, expanded.prices.as_slice(), worth) {
+                Some(bound) => Ok(Told::Bound(bound)),
+                None => Err(BoundFault::Nodes(NodesProblem::TooLarge)),
+            }
+        }
+        NodesJudged::Refused(fault) => Ok(Told::Refused(fault)),
+    }
+}
+
 // The bound of a certificate behind its header, for a mine whose blocks are worth so much.
 fn bound_behind<C: CountedRead>(
     alloc: Global,
@@ -76,23 +112,59 @@ fn bound_behind<C: CountedRead>(
     ensures kept { ¬ IsErrOf result (bound.Plan (plan.Engine engine.Device))
         → C.failed stream.new.lines.from ≡ C.failed stream.old.lines.from }
 {
-    let expanded = match expanded_of(alloc, planned) {
-        Ok(expanded) => expanded,
-        Err(fault) => return Err(fault),
-    };
-    let judged = match judge_nodes(alloc, expanded.pairs, expanded.worths.as_slice(), stream) {
-        Ok(judged) => judged,
-        Err(fault) => return Err(fault),
-    };
-    match judged {
-        NodesJudged::Richest(worth) => {
-            match bound_by(&expanded.figures, expanded.prices.as_slice(), worth) {
-                Some(bound) => Ok(Told::Bound(bound)),
-                None => Err(BoundFault::Nodes(NodesProblem::TooLarge)),
-            }
-        }
-        NodesJudged::Refused(fault) => Ok(Told::Refused(fault)),
+    match expanded_of(alloc, planned) {
+        Ok(expanded) => told_by(alloc, expanded, stream),
+        Err(fault) => Err(fault),
     }
+}
+
+// A mine and its periods, where blocks are worth what they are at the factor that the header of a certificate names. The
+// header is read.
+pub(crate) fn planned_from<R: Threads + Sync, C: CountedRead>(
+    rt: &R,
+    alloc: Global,
+    mine: MineToCheck,
+    beside: BesideRead,
+    stream: &mut CertStream<C>,
+) -> Result<Planned, BoundFault>
+    requires count { C.failed stream.old.lines.from < 2 ^ 64 - 1 }
+    requires fresh { IsFresh stream.old }
+    requires sync { IsSync R.row }
+    ensures mine { IfSome (C.remaining stream.old.lines.from) (λ c. (texts : MineTexts)
+        → IsMineRead texts (factor_in c) mine.worths mine.predecessors
+        → IfOk result (λ q. AreRead texts q.nanos.items mine.predecessors)) }
+    ensures beside { IfOk result (λ q. (q.predecessors ≡ mine.predecessors)
+        × (periods_view q.periods ≡ periods_view beside.periods) × (q.uses.items ≡ beside.uses.items)) }
+    ensures header { IfOk result (λ q. IsReadFor (length q.periods.weights.items * q.predecessors.blocks)
+        group.Worth stream.new.header stream.new.fault) }
+    ensures open { IfOk result (λ _. IsUndecided stream.new) }
+    ensures device { IsErrOf result (bound.Plan (plan.Engine engine.Device))
+        → C.failed stream.new.lines.from ≡ C.failed stream.old.lines.from + 1 }
+    ensures kept { ¬ IsErrOf result (bound.Plan (plan.Engine engine.Device))
+        → C.failed stream.new.lines.from ≡ C.failed stream.old.lines.from }
+{
+    let MineToCheck {
+        worths,
+        predecessors,
+    } = mine;
+    let BesideRead { periods, uses } = beside;
+    let nodes = match nodes_of(predecessors.len(), periods.weights.as_slice().len()) {
+        Ok(nodes) => nodes,
+        Err(fault) => return Err(fault),
+    };
+    let factor = match factor_from(&worths, nodes, stream) {
+        Ok(factor) => factor,
+        Err(fault) => return Err(fault),
+    };
+    let Ok(nanos) = worths.nanos_at(rt, alloc, factor) else {
+        return Err(BoundFault::Plan(PlanFault::Engine(EngineFault::Memory)));
+    };
+    Ok(Planned {
+        nanos,
+        predecessors,
+        periods,
+        uses,
+    })
 }
 
 // The bound of a certificate of which nothing was read.
@@ -117,29 +189,10 @@ fn bound_from<R: Threads + Sync, C: CountedRead>(
     ensures kept { ¬ IsErrOf result (bound.Plan (plan.Engine engine.Device))
         → C.failed stream.new.lines.from ≡ C.failed stream.old.lines.from }
 {
-    let MineToCheck {
-        worths,
-        predecessors,
-    } = mine;
-    let BesideRead { periods, uses } = beside;
-    let nodes = match nodes_of(predecessors.len(), periods.weights.as_slice().len()) {
-        Ok(nodes) => nodes,
-        Err(fault) => return Err(fault),
-    };
-    let factor = match factor_from(&worths, nodes, stream) {
-        Ok(factor) => factor,
-        Err(fault) => return Err(fault),
-    };
-    let Ok(nanos) = worths.nanos_at(rt, alloc, factor) else {
-        return Err(BoundFault::Plan(PlanFault::Engine(EngineFault::Memory)));
-    };
-    let planned = Planned {
-        nanos,
-        predecessors,
-        periods,
-        uses,
-    };
-    bound_behind(alloc, planned, stream)
+    match planned_from(rt, alloc, mine, beside, stream) {
+        Ok(planned) => bound_behind(alloc, planned, stream),
+        Err(fault) => Err(fault),
+    }
 }
 
 /// The bound that the certificate of a device proves for a mine and its periods that were read. Where the blocks have prices they

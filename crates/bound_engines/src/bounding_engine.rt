@@ -25,7 +25,7 @@ use std::alloc::{AllocError, Global};
 use std::thread::Threads;
 
 // The line of what is told.
-fn line_told(alloc: Global, told: Told) -> Result<String, AllocError>
+pub(crate) fn line_told(alloc: Global, told: Told) -> Result<String, AllocError>
     ensures { IfOk result (λ line. string_bytes line ≡ told_line told) }
 {
     match told {

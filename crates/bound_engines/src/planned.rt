@@ -37,6 +37,8 @@ pub(crate) struct Expanded {
     pub figures: Figures,
     /// The price of each resource in each period, row by row.
     pub prices: Vec<u64>,
+    /// The predecessors of each block.
+    pub predecessors: Predecessors,
     /// The predecessors of each node.
     pub pairs: Predecessors,
     /// What each node is worth.
@@ -48,6 +50,7 @@ pub(crate) fn expanded_of(alloc: Global, planned: Planned) -> Result<Expanded, B
     requires { length planned.periods.resources.items ≤ 8 }
     ensures is { IfOk result (λ x. IsExpanded planned.nanos.items planned.predecessors (periods_view planned.periods)
         planned.uses.items x.figures x.prices.items x.pairs x.worths.items) }
+    ensures base { IfOk result (λ x. x.predecessors ≡ planned.predecessors) }
     ensures no_device { ¬ IsErrOf result (bound.Plan (plan.Engine engine.Device)) }
 {
     let Planned {
@@ -86,6 +89,7 @@ pub(crate) fn expanded_of(alloc: Global, planned: Planned) -> Result<Expanded, B
     Ok(Expanded {
         figures,
         prices,
+        predecessors,
         pairs,
         worths,
     })

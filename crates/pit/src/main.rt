@@ -217,10 +217,7 @@ fn schedule<R: Files + Print + Eprint + Threads + Sync + AllocGlobal>(
         Ok(factor) => factor,
         Err(wrong) => return refused(rt, wrong),
     };
-    match schedule_files(rt, args, factor) {
-        Ok(verdict) => Ok(Ending::Answered(verdict)),
-        Err(fault) => unplanned(fault),
-    }
+    bounded(schedule_files(rt, args, factor))
 }
 
 // Bounds the worth of every schedule of the mine of files and its periods.

@@ -4,7 +4,7 @@
 ghost use Rattle.engines.specs.Slopes.{IsChoice};
 
 use crate::slopes_args::selection_asked;
-use bound_engines::{BoundFault, BoundInputs, bound_engine};
+use bound_engines::{BoundFault, BoundInputs, bound_engine, compare_schedule_engine};
 use command_line::{
     BoundArgs, CheckArgs, ModelArgs, ReplayArgs, ScheduleArgs, SlopesArgs, ValueArgs,
 };
@@ -15,7 +15,7 @@ use engines::{
 use fixed_worth::Counted;
 use pit_files::{Heard, offsets_of, open_file, open_mine, output};
 use replay_engines::{ReplayAsked, replay_engine};
-use schedule_engines::{PlanFault, ScheduleInputs, schedule_engine};
+use schedule_engines::{ScheduleInputs, schedule_engine};
 use shells::Factor;
 use slope::Up;
 use std::rt::Files;
@@ -89,7 +89,7 @@ pub fn uses_file<'a>(uses: Option<&'a str>, model: ModelArgs<'a>) -> &'a str {
     }
 }
 
-/// Judges the schedule of a file over the mine of files and its periods.
+/// Judges the schedule of a file over the mine of files and its periods, beside the bound of a certificate where one is named.
 ///
 /// # Errors
 /// `Device` where a file can't be opened; then those of the engine.
@@ -97,7 +97,7 @@ pub fn schedule_files<'a, R: Files + Print + Eprint + Threads + Sync + AllocGlob
     rt: &'a R,
     args: ScheduleArgs<'a>,
     factor: Factor,
-) -> Result<Verdict, PlanFault> {
+) -> Result<Verdict, BoundFault> {
     let alloc = rt.alloc();
     let mut mine = open_mine(rt, args.verbose, args.prec, args.model)?;
     let periods = open_file(rt, args.verbose, args.periods, Heard::nothing(alloc))?;
@@ -114,11 +114,19 @@ pub fn schedule_files<'a, R: Files + Print + Eprint + Threads + Sync + AllocGlob
         schedule,
     };
     let mut out = Counted::new(output(rt, args.verbose, None));
-    if schedule_engine(rt, alloc, &mut mine, &mut beside, factor, &mut out)? {
-        Ok(Verdict::Done)
-    } else {
-        Ok(Verdict::No)
-    }
+    let Some(best) = args.best else {
+        let feasible = schedule_engine(rt, alloc, &mut mine, &mut beside, factor, &mut out)?;
+        return Ok(if feasible { Verdict::Done } else { Verdict::No });
+    };
+    let mut certificate = open_file(rt, args.verbose, best, Heard::nothing(alloc))?;
+    compare_schedule_engine(
+        rt,
+        alloc,
+        &mut mine,
+        &mut beside,
+        &mut certificate,
+        &mut out,
+    )
 }
 
 /// Bounds the worth of every schedule of the mine of files and its periods, by the certificate of a file.

@@ -130,6 +130,12 @@ module _ (texts : MineTexts) (periods uses text : List ℕ) (nanos : List ℤ) (
       let whole : f ≡ figures = e ∙ ap (λ (k : ℕ). figures_view nanos said.weights k used said.capacities) is in
       scheduled known v (subst (λ (g : FiguresView). IsJudged (production_of rests.pairs g) (period_by listed) rests.pairs v) whole (subst (λ (ys : List ℕ). IsJudged (production_of rests.pairs f) (period_by ys) rests.pairs v) same j))
 
+  -- and it is one of this mine and these periods
+  pub scheduled_for : IsRests rests → (resources : ℕ) → resources ≡ length said.resources → (f : FiguresView) → f ≡ figures_view nanos said.weights resources used said.capacities → (xs : List ℕ) → xs ≡ listed
+      → (v : JudgedView) → IsJudged (production_of rests.pairs f) (period_by xs) rests.pairs v → (s : IsScheduled texts periods uses text v) × (s.count ≡ rests.blocks) × (s.said ≡ said)
+  unfolding scheduled_by scheduled
+  scheduled_for known resources is f e xs same v j = (scheduled_by known resources is f e xs same v j, refl, refl)
+
   pub figures_leave : (resources : ℕ) → resources ≡ length said.resources → ¬ (AreFigures (figures_view nanos said.weights resources used said.capacities)) → FiguresLeave texts periods uses
   figures_leave resources is h = record {
     nanos = nanos;

@@ -4,7 +4,7 @@
 //! `periods_file` and `schedule_file`, which read these texts, and on `production_figures` and `schedule_value`, which judge.
 //! Promises upward, over the bytes of the texts: what is written is how many blocks the schedule digs, what they are worth in
 //! their periods, which pairs of the mine it breaks, and where it uses more of a resource than there is; and it is answered
-//! whether the schedule is feasible. Other engines read periods and uses by the same calls.
+//! whether the schedule is feasible. Other engines read periods, uses and schedules by the same calls, and tell a schedule in the same lines.
 #![tactic(auto)]
 
 mod plan_read;
@@ -19,7 +19,9 @@ mod weighed;
 
 pub use problem_line::{write_periods_problem, write_schedule_problem};
 pub use schedule_fault::{PeriodsProblem, PlanFault, ScheduleProblem};
-pub use schedule_inputs::{ScheduleInputs, periods_from};
+pub use schedule_inputs::{ScheduleInputs, periods_from, schedule_from};
+pub use schedule_judge::is_clear;
+pub use schedule_lines::text_of_schedule;
 pub use scheduling_engine::schedule_engine;
 pub use uses::uses_from;
 pub use weighed::Weighed;

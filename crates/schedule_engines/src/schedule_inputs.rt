@@ -108,7 +108,7 @@ fn schedule_in(alloc: Global, text: &[u8], n: u32, periods: u32) -> Result<Vec<u
 /// # Errors
 /// `Schedule` for a text that is too long, or the fault of its first faulty line. `Memory` where memory is refused, `Device`
 /// where a read fails.
-pub(crate) fn schedule_from<D: CountedRead>(
+pub fn schedule_from<D: CountedRead>(
     alloc: Global,
     from: &mut D,
     n: u32,

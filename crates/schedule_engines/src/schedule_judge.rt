@@ -37,8 +37,8 @@ pub(crate) struct Planned {
     pub schedule: Vec<u32>,
 }
 
-// Whether no pair is broken, and nowhere is more used than there is.
-fn is_clear(judged: &Judged) -> bool
+/// Whether no pair is broken, and nowhere is more used than there is: exactly then a schedule is feasible.
+pub fn is_clear(judged: &Judged) -> bool
     ensures { result ≡ is_clear judged.now.broken.count judged.now.over.items }
 {
     judged.broken.count == 0 && judged.over.is_empty()

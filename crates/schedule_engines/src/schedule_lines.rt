@@ -31,13 +31,16 @@ pub(crate) fn write_schedule<W: CountedWrite>(
     ensures device { IsErrOf result EngineFault.Device ↔ (W.failed out.new ≡ W.failed out.old + 1) }
     ensures kept { ¬ IsErrOf result EngineFault.Device → W.failed out.new ≡ W.failed out.old }
 {
-    let text = text_of(alloc, judged)?;
+    let text = text_of_schedule(alloc, judged)?;
     write_text(out, text.as_bytes())?;
     Ok(())
 }
 
-// The lines of a schedule.
-fn text_of(alloc: Global, judged: &Judged) -> Result<String, AllocError>
+/// The lines of a schedule.
+///
+/// # Errors
+/// Memory was refused.
+pub fn text_of_schedule(alloc: Global, judged: &Judged) -> Result<String, AllocError>
     ensures { IfOk result (λ text. string_bytes text ≡ schedule_text (judged_view judged.now)) }
 {
     let count = judged.count;

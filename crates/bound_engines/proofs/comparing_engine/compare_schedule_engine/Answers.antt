@@ -1,0 +1,16 @@
+use Rattle.schedule_value.specs.Judging.{judged_view}
+use Rattle.bound_engines.proofs.GapsTold.{compared_answer, uncompared}
+use Rattle.bound_engines.proofs.comparing_engine.compare_schedule_engine.Goals as goal
+
+pub returns-in-Err-replace_with-clause-answer : goal.returns-in-Err-replace_with-clause-answer
+returns-in-Err-replace_with-clause-answer g c =
+    let b = c.args.beside.now in
+    uncompared c.args.inputs.now g.D.Read.remaining (g.C.Read.remaining c.args.certificate.now) (g.D.Read.remaining b.periods) (g.D.Read.remaining b.uses) (g.D.Read.remaining b.schedule) (g.W.Write.contents c.args.out.now) c.in-Err-replace_with.fault
+
+pub returns-clause-answer : goal.returns-clause-answer
+returns-clause-answer g c =
+    let b = c.args.beside.now in
+    let mine = c.in-Ok.mine in
+    compared_answer c.args.inputs.now g.D.Read.remaining (g.C.Read.remaining c.args.certificate.now) (g.D.Read.remaining b.periods) (g.D.Read.remaining b.uses) (g.D.Read.remaining b.schedule)
+    mine.worths mine.predecessors c.len.result c.len.ensures.is c.in-Ok-plan_priced_from.read c.in-Ok.ensures.read c.in-Ok-plan_priced_from.ensures.read
+    (judged_view c.in-Ok-replace_with.told.judged) c.in-Ok-replace_with.told.told c.in-Ok-replace_with.ensures.0 (g.W.Write.contents c.args.out.now) (g.W.Write.contents c.tell_compared.new.out) c.tell_compared.result c.tell_compared.ensures.answer
