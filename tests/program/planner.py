@@ -11,6 +11,7 @@ from scripts import debian
 
 PYTHON = "/usr/bin/python3"
 AT_ONCE = 4  # tests of browsers, Slurm and large models take up to 1.5 GB each
+FEW = 10  # tests that may be run once more, alone, where they failed beside others
 
 
 def packages(top):
@@ -56,7 +57,9 @@ def installed(top):
 def try_all(top, pit):
     """Runs the tests, with those on a one-node Slurm, Snakemake and Dask, and gives how many passed and failed. What they write is taken away.
 
-    Each processor takes one file of tests after another: those of a file share a model, a browser or a Slurm.
+    Each processor takes one file of tests after another: those of a file share a model, a browser or a Slurm. Where few
+    failed, these are run once more, alone: what passes only then is told, and isn't counted as failed, since browsers and
+    schedulers beside each other may wait longer for a processor than a test does.
     """
     if not os.access(pit, os.X_OK):
         print("no program at %s" % pit)
@@ -65,38 +68,39 @@ def try_all(top, pit):
         return 0, 1
     with tempfile.TemporaryDirectory(prefix="pitplan-tests.", ignore_cleanup_errors=True) as room:
         side_by_side = ["-n", str(min(AT_ONCE, machine.processors())), "--dist", "loadfile"]
-        words = [
-            PYTHON,
-            "-m",
-            "pytest",
-            "-q",
-            *side_by_side,
-            "-p",
-            "no:cacheprovider",
-            "--basetemp=" + os.path.join(room, "t"),
-            "tests",
-        ]
-        ran = subprocess.run(
-            words,
-            cwd=top / "python",
-            env={**os.environ, "PIT": str(pit), "TMPDIR": room},
-            stdin=subprocess.DEVNULL,
-            stdout=subprocess.PIPE,
-            stderr=subprocess.STDOUT,
-            text=True,
+        passed, failed = ran(top, pit, room, "t", side_by_side)
+        if not 0 < failed <= FEW:
+            return passed, failed
+        well, failed = ran(
+            top, pit, room, "u", ["--last-failed", "--last-failed-no-failures", "none"]
         )
+        print("%d tests that failed beside others passed alone" % well)
+    return passed + well, failed
+
+
+def ran(top, pit, room, name, more):
+    """Runs pytest once, shows what it prints where a test failed, and gives how many passed and failed."""
+    words = [PYTHON, "-m", "pytest", "-q", "-o", "cache_dir=" + os.path.join(room, "cache")]
+    run = subprocess.run(
+        [*words, *more, "--basetemp=" + os.path.join(room, name), "tests"],
+        cwd=top / "python",
+        env={**os.environ, "PIT": str(pit), "TMPDIR": room},
+        stdin=subprocess.DEVNULL,
+        stdout=subprocess.PIPE,
+        stderr=subprocess.STDOUT,
+        text=True,
+    )
+    if run.returncode:
+        print(run.stdout)
+    last = (run.stdout.strip() or "-").rsplit("\n", 1)[-1]
     counts = {
-        word: int(number)
-        for number, word in re.findall(
-            r"(\d+) (passed|failed|error|errors)\b", ran.stdout.strip().rsplit("\n", 1)[-1]
-        )
+        word.rstrip("s"): int(number)
+        for number, word in re.findall(r"(\d+) (passed|failed|errors?)\b", last)
     }
-    passed, failed = counts.get("passed", 0), counts.get("failed", 0) + counts.get(
-        "error", 0
-    ) + counts.get("errors", 0)
-    if ran.returncode:
-        print(ran.stdout)
-    return passed, max(failed, int(ran.returncode != 0))
+    if not counts:  # it ended before its last line
+        return 0, FEW + 1
+    failed = counts.get("failed", 0) + counts.get("error", 0)
+    return counts.get("passed", 0), max(failed, int(run.returncode != 0))
 
 
 def try_packaged(top, pit):

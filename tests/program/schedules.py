@@ -61,9 +61,13 @@ def made_up(seed):
     )
 
 
-def judged(plan):
-    """The status and the lines that must come."""
-    npv = sum(plan.worths[b] * 1000 * plan.weights[t] for b, t in plan.periods.items())
+def npv_of(plan, worths):
+    """What the schedule is worth where each block is worth so many billionths, in 10^-15 of the unit."""
+    return sum(worths[b] * plan.weights[t] for b, t in plan.periods.items())
+
+
+def judged(plan, worths):
+    """The status and the lines that must come where each block is worth so many billionths."""
     broken = [
         (b, p)
         for b, p in plan.pairs
@@ -82,7 +86,10 @@ def judged(plan):
         for t in range(PERIODS)
         if used[r][t] > plan.capacities[r][t] * 10**6
     ]
-    lines = ["SCHEDULE %d %s" % (len(plan.periods), decimal(npv, 15)), "BROKEN %d" % len(broken)]
+    lines = [
+        "SCHEDULE %d %s" % (len(plan.periods), decimal(npv_of(plan, worths), 15)),
+        "BROKEN %d" % len(broken),
+    ]
     lines += ["BREAKS %d %d" % pair for pair in broken]
     lines += [
         "OVER %d %d %s %d" % (r, t, decimal(used[r][t], 6), plan.capacities[r][t]) for r, t in over
@@ -119,7 +126,7 @@ def wrong(program, seed):
     with tempfile.TemporaryDirectory() as folder:
         written(plan, Path(folder))
         status, output, errors = run(program, WORDS, folder)
-    want = judged(plan)
+    want = judged(plan, [1000 * worth for worth in plan.worths])
     return (
         ""
         if (status, output.decode()) == want and not errors
