@@ -28,6 +28,7 @@ PARTS = {
     "Plan a mine": {
         "PLANNING": "From a table to pits",
         "STUDY": "The keys of study.toml",
+        "DESK": "The same in a browser",
         "SCALE": "How large a study may be",
         "AUDIT": "For auditors",
     },

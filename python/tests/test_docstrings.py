@@ -6,6 +6,7 @@ from pathlib import Path
 
 PYTHON = Path(__file__).resolve().parents[1]
 FILES = sorted((PYTHON / "pitplan").rglob("*.py"))
+SAYING_WHAT_THEY_RAISE = "base table model pit slopes study plans tasks views".split()
 LONGEST = 4  # lines of a function that may go without a word
 
 
@@ -26,6 +27,26 @@ def test_public_functions_say_what_they_do():
         f"{path.name}: {node.name}"
         for path, node in public()
         if not ast.get_docstring(node) and node.end_lineno - node.lineno >= LONGEST
+    ]
+    assert not silent, silent
+
+
+def raised(node):
+    """Whether a function raises something new itself, not by one that stands within it."""
+    return any(
+        isinstance(each, ast.Raise) and each.exc is not None or raised(each)
+        for each in ast.iter_child_nodes(node)
+        if not isinstance(each, (ast.FunctionDef, ast.Lambda))
+    )
+
+
+def test_public_functions_say_what_they_raise():
+    silent = [
+        f"{path.name}: {node.name}"
+        for path, node in public()
+        if path.relative_to(PYTHON / "pitplan").parts[0] in SAYING_WHAT_THEY_RAISE
+        and raised(node)
+        and "Raises" not in (ast.get_docstring(node) or "")
     ]
     assert not silent, silent
 

@@ -113,9 +113,8 @@ def write_bundle(
     with made_whole(folder, is_study=False) as work:
         name = f"table/{_plain_name(table.name)}"
         _copy_files(study, work, {plan: "study.toml", table: name})
-        manifest = study.manifest | {
-            "source": study.manifest["source"] | {"table": name}
-        }  # no path of the planner's machine
+        # no path of the planner's machine
+        manifest = study.manifest | {"source": study.manifest["source"] | {"table": name}}
         (work / "model" / "manifest.json").write_text(json.dumps(manifest, indent=1))
         _write_certificates(shells, work)
         write_tables(shells, work, rates or {})

@@ -207,7 +207,7 @@ def _small_mine() -> Iterator[Finding]:
                 step(folder)
             except (
                 Exception
-            ) as error:  # whatever it is, it is told, and what comes behind it can't be tried
+            ) as error:  # whatever it is, it is told, and what comes after it can't be tried
                 yield Finding(
                     "WRONG",
                     f"{what}: {type(error).__name__}: {error}",

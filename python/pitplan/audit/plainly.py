@@ -181,7 +181,7 @@ class Predecessors:
     """The predecessors of each block, in one array."""
 
     def __init__(self, name: str, count: int) -> None:
-        self.listed, self.first, self.behind = (
+        self.listed, self.first, self.after = (
             array("I"),
             array("Q", bytes(8 * count)),
             array("Q", bytes(8 * count)),
@@ -201,10 +201,10 @@ class Predecessors:
             self.listed.extend(
                 sorted({whole(field, count, where) for field in fields[2:]} - {block})
             )
-            self.behind[block] = len(self.listed)
+            self.after[block] = len(self.listed)
 
     def of(self, block: int) -> Sequence[int]:
-        return self.listed[self.first[block] : self.behind[block]]
+        return self.listed[self.first[block] : self.after[block]]
 
 
 def worths_of(price: list[bytes], table: list[list[int]], values: list[int] | None) -> list[int]:

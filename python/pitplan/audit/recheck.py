@@ -42,10 +42,12 @@ HELD = 10  # bytes of memory that a byte of a table takes, its cells as words
 LINE = 120  # bytes that a line of a certificate has at most
 NUMBER = re.compile(r"[+-]?(\d+\.?\d*|\.\d+)([eE][+-]?\d+)?")
 COMMA = re.compile(r"([+-]?\d*),(\d+(?:[eE][+-]?\d+)?)")
+# bytes that any table may unpack to, and how many times its size a larger one may
 SMALL, MOST_TIMES = (
     1 << 26,
     200,
-)  # bytes that any table may unpack to, and how many times its size a larger one may
+)
+# grams in a tonne
 GRADES = {
     "%": 10_000.0,
     "kg/t": 1_000.0,
@@ -55,8 +57,9 @@ GRADES = {
     "ppb": 0.001,
     "oz/st": 31.1034768 / 0.90718474,
     "lb/st": 453.59237 / 0.90718474,
-}  # grams in a tonne
+}
 SERIES = {"from": 0.30, "to": 1.20, "step": 0.05}  # where study.toml says no factors
+# grams in a unit
 PRICES = {
     "t": 1e6,
     "kg": 1e3,
@@ -66,17 +69,20 @@ PRICES = {
     "dmtu": 10_000.0,
     "st": 907_184.74,
     "stu": 9_071.8474,
-}  # grams in a unit
+}
+# in tonnes and metres
 UNITS = {
     "weight": {"t": 1.0, "st": 0.90718474},
     "length": {"m": 1.0, "ft": 0.3048},
-}  # in tonnes and metres
+}
+# how far from 0 a number of a file may be, and how many letters a formula may have
 FAR, LONGEST = (
     1e100,
     2000,
-)  # how far from 0 a number of a file may be, and how many letters a formula may have
+)
 ROUNDED = 1e-6  # degrees: so little is what arithmetic leaves
 MOST = 10**18  # millionths that `pit` reads for a block
+# what Python raises over a text that is no formula
 UNWORKABLE = (
     ArithmeticError,
     MemoryError,
@@ -84,7 +90,7 @@ UNWORKABLE = (
     SyntaxError,
     TypeError,
     ValueError,
-)  # what Python raises over a text that is no formula
+)
 
 
 class Bad(Exception):
@@ -318,10 +324,11 @@ VERDICT = {
         and re.fullmatch(r"-?\d{1,100}(\.\d{1,9})?", value) is not None,
     ),
 }
+# of the columns: percents of a block that are rock, of its tonnes that are ore
 PART, ORE = (
     "topography",
     "ore",
-)  # of the columns: percents of a block that are rock, of its tonnes that are ore
+)
 AT = Kind("a whole number from 0 to 65,535", lambda value: is_whole(value, 0, 65_535))
 COLUMNS = {"revenue": AT, "processing": AT, "mining": AT, "tonnes": AT}
 
@@ -379,7 +386,7 @@ class Report:
         return holds
 
     def attempt(self, what: str, step: Callable[..., Any], *words: Any) -> Any:
-        """Makes a step; whatever goes wrong in it is a line, and the steps behind it are made all
+        """Makes a step; whatever goes wrong in it is a line, and the steps after it are made all
         the same."""
         try:
             return step(*words)
@@ -443,12 +450,11 @@ def within(name: str) -> Path:
 def check_digests(report: Report) -> None:
     """Each file is listed and is the one that was listed."""
     listed: dict[str, str] = {}
-    *lines, behind = text_of(SUMS, "text").split(
-        "\n"
-    )  # no other byte ends a line, as for sha256sum
-    for line in [*lines, behind] if behind else lines:
+    # no other byte ends a line, as for sha256sum
+    *lines, rest = text_of(SUMS, "text").split("\n")
+    for line in [*lines, rest] if rest else lines:
         found = re.fullmatch(r"([0-9a-f]{64})  ([^\x00-\x1f]+)", line)
-        if not found or line is behind:
+        if not found or line is rest:
             raise Bad(f"a line that is none: {line[:100]!r}")
         if found[2] in listed:
             raise Bad(f"a second line for {found[2]}")
@@ -995,9 +1001,8 @@ class AddedUp(Table):
             value = Table.number(self, part, column) if is_number else cell.strip()
             cell_of.setdefault(value, cell)
             tonnes[value] = tonnes.get(value, 0.0) + self.weight[part]
-        return cell_of[
-            max(tonnes, key=lambda value: tonnes[value])
-        ]  # max gives the first of several
+        # max gives the first of several
+        return cell_of[max(tonnes, key=lambda value: tonnes[value])]
 
     def word(self, row: int, column: str) -> str:
         """The cell of a row; of a block in parts the one that most of its tonnes have."""
@@ -1411,9 +1416,8 @@ def codes_of(economics: dict[str, Any], by: str | None) -> set[str]:
         try:
             return parsed(text)
         except UNWORKABLE:
-            return ast.Constant(
-                0
-            )  # a column whose name is no plain word, or no formula, which is told where it is worked out
+            # a column whose name is no plain word, or no formula, which is told where it is worked out
+            return ast.Constant(0)
 
     amounts = [
         economics["mining"],
@@ -1471,9 +1475,8 @@ def check_facts(report: Report, blocks: Blocks, facts: dict[str, Any]) -> None:
         table == facts["sha256"] == manifest["source"]["sha256"],
         "the table is the one that the model was built from",
     )
-    listed = {
-        name: digest for name, digest in manifest["files"].items() if name != "blocks.npz"
-    }  # pitplan's own, not bundled
+    # pitplan's own, not bundled
+    listed = {name: digest for name, digest in manifest["files"].items() if name != "blocks.npz"}
     bad = [name for name, digest in listed.items() if digest_of(within(f"model/{name}")) != digest]
     report.check(
         not bad and {"mine.blocks", "mine.prec", "settings.toml"} <= set(listed),
@@ -1804,9 +1807,8 @@ class Sum:
 
     def __init__(self) -> None:
         self.blocks, self.worth, self.rock, self.ore = 0, 0, 0.0, 0.0
-        self.graded, self.metal = defaultdict[str, float](float), defaultdict[str, float](
-            float
-        )  # of each metal tonnes of ore times their grade, and what is recovered
+        # of each metal tonnes of ore times their grade, and what is recovered
+        self.graded, self.metal = defaultdict[str, float](float), defaultdict[str, float](float)
 
     def add(self, blocks: Blocks, b: int, worked: Worked | None) -> None:
         """Counts a block in."""
@@ -2047,7 +2049,7 @@ def tell_walls(report: Report, lists: list[list[list[int]]]) -> None:
     asked = {"default": slopes.get("angles", 45.0), **slopes.get("regions", {})}
     for offsets, (region, between) in zip(lists, asked.items()):
         angles = with_ramp(between, slopes.get("ramp", {}), region)
-        steeper, flatter = wall_errors(offsets, grid, Asked.of(angles))
+        steeper, flatter = wall_errors(offsets, grid, Angles.of(angles))
         what = f"the slopes of {region}: a deep wall of model/slopes.toml is at most {degrees(steeper)} degrees steeper and {degrees(flatter)} flatter than study.toml asks"
         if slopes.get("safe") and steeper > ROUNDED:
             report.check(False, f"{what}, by safe = true never steeper")
@@ -2078,14 +2080,14 @@ def degrees(value: float) -> str:
     return f"{value:.2f}" if value <= ROUNDED or value >= 0.005 else f"{value:.6f}"
 
 
-class Asked(NamedTuple):
+class Angles(NamedTuple):
     """The angles of study.toml: pairs of a bearing and degrees, ascending; between two of them the
     angle changes evenly."""
 
     pairs: list[tuple[float, float]]
 
     @classmethod
-    def of(cls, angles: Any) -> Asked:
+    def of(cls, angles: Any) -> Angles:
         """A number, or a list of bearings with an angle for each."""
         if not isinstance(angles, list):
             return cls([(0.0, float(angles))])
@@ -2109,7 +2111,7 @@ class Asked(NamedTuple):
 
 
 def wall_errors(
-    offsets: list[list[int]], grid: dict[str, Any], asked: Asked
+    offsets: list[list[int]], grid: dict[str, Any], asked: Angles
 ) -> tuple[float, float]:
     """By how many degrees a deep wall is at most steeper and at most flatter than asked, of all
     bearings.

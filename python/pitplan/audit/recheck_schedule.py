@@ -341,13 +341,15 @@ def check_bound(mine: Mine, periods: Periods, lagged: Rows) -> Decimal:
     sunk = of_units(lagged, periods.unit, False)
     order, count = add_gates(mine, periods, above), len(periods.weights)
     sunk += [set() for _ in above[len(sunk) :]]
-    leaves = left_by_units(mine, periods, len(above))
-    node, worths = list[tuple[int, int]](), list[int]()
-    for unit, first in enumerate(first_periods(periods, order, above, sunk)):
-        left = leaves[unit] + [0]
-        for t in range(first, count):
-            node.append((unit, t))
-            worths.append((left[t] - left[t + 1]) * THOUSAND)
+    is_plain = not any(sunk) and not any(mine.gains[b] for b in periods.unit if chooses(periods))
+    leaves = left_by_units(mine, periods, len(above), THOUSAND if not is_plain else 1)
+    firsts = enumerate(first_periods(periods, order, above, sunk))
+    node = [(unit, t) for unit, first in firsts for t in range(first, count)]
+    grain = 1
+    if is_plain:  # pit bound has judged it: node t * n + b of n units, and amounts in 10^-15
+        node.sort(key=lambda each: each[1])
+        grain = MILLION
+    worths = [(leaves[unit][t] - leaves[unit][t + 1]) * grain for unit, t in node]
     source = flow_of(node, worths, above, sunk, periods.lag)
     closed = sum(max(worth, 0) for worth in worths) - source
     rooms = 0  # a period pays for its capacities and has its fixed cost, or digs nothing
@@ -356,12 +358,18 @@ def check_bound(mine: Mine, periods: Periods, lagged: Rows) -> Decimal:
             prices[t] * row[t] for prices, row in zip(periods.multipliers, periods.capacities)
         )
         rooms += max(paid - weight * periods.fixed_cost * THOUSAND, 0)
-    return Decimal(closed + rooms) / (MILLION * THOUSAND)
+    return Decimal(closed + rooms * grain) / (MILLION * THOUSAND * grain)
 
 
-def left_by_units(mine: Mine, periods: Periods, units: int) -> Rows:
-    """What each unit leaves in each period: what it is worth less what it uses at the multipliers,
-    in millionths, by the better of mill and waste for each block where a schedule may choose."""
+def chooses(periods: Periods) -> bool:
+    """Whether a schedule says which blocks go to the mill."""
+    return periods.sent is not None
+
+
+def left_by_units(mine: Mine, periods: Periods, units: int, grain: int) -> Rows:
+    """What each unit leaves in each period, and nothing behind the last: what it is worth less what
+    it uses at the multipliers, in billionths, each product rounded down to so many; by the better of
+    mill and waste for each block where a schedule may choose."""
     values, more = [0] * units, [[0] * len(periods.weights) for _ in range(units)]
     uses = [[0] * units for _ in periods.uses]
     rock, feed = periods.uses
@@ -374,14 +382,17 @@ def left_by_units(mine: Mine, periods: Periods, units: int) -> Rows:
             uses[1][unit] += feed[block]
         elif gain:
             for t, (weight, price) in enumerate(zip(periods.weights, periods.multipliers[1])):
-                more[unit][t] += max(weight * gain - feed[block] * price // THOUSAND, 0)
+                paid = feed[block] * price // grain * grain
+                more[unit][t] += max(weight * gain * THOUSAND - paid, 0)
+    both = list(zip(uses, periods.multipliers))
     return [
         [
-            weight * values[unit]
+            weight * values[unit] * THOUSAND
             + more[unit][t]
-            - sum(row[unit] * each[t] // THOUSAND for row, each in zip(uses, periods.multipliers))
+            - sum(row[unit] * each[t] // grain * grain for row, each in both)
             for t, weight in enumerate(periods.weights)
         ]
+        + [0]
         for unit in range(units)
     ]
 
@@ -654,6 +665,9 @@ def check_tables(
         for name, ours in (("weight", weight), ("discounted", flow * weight), ("npv", npv)):
             need(recheck.is_close(line.number(name), ours, 1e-3), f"{what}: {name}")
         check_binding(line, what, asked, t, (found.rock, found.ore * feed))
+        dug = [bench for period, bench, _ in sums.benches if period == t]
+        toe = min(dug) - facts["grid"]["size"][2] / 2 if dug else None
+        need(is_bottom(line.word("bottom"), toe), f"{what}: bottom")
     benches = dict[tuple[int, float, int], recheck.Line]()
     for line in recheck.read_table("schedule_benches.csv"):
         pushback = line.whole("pushback") if asked.terms.get("pushbacks") else 1
@@ -663,6 +677,13 @@ def check_tables(
         what = f"tables/schedule_benches.csv, line {line.at}, isn't what its blocks come to"
         need(line.whole("year") == place[0] // asked.per_year + 1, what)
         need(is_line(line, sums.benches[place], metals, feed), what)
+
+
+def is_bottom(word: str, toe: float | None) -> bool:
+    """Whether a cell says how deep a period comes; of one in which no rock is dug it is empty."""
+    if toe is None or not word:
+        return toe is None and not word
+    return recheck.is_close(float(word), toe, 1e-3)
 
 
 def check_binding(

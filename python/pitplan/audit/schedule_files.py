@@ -41,8 +41,9 @@ def write_schedule(
     study = shells.study
     if not (study.folder / "runs" / "schedule").is_dir():
         return False
-    from ..schedule.judged import periods_text, write_texts  # these need Numba
+    from ..schedule.judged import write_texts  # these need Numba
     from ..schedule.kept import Kept
+    from ..schedule.periods_text import periods_text
     from ..schedule.plan import Schedule
     from ..schedule.tables import Tables
 
@@ -59,9 +60,7 @@ def write_schedule(
     folder = work / "schedule"
     folder.mkdir()
     write_texts(folder, study, made, found.period)
-    (folder / "periods.toml").write_text(
-        periods_text(made) + f"multipliers = {bound.multipliers}\n"
-    )
+    (folder / "periods.toml").write_text(periods_text(made, np.array(bound.multipliers, np.int64)))
     (folder / "units.txt").write_text(
         "".join(f"{b} {u}\n" for b, u in zip(made.blocks.tolist(), made.unit.tolist()))
     )

@@ -204,9 +204,8 @@ def _furthest(values: Ints) -> int:
 def exact_sum(values: Ints) -> int:
     """The sum of whole numbers as Python's whole number: it is never rounded and never overflows,
     for up to 2^31 of them."""
-    high = int(
-        (values >> _HALF).sum(dtype=np.int64)
-    )  # of a number below 0 too: it is high times 2^31 and low, from 0 on
+    # of a number below 0 too: it is high times 2^31 and low, from 0 on
+    high = int((values >> _HALF).sum(dtype=np.int64))
     return (high << _HALF) + int((values & (1 << _HALF) - 1).sum(dtype=np.int64))
 
 

@@ -62,8 +62,7 @@ def sha256_unless_known(path: Path) -> str:
     if stamp == known:
         return digest
     digest = sha256(name)
-    if (
-        0 < max(stamp.written, stamp.changed) < now - SETTLED
-    ):  # so what changes it from now on, or did meanwhile, gives it another stamp
+    # so what changes it from now on, or did meanwhile, gives it another stamp
+    if 0 < max(stamp.written, stamp.changed) < now - SETTLED:
         _known[name] = stamp, digest
     return digest

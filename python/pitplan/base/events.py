@@ -8,11 +8,14 @@ They are written to the file that ``PITPLAN_EVENTS`` in the environment names, a
     begin   command (list of words), pid, host
     wait    what: who has the study, before this command waits for its turn
     step    what, of what is begun
-    pit factor (thousandths), state (solving, proved, done, killed), share (0 to 1), of (how many
-    pits were asked for) task task (its words), done (how many are), of look what, try error as
-    `errors.PlanError.as_data`, and line, of study.toml said what: a line of the command's answer
-    table title, names (of its columns), rows (lists of words): a table of the command's answer end
-    status: the exit status
+    pit     factor (thousandths), state (solving, proved, done, killed), share (0 to 1), of (how
+            many pits were asked for)
+    task    task (its words), done (how many are), of
+    look    what, try
+    error   as `errors.PlanError.as_data`, and line, of study.toml
+    said    what: a line of the command's answer
+    table   title, names (of its columns), rows (lists of words): a table of the command's answer
+    end     status: the exit status
 """
 from __future__ import annotations
 

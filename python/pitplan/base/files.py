@@ -52,7 +52,7 @@ def whole_file(target: str | os.PathLike[str]) -> Iterator[Path]:
 @contextmanager
 def made_whole(place: Path, is_study: bool = True) -> Iterator[Path]:
     """A folder to write in, that is renamed to `place` at the end; whatever goes wrong before,
-    `place` stays as it was.
+    `place` stays as it was. Raises MachineError where the disk refuses.
 
     Its name says the host and the process, for `sweep`. Within a study (`is_study`) it has its
     parent's mode, so that who works in the one works in the other, but others never write there;

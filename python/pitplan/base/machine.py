@@ -13,6 +13,7 @@ from __future__ import annotations
 
 import os
 import re
+from collections.abc import Iterator
 from pathlib import Path
 
 _GROUPS = Path("/sys/fs/cgroup")
@@ -79,22 +80,29 @@ def free_memory(groups: Path = _GROUPS, own: Path = _OWN, memory: Path = _MEMORY
     its groups' limits leave."""
     free = _number_in(_text_of(memory), r"^MemAvailable:\s+(\d+)")
     found = [free * 1024] if free is not None else []
-    for folder in _folders(_TWO, groups, own):
-        for name in ("memory.max", "memory.high"):
-            found += _left_of(folder / name, folder / "memory.stat", ("anon", "shmem"))
-    for folder in _folders("memory", groups, own):
-        found += _left_of(
-            folder / "memory.limit_in_bytes", folder / "memory.stat", ("total_rss", "total_shmem")
-        )
+    for limit, held, taken in _limits(groups, own):
+        found.append(limit - sum(_number_in(held, rf"^{kind} (\d+)") or 0 for kind in taken))
     return max(0, min(found, default=UNKNOWN))
 
 
-def _left_of(limit: Path, held: Path, taken: tuple[str, ...]) -> list[int]:
-    """What a group's limit leaves, by the kinds of memory that count as taken; nothing where there
-    is no limit."""
-    most, stat = _number_in(_text_of(limit), r"^(\d+)"), _text_of(held)
-    return (
-        []
-        if most is None
-        else [most - sum(_number_in(stat, rf"^{kind} (\d+)") or 0 for kind in taken)]
-    )
+def whole_memory(groups: Path = _GROUPS, own: Path = _OWN, memory: Path = _MEMORY) -> int:
+    """How many bytes of memory a process may take that has the machine, or its group, to itself:
+    those of the machine, or the least of its groups' limits."""
+    whole = _number_in(_text_of(memory), r"^MemTotal:\s+(\d+)")
+    found = [whole * 1024] if whole is not None else []
+    found += [limit for limit, _, _ in _limits(groups, own)]
+    return min(found, default=UNKNOWN)
+
+
+def _limits(groups: Path, own: Path) -> Iterator[tuple[int, str, tuple[str, ...]]]:
+    """Each limit of memory that this process's groups have: its bytes, the text of what the group
+    holds, and the kinds of memory there that count as taken."""
+    for controller, names, taken in (
+        (_TWO, ("memory.max", "memory.high"), ("anon", "shmem")),
+        ("memory", ("memory.limit_in_bytes",), ("total_rss", "total_shmem")),
+    ):
+        for folder in _folders(controller, groups, own):
+            for name in names:
+                limit = _number_in(_text_of(folder / name), r"^(\d+)")
+                if limit is not None:
+                    yield limit, _text_of(folder / "memory.stat"), taken

@@ -21,7 +21,7 @@ def hear() -> None:
 
 
 def stop(number: int, frame: object) -> None:
-    """What a signal that ends the command does."""
+    """What a signal that ends the command does. Raises KeyboardInterrupt."""
     _asked.set()
     raise KeyboardInterrupt
 

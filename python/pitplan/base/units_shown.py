@@ -144,7 +144,7 @@ def separated(number: str) -> str:
 
 
 def alike(numbers: Iterable[str]) -> list[str]:
-    """Exact numbers of one column, with zeros behind those that have fewer decimals than another.
+    """Exact numbers of one column, with zeros after those that have fewer decimals than another.
 
     >>> alike(["3,576.5", "12"])
     ['3,576.5', '12.0']

@@ -60,6 +60,7 @@ _NAMES = {
 # By their signs, and by their names.
 _KNOWN = METALS | {found[0]: found for found in METALS.values()}
 _KNOWN |= {word: _KNOWN[name] for word, name in _NAMES.items()}
+# metals whose price is known about
 _STEADY = (
     "copper",
     "gold",
@@ -70,7 +71,7 @@ _STEADY = (
     "nickel",
     "cobalt",
     "platinum",
-)  # metals whose price is known about
+)
 
 
 def metal_of(column: str) -> tuple[str, str, str, float] | None:

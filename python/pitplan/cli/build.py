@@ -1,15 +1,12 @@
 """`pitplan init` and `pitplan build`."""
 from __future__ import annotations
 
-import sys
 from collections.abc import Mapping, Sequence
 from pathlib import Path
 from typing import TYPE_CHECKING, Optional
 
 import typer
-from rich.markup import escape
 
-from ..base import events
 from ..base.errors import PlanError
 from ..base.next_command import command
 from ..base.within import refuse_outside
@@ -18,13 +15,11 @@ from .console import STUDY, app, described, err, print_columns, say, warn
 
 if TYPE_CHECKING:
     import pandas as pd
-    from rich.status import Status
 
     from ..base.amounts import Priced
     from ..base.arrays import Bools
     from ..base.strange import Strange
     from ..model.model import Model
-    from ..slopes.slopes import Begun
     from ..study.study import Study
     from ..study.study_file import StudyFile
 
@@ -122,14 +117,13 @@ def build(folder: Path = STUDY) -> None:
     )
     for note in model.notes:
         say("  " + note)
-    with err.status("prices and slopes") as status:
+    with err.status("prices and slopes"):
         Building(
             plan.path.parent,
             model,
             plan.economics,
             plan.slopes,
             keys=plan.digest,
-            begun=_of_region(status),
         ).write()
         study = Study(plan.path.parent, named=folder)
         study.priced.check_room(max(plan.factors, default=THOUSAND))
@@ -149,21 +143,6 @@ def build(folder: Path = STUDY) -> None:
     print_patterns(plan.slopes, study.model.grid, study.model.units.length)
     _set_aside(study, key_of(plan.slopes, study.model.grid))
     _print_size(study, plan)
-
-
-def _of_region(status: Status) -> Begun:
-    """Says which region's slopes are begun: on a terminal in place of the line before, else a line
-    for each, for logs."""
-
-    def heard(name: str, at: int, count: int) -> None:
-        said = f"slopes of {name}, {at} of {count}"
-        events.event("step", what=said)
-        if err.is_terminal:
-            status.update(escape(said))
-        else:
-            print(said, file=sys.stderr, flush=True)
-
-    return heard
 
 
 def _set_aside(study: Study, walls: str) -> None:

@@ -4,7 +4,9 @@ from __future__ import annotations
 from pathlib import Path
 
 import typer
-from .console import STUDY, app, described, err, say, shells_of
+
+from ..base.next_command import command
+from .console import STUDY, app, described, err, say, shells_of, warn
 
 
 @app.command()
@@ -28,4 +30,9 @@ def bundle(
     )
     if (target / "schedule").is_dir():
         say(f"the plan by years is in it: python3 {target}/recheck_schedule.py checks it again")
+    elif (shells.study.folder / "runs" / "schedule" / "schedule.npz").is_file():
+        warn(
+            "the plan by years isn't in it: it was found for other terms, prices or pits than"
+            f" those of study.toml now\n  try: {command('schedule', folder)}, and bundle again"
+        )
     say(f"tell the auditor by another way: sha256 of SHA256SUMS is\n{digest}")

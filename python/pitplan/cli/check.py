@@ -4,7 +4,7 @@ from __future__ import annotations
 import time
 from collections.abc import Mapping
 from pathlib import Path
-from typing import TYPE_CHECKING, NoReturn
+from typing import TYPE_CHECKING, Any, NoReturn
 
 import typer
 
@@ -17,6 +17,7 @@ from .console import STUDY, app, err, say
 
 if TYPE_CHECKING:
     from ..study.check import Checked
+    from ..study.study_file import StudyFile
 
 _EVERY = 0.3  # seconds between two looks whether a file was saved
 _MOST_COLUMNS = 12  # whose cells are counted in a line
@@ -102,8 +103,48 @@ def _once(folder: Path) -> Checked:
                 for metal in parts.economics.metals
             },
         )
+    if parts and not found.errors:
+        plan = parts.whole()
+        found.errors += _wrong_pushbacks(plan, folder)
+        for line in _order_said(plan.values["schedule"]) if not found.errors else ():
+            say(line)
     tell_strange(found.looks)
     return found
+
+
+def _wrong_pushbacks(plan: StudyFile, folder: Path) -> list[PlanError]:
+    """What `schedule` would refuse of its pushbacks: that they don't ascend, or end at no pit of the
+    series."""
+    from ..schedule.terms import pushbacks_of, refuse_missing
+
+    try:
+        pushbacks = pushbacks_of(plan.values["schedule"]["pushbacks"] or ())
+        refuse_missing(pushbacks, plan.factors, command("shells", folder))
+    except PlanError as error:
+        return [error]
+    return []
+
+
+def _order_said(told: Mapping[str, Any]) -> list[str]:
+    """In which order pushbacks will be dug, by [schedule]; nothing where it has none.
+
+    >>> print(*_order_said({"pushbacks": [0.5, 0.8], "lead": 2}), sep="\\n")
+    pushbacks, dug in this order by [schedule], each 2 benches ahead of those after it:
+      1: the pit of factor 0.5
+      2: what the pit of factor 0.8 adds
+      3: the rest of the best pit
+    """
+    shares = told["pushbacks"] or []
+    if not shares:
+        return []
+    ahead = f", each {told['lead']} bench{'es' * (told['lead'] > 1)} ahead of those after it"
+    first, *more = (f"{share:g}" for share in shares)
+    parts = [f"the pit of factor {first}"]
+    parts += [f"what the pit of factor {share} adds" for share in more]
+    return [
+        f"pushbacks, dug in this order by [schedule]{ahead if told['lead'] else ''}:",
+        *(f"  {n}: {part}" for n, part in enumerate([*parts, "the rest of the best pit"], 1)),
+    ]
 
 
 def _watch(folder: Path) -> NoReturn:

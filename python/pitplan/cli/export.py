@@ -7,12 +7,11 @@ from typing import TYPE_CHECKING, Callable, Optional
 import typer
 from ..base.errors import PlanError, meant
 from ..base.units_shown import length_text
+from ..views.export.kinds import KINDS
 from .console import STUDY, app, err, results, say, shells_of
 
 if TYPE_CHECKING:
     from ..study.shells import Shells
-
-_KINDS = ("dxf", "vtu", "csv", "gpkg")
 
 
 @app.command()
@@ -142,8 +141,8 @@ def _kinds_of(text: str) -> list[str]:
     """
     found = list(dict.fromkeys(word.strip().lower().removeprefix(".") for word in text.split(",")))
     for kind in found:
-        if kind not in _KINDS:
-            raise PlanError(f"--to: {kind!r} is no file that is written here{meant(kind, _KINDS)}")
+        if kind not in KINDS:
+            raise PlanError(f"--to: {kind!r} is no file that is written here{meant(kind, KINDS)}")
     return found
 
 

@@ -27,6 +27,7 @@ from ..study import older
 from .console import app, err, tell
 from .taking_turns import take_turns
 
+# of a working day, for --help
 ORDER = (
     "init",
     "check",
@@ -49,13 +50,9 @@ ORDER = (
     "schema",
     "desk",
     "doctor",
-)  # of a working day, for --help
-_SHARED = (
-    "main",
-    "console",
-    "chosen",
-    "taking_turns",
-)  # modules of this package that have no command
+)
+# modules of this package that have no command
+_SHARED = ("main", "console", "chosen", "taking_turns")
 __all__ = ["ENDED", "MACHINE", "NO", "WRONG", "main"]
 
 

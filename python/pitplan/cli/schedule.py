@@ -14,7 +14,7 @@ import typer
 from ..base import events
 from ..base.errors import PlanError
 from ..base.next_command import command
-from ..base.units_shown import printed_scale
+from ..base.units_shown import counted, printed_scale
 from .console import (
     STUDY,
     app,
@@ -35,6 +35,8 @@ if TYPE_CHECKING:
     from ..schedule.tables import Tables
 
 _PERCENT, _MINUTE = 100.0, 60.0
+_WIDE = 1.0  # percent of a gap, from which on a reason is told
+_FEW = 40.0  # blocks or panels of a period, below which parts of one count for that much
 
 
 @app.command()
@@ -97,7 +99,8 @@ def _shown(wanted: float) -> Iterator[Told]:
 
     def words(found: Found) -> str:
         gap = f"{found.gap:.3%} below the bound" if found.gap < 1e9 else "no bound yet"
-        return f"{gap}, {found.filled} periods filled, {found.closures} closures"
+        pits = counted(found.closures, "pit")
+        return f"{gap}, {found.filled} periods filled, {pits} of the mine of blocks and periods"
 
     if not err.is_terminal:
 
@@ -246,9 +249,17 @@ def _tell(found: Schedule, years: pd.DataFrame) -> None:
         )
     say(
         f"by these rates and slopes no schedule brings more than {currency}"
-        f" {math.ceil(found.bound):,}, which pit check has accepted: this one is at most"
+        f" {math.ceil(found.bound):,}, which pit {'bound' if found.production.is_plain else 'check'}"
+        " has accepted: this one is at most"
         f" {found.gap_text} below the best"
     )
+    each = found.units_a_period
+    if found.gap > _WIDE and each < _FEW:
+        say(
+            f"a {'period' if terms.per_year > 1 else 'year'} digs {each:,.1f}"
+            f" {'panels' if terms.panel > 1 else 'blocks'} on the mean: the bound may dig them in"
+            " parts, which no schedule does, so that more minutes may not narrow this gap"
+        )
     if terms.is_by_year:
         say(
             f"{found.said.count - found.count:,} of the blocks go to the mill, each in the year in"

@@ -17,6 +17,7 @@ if TYPE_CHECKING:
     from ..model.model import Model
     from ..slopes.slopes import Slopes
 
+_MOST = 8  # values of a column that are listed
 _EVERY: Any = typer.Option(
     45, "--every", min=15, max=90, help="Degrees of bearing between two lines of the table."
 )
@@ -51,15 +52,23 @@ def key_of(slopes: Slopes, grid: Grid) -> str:
 
 
 def print_regions(slopes: Slopes, model: Model) -> None:
-    """How many blocks of rock each region has, where a formula says in which one a block is."""
-    from ..table.formula import is_formula
+    """How many blocks of rock each region has, and which values of the column have the slopes of
+    all others."""
+    from ..slopes.slopes import DEFAULT
 
-    if slopes.by and is_formula(slopes.by) and slopes.by not in model.blocks.columns:
-        counts = slopes.rock_by_region(model)
-        say(
-            "  blocks of rock by region, as the formula has them: "
-            + ", ".join(f"{name} {count:,}" for name, count in counts.items())
-        )
+    if not slopes.regions:
+        return
+    of_formula = "" if slopes.by in model.blocks.columns else ", as the formula has them"
+    counts = slopes.rock_by_region(model)
+    say(
+        f"  blocks of rock by region{of_formula}: "
+        + ", ".join(f"{name} {count:,}" for name, count in counts.items())
+    )
+    others = slopes.rock_of_default(model)
+    if others:
+        shown = [f"{name or 'nothing'} {count:,}" for name, count in others.items()]
+        more = f" and {len(shown) - _MOST:,} more" if len(shown) > _MOST else ""
+        say(f"  {DEFAULT} are those whose {slopes.by} is {', '.join(shown[:_MOST])}{more}")
 
 
 def print_patterns(slopes: Slopes, grid: Grid, unit: str) -> None:

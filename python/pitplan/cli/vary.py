@@ -112,15 +112,15 @@ def _schedules_asked(
     from ..schedule.what_ifs import KNOWN, Asked, must_be_asked, prepare, tasks
 
     plan = described(folder)
-    told, rates = plan.values["schedule"], plan.rates
+    terms, rates = plan.values["schedule"], plan.rates
     if changes:
         wanted = changes_of(changes, KNOWN)
         each = [(change.what, change.by) for change in wanted]
         with err.status("the model of each change is built"):
-            asked = Asked(study.key, each, told, rates, *limits)
+            asked = Asked(study.key, each, terms, rates, *limits)
             prepare(study, plan.economics, plan.slopes, wanted, asked)
     asked = must_be_asked(study)
-    if (asked.told, asked.rates) != (told, rates):
+    if (asked.told, asked.rates) != (terms, rates):
         raise PlanError(
             "the rates or [schedule] of study.toml aren't those that these schedules were asked for"
             " with",

@@ -11,11 +11,11 @@ from pathlib import Path
 from typing import Any
 
 from ..base.errors import PlanError
+from ..views.export.kinds import KINDS
 from .folder import BUNDLE, DESIGNS, Folder
 
 _Asked = Mapping[str, Any]
-_CHANGE = re.compile(r"(price|recovery|mining|processing|slope)=-?[\d.]+\.\.[\d.]+")
-_KINDS = ("dxf", "vtu", "csv", "gpkg")
+_CHANGE = re.compile(r"(price|recovery|mining|processing|slope|discount|sink)=-?[\d.]+\.\.[\d.]+")
 _CRS = re.compile(r"(EPSG:\d{4,6})?")
 _CUTS = {"bench": "--bench", "row": "--row", "column": "--column"}
 _AGAIN = ("build", "all")  # runs after which pushbacks and designs are of another model
@@ -49,7 +49,8 @@ class Commands:
             "build": lambda _: [["build", self.name]],
             "shells": self.pits,
             "all": lambda asked: [["build", self.name], *self.pits(asked)],
-            "page": lambda _: [self.page(self.latest("phases"), self.latest("compare"))],
+            "page": self.with_all,
+            "risk": lambda _: [["risk", self.name, "--schedule"]],
             "slopes": lambda _: [["slopes", self.name]],
             "phases": self.phases,
             "compare": self.compare,
@@ -94,6 +95,11 @@ class Commands:
             raise PlanError(f"there is no design {path.name}", try_this="drop its file here")
         return f"{self.name}/designs/{path.name}"
 
+    def with_all(self, asked: _Asked) -> list[_Words]:
+        """The page with what was asked for last, and with a schedule where that is wanted."""
+        page = self.page(self.latest("phases"), self.latest("compare"))
+        return [page + _schedule(asked)]
+
     def page(self, cut: _Asked | None, design: _Asked | None) -> _Words:
         """The page of the pits."""
         words = ["page", self.name]
@@ -119,7 +125,8 @@ class Commands:
                 f"{wrong[0]!r} is no change" if wrong else "nothing is changed",
                 try_this="price=-20..20 or slope=-3..3",
             )
-        return [["vary", self.name, *changes, "--factor", _number(asked.get("factor", 1))]]
+        more = _schedule(asked) or ["--factor", _number(asked.get("factor", 1))]
+        return [["vary", self.name, *changes, *more]]
 
     def plot(self, asked: _Asked) -> list[_Words]:
         """A plan or a section."""
@@ -129,22 +136,27 @@ class Commands:
 
     def export(self, asked: _Asked) -> list[_Words]:
         """Files for CAD, GIS, ParaView and spreadsheets."""
-        kinds = [kind for kind in _KINDS if kind in asked["kinds"]]
+        kinds = [kind for kind in KINDS if kind in asked["kinds"]]
         crs = str(asked.get("crs") or "")
         if not kinds or not _CRS.fullmatch(crs):
             raise PlanError(
                 f"{crs!r} is no coordinate system" if kinds else "no kind of file is chosen",
-                try_this="EPSG:32719" if kinds else ", ".join(_KINDS),
+                try_this="EPSG:32719" if kinds else ", ".join(KINDS),
             )
         more = ["--crs", crs] if crs else []
         more += ["--cut-corners"] if asked.get("corners") else []
-        return [["export", self.name, "--to", ",".join(kinds), *more]]
+        return [["export", self.name, "--to", ",".join(kinds), *more, *_schedule(asked)]]
 
     def bundle(self, asked: _Asked) -> list[_Words]:
         """The bundle for an auditor, in a new folder."""
         there = [path.name.removeprefix(BUNDLE) for path in self.study.glob(f"{BUNDLE}*")]
         last = max((int(name[:4]) for name in there if re.match(r"\d{4}", name)), default=0)
         return [["bundle", f"{self.name}/{BUNDLE}{last + 1:04d}", self.name]]
+
+
+def _schedule(asked: _Asked) -> _Words:
+    """What asks for the schedule by years in place of pits, or beside them."""
+    return ["--schedule"] if asked.get("schedule") is True else []
 
 
 def _number(value: Any) -> str:

@@ -10,6 +10,7 @@ import shutil
 import tempfile
 import tomllib
 from collections.abc import Awaitable, Callable
+from contextlib import suppress
 from dataclasses import asdict
 from itertools import count
 from pathlib import Path
@@ -22,10 +23,10 @@ from starlette.routing import Route
 from ..base.errors import PlanError
 from ..base.files import whole_file
 from ..study import turns
-from ..table.study_keys import KEYS
+from ..table.study_keys import KEYS, METALS
 from . import runs, toml_text, work
 from .asked import Commands
-from .folder import BUNDLE, DESIGNS, TABLES, Folder, Refused, etag, refusal, writing
+from .folder import BUNDLE, DESIGNS, HOME, TABLES, Folder, Refused, etag, refusal, writing
 from .guard import SANDBOX
 from .manual import address, page_of
 from .worker import Worker
@@ -35,6 +36,7 @@ _MOST = 2_000_000  # bytes of what is told in JSON
 _SHOWN = {".html": "text/html", ".png": "image/png"}  # all else is saved
 _OWN = {".html": "text/html", ".css": "text/css", ".js": "text/javascript"}
 _LARGER = "copy it into the folder, or start the desk with a larger --upload-limit"
+_CHANGED = "changed.json"  # in a study's HOME: who wrote study.toml last, and what it was then
 _LONGEST_NAME = 40  # letters of who somebody says to be
 _Told = dict[str, Any]
 _Answer = Callable[[Request], Awaitable[Any]]
@@ -140,7 +142,7 @@ class Desk:
                         raise Refused(413, said, _LARGER)
                     file.write(piece)
             if is_design:
-                kind = await self.heavy(work.kind_of, Path(part), path.name)
+                kind = await self.heavy(work.kind_of, Path(part), path.name, where.parent)
                 if "errors" in kind:
                     raise Refused(422, kind["errors"][0]["said"], kind["errors"][0]["try"])
             os.chmod(part, 0o664)
@@ -214,7 +216,7 @@ class Desk:
             before = path.read_bytes()
             if "text" in asked:
                 if etag(before) != asked["etag"]:
-                    raise _stale("study.toml")
+                    raise _stale("study.toml", study)
                 new = str(asked["text"]).encode()
                 if asked.get("keeps"):
                     kept = _put_aside(path, before)
@@ -223,12 +225,14 @@ class Desk:
                 try:
                     text = toml_text.changed(before.decode("utf-8-sig"), asked["changes"])
                 except toml_text.Conflict as conflict:
-                    raise _stale(str(conflict)) from None
+                    raise _stale(_labelled(conflict), study) from None
                 except (ValueError, KeyError, TypeError) as error:
                     raise Refused(422, f"study.toml can't be changed so: {error}") from None
                 new = (mark + text).encode()
             with whole_file(path) as part:
                 part.write_bytes(new)
+            with suppress(OSError):  # who it was may be lost on a full disk, and no more
+                runs.write(study / HOME / _CHANGED, {"etag": etag(new), "who": _who(asked)})
         return {**await self.told(study), "kept": kept}
 
     async def commands(self, request: Request) -> _Told:
@@ -239,9 +243,8 @@ class Desk:
         """What is asked for, as commands."""
         study, asked = self.readable(request), await _told_in(request)
         steps = Commands(self.folder, study, runs.of(study)).steps(asked)
-        said = "".join(c for c in str(asked.get("who", "")) if c.isprintable())[:_LONGEST_NAME]
         kept = {key: value for key, value in asked.items() if key != "who"}
-        return runs.Wanted(str(asked["what"]), steps, said.strip() or "somebody", kept)
+        return runs.Wanted(str(asked["what"]), steps, _who(asked), kept)
 
     async def runs(self, request: Request) -> list[_Told]:
         """The runs of a study."""
@@ -311,11 +314,30 @@ def _sent(path: Path, kind: str | None, called: str) -> FileResponse:
     return FileResponse(path, media_type=kind or "application/octet-stream", headers=headers)
 
 
-def _stale(what: str) -> Refused:
-    """The refusal of a change that another one came before."""
+def _who(asked: _Told) -> str:
+    """Who says to ask, as a line shows it."""
+    said = "".join(c for c in str(asked.get("who", "")) if c.isprintable())[:_LONGEST_NAME]
+    return said.strip() or "somebody"
+
+
+def _labelled(conflict: toml_text.Conflict) -> str:
+    """A key as its field is called, and as study.toml has it."""
+    section, *rest = conflict.path
+    is_of_metal = rest[0] == METALS and len(rest) > 2
+    key, name = (METALS, rest[2]) if is_of_metal else (section, rest[0])
+    label = next((k.label for k in KEYS if (k.section, k.name) == (key, name)), "")
+    return f"{label} ({conflict})" if label else str(conflict)
+
+
+def _stale(what: str, study: Path) -> Refused:
+    """The refusal of a change that another one came before: the desk knows who has changed
+    study.toml where that was done on it last."""
+    last = runs.read(study / HOME / _CHANGED) or {}
+    is_desk = last.get("etag") == etag((study / "study.toml").read_bytes())
+    who = f"by {last['who']} on the desk" if is_desk else "by an editor or a command"
     return Refused(
         409,
-        f"{what} was changed meanwhile, in another window or by an editor; yours isn't written",
+        f"{what} was changed meanwhile, {who}; yours isn't written",
         "look at what stands there now, and change it again",
         stale=True,
     )

@@ -128,7 +128,7 @@ def _spawned(folder: Path, root: Path, lock: int) -> None:
 def _do_all(name: str) -> None:
     """The run's own process: does the commands, hears ctrl-C for them, and leaves how they ended."""
     folder, stopped = Path(name), list[int]()
-    told = _read(folder / "asked.json")
+    told = read(folder / "asked.json")
     # a handler, since what is ignored would be ignored by the commands, too
     signal.signal(signal.SIGINT, lambda *_: stopped.append(1))
     status, at, lock = 0, 0, int(os.environ[turns.PASSED])
@@ -165,12 +165,12 @@ def of(study: Path) -> list[dict[str, Any]]:
 
 def _run_in(folder: Path) -> dict[str, Any] | None:
     """A run, and how far it is; None where it was never begun."""
-    told = _read(folder / "asked.json")
+    told = read(folder / "asked.json")
     if told is None:
         return None
     number, _, _ = folder.name.partition("-")
     end = next(folder.glob("ended-*-*"), None)
-    process = _read(folder / "process.json") or {}
+    process = read(folder / "process.json") or {}
     run = {**told, "number": int(number), "folder": folder, **process}
     run.pop("root"), run.pop("steps", None)
     if end is None:
@@ -237,7 +237,7 @@ def write(path: Path, told: Any) -> None:
         part.write_text(json.dumps(told, indent=1, ensure_ascii=False))
 
 
-def _read(path: Path) -> Any:
+def read(path: Path) -> Any:
     """What such a file says; None where it isn't there."""
     try:
         return json.loads(path.read_text())

@@ -21,7 +21,17 @@ _NOTHING = None  # what stands where a key isn't there
 
 
 class Conflict(Exception):
-    """What is to be changed isn't any more what whoever changes it has seen."""
+    """What is to be changed isn't any more what whoever changes it has seen.
+
+    Parameters
+    ----------
+    path : list
+        Of what was changed.
+    """
+
+    def __init__(self, path: _Path) -> None:
+        super().__init__(_told(path))
+        self.path = path
 
 
 def changed(text: str, changes: Sequence[dict[str, Any]]) -> str:
@@ -42,8 +52,10 @@ def changed(text: str, changes: Sequence[dict[str, Any]]) -> str:
     """
     first = tomllib.loads(text)
     for change in changes:
+        if len(change["path"]) < 2:
+            raise ValueError("a section and a key are wanted")
         if "was" in change and at(first, list(change["path"])) != change["was"]:
-            raise Conflict(".".join(map(str, change["path"])))
+            raise Conflict(list(change["path"]))
     for change in changes:
         path, value = list(change["path"]), change["value"]
         wanted = tomllib.loads(text)
@@ -99,7 +111,7 @@ def _put(tree: Any, path: _Path, value: Any) -> None:
 def _in_text(text: str, path: _Path, value: Any) -> str:
     """The text with one value set. A key that `init` left as a comment comes to stand in that line."""
     document = tomlkit.parse(text)
-    if len(path) < 2 or not all(isinstance(step, str) for step in path[:2]):
+    if not all(isinstance(step, str) for step in path[:2]):
         raise ValueError("a section and a key are wanted")
     section, key = path[:2]
     is_there = key in document.get(section, {})

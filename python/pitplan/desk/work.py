@@ -22,6 +22,7 @@ from typing import Any
 
 from ..base.error_text import place_of
 from ..base.errors import PlanError
+from ..base.machine import whole_memory
 from ..base.within import only_within
 from .folder import refusal
 
@@ -32,7 +33,7 @@ _MOST_WORDS = 12  # words of a column that are listed
 _WIDEST = 60  # columns of a row that are shown
 _MOST_ROWS = 20  # in which a column that may be a coordinate has a number
 _NUMBER = re.compile(r"\s*[-+]?[\d.,]*\d[\d.,]*(e[-+]?\d+)?\s*", re.IGNORECASE)
-_SHARE = 0.85  # of the machine's memory that this process may take
+_SHARE = 0.85  # of the memory of the machine, or of its container, that this process may take
 _Told = dict[str, Any]
 
 
@@ -43,7 +44,7 @@ def settle(root: Path) -> None:
     os.chdir(root)
     only_within(root)
     threading.Thread(target=_end_with_the_desk, daemon=True).start()
-    most = int(_SHARE * os.sysconf("SC_PAGE_SIZE") * os.sysconf("SC_PHYS_PAGES"))
+    most = int(_SHARE * whole_memory())
     resource.setrlimit(resource.RLIMIT_AS, (most, most))
 
 
@@ -279,6 +280,8 @@ def overview(study: Path) -> _Told:
         built = Study(study)
     except PlanError:
         return told
+    kept = {"schedule": "runs/schedule/schedule.npz", "risk": "risk/risk.json"}
+    told |= {name: (study / path).is_file() for name, path in kept.items()}
     told |= {"built": True, "blocks": built.manifest["blocks"], "currency": built.currency}
     try:
         file = read_study_file(study)
@@ -299,21 +302,29 @@ def overview(study: Path) -> _Told:
 
 
 @in_words
-def kind_of(design: Path, name: str) -> _Told:
-    """What a dropped design is, as `compare` takes it: a surface or ids, where that can be told. A DXF without faces is an error."""
-    from ..plans.design import has_points
+def kind_of(design: Path, name: str, study: Path) -> _Told:
+    """What a dropped design is, as `compare` takes it: a surface or ids, where that can be told. A
+    DXF without faces is an error, and so is a text none of whose words is an id of the study's
+    table, where the study is built."""
+    from ..plans.design import by_ids_of, has_points
     from ..plans.surface import of_dxf
+    from ..study.study import Study
 
     try:
         if design.suffix.lower() == ".dxf":
             of_dxf(design)
             return {"as": "surface"}
+        if b"\0" in design.read_bytes():
+            raise PlanError("is neither a text nor a DXF", try_this="ids, points x, y, z, or a DXF")
+        has_ids = None
+        with suppress(PlanError):  # which of the two can't be told: who dropped it says so
+            has_ids = not has_points(design, "id")
+        if has_ids and (study / "model").is_dir():
+            by_ids_of(Study(study).model, design)
     except PlanError as error:
         error.table = name
         raise
-    with suppress(PlanError):
-        return {"as": "surface" if has_points(design, "id") else "ids"}
-    return {}
+    return {} if has_ids is None else {"as": "ids" if has_ids else "surface"}
 
 
 @in_words

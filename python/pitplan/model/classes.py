@@ -18,12 +18,13 @@ from .model import Model
 from .subblocks import coded
 
 CLASS = "class"  # the key of [model] columns that names the column
+# how their words begin, the best known first, in English, Spanish and Portuguese
 _KNOWN = (
     "mea",
     "med",
     "ind",
     "inf",
-)  # how their words begin, the best known first, in English, Spanish and Portuguese
+)
 _WORD = re.compile(r"[^\W\d_]+")  # letters alone: of a class such as 2_MEA the word is MEA
 _NONE = "none"  # what blocks without one are called, as those that the table has no row for
 
@@ -69,9 +70,10 @@ def classes_of(model: Model, listed: Sequence[str] = ()) -> Classes | None:
         return None
     blocks = coded(model, [column]).blocks
     code, there = pd.factorize(blocks[column])
+    # the last is that of an empty cell, and of a block without a row
     words = np.array([*(text_of(value) or _NONE for value in there), _NONE], object)[
         np.where(blocks["row"].to_numpy() >= 0, code, -1)
-    ]  # the last is that of an empty cell, and of a block without a row
+    ]
     names = sorted(set(words), key=lambda name: rank(name, listed))
     count = len(set(names) - {_NONE})
     if count > MOST_CLASSES:

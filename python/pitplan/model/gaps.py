@@ -10,7 +10,7 @@ import numpy as np
 import pandas as pd
 
 from ..base.arrays import Bools
-from ..base.errors import PlanError
+from ..base.errors import PlanError, spelled
 from ..table.column_names import AIR
 from .grid import Grid
 
@@ -89,11 +89,20 @@ def close(model: Model, missing: str, fill: Mapping[str, Any], table: str) -> No
             ),
             table=table,
             try_this=(
-                'missing = "air" in [model] (old workings), or missing = "rock" with fill = {'
-                ' tonnes = 10400, rock = "waste" }'
+                'missing = "air" in [model] (old workings), or missing = "rock" with fill ='
+                f" {_mean_block(model)}"
             ),
         )
     _add_within(model, within, missing, fill)
+
+
+def _mean_block(model: Model) -> str:
+    """What a block of rock has in the mean, as `fill` is written: its tonnes, and the commonest
+    rock."""
+    rock = model.blocks[model.is_rock]
+    commonest = str(rock["rock"].mode().iloc[0]) if len(rock) else "waste"
+    tonnes = round(float(rock["tonnes"].mean())) if len(rock) else 0
+    return spelled({"tonnes": tonnes, "rock": commonest})
 
 
 def _shafts(model: Model, holes: Bools, missing: str, table: str) -> None:
@@ -128,7 +137,7 @@ def _add_within(model: Model, within: Bools, missing: str, fill: Mapping[str, An
     elif "tonnes" not in fill or "rock" not in fill:
         raise PlanError(
             '[model] missing = "rock": what is a block that has no row?',
-            try_this='fill = { tonnes = 10400, rock = "waste" } in [model]',
+            try_this=f"fill = {_mean_block(model)} in [model]",
         )
     i, j, k = np.nonzero(within)
     index = model.index
@@ -153,7 +162,7 @@ def _add_within(model: Model, within: Bools, missing: str, fill: Mapping[str, An
 
 def widen(model: Model, n: int) -> None:
     """Adds n columns of barren rock on each side: the nearest column of the model again, which is
-    never ore."""
+    never ore. Raises PlanError where `pit` reads no model of so many blocks."""
     g = model.grid
     nx, ny, nz = g.shape
     if (nx + 2 * n) * (ny + 2 * n) > _LARGEST:

@@ -148,7 +148,7 @@ class Model:
 
     def numbers(self, column: str, what: str) -> Floats:
         """A column of the table as numbers, of shape (len(self),); `what` says in an error what it
-        was wanted for."""
+        was wanted for. Raises PlanError where the table has no such column."""
         if column not in self.blocks.columns:
             raise PlanError(
                 f"{what}: the table has no column {column!r}{meant(column, map(str, self.blocks.columns))}"
@@ -632,9 +632,8 @@ def _light(blocks: pd.DataFrame) -> list[str]:
 def _without_blanks(words: pd.Series) -> Array:
     """Words without the blanks around them, which packages fill cells up with."""
     code, kinds = pd.factorize(words)
-    found: Array = np.array([*(str(kind).strip() for kind in kinds), ""], object)[
-        code
-    ]  # the last is that of an empty cell, whose code is -1
+    # the last is that of an empty cell, whose code is -1
+    found: Array = np.array([*(str(kind).strip() for kind in kinds), ""], object)[code]
     return found
 
 
@@ -711,6 +710,5 @@ def _columns_of(
         for name in frame.columns
         if name not in (*OURS, weights.WEIGHT)
     }
-    return pd.DataFrame(
-        {**own, **rest}, copy=False
-    )  # a copy into common blocks would take as long as all checks
+    # a copy into common blocks would take as long as all checks
+    return pd.DataFrame({**own, **rest}, copy=False)

@@ -168,7 +168,8 @@ class _Parents:
         wanted: Wanted,
     ) -> _Parents:
         """Finds the whole block of each sub-block, along the model's own axes; a sub-block over a
-        side is told with its row."""
+        side is told with its row. Raises PlanError where a sub-block lies over a side of a whole
+        block."""
         turned = Grid((0.0, 0.0, 0.0), (1.0, 1.0, 1.0), rotation=wanted.rotation)
         u, v = turned.local(places.x - places.x[0], places.y - places.y[0])
         indices, centres = [], []
@@ -282,12 +283,13 @@ def means(values: pd.Series, number: Ints, weight: Floats, first: Ints) -> Float
 def _of_most(values: pd.Series, number: Ints, weight: Floats) -> Ints:
     """For each block the first of its rows that has the value of the most tonnes; of values of as
     many tonnes that which comes first. Words are the same whatever blanks are around them."""
+    # an empty cell is a value too
     code = (
         pd.factorize(values.to_numpy() if values.dtype.kind in "iuf" else stripped(values))[
             0
         ].astype(np.int64)
         + 1
-    )  # an empty cell is a value too
+    )
     kinds = int(code.max()) + 1
     pair, first, at = np.unique(number * kinds + code, return_index=True, return_inverse=True)
     block = pair // kinds

@@ -32,14 +32,15 @@ _Progress = Callable[[int, int], None]
 _Heard = Callable[[str], None]  # a line of `--progress`
 _Word = Union[str, int, Path]
 TOP = Path(__file__).resolve().parents[3]
+# where this repository's build puts it
 BUILT = (
     TOP / "out" / "pit",
     TOP / "crates" / "pit" / "out" / "pit",
-)  # where this repository's build puts it
+)
 _PIECE = 1 << 20
 _LARGE_PAGES = "glibc.malloc.hugetlb=1"  # a setting of the C library
 _HEAD = 4  # lines before the PIT lines of a certificate
-_BEHIND = (b"SOURCE ", b"REST ", b"SINK ", b"END")
+_AFTER_PITS = (b"SOURCE ", b"REST ", b"SINK ", b"END")
 _HINTS = {
     "No space left on device": ROOM,
     "Disk quota exceeded": ROOM,
@@ -145,7 +146,7 @@ class Files:
     prec: Path
     blocks: Path
     settings: Path
-    behind = ""  # of the line of acceptance
+    after = ""  # of the line of acceptance
 
     def words(self) -> list[_Word]:
         return ["--prec", self.prec, "--blocks", self.blocks, "--settings", self.settings]
@@ -157,21 +158,33 @@ class Texts:
 
     prec: Path
     upit: Path
-    behind = " GROUP WORTH"  # of the line of acceptance, since worths alone are counted
+    after = " GROUP WORTH"  # of the line of acceptance, since worths alone are counted
 
     def words(self) -> list[_Word]:
         return ["--prec", self.prec, "--upit", self.upit]
 
 
 @dataclass(frozen=True)
+class Periodic:
+    """Such a mine with what its blocks use, a `.blocks` file, and its periods with multipliers."""
+
+    texts: Texts
+    uses: Path
+    periods: Path
+
+    def words(self) -> list[_Word]:
+        return [*self.texts.words(), "--uses", self.uses, "--periods", self.periods]
+
+
+@dataclass(frozen=True)
 class Richest:
-    """The richest pit of such a mine, as `pit check` has accepted it. `Pit.richest` alone makes
-    one.
+    """The richest pit of such a mine, or of its blocks and periods, as `pit check` or `pit bound` has
+    accepted it. `Pit.richest` and `Pit.bound` alone make one.
 
     Attributes
     ----------
     worth : str
-        What it is worth: no closed set of blocks is worth more.
+        What it is worth: no closed set of blocks is worth more. By `pit bound`, what no schedule is.
     blocks : int array
         The numbers of its blocks, ascending.
     certificate : str
@@ -186,6 +199,10 @@ class Richest:
     def __post_init__(self, begun: object) -> None:
         if begun is not BEGUN:
             raise TypeError("a Richest is made by Pit.richest alone")
+
+
+class _OutOfTime(Exception):
+    """A run took longer than it might."""
 
 
 def found_program() -> str:
@@ -269,7 +286,7 @@ class Pit:
         factor : int
             Of the revenue, in thousandths.
         certificate : Path
-            The file to write; when it is done, it lies packed at the same name with ``.gz`` behind.
+            The file to write; when it is done, it lies packed at the same name with ``.gz`` added.
         progress : function, optional
             Is told how many blocks of how many are settled.
         keeps : bool
@@ -332,6 +349,20 @@ class Pit:
         NotAccepted
             Where it doesn't answer ACCEPTED.
         """
+        line = self.told_of(["check", *files.words()], certificate, lines, kept)
+        found = re.fullmatch(r"ACCEPTED (\d+) (-?[\d.]+)" + files.after, line)
+        if not found:
+            raise NotAccepted(f"pit check: {line}", try_this=_hint_of(line))
+        return int(found[1]), found[2]
+
+    def told_of(
+        self,
+        words: Sequence[_Word],
+        certificate: Path,
+        lines: PitLines,
+        kept: gzip.GzipFile | None = None,
+    ) -> str:
+        """What `pit` says of a certificate, which it gets on its standard input."""
 
         def pieces() -> Iterator[bytes]:
             with (
@@ -345,13 +376,11 @@ class Pit:
                         kept.write(data)
                     yield data
 
-        line = self.run(["check", *files.words(), "--verbose", "/dev/stdin"], fed=pieces()).strip()
-        found = re.fullmatch(r"ACCEPTED (\d+) (-?[\d.]+)" + files.behind, line)
-        if not found:
-            raise NotAccepted(f"pit check: {line}", try_this=_hint_of(line))
-        return int(found[1]), found[2]
+        return self.run([*words, "--verbose", "/dev/stdin"], fed=pieces()).strip()
 
-    def richest(self, texts: Texts, certificate: Path) -> Richest:
+    def richest(
+        self, texts: Texts, certificate: Path, seconds: float | None = None
+    ) -> Richest | None:
         """Finds the richest pit of a mine of which each block has one worth, and lets `pit check`
         judge it.
 
@@ -359,16 +388,17 @@ class Pit:
         ----------
         texts : Texts
         certificate : Path
-            The file to write; when it is done, it lies packed at the same name with ``.gz`` behind.
+            The file to write; when it is done, it lies packed at the same name with ``.gz`` added.
+        seconds : float, optional
+            That finding it may take: then None is what it gives. Default: as long as it takes.
 
         Raises
         ------
         NotAccepted
             Where there was no certificate, or the check refuses it.
         """
-        said = self.run(["solve", *texts.words(), "--group", "worth", "--verbose"], certificate)
-        if said:
-            raise NotAccepted(f"pit solve: {said.strip()}", try_this=_hint_of(said))
+        if not self.solved([*texts.words(), "--group", "worth"], certificate, seconds):
+            return None
         lines = PitLines()
         with packed(certificate) as kept:
             count, worth = self.judged(texts, certificate, lines, kept)
@@ -376,6 +406,50 @@ class Pit:
         blocks = lines.numbers()
         _refuse_other_count(count, blocks)
         return Richest(worth, blocks, lines.digest.hexdigest(), BEGUN)
+
+    def bound(
+        self, mine: Periodic, certificate: Path, seconds: float | None = None
+    ) -> Richest | None:
+        """Finds the richest pit of a mine's blocks and periods, node t * n + b for block b of n by
+        the end of period t, and lets `pit bound` judge it: `worth` is the bound that it says.
+
+        Parameters
+        ----------
+        mine : Periodic
+        certificate, seconds
+            As of `richest`.
+
+        Raises
+        ------
+        NotAccepted
+            As `richest`.
+        """
+        if not self.solved(mine.words(), certificate, seconds):
+            return None
+        lines = PitLines()
+        with packed(certificate) as kept:
+            line = self.told_of(["bound", *mine.words()], certificate, lines, kept)
+        found = re.fullmatch(r"BOUND (-?[\d.]+)", line)
+        if not found:
+            raise NotAccepted(f"pit bound: {line}", try_this=_hint_of(line))
+        certificate.unlink()
+        return Richest(found[1], lines.numbers(), lines.digest.hexdigest(), BEGUN)
+
+    def solved(self, words: Sequence[_Word], certificate: Path, seconds: float | None) -> bool:
+        """Writes what `pit solve` finds; false where that takes longer.
+
+        Raises
+        ------
+        NotAccepted
+            Where it finds nothing.
+        """
+        try:
+            said = self.run(["solve", *words, "--verbose"], certificate, seconds=seconds)
+        except _OutOfTime:
+            return False
+        if said:
+            raise NotAccepted(f"pit solve: {said.strip()}", try_this=_hint_of(said))
+        return True
 
     def schedule(
         self, files: Files | Texts, factor: int | None, uses: Path, periods: Path, schedule: Path
@@ -488,6 +562,7 @@ class Pit:
         out: Path | None = None,
         heard: _Heard | None = None,
         fed: Iterable[bytes] | None = None,
+        seconds: float | None = None,
     ) -> str:
         """Runs `pit`.
 
@@ -502,6 +577,8 @@ class Pit:
         fed : iterable of bytes, optional
             What it gets on its standard input; all of it is gone through, also where `pit` reads no
             more.
+        seconds : float, optional
+            After which it is ended. Default: never.
 
         Returns
         -------
@@ -514,6 +591,8 @@ class Pit:
         PlanError, MachineError
             Where it ended with another status than 0 or 1, or by a signal: with its own words, and
             what to try.
+        _OutOfTime
+            Where it was ended.
         """
         lines: list[str] = []
         with open(out, "wb") if out else open(os.devnull, "wb") as target:
@@ -525,17 +604,14 @@ class Pit:
             ear = threading.Thread(target=_listen, args=(run, lines, heard), daemon=True)
             ear.start()
             try:
-                _feed(run, fed or ())
-                text = run.stdout.read().decode(errors="replace") if run.stdout else ""
-                status = run.wait()
-            except BaseException:
-                _ended_now(run)
-                run.wait()
-                raise
+                with _ending(run, seconds) as late:
+                    text, status = _said_by(run, fed or ())
             finally:
                 ear.join()
                 with self.lock:
                     self.running.discard(run)
+        if late.is_set() and status < 0:
+            raise _OutOfTime
         if status == 1 and out:
             return out.read_text(errors="replace")[:1000]
         if status in (0, 1):
@@ -544,7 +620,8 @@ class Pit:
 
     def started(self, words: Sequence[_Word], output: int, given: int) -> subprocess.Popen[bytes]:
         """Starts `pit`, so that it ends when this process does: setpriv is of util-linux, which
-        Debian always has."""
+        Debian always has. Raises MachineError where it can't be started, and KeyboardInterrupt
+        after `stop`."""
         setpriv = shutil.which("setpriv")
         before = [setpriv, "--pdeathsig", "KILL", "--"] if setpriv else []
         raise_if_asked()
@@ -552,6 +629,7 @@ class Pit:
             if self.is_stopped:
                 raise KeyboardInterrupt
             try:
+                # ctrl-C is for this process, which ends it
                 run = subprocess.Popen(
                     [*before, self.program, *map(str, words)],
                     stdin=given,
@@ -559,7 +637,7 @@ class Pit:
                     stderr=subprocess.PIPE,
                     env=_with_large_pages(os.environ),
                     process_group=0,
-                )  # ctrl-C is for this process, which ends it
+                )
             except OSError as error:
                 raise MachineError(f"{self.program} can't be started: {error.strerror}") from None
             self.running.add(run)
@@ -615,6 +693,36 @@ def _ended_now(run: subprocess.Popen[bytes]) -> None:
     """Ends a run and all that it started: it is the first of a process group of its own."""
     if run.poll() is None:
         os.killpg(run.pid, signal.SIGKILL)
+
+
+def _said_by(run: subprocess.Popen[bytes], pieces: Iterable[bytes]) -> tuple[str, int]:
+    """What a run says that is given some bytes, and its status; it is ended where that fails."""
+    try:
+        _feed(run, pieces)
+        text = run.stdout.read().decode(errors="replace") if run.stdout else ""
+        return text, run.wait()
+    except BaseException:
+        _ended_now(run)
+        run.wait()
+        raise
+
+
+@contextmanager
+def _ending(run: subprocess.Popen[bytes], seconds: float | None) -> Iterator[threading.Event]:
+    """Ends a run after some seconds, unless it is done before; the event says that it did."""
+    late = threading.Event()
+
+    def end() -> None:
+        late.set()
+        _ended_now(run)
+
+    timer = threading.Timer(max(seconds or 0.0, 0.0), end)
+    if seconds is not None:
+        timer.start()
+    try:
+        yield late
+    finally:
+        timer.cancel()
 
 
 def _hint_of(said: str) -> str | None:
@@ -733,7 +841,7 @@ class PitLines:
             *self.head, data = data.split(b"\n", _HEAD)
         cut = data.rfind(b"\n") + 1
         piece, self.rest = data[:cut], data[cut:]
-        ends = [at for at in map(piece.find, _BEHIND) if at >= 0]
+        ends = [at for at in map(piece.find, _AFTER_PITS) if at >= 0]
         if ends:
             piece, self.is_over = piece[: min(ends)], True
         self.blocks.append(_numbers_in(piece))

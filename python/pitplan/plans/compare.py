@@ -200,7 +200,8 @@ class Certificate:
             return self.study.program.value(self.study.files, design, certificate)
 
     def unpack(self, to: Path) -> None:
-        """Writes the certificate as it was accepted."""
+        """Writes the certificate as it was accepted. Raises Disagreement where what is kept is
+        another one."""
         verdict, kept = (
             self.study.verdict(self.factor),
             self.study.place(self.factor) / "best.cert.gz",

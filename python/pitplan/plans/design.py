@@ -239,9 +239,8 @@ def by_ids_of(model: Model, path: Path, encoding: str | None = None) -> Design:
     ids = frame[column or names[0]].fillna("").astype(str)
     ids = ids[ids.str.strip() != ""]
     if column is None and as_written(names[0]) in set(_cells_of(model, "id")[0].astype(str)):
-        ids = pd.concat(
-            [pd.Series([names[0]], index=[-1]), ids]
-        )  # no header line: the first is an id too
+        # no header line: the first is an id too
+        ids = pd.concat([pd.Series([names[0]], index=[-1]), ids])
     return by_ids(model, ids, path.stem, path.name)
 
 

@@ -82,7 +82,7 @@ class Phases:
 
     @property
     def set_name(self) -> str:
-        """Which set of pushbacks this is, behind that word: as cut, or widened to what."""
+        """Which set of pushbacks this is, after that word: as cut, or widened to what."""
         if self.mines is None:
             return "as cut between proved pits"
         unit = self.shells.study.model.units.length

@@ -64,6 +64,7 @@ NOT_ALIKE, _FEWEST = (
 )
 TENTHS = tuple(tenth / 10 for tenth in range(1, 10))
 _SPREAD = (0.1, 0.5, 0.9)
+# columns that pricing and `.blocks` ask for, beside those that [economics] names
 _ASKED = (
     "ix",
     "iy",
@@ -71,7 +72,7 @@ _ASKED = (
     "row",
     "tonnes",
     "rock",
-)  # columns that pricing and `.blocks` ask for, beside those that [economics] names
+)
 # of each study, and of the economics as text: what all realisations of a process share
 _LEAN_MODELS: WeakKeyDictionary[Study, dict[str, Model]] = WeakKeyDictionary()
 _SCRATCH = "pitplan."  # folders of `.blocks` and certificates, in TMPDIR
@@ -115,7 +116,8 @@ def _folder_of(study: Study) -> Path:
 
 
 def setup_of(study: Study) -> Setup | None:
-    """What was asked for by `prepare` over this very model, None where nothing was."""
+    """What was asked for by `prepare` over this very model, None where nothing was. Raises Damaged
+    where risk.json doesn't say it."""
     try:
         found = kept_json.read(
             _folder_of(study) / "risk.json",
@@ -293,7 +295,8 @@ def _by_line(grades: Singles, row_block: Indices) -> Singles:
 def open_realisations(
     path: Path, work: Path, study: Study | None = None, keys: TableKeys | None = None
 ) -> tuple[Any, str]:
-    """The realisations as an array that is read where it is asked, and the file that has them."""
+    """The realisations as an array that is read where it is asked, and the file that has them.
+    Raises PlanError where the file isn't there or can't be read as such."""
     refuse_outside(path)
     if path.suffix == ".npy":
         try:
@@ -391,7 +394,8 @@ def _same_ids(found: pd.Series, model: Model, path: Path) -> None:
 
 
 def checked(grades: Array, number: int, path: Path) -> Array:
-    """A realisation, refused where a cell is no grade."""
+    """A realisation, refused where a cell is no grade. Raises PlanError that names the first such
+    cell, or the type where it has no numbers."""
     if grades.dtype.kind not in "iuf":
         raise PlanError(
             f"the realisations are of type {grades.dtype}, and have to be numbers", table=path
@@ -427,9 +431,8 @@ def _words_in(value: Any) -> list[str]:
 def lean_model(study: Study, economics: dict[str, Any]) -> Model:
     """The study's model without the columns that pricing doesn't ask for: the planner's names of
     10,000,000 blocks take a gigabyte."""
-    said = unicodedata.normalize(
-        "NFKC", "\n".join(_words_in(economics))
-    )  # as Python reads the plain words of a formula
+    # as Python reads the plain words of a formula
+    said = unicodedata.normalize("NFKC", "\n".join(_words_in(economics)))
     with np.load(study.where / "blocks.npz", allow_pickle=False) as file:
         facts = store.facts_of(file)
         columns: dict[str, Any] = {}
@@ -715,7 +718,7 @@ class Risk:
 
     def pit(self, likelihood: float, factor: int = THOUSAND) -> Bools:
         """The blocks of at least a likelihood above 0: a closed pit, within that of every lower
-        likelihood."""
+        likelihood. Raises PlanError where that is no likelihood."""
         if not 0 < likelihood <= 1:
             raise PlanError(f"a likelihood of {likelihood:g}: it has to be above 0 and at most 1")
         least = int(np.ceil(likelihood * self.count - 1e-9))
@@ -723,7 +726,8 @@ class Risk:
         return found
 
     def at(self, factor: int) -> int:
-        """Where a factor stands in the series."""
+        """Where a factor stands in the series. Raises PlanError where no realisation was run at
+        it."""
         if factor not in self.factors:
             raise PlanError(
                 f"no realisation was run at factor {share_text(factor)}",

@@ -2,6 +2,7 @@
 model."""
 from __future__ import annotations
 
+import re
 from collections.abc import Iterator, Sequence
 from dataclasses import dataclass
 from pathlib import Path
@@ -18,6 +19,7 @@ AT_ONCE = 4_000_000  # columns under triangles that are looked at in one go
 _SLACK = 1e-9
 MOST = 1_000_000  # faces and other entities that the blocks of a DXF may bring
 _DEEPEST = 32  # blocks that a block may stand in
+_OWN = re.compile(r"(SHELL|PUSHBACK|YEAR)_\d+_(TOE|CREST)")  # layers of views.export.dxf
 _FAR = 1e12  # how far from 0 a corner may be
 
 
@@ -84,6 +86,13 @@ def of_dxf(path: Path, layers: Sequence[str] = ()) -> Surface:
     for layer in layers:
         if layer not in there:
             raise PlanError(f"has no layer {layer!r}{meant(layer, sorted(there))}", table=path)
+    if not faces and there and all(map(_OWN.fullmatch, there)):
+        raise PlanError(
+            "has no faces: it has the outlines of pits, pushbacks or years that pitplan export"
+            " wrote",
+            table=path,
+            try_this="the surface of a designed pit, as 3D faces",
+        )
     if not faces:
         raise PlanError(
             "has no faces" + (", but " + ", ".join(sorted(kinds)) if kinds else ""),
@@ -148,9 +157,8 @@ class _Entities:
             self.take(1 if around else 0)
             if isinstance(entity, Insert) and entity.mcount > 1:
                 many = entity.dxf.row_count * entity.dxf.column_count
-                self.take(
-                    many if many > self.left else 0
-                )  # before they are gone through one by one
+                # before they are gone through one by one
+                self.take(many if many > self.left else 0)
                 yield from self.of(entity.multi_insert(), around)
             elif isinstance(entity, Insert):
                 yield from ((attribute, True) for attribute in entity.attribs)
@@ -168,7 +176,8 @@ class _Entities:
                 yield entity, bool(around)
 
     def deeper(self, around: tuple[str, ...], name: str) -> tuple[str, ...]:
-        """The blocks that a block's own entities stand in."""
+        """The blocks that a block's own entities stand in. Raises PlanError where a block holds
+        itself, or is nested too deep."""
         if name and name in around or len(around) >= _DEEPEST:
             raise PlanError(
                 (

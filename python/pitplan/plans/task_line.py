@@ -17,7 +17,7 @@ NUMBERED = ("realisation", REALISED)
 
 @dataclass(frozen=True, order=True)
 class Task:
-    """A line of words behind ``pitplan task STUDY``.
+    """A line of words after ``pitplan task STUDY``.
 
     Attributes
     ----------

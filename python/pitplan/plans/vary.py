@@ -119,7 +119,7 @@ def called(what: str) -> str:
 
 
 @dataclass(frozen=True)
-class _Asked:
+class _Changes:
     """What ``vary.json`` says: the key of the model, the factor in thousandths, and the changes as
     (what, by)."""
 
@@ -197,7 +197,7 @@ def prepare(
     changes: Sequence[Change],
     factor: int = THOUSAND,
     rates: Rates = Rates(),
-) -> _Asked:
+) -> _Changes:
     """Builds what the changes need, and writes down what is to be run. No pit is found yet.
 
     Parameters
@@ -214,7 +214,7 @@ def prepare(
     PlanError
         Where a change can't be made, as that of a metal that isn't there: it names the change.
     """
-    asked = _Asked(study.key, factor, [(c.what, c.by) for c in changes])
+    asked = _Changes(study.key, factor, [(c.what, c.by) for c in changes])
     for change in changes:
         try:
             _make(study, economics, slopes, change, (factor, rates))
@@ -261,7 +261,8 @@ def _other_rates(rates: Rates, change: Change | None) -> Rates:
 def changed(
     economics: Economics, slopes: Slopes, change: Change, model: Model
 ) -> tuple[Economics, Slopes]:
-    """The economics and the slopes with one change."""
+    """The economics and the slopes with one change. Raises PlanError where no metal is called
+    so."""
     share = 1 + change.by / 100
     if change.what == _SLOPE:
         regions = (
@@ -320,9 +321,8 @@ def price_factor(factor: int, change: Change) -> int:
     """
     exact = factor * (1 + change.by / 100)
     if abs(exact - round(exact)) > 1e-6:
-        near = (
-            round(exact) if round(exact) != factor else factor + (1 if change.by > 0 else -1)
-        )  # no change is none that can be made
+        # no change is none that can be made
+        near = round(exact) if round(exact) != factor else factor + (1 if change.by > 0 else -1)
         raise PlanError(
             f"{change} of factor {share_text(factor)} is factor {exact / THOUSAND:.9g}, and factors are whole thousandths",
             try_this=f"{change.what}={100 * (near / factor - 1):+.9g}",
@@ -334,7 +334,7 @@ def place(study: Study, name: str) -> Path:
     return study.folder / "vary" / name
 
 
-def asked_of(study: Study) -> _Asked | None:
+def asked_of(study: Study) -> _Changes | None:
     """What was asked for by `prepare` over this very model, None where nothing was."""
     path = study.folder / "vary" / "vary.json"
     try:
@@ -342,7 +342,7 @@ def asked_of(study: Study) -> _Asked | None:
     except FileNotFoundError:
         return None
     return (
-        _Asked(found["study"], found["factor"], [(what, by) for what, by in found["changes"]])
+        _Changes(found["study"], found["factor"], [(what, by) for what, by in found["changes"]])
         if found["study"] == study.key
         else None
     )
@@ -362,11 +362,12 @@ def is_change(value: Any) -> bool:
     )
 
 
+# what vary.json has
 _ASKED: dict[str, kept_json.Holds] = {
     "study": kept_json.is_word,
     "factor": kept_json.is_factor,
     "changes": kept_json.is_list(is_change),
-}  # what vary.json has
+}
 
 
 def scenario(base: Study, name: str) -> Study:
@@ -386,7 +387,7 @@ def scenario(base: Study, name: str) -> Study:
     return Study(place(base, name), base.given)
 
 
-def task(asked: _Asked, change: Change | None) -> Task:
+def task(asked: _Changes, change: Change | None) -> Task:
     """The task of a change; of the study itself where there is none."""
     if change is None or change.keeps_pit:
         return Task("run", BASE, (asked.factor,))

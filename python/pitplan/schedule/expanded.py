@@ -9,6 +9,7 @@ prices, whatever the prices are: a law that `pit`'s crate `schedules` proves.
 """
 from __future__ import annotations
 
+from decimal import Decimal
 from pathlib import Path
 from typing import NamedTuple
 
@@ -16,11 +17,14 @@ import numpy as np
 
 from ..base.arrays import Array, Bools, Ints
 from ..base.errors import PlanError
+from ..pit.program import Pit, Texts
 from .loops import compiled
 from .pairs import Pairs
 from .production import Production
 from .sending import THOUSAND
+from .terms import MILLION
 
+CERTIFICATE = "bound.cert"  # the name of the file
 _DIGITS = 20  # of a number in a text, at most
 _ROOM = 1 << 62
 
@@ -32,6 +36,41 @@ class _Layout(NamedTuple):
     start: Ints
     earliest: Ints
     periods: int
+
+
+class Closed(NamedTuple):
+    """A richest pit at some multipliers.
+
+    Attributes
+    ----------
+    said : str
+        What `pit` says of it, in units of currency: what it is worth, or the bound by it.
+    dug : bool array of shape (units, periods)
+        Whether each unit is dug by the end of each period.
+    certificate : str
+        The sha256 of its certificate.
+    """
+
+    said: str
+    dug: Bools
+    certificate: str
+
+
+def capacities_paid(production: Production, multipliers: Ints) -> list[int]:
+    """What each period's capacities come to at the multipliers, in billionths."""
+    return [
+        sum(int(price) * int(room) for price, room in zip(prices, rooms))
+        for prices, rooms in zip(multipliers.T, production.capacities.T)
+    ]
+
+
+def costs_paid(production: Production, paid: list[int]) -> int:
+    """What capacities pay of fixed costs, in billionths. A period in which rock is dug pays for its
+    capacities at most, and has its fixed cost; one in which none is dug pays for nothing. So what a
+    period adds to a bound is its capacities less its fixed cost, or nothing where that is below 0.
+    """
+    each = production.terms.fixed_cost * THOUSAND
+    return sum(min(one, int(weight) * each) for one, weight in zip(paid, production.weights))
 
 
 class Expanded:
@@ -84,17 +123,26 @@ class Expanded:
         return found
 
     def capacity_worth(self, multipliers: Ints) -> int:
-        """All capacities at the multipliers, in millionths of a unit of currency, rounded up.
+        """All capacities at the multipliers, in millionths of a unit of currency, rounded up, less
+        the fixed costs that they pay."""
+        paid = capacities_paid(self.production, multipliers)
+        return -((costs_paid(self.production, paid) - sum(paid)) // THOUSAND)
 
-        A period in which rock is dug pays for its capacities at most, and has its fixed cost; one in
-        which none is dug pays for nothing. So what a period adds is its capacities less its fixed
-        cost, or nothing where that is below 0.
-        """
-        made, total = self.production, 0
-        for prices, rooms, weight in zip(multipliers.T, made.capacities.T, made.weights):
-            paid = sum(int(price) * int(room) for price, room in zip(prices, rooms))
-            total += max(paid - int(weight) * made.terms.fixed_cost * THOUSAND, 0)
-        return -(-total // THOUSAND)
+    def total(self, said: str, multipliers: Ints) -> int:
+        """What no schedule is worth more than, in millionths of a unit of currency, by what the
+        richest pit is worth: it, and all capacities."""
+        return int(Decimal(said) * MILLION) + self.capacity_worth(multipliers)
+
+    def closed(
+        self, program: Pit, folder: Path, multipliers: Ints, seconds: float | None
+    ) -> Closed | None:
+        """The richest pit at some multipliers; None where finding it takes longer."""
+        texts = Texts(folder / "expanded.prec", folder / "expanded.upit")
+        if not texts.prec.exists():
+            self.write_pairs(texts.prec)
+        self.write_worths(texts.upit, multipliers)
+        pit = program.richest(texts, folder / CERTIFICATE, seconds)
+        return None if pit is None else Closed(pit.worth, self.dug(pit.blocks), pit.certificate)
 
     def dug(self, held: Ints) -> Bools:
         """Whether each unit is dug by the end of each period, of shape (units, periods), by the

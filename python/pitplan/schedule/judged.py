@@ -17,6 +17,7 @@ from ..base.files import whole_file
 from ..pit.program import Texts
 from ..pit.scheduled import Scheduled
 from ..study.building import write_numbers
+from .periods_text import periods_text
 from .production import Production, feed_of
 from .sending import Timetable
 from .terms import GRAIN, MILLION
@@ -61,14 +62,6 @@ def block_uses(study: Study, blocks: Ints) -> Ints:
     """Rock and feed of some blocks, in thousandths of a tonne, of shape (2, blocks)."""
     both = study.model.blocks.tonnes.to_numpy(float), feed_of(study)
     return np.stack([np.rint(each[blocks] * GRAIN).astype(np.int64) for each in both])
-
-
-def periods_text(production: Production) -> str:
-    """What periods weigh and have, as `pit` reads it."""
-    return (
-        f"weights = {production.weights.tolist()}\nresources = [0, 1]\n"
-        f"capacities = {production.capacities.tolist()}\n"
-    )
 
 
 def judged(study: Study, production: Production, plan: Timetable, folder: Path) -> Scheduled:

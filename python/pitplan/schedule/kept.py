@@ -23,7 +23,7 @@ from .sending import Timetable
 
 _BOUND: dict[str, kept_json.Holds] = {
     "production": kept_json.is_digest,
-    "pit_worth": kept_json.is_amount,
+    "said": kept_json.is_amount,
     "multipliers": kept_json.is_list(kept_json.is_list(kept_json.is_count)),
     "certificate": kept_json.is_digest,
     "closures": kept_json.is_count,
@@ -33,16 +33,17 @@ _BOUND: dict[str, kept_json.Holds] = {
 
 @dataclass(frozen=True)
 class Bound:
-    """A bound that `pit check` accepted.
+    """A bound that `pit bound` or `pit check` accepted.
 
     Attributes
     ----------
     production : str
         The digest of the production that it is of.
-    pit_worth : str
-        What the richest pit of the expanded mine is worth, as `pit check` says.
+    said : str
+        What `pit bound` says; else what the richest pit of the expanded mine is worth, as `pit check`
+        says.
     multipliers : list of lists of int
-        As `Expanded` takes them: without them the worth says nothing.
+        As `Expanded` takes them: without them what was said is no bound.
     certificate : str
         The sha256 of the certificate.
     closures : int
@@ -52,7 +53,7 @@ class Bound:
     """
 
     production: str
-    pit_worth: str
+    said: str
     multipliers: list[list[int]]
     certificate: str
     closures: int

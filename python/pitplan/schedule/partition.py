@@ -6,7 +6,7 @@ clusters gives shares and multipliers, the richest pit at these multipliers spli
 so on until none is split. Clusters begin as the shells of the series by period, which comes near at
 once. Where a block may be sent, "sent in this period, or dug before" has a share too, between that
 of being dug by the end of the period before and that of its own. Nothing here needs to be trusted:
-whichever the multipliers are, `pit check` judges the bound.
+whichever the multipliers are, `pit` judges the bound.
 """
 from __future__ import annotations
 
@@ -24,7 +24,8 @@ from .pairs import Pairs
 from .production import Production
 
 _MILLION = 1e6
-_GRAINS = 1e9  # grains of a million tonnes
+GRAINS = 1e9  # grains of a million tonnes
+_ENDED = 1  # what SciPy says where a limit was reached
 _FEW = 400  # clusters up to which the simplex method is quicker
 MOST = 4000  # clusters from which on those of one share are put together again
 
@@ -124,44 +125,73 @@ def shares_of(cluster: Clusters, relaxed: Relaxed) -> Floats:
     return np.where(cluster.dug >= 0, relaxed.shares[np.maximum(cluster.dug, 0)], 0.0)
 
 
-def relax(production: Production, cluster: Clusters) -> Relaxed:
-    """Solves the relaxation over a partition by HiGHS.
+class Program(NamedTuple):
+    """The relaxation over a partition as a linear program: of shares from 0 to 1, the first ones of
+    clusters, which gives most where no row of a table exceeds its limit.
+
+    Attributes
+    ----------
+    gains : float array
+        In millions of units of currency.
+    table : sparse array
+        First a row for each resource and period.
+    limits : float array
+    """
+
+    gains: Floats
+    table: csr_matrix
+    limits: Floats
+
+    @classmethod
+    def of(cls, production: Production, cluster: Clusters) -> Program:
+        """That of some clusters."""
+        count, periods, millable = cluster.size, production.periods, production.millable
+        worths = _by_period(cluster, millable.unit, production.values, millable.gains) / _MILLION
+        nothing = np.zeros(len(millable.feeds))
+        rows = [
+            _by_period(cluster, millable.unit, uses, feeds) / GRAINS
+            for uses, feeds in zip(production.uses, (nothing, millable.feeds))
+        ]
+        order = _differences(_cluster_pairs(production, cluster, count), count)
+        gains = worths.T @ (production.weights / _MILLION)
+        limits = production.capacities / GRAINS
+        table = vstack([*rows, order])
+        if production.terms.fixed_cost:  # a period open in part has that part of its capacities
+            costs = production.weights * (production.terms.fixed_cost / _MILLION**2)
+            gains = np.append(gains, -costs)
+            none = csr_matrix((order.shape[0], periods))
+            opened = vstack([*(-diags(each) for each in limits), none])
+            table, limits = hstack([table, opened]), np.zeros((2, periods))
+        return cls(gains, table.tocsr(), np.append(limits.ravel(), np.zeros(order.shape[0])))
+
+
+def relax(
+    production: Production, cluster: Clusters, seconds: float | None = None
+) -> Relaxed | None:
+    """Solves the relaxation over a partition by HiGHS; None where that takes longer than a limit.
 
     Raises
     ------
     MachineError
         Where it ends without an answer.
     """
-    count, periods, millable = cluster.size, production.periods, production.millable
-    worths = _by_period(cluster, millable.unit, production.values, millable.gains) / _MILLION
-    nothing = np.zeros(len(millable.feeds))
-    rows = [
-        _by_period(cluster, millable.unit, uses, feeds) / _GRAINS
-        for uses, feeds in zip(production.uses, (nothing, millable.feeds))
-    ]
-    order = _differences(_cluster_pairs(production, cluster, count), count)
-    gains = worths.T @ (production.weights / _MILLION)
-    limits = production.capacities / _GRAINS
-    table = vstack([*rows, order])
-    if production.terms.fixed_cost:  # a period that is open in part has that part of its capacities
-        gains = np.append(
-            gains, -production.weights * (production.terms.fixed_cost / _MILLION**2)
-        )
-        opened = vstack([*(-diags(each) for each in limits), csr_matrix((order.shape[0], periods))])
-        table, limits = hstack([table, opened]), np.zeros((2, periods))
+    program, periods = Program.of(production, cluster), production.periods
     found = linprog(
-        -gains,
-        A_ub=table.tocsr(),
-        b_ub=np.append(limits.ravel(), np.zeros(order.shape[0])),
+        -program.gains,
+        A_ub=program.table,
+        b_ub=program.limits,
         bounds=(0, 1),
-        method="highs-ds" if count < _FEW else "highs-ipm",
+        method="highs-ds" if cluster.size < _FEW else "highs-ipm",
+        options={} if seconds is None else {"time_limit": max(seconds, 0.0)},
     )
+    if found.status == _ENDED:
+        return None
     if found.status != 0:
         raise MachineError(f"HiGHS gives no relaxation of the schedule: {found.message}")
     prices = np.maximum(-found.ineqlin.marginals[: 2 * periods], 0).reshape(2, periods)
     return Relaxed(
         -float(found.fun) * _MILLION,
-        np.asarray(found.x)[:count],
+        np.asarray(found.x)[: cluster.size],
         np.rint(prices * _MILLION).astype(np.int64),
     )
 

@@ -31,7 +31,7 @@ _WHOLE = Decimal(100)
 
 @dataclass(frozen=True)
 class Schedule:
-    """A schedule that `pit schedule` calls feasible, beside a bound that `pit check` accepted.
+    """A schedule that `pit schedule` calls feasible, beside a bound that `pit` accepted.
 
     Attributes
     ----------
@@ -74,6 +74,15 @@ class Schedule:
     def gap(self) -> Decimal:
         """How far it is below the bound, in percent of the bound."""
         return _WHOLE * (self.bound - self.npv) / self.bound if self.bound else Decimal(0)
+
+    @property
+    def units_a_period(self) -> float:
+        """How many blocks or panels of rock are dug in a period, in the mean of those in which rock
+        is."""
+        made, when = self.production, self.period[self.production.blocks]
+        has_rock = made.uses[0][made.unit] > 0
+        dug = np.unique(made.unit[(when >= 0) & has_rock])
+        return len(dug) / max(len(np.unique(when[(when >= 0) & has_rock])), 1)
 
     @property
     def gap_text(self) -> str:

@@ -18,17 +18,16 @@ from ..base.amounts import THOUSAND, exact_sum
 from ..base.arrays import Array, Floats, Indices, Ints
 from ..base.errors import PlanError
 from ..base.next_command import command
-from ..base.units_shown import share_text
 from .pairs import Pairs
 from .sending import Millable, Timetable
-from .terms import GRAIN, RESOURCES, Terms
+from .terms import GRAIN, RESOURCES, Terms, refuse_missing
 from .units import Units, gated, of_units, pairs_of, rows_of, units_of
 
 if TYPE_CHECKING:
     from ..study.shells import Shells
     from ..study.study import Study
 
-_FORM = 2  # of what is kept: another one is found anew
+_FORM = 3  # of what is kept: another one is found anew
 _MOST_NODES = 1 << 24  # units by periods that `pit` reads
 
 
@@ -79,6 +78,11 @@ class Production:
     millable: Millable = field(default_factory=Millable.none)
     pushback: Ints = field(default_factory=lambda: np.zeros(1, np.int64))
     gates: int = 0
+
+    @property
+    def is_plain(self) -> bool:
+        """Whether `pit bound` can bound it: its periods have no lags and no choice of ways."""
+        return not len(self.sinking.other) and not len(self.millable.block)
 
     @property
     def units(self) -> int:
@@ -268,14 +272,7 @@ def _pushback_of(shells: Shells, terms: Terms, blocks: Ints) -> Ints:
     PlanError
         Where the series has no pit at one of their factors.
     """
-    missing = [factor for factor in terms.pushbacks if factor not in shells.factors]
-    if missing:
-        share = share_text(missing[0])
-        raise PlanError(
-            f"[schedule] pushbacks has {share}, and [shells] factors has no {share}",
-            try_this=f"{share} among the factors, and {command('shells', shells.study.named)}",
-            key=("schedule", "pushbacks"),
-        )
+    refuse_missing(terms.pushbacks, shells.factors, command("shells", shells.study.named))
     ends = [shells.factors.index(factor) for factor in terms.pushbacks]
     found: Ints = np.searchsorted(ends, shells.shell[blocks]).astype(np.int64)
     return found

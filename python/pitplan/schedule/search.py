@@ -5,28 +5,31 @@ from __future__ import annotations
 import math
 import tempfile
 import time
-from collections.abc import Callable
+from collections.abc import Callable, Iterator
 from dataclasses import dataclass, replace
-from decimal import Decimal
 from pathlib import Path
 
 import numpy as np
 
 from ..base.arrays import Floats, Ints
 from ..base.files import mark
-from ..pit.program import Pit, Richest, Texts
-from .expanded import Expanded
+from ..pit.program import Pit
+from .expanded import CERTIFICATE, Closed, Expanded
 from .kept import Bound, Kept
 from .partition import MOST, Clusters, Relaxed, begun, merged, relax, shares_of, split
 from .production import Production
 from .sending import Timetable
 from .sorting import Sorting
 from .terms import MILLION
+from .unit_texts import UnitTexts
+from .whole_units import by_whole_units, is_small
 
 _BOUND_PART = 0.6  # of the time, that the bound may take
 _NEAR = 0.1  # of the gap asked for, to which the bound comes to the relaxation
 _NEAREST = 1e-5
 _TRIES = 2000  # swaps between each two periods in a round
+_REBUILDS = 100  # tries of a round to dig other units, at most
+_REBUILT = 10_000  # units that they go over together
 _STALE = 12  # rounds that bring next to nothing, after which swaps end
 _NOTHING = 2e-6  # of the worth: what counts as next to nothing
 
@@ -60,6 +63,7 @@ class Found:
 
 
 Told = Callable[[Found, str], None]  # how far it is, and what is done next
+_Shared = tuple[Floats, Ints]  # of the relaxation: its shares of units and periods, its multipliers
 
 
 class Search:
@@ -84,8 +88,12 @@ class Search:
     ) -> None:
         self.production, self.program = production, program
         self.kept = Kept(folder, production)
-        self.expanded, self.sorting = Expanded(production), Sorting(production)
+        self.nodes: Expanded | UnitTexts = (
+            UnitTexts(production) if production.is_plain else Expanded(production)
+        )
+        self.sorting = Sorting(production)
         self.told, self.found = told, Found()
+        self.rebuilds = min(_REBUILDS, _REBUILT // production.units)
         self.plan: Timetable | None = None
         self.bound = self.kept.bound()
         if self.bound:
@@ -110,7 +118,14 @@ class Search:
             self.take(self.sorting.by_shells())
         if self.found.gap > gap:
             found = self.lower(gap, time.monotonic() + seconds * _BOUND_PART)
-            self.sort(*found, gap, ends)
+            if found is not None:
+                self.sort(found, gap, ends)
+        if self.found.gap > gap and is_small(self.production):
+            self.tell("all schedules of a small mine")
+            plan, is_all = by_whole_units(self.production, ends - time.monotonic())
+            self.take(plan)
+            if is_all:
+                return
         self.swap(gap, ends)
 
     def tell(self, what: str) -> None:
@@ -119,11 +134,9 @@ class Search:
             self.told(self.found, what)
 
     def bounded(self, bound: Bound) -> int:
-        """What no schedule is worth more than, in millionths: the worth that `pit check` accepted,
-        and all capacities at the same multipliers."""
-        return int(Decimal(bound.pit_worth) * MILLION) + self.expanded.capacity_worth(
-            np.array(bound.multipliers, np.int64)
-        )
+        """What no schedule is worth more than, in millionths, by what `pit` says at some
+        multipliers."""
+        return self.nodes.total(bound.said, np.array(bound.multipliers, np.int64))
 
     def take(self, plan: Timetable | None, keep: bool = True) -> None:
         """Takes a schedule where it is worth more than the one that is there."""
@@ -152,22 +165,25 @@ class Search:
             return begun(made)
         return Clusters(*(kept[name].astype(np.int64) for name in shapes))
 
-    def lower(self, gap: float, ends: float) -> tuple[Floats, Ints]:
-        """Looks for better bounds, until the best is near the relaxation; gives the shares and the
-        multipliers of the relaxation."""
+    def lower(self, gap: float, ends: float) -> _Shared | None:
+        """Looks for better bounds, until the best is near the relaxation or the time is up; a first
+        bound is waited for. Gives the shares and the multipliers of the relaxation, None where the
+        time was too short for one."""
         made, cluster, last = self.production, self.clusters(), -math.inf
+        answer: _Shared | None = None
         with tempfile.TemporaryDirectory(
             prefix=f".closures.{mark()}", dir=self.kept.folder
         ) as work:
-            texts = Texts(Path(work) / "expanded.prec", Path(work) / "expanded.upit")
-            self.tell("the mine of blocks and periods is written")
-            self.expanded.write_pairs(texts.prec)
             while True:
                 self.tell("a relaxation over clusters")
-                relaxed = relax(made, cluster)
-                self.tell("a pit of the mine of blocks and periods")
-                pit = self.closed(texts, relaxed)
+                relaxed = relax(made, cluster, self.left_until(ends))
+                if relaxed is None:
+                    return answer
                 answer = shares_of(cluster, relaxed), relaxed.multipliers
+                self.tell("a pit of the mine of blocks and periods")
+                pit = self.closed(Path(work), relaxed, self.left_until(ends))
+                if pit is None:
+                    return answer
                 best = self.found.bound
                 assert best is not None
                 is_near = best / MILLION - relaxed.worth <= max(_NEAR * gap, _NEAREST) * abs(
@@ -178,23 +194,27 @@ class Search:
                 if cluster.size > MOST and relaxed.worth > last * (1 + 1e-9):
                     cluster = merged(cluster, relaxed)
                 last = max(last, relaxed.worth)
-                dug = self.expanded.dug(pit.blocks)
-                parted = split(cluster, made, dug, relaxed.multipliers)
+                parted = split(cluster, made, pit.dug, relaxed.multipliers)
                 if parted.size == cluster.size:
                     return answer  # the partition is the relaxation itself
                 cluster = parted
                 rows = {"dug": cluster.dug.astype(np.int32), "sent": cluster.sent.astype(np.int32)}
                 self.kept.keep_arrays("partition", **rows)
 
-    def closed(self, texts: Texts, relaxed: Relaxed) -> Richest:
-        """The richest pit at some multipliers; its bound is kept where it is the best."""
-        self.expanded.write_worths(texts.upit, relaxed.multipliers)
-        certificate = texts.upit.with_name("bound.cert")
-        pit = self.program.richest(texts, certificate)
+    def left_until(self, ends: float) -> float | None:
+        """The seconds that a step of the bound may take; None before there is one."""
+        return None if self.found.bound is None else ends - time.monotonic()
+
+    def closed(self, work: Path, relaxed: Relaxed, seconds: float | None) -> Closed | None:
+        """The richest pit at some multipliers, None where it takes longer; its bound is kept where
+        it is the best."""
+        pit = self.nodes.closed(self.program, work, relaxed.multipliers, seconds)
+        if pit is None:
+            return None
         closures = self.found.closures + 1
         bound = Bound(
             self.production.key,
-            pit.worth,
+            pit.said,
             relaxed.multipliers.tolist(),
             pit.certificate,
             closures,
@@ -204,16 +224,30 @@ class Search:
         self.found = replace(self.found, closures=closures)
         if self.found.bound is None or total < self.found.bound:
             self.bound, self.found = bound, replace(self.found, bound=total)
-            self.kept.keep_bound(bound, certificate.with_name("bound.cert.gz"))
+            self.kept.keep_bound(bound, work / f"{CERTIFICATE}.gz")
         return pit
 
-    def sort(self, shares: Floats, multipliers: Ints, gap: float, ends: float) -> None:
-        """Schedules by the shares of the relaxation."""
-        for plan in self.sorting.by_shares(shares, multipliers):
-            self.tell("schedules by the relaxation")
-            self.take(plan)
-            if self.found.gap <= gap or time.monotonic() > ends:
-                return
+    def sort(self, found: _Shared, gap: float, ends: float) -> None:
+        """Schedules by the shares of the relaxation, and where periods have a fixed cost by those of
+        the one without it too."""
+        for shares, multipliers in (found, *self.shared_without_cost(ends)):
+            for plan in self.sorting.by_shares(shares, multipliers):
+                self.tell("schedules by the relaxation")
+                self.take(plan)
+                if self.found.gap <= gap or time.monotonic() > ends:
+                    return
+
+    def shared_without_cost(self, ends: float) -> Iterator[_Shared]:
+        """The relaxation over the clusters at hand as if no period had a fixed cost: where it has,
+        as a period that is open in part pays for that part alone."""
+        terms = self.production.terms
+        if not terms.fixed_cost:
+            return
+        cluster = self.clusters()
+        free = replace(self.production, terms=replace(terms, fixed_cost=0))
+        relaxed = relax(free, cluster, ends - time.monotonic())
+        if relaxed is not None:
+            yield shares_of(cluster, relaxed), relaxed.multipliers
 
     def swap(self, gap: float, ends: float) -> None:
         """Swaps between neighbouring periods, in rounds, until they bring next to nothing."""
@@ -223,5 +257,6 @@ class Search:
             self.tell("swaps between neighbouring periods")
             before, seed = self.found.npv, seed + 1
             self.take(self.sorting.swapped(self.plan, _TRIES, seed))
+            self.take(self.sorting.rebuilt(self.plan, self.rebuilds, seed))
             self.kept.keep_arrays("swaps", seed=np.array(seed))
             stale = stale + 1 if self.found.npv - before <= _NOTHING * abs(before) else 0

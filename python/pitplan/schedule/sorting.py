@@ -18,6 +18,8 @@ _FLOORS = (None, 1e-6, 0.5)  # shares that are needed before a unit may be dug; 
 _PASSES = 50  # of single moves, at most
 _TURNS = 4  # of moves and of what is sent
 _SLACK = 1e-9
+_MOST_OUT = 4  # units that one try of a rebuilding takes out
+_MOST_LOOKS = 20  # times all units that it looks at for what comes in their place
 
 
 class Sorting:
@@ -46,6 +48,8 @@ class Sorting:
             production.values,
             production.terms.per_year,
             production.units - production.gates,
+            production.weights * production.terms.fixed_cost,
+            production.capacities[0],
         )
         self.order = production.order
         self.by_gain = production.millable.by_gain()
@@ -156,6 +160,32 @@ class Sorting:
         for s in range(self.production.periods):
             loops.swap_units(mine, more, s, tries, seed * self.production.periods + s)
         return self.moved(self.sent_in(more.period))
+
+    def rebuilt(self, plan: Timetable, tries: int, seed: int) -> Timetable:
+        """A schedule after some tries to leave a few units in the ground, with all that rests on
+        them, and to dig in their place what pays, each with all above it: as many periods as that
+        takes. A try that brings less is taken back."""
+        made, random = self.production, np.random.default_rng(seed)
+        worth = made.npv(plan)
+        for _ in range(tries):
+            mine, more = self.mine_of(plan.sent), self.loose(plan)
+            dug = np.flatnonzero(more.period[: mine.gates] < made.periods)
+            out = random.permutation(dug)[: random.integers(_MOST_OUT)]
+            if random.random() < 0.3:
+                out = dug[more.period[dug] >= random.integers(made.periods)]
+            loops.take_out(mine, more, out)
+            wanted = np.flatnonzero((mine.values > 0) & (more.period == made.periods))
+            wanted = wanted[np.argsort(-mine.values[wanted] * random.random(len(wanted)))]
+            later = random.random(made.units) < random.random() * random.integers(2)
+            floor = later * random.integers(0, made.periods, made.units)
+            least = -int(mine.values.max(initial=0) * made.weights[0]) * (random.random() < 0.3)
+            limits = least, _MOST_LOOKS * made.units
+            loops.insert_units(mine, more, (wanted, floor), made.weights, limits)
+            other = self.shortened(self.moved(self.sent_in(more.period)))
+            found = made.npv(other)
+            if found >= worth:
+                plan, worth = other, found
+        return plan
 
     def shortened(self, plan: Timetable) -> Timetable:
         """A schedule that ends where what follows doesn't pay its fixed costs."""

@@ -3,13 +3,14 @@ much rock and feed each has."""
 from __future__ import annotations
 
 import math
-from collections.abc import Mapping, Sequence
+from collections.abc import Collection, Mapping, Sequence
 from dataclasses import dataclass
 from decimal import Decimal, localcontext
 from typing import Any
 
 from ..base.amounts import THOUSAND
 from ..base.errors import PlanError, about
+from ..base.units_shown import share_text
 from ..study.shells import thousandths
 
 MILLION = 10**6  # weights are in millionths
@@ -163,6 +164,32 @@ def pushbacks_of(shares: Sequence[float]) -> tuple[int, ...]:
                 try_this="pushbacks = [0.5, 0.75]",
             )
     return found
+
+
+def refuse_missing(pushbacks: Sequence[int], factors: Collection[int], then: str) -> None:
+    """Refuses pushbacks, in thousandths, that end at no pit of the series.
+
+    Parameters
+    ----------
+    pushbacks : sequence of int
+    factors : collection of int
+        Of the series.
+    then : str
+        The command that finds further pits.
+
+    Raises
+    ------
+    PlanError
+        With the first that no factor is.
+    """
+    for factor in pushbacks:
+        if factor not in factors:
+            share = share_text(factor)
+            raise PlanError(
+                f"[schedule] pushbacks has {share}, and [shells] factors has no {share}",
+                try_this=f"{share} among the factors, and {then}",
+                key=("schedule", "pushbacks"),
+            )
 
 
 def _weights(periods: int, discount: Decimal, when: Decimal, per_year: int) -> tuple[int, ...]:

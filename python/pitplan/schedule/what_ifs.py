@@ -203,7 +203,7 @@ def tasks(study: Study) -> list[Task]:
     return [Task(SCHEDULE, name, (THOUSAND,)) for name in names]
 
 
-def _place(base: Study, name: str) -> Path:
+def place(base: Study, name: str) -> Path:
     """The folder in which the schedule of a what-if is kept."""
     return base.folder if name == BASE else vary.place(base, name)
 
@@ -213,7 +213,7 @@ def ended(base: Study, asked: Asked, name: str) -> tuple[Path, str]:
     terms = _changed_terms(asked.told, asked.rates, asked.named(name))
     told = [study_named(base, name).key, terms, asked.rates, asked.gap, asked.minutes]
     digest = hashlib.sha256(json.dumps(told, sort_keys=True).encode()).hexdigest()
-    return _place(base, name) / "runs" / "schedule" / "ended", digest
+    return place(base, name) / "runs" / "schedule" / "ended", digest
 
 
 def is_done(base: Study, name: str) -> bool:
@@ -247,7 +247,7 @@ def find(base: Study, name: str) -> None:
     path, digest = ended(base, asked, name)
     limits = (asked.gap / PERCENT, asked.minutes * MINUTE)
     shells = _shells_of(study_named(base, name), terms)
-    Schedule.of(shells, terms, asked.rates, limits, folder=_place(base, name))
+    Schedule.of(shells, terms, asked.rates, limits, folder=place(base, name))
     with whole_file(path) as part:
         part.write_text(digest, "utf-8")
 
@@ -258,7 +258,7 @@ def found_last(base: Study, asked: Asked, name: str) -> Schedule:
 
     terms = _changed_terms(asked.told, asked.rates, asked.named(name))
     shells = _shells_of(study_named(base, name), terms)
-    found = Schedule.last(shells, terms, asked.rates, _place(base, name))
+    found = Schedule.last(shells, terms, asked.rates, place(base, name))
     if found is None:
         raise PlanError(
             f"the schedule of {name} hasn't been found",

@@ -32,11 +32,12 @@ _Fits = Callable[[Sequence[Offset]], bool]
 
 PAIRS = 1 << 27  # the most pairs of a block and a predecessor that `pit` takes
 OFFSETS = 4096  # the most offsets
+# degrees that a wall may err by: on average, anywhere, on average with its sign
 MEAN, WORST, _SIGNED = (
     0.5,
     1.0,
     0.25,
-)  # degrees that a wall may err by: on average, anywhere, on average with its sign
+)
 # what a wall that is too steep weighs, and each degree of it, where none may be: more than all that
 # is flatter
 _TOO_STEEP = 1000
@@ -46,19 +47,19 @@ _FLATTEST, _STEEPEST = 5.0, 89.0  # degrees that may be asked for
 # are 65.6167979 ft. Where columns lie on the very edge of a cone, the search has ties, and a size
 # that is off in its eighth digit must break none of them.
 _SAME = 1e-6
-_EVEN = (
-    math.degrees(_SAME) / 2
-)  # so many degrees no two angles differ by whose tangents are the same
+# so many degrees no two angles differ by whose tangents are the same
+_EVEN = math.degrees(_SAME) / 2
 # the search looks so many levels up that a wall comes 10 blocks out, at 400 stretches; then further
 _TRIES = (10, 400), (
     24,
     300,
 )
 _MOST_LEVELS = 200
+# the least and the greatest stretch, but where a safe wall needs more
 NARROWEST, _WIDEST = (
     0.9,
     1.6,
-)  # the least and the greatest stretch, but where a safe wall needs more
+)
 # where a wall comes this many blocks out, a cone of that stretch has a block on each side of it
 _NEAR = 3
 
@@ -462,9 +463,8 @@ class _Cones:
         )
         self.found = [f for f in found if f[0] <= widest * levels * (1 + _SAME)]
         self.far = [far for far, _, _ in self.found]
-        self.sets, self.counts = {0: 0}, [
-            0
-        ]  # sets of the nearest columns by their count, and these counts ascending
+        # sets of the nearest columns by their count, and these counts ascending
+        self.sets, self.counts = {0: 0}, [0]
 
     def level(self, k: int, stretch: float) -> int:
         """The columns of level k of the cone; of columns as far away as each other all or none."""
@@ -472,9 +472,8 @@ class _Cones:
         while 0 < count < len(self.far) and self.far[count] <= self.far[count - 1] * (1 + _SAME):
             count += 1
         if count not in self.sets:
-            near = self.counts[
-                bisect.bisect_right(self.counts, count) - 1
-            ]  # its columns come first here too
+            # its columns come first here too
+            near = self.counts[bisect.bisect_right(self.counts, count) - 1]
             bits = bytearray(((2 * self.along + 1) * self.wide + 7) // 8)
             for _, i, j in self.found[near:count]:
                 at = (j + self.along) * self.wide + i + self.across

@@ -7,7 +7,7 @@ list the offsets of each region, and the `.blocks` file has a column with that o
 from __future__ import annotations
 
 import functools
-from collections.abc import Callable, Iterable, Iterator, Mapping
+from collections.abc import Iterable, Iterator, Mapping
 from dataclasses import dataclass, field
 from pathlib import Path
 from typing import Any, cast
@@ -24,7 +24,7 @@ from ..model.subblocks import coded
 from ..pit.program import Pit
 from ..table.formula import is_formula, names_in, text_of, words_out
 from ..table.study_keys import has_ramp, keys_of, refuse_wrong
-from . import offsets as search
+from . import offsets
 from .offsets import Angles, Offset, Pattern
 from .ramps import ramp_of
 
@@ -33,9 +33,6 @@ _REGION = 4  # the column of a block's region, after what it brings, costs and w
 _OF_PLACES = ("elevation", "below_ground")  # what a formula of regions may name beside columns
 _OFF = 1e-3  # of a block's height: that much less or more makes no other elevation, nor depth
 _STEP = 15  # degrees of bearing between two rows of the table of asked and built angles
-Begun = Callable[
-    [str, int, int], None
-]  # a region whose predecessors are begun, which it is of how many
 
 
 @dataclass
@@ -131,14 +128,14 @@ class Slopes:
         """The angles of a region as study.toml has them."""
         return self.angles if region == DEFAULT else (self.regions or {})[region]
 
-    def wall(self, region: str, size: tuple[float, float, float], rotation: float) -> search.Wall:
+    def wall(self, region: str, size: tuple[float, float, float], rotation: float) -> offsets.Wall:
         """What is asked for in a region: the overall slope, where ramps pass it that with the
-        ramps."""
+        ramps. Raises PlanError where angles are out of range."""
         angles, where, ramp = self.told(region), _angles_key(region), ramp_of(self.ramp, region)
         try:
-            search.wall(size, angles, rotation)  # angles out of range are told as they were asked
-            return search.wall(size, ramp.of_angles(angles) if ramp else angles, rotation)
-        except search.SlopeError as error:
+            offsets.wall(size, angles, rotation)  # angles out of range are told as they were asked
+            return offsets.wall(size, ramp.of_angles(angles) if ramp else angles, rotation)
+        except offsets.SlopeError as error:
             raise PlanError(f"[slopes] {where}: {error}", key=_key_of(region)) from None
 
     def patterns(self, grid: Grid) -> dict[str, Pattern]:
@@ -153,7 +150,7 @@ class Slopes:
         key = (grid.size, grid.rotation, self.safe, self.levels)
         if key not in self._found:
             walls = {name: self.wall(name, grid.size, grid.rotation) for name in self.names}
-            self._found[key] = {name: self._searched(name, wall) for name, wall in walls.items()}
+            self._found[key] = {name: self._pattern_of(name, wall) for name, wall in walls.items()}
         return self._found[key]
 
     def lines(self, region: str, grid: Grid, unit: str) -> list[str]:
@@ -163,12 +160,12 @@ class Slopes:
         said = [ramp.spelled(self.told(region), unit)] if ramp else []
         return [f"{region}: {line}" for line in (*said, str(pattern))]
 
-    def _searched(self, region: str, wall: search.Wall) -> Pattern:
+    def _pattern_of(self, region: str, wall: offsets.Wall) -> Pattern:
         at = f", {self.names.index(region) + 1} of {len(self.names)}" if self.regions else ""
         event("step", what=f"looking for the offsets of {region}{at}")
         try:
-            return searched(wall, self.safe, self.levels)
-        except search.TooSteep as error:
+            return pattern_of(wall, self.safe, self.levels)
+        except offsets.TooSteep as error:
             raise PlanError(
                 f"[slopes] {_angles_key(region)}, safe = true: {error.what}",
                 try_this=error.advice,
@@ -190,7 +187,7 @@ class Slopes:
         """
         rows = []
         for name, pattern in self.patterns(grid).items():
-            outline = search.Outline(pattern.wall, pattern.offsets)
+            outline = offsets.Outline(pattern.wall, pattern.offsets)
             for bearing in range(0, 360, _STEP):
                 asked, is_now = pattern.wall.slope(bearing), outline.slope(bearing)
                 rows.append((name, bearing, asked, is_now, is_now - asked))
@@ -200,6 +197,16 @@ class Slopes:
         """How many blocks of rock each region has, "default" first."""
         count = np.bincount(self.region_of(model)[model.is_rock], minlength=len(self.names))
         return dict(zip(self.names, count.tolist()))
+
+    def rock_of_default(self, model: Model) -> dict[str, int]:
+        """What a column `by` has in the blocks of rock that no region names, and how many have it,
+        the most first; "" is an empty cell. Nothing where `by` is no column."""
+        if not self.regions or self.by not in model.blocks.columns:
+            return {}
+        here = (self.region_of(model) == 0) & model.is_rock
+        cells = coded(model, [str(self.by)]).blocks.loc[here, self.by]
+        counts = cells.map(text_of, na_action="ignore").fillna("").value_counts()
+        return {str(name): int(count) for name, count in counts.items()}
 
     def codes(self) -> set[str]:
         """The columns that `by` names: they stand for codes."""
@@ -253,9 +260,8 @@ class Slopes:
         )
         wrong.tell()
         index = {name: i for i, name in enumerate(self.names) if i}
-        of_code = np.array(
-            [*(index.get(text, 0) for text in texts), 0], np.int64
-        )  # the last is that of an empty cell, whose code is -1
+        # the last is that of an empty cell, whose code is -1
+        of_code = np.array([*(index.get(text, 0) for text in texts), 0], np.int64)
         return cast(Ints, of_code[codes])
 
 
@@ -302,10 +308,10 @@ def _key_of(region: str) -> KeyPath:
 
 
 @functools.lru_cache(maxsize=64)
-def searched(wall: search.Wall, safe: bool, levels: int | None) -> Pattern:
+def pattern_of(wall: offsets.Wall, safe: bool, levels: int | None) -> Pattern:
     """As `offsets.search`; a wall that was asked for before, as by what-ifs over the same slopes,
     isn't searched again."""
-    return search.search(wall, safe=safe, levels=levels)
+    return offsets.search(wall, safe=safe, levels=levels)
 
 
 def _pairs(there: Bools, of: Bools, offset: Offset) -> int:
@@ -326,8 +332,8 @@ def pairs_by_region(slopes: Slopes, model: Model) -> dict[str, int]:
     region[b.ix, b.iy, b.iz] = slopes.region_of(model)
     lists = slopes.offsets_by_region(model.grid)
     return {
-        name: sum(_pairs(there, region == i, offset) for offset in offsets)
-        for i, (name, offsets) in enumerate(lists.items())
+        name: sum(_pairs(there, region == i, offset) for offset in listed)
+        for i, (name, listed) in enumerate(lists.items())
     }
 
 
@@ -346,24 +352,24 @@ def check_limits(slopes: Slopes, model: Model) -> None:
         levels there aren't, and how steep the walls are then.
     """
     patterns = slopes.patterns(model.grid)
-    if max(len(pattern.offsets) for pattern in patterns.values()) * len(model) <= search.PAIRS:
+    if max(len(pattern.offsets) for pattern in patterns.values()) * len(model) <= offsets.PAIRS:
         return
     counts = pairs_by_region(slopes, model)
     total = sum(counts.values())
-    if total <= search.PAIRS:
+    if total <= offsets.PAIRS:
         return
     name = max(counts, key=lambda region: counts[region])
     pattern, others = patterns[name], total - counts[name]
     share = f"{counts[name]:,} of {total:,}" if others else f"{total:,}"
     text = (
         f"[slopes] {name}: {len(pattern.offsets)} offsets make {share} pairs over"
-        f" {len(model):,} blocks, and pit takes {search.PAIRS:,}"
+        f" {len(model):,} blocks, and pit takes {offsets.PAIRS:,}"
     )
     of = slopes.region_of(model) == list(patterns).index(name)
     fitting = [
         (levels, tried)
         for levels, tried in _with_fewer_levels(pattern, slopes.safe)
-        if others + _pairs_of(tried, model, of) <= search.PAIRS
+        if others + _pairs_of(tried, model, of) <= offsets.PAIRS
     ]
     if not fitting:
         raise PlanError(
@@ -381,8 +387,8 @@ def _with_fewer_levels(pattern: Pattern, safe: bool) -> Iterator[tuple[int, Patt
     """What each lesser number of levels makes of the same wall, the greatest first."""
     for levels in range(pattern.levels - 1, 0, -1):
         try:
-            yield levels, searched(pattern.wall, safe, levels)
-        except search.TooSteep:
+            yield levels, pattern_of(pattern.wall, safe, levels)
+        except offsets.TooSteep:
             continue
 
 
@@ -429,6 +435,6 @@ def write_prec(
     patterns = slopes.patterns(model.grid)
     column = f"region = {_REGION}\n" if len(patterns) > 1 else ""
     settings = out.with_name("slopes.toml")
-    settings.write_text(search.settings_by_region(patterns) + column)
+    settings.write_text(offsets.settings_by_region(patterns) + column)
     pit.slopes(blocks_file, settings, out)
     return slopes.offsets_by_region(model.grid)

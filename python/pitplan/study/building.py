@@ -21,7 +21,7 @@ from ..model.economics import Economics
 from ..model.model import Model
 from ..model.subblocks import coded
 from ..pit.program import Pit
-from ..slopes.slopes import Begun, Slopes, count_pairs, write_prec
+from ..slopes.slopes import Slopes, count_pairs, write_prec
 from ..slopes.steep_ground import with_air
 from .folder import READ
 
@@ -42,8 +42,6 @@ class Building:
     program : Pit
     keys : str
         The digest of the text that all this was read from.
-    begun : function, optional
-        Is told each region of slopes as its predecessors are begun.
     """
 
     folder: Path
@@ -52,7 +50,6 @@ class Building:
     slopes: Slopes
     program: Pit = field(default_factory=Pit)
     keys: str = ""
-    begun: Begun | None = None
 
     def write(self) -> None:
         """Makes the files that `pit` reads. A model that stands there already is replaced once the
@@ -82,9 +79,6 @@ class Building:
             (work / "settings.toml").write_text(
                 "".join(f"{name} = {i}\n" for i, name in enumerate(COLUMNS))
             )
-            if self.begun:
-                for i, name in enumerate(slopes.names):
-                    self.begun(name, i + 1, len(slopes.names))
             offsets = write_prec(
                 slopes, model, self.program, work / "mine.blocks", work / "mine.prec"
             )

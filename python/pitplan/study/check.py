@@ -185,9 +185,8 @@ def _wrong_in_rows(parts: Parts, errors: Sequence[PlanError]) -> list[PlanError]
         slopes = parts.slopes or parts.partly.slopes
         if slopes and not slopes.hangs_on_places(map(str, model.blocks.columns)):
             slopes.region_of(model)
-    whole = keys.regularise or covers(
-        ("model", "absent")
-    )  # a row is no block, or its cells no grades
+    # a row is no block, or its cells no grades
+    whole = keys.regularise or covers(("model", "absent"))
     names_rocks = not any(error.key[:2] == ("model", "columns") for error in errors)
     return [
         error

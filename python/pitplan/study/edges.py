@@ -40,10 +40,11 @@ def ground(model: Model) -> tuple[Ints, Ints]:
     going along the axes. Rows of air, without tonnes, are no ground.
     """
     index = model.index
+    # the last is that of -1: no row
     there, rock = (
         index >= 0,
         np.append(model.blocks["tonnes"].to_numpy() > 0, False)[index],
-    )  # the last is that of -1: no row
+    )
     has = there.any(axis=2)
     top = np.where(rock.any(axis=2), there.shape[2] - 1 - rock[:, :, ::-1].argmax(axis=2), -1)
     low = np.where(has, there.argmax(axis=2), 0)
@@ -86,9 +87,8 @@ def highest_touching(model: Model, regions: Iterable[Sequence[Sequence[int]]]) -
     """
     top, low = ground(model)
     columns = (model.index >= 0).any(axis=2)
-    shaft = enclosed(
-        columns
-    )  # a study with such columns was built only where the planner called them air
+    # a study with such columns was built only where the planner called them air
+    shaft = enclosed(columns)
     x, y = np.indices(columns.shape)
     for offsets in regions:
         highest = np.full(columns.shape, -1)

@@ -75,9 +75,8 @@ _MOSTLY = (
 _LIMIT = re.compile(r"<\s*\d*[.,]?\d+")  # below the limit of an assay
 _MOST_LIMITS = 20
 _MOST_REGIONS = 12  # of slopes: a column with more words than that names something else
-_AIRS = re.compile(
-    r"air|aire|ar|airblock|void|vacio|vacío|vazio", re.IGNORECASE
-)  # how a rock is called that is none
+# how a rock is called that is none
+_AIRS = re.compile(r"air|aire|ar|airblock|void|vacio|vacío|vazio", re.IGNORECASE)
 _SAMPLE = 1500  # blocks that the grid is looked for in
 _PLACES_OFF = 0.02  # in the unit of the coordinates: how far their rounding may put two blocks off
 
@@ -209,9 +208,8 @@ def _marks_in(frame: pd.DataFrame, names: dict[str, str]) -> tuple[list[str], di
     kept = {names[key] for key in (*PLACES, *SIZES, "id", "rock") if key in names}
     where: dict[str, list[str]] = {}
     numbers = frame.select_dtypes("number")
-    plain = set(
-        numbers.columns[((numbers.min() >= 0) & ~numbers.isna().any()).to_numpy()]
-    )  # all at once: a table may have 100,000 columns
+    # all at once: a table may have 100,000 columns
+    plain = set(numbers.columns[((numbers.min() >= 0) & ~numbers.isna().any()).to_numpy()])
     for name in frame.columns:
         if name not in kept and name not in plain:
             for mark in _marks_of(frame[name]):
@@ -265,9 +263,8 @@ def _is_grade(frame: pd.DataFrame, name: str, look: _Look) -> bool:
                 f'column {name}, row {0 if error.row is None else error.row + 2}: {error.what}; if that stands for "not estimated", put it into absent'
             )
         return is_one
-    if (
-        metal_of(name) is not None and (values < 0).mean() < 0.5
-    ):  # kriging leaves a few below 0: `build` names their row
+    # kriging leaves a few below 0: `build` names their row
+    if metal_of(name) is not None and (values < 0).mean() < 0.5:
         return True
     return bool(values.min() >= 0) and len(np.unique(values)) > 12
 
@@ -354,9 +351,8 @@ def _find_grid(look: _Look, frame: pd.DataFrame, x: Floats, y: Floats, z: Floats
         look.size = (float(lengths[0].max()), float(lengths[1].max()), float(lengths[2].max()))
         is_whole = np.logical_and.reduce([v >= v.max() * (1 - OFF) for v in lengths])
         look.has_sub_blocks = not is_whole.all()
-        if (
-            is_whole.any()
-        ):  # centres of sub-blocks are on no grid of whole blocks, and a fit to them is off
+        # centres of sub-blocks are on no grid of whole blocks, and a fit to them is off
+        if is_whole.any():
             x, y, z = x[is_whole], y[is_whole], z[is_whole]
     level = z == pd.Series(z).mode().iloc[0]
     near = np.argsort(

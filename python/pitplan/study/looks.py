@@ -40,9 +40,8 @@ _EVERYWHERE = 0.95  # the share of the rock from which on a formula keeps nearly
 _TIMES_USUAL = 8  # how many times a metal's usual price a price may be, or its share
 _LEAST_SELLING, _MOST_SELLING = 5e-4, 0.6  # of the price
 _LONGEST, _SHORTEST = 200, 0.01  # years that a mine takes
-_DOLLARS = re.compile(
-    r"[A-Z]{0,3}\$|USD|AUD|CAD|EUR|GBP|€|£"
-)  # currencies in which a metal's usual price is about its number
+# currencies in which a metal's usual price is about its number
+_DOLLARS = re.compile(r"[A-Z]{0,3}\$|USD|AUD|CAD|EUR|GBP|€|£")
 _DEPTHS = ("depth", "prof", "profundidad", "profundidade", "profondeur", "tiefe", "teufe")
 # A region of such a name lies that way of the middle: as (east, north).
 _WAYS = {

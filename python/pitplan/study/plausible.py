@@ -14,10 +14,11 @@ from ..table.study_keys import METALS
 from ..model.economics import Economics, holds
 from ..model.model import Model
 
+# tonnes a cubic metre; or a cubic foot, where nothing says that coordinates are in feet
 _LIGHTEST, _HEAVIEST = (
     0.05,
     10.0,
-)  # tonnes a cubic metre; or a cubic foot, where nothing says that coordinates are in feet
+)
 _RICHEST = 50  # how many times its costs ore may bring
 _LEAST = 0.002  # the share that a metal has of what all bring
 

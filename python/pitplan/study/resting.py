@@ -93,9 +93,8 @@ class Resting:
         out = held.copy()
         level = self.place[:, 2]
         order = np.argsort(level, kind="stable")
-        for here in np.split(
-            order, np.flatnonzero(np.diff(level[order])) + 1
-        ):  # offsets go up, so each level is settled before it is looked at
+        # offsets go up, so each level is settled before it is looked at
+        for here in np.split(order, np.flatnonzero(np.diff(level[order])) + 1):
             for _, above, _ in self.pairs(here[out[here]]):
                 out[above if only is None else above[only[above]]] = True
         return out

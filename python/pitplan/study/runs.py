@@ -17,9 +17,8 @@ from ..base.units_shown import share_text
 from ..pit.program import Accepted, Stated
 from .verdicts import Verdict, Verdicts
 
-FactorProgress = Callable[
-    [int, str, float], None
-]  # a factor, what is done for it, and how far that is, from 0 to 1
+# a factor, what is done for it, and how far that is, from 0 to 1
+FactorProgress = Callable[[int, str, float], None]
 
 
 class Runs(Verdicts):

@@ -53,7 +53,8 @@ def thousandths(share: float) -> int:
 
 
 def factors(low: float, high: float, step: float) -> list[int]:
-    """Factors in thousandths, as `pit` takes them, from shares of the price.
+    """Factors in thousandths, as `pit` takes them, from shares of the price. Raises PlanError where
+    there are none, or `step` is below a thousandth.
 
     >>> factors(0.9, 1.1, 0.05)
     [900, 950, 1000, 1050, 1100]
@@ -77,7 +78,8 @@ def factors(low: float, high: float, step: float) -> list[int]:
 
 
 def series_of(shares: Iterable[float]) -> list[int]:
-    """Shares of the price in ascending order, as factors in thousandths."""
+    """Shares of the price in ascending order, as factors in thousandths. Raises PlanError where
+    they don't ascend."""
     found = [thousandths(share) for share in shares]
     if not found or any(b <= a for a, b in zip(found, found[1:])):
         raise PlanError(
@@ -133,7 +135,8 @@ class Shells:
             self.read()
 
     def read(self) -> None:
-        """Reads each pit with all checks, the largest first."""
+        """Reads each pit with all checks, the largest first. Raises Disagreement where a pit isn't
+        within the next larger one."""
         below: Bools | None = None
         for i in reversed(range(len(self.factors))):
             mask = self.study.mask(self.factors[i])
@@ -211,7 +214,8 @@ class Shells:
         return self.traced[i]
 
     def holds(self, i: int) -> Bools:
-        """Whether a block is in pit i, of shape (blocks,)."""
+        """Whether a block is in pit i, of shape (blocks,). Raises IndexError where there is no such
+        pit."""
         if not 0 <= i < len(self.factors):
             raise IndexError(f"there are pits 0 to {len(self.factors) - 1}")
         held: Bools = self.shell <= i

@@ -36,10 +36,11 @@ from .toml_lines import Document
 
 _NAME = "study.toml"
 _RATES = ("mining_rate", "mill_rate", "discount")
+# in place of costs that are wrong, while the other keys are tried
 _NOTHING = {
     "mining": 0,
     "processing": 0,
-}  # in place of costs that are wrong, while the other keys are tried
+}
 _STAND_IN = "-"  # for the name of a column or of a region
 _FAR = 10**100  # how far from 0 a whole number may be
 
@@ -163,7 +164,8 @@ def parts_of_file(study: Path) -> Parts:
 
 
 def refuse_digits(where: str, value: Any) -> None:
-    """Refuses whole numbers of very many digits, which no float holds."""
+    """Refuses whole numbers of very many digits, which no float holds. Raises PlanError that names
+    where."""
     if isinstance(value, int) and abs(value) > _FAR:
         raise PlanError(f"{where.strip()} has a number of very many digits")
     if isinstance(value, dict):

@@ -12,10 +12,11 @@ from typing import Any, Union
 from ..base.errors import KeyPath, PlanError
 
 _MOST_LINES = 2000  # of a file that is looked through
+# lines of one statement; letters of a line for which something else is looked for
 _LONGEST, _WIDEST = (
     60,
     500,
-)  # lines of one statement; letters of a line for which something else is looked for
+)
 _SAY = "numbers with a point as 2.4, words in quotes, every bracket closed"
 _HEADER = re.compile(r"\s*\[\s*([\w-]+)\s*\]\s*(#.*)?")
 _BEGINS = re.compile(r"\s*([\w-]+)\s*[=: ]")  # a statement

@@ -27,13 +27,14 @@ from ..base.errors import MachineError
 _LOCK = Path("log", "lock")  # within a study
 PASSED = "PITPLAN_TURN"  # in the environment: the number of an open lock that whoever started this process holds
 _EVERY = 0.2  # seconds between two looks whether it is free
+# of file systems that know no such locks
 _NONE_HERE = (
     errno.ENOLCK,
     errno.EOPNOTSUPP,
     errno.ENOSYS,
     errno.EINVAL,
     errno.EBADF,
-)  # of file systems that know no such locks
+)
 
 
 @dataclass(frozen=True)
@@ -115,16 +116,16 @@ def _is_passed(file: IO[str]) -> bool:
         mine = int(os.environ.get(PASSED, ""))
         if not os.path.samestat(os.fstat(mine), os.fstat(file.fileno())):
             return False
-        fcntl.flock(
-            mine, fcntl.LOCK_EX | fcntl.LOCK_NB
-        )  # the same open file: already held, or free
+        # the same open file: already held, or free
+        fcntl.flock(mine, fcntl.LOCK_EX | fcntl.LOCK_NB)
         return True
     except (ValueError, OSError):
         return False
 
 
 def taken(file: IO[str], folder: Path, waits: bool, waiting: _Waiting | None) -> None:
-    """Takes the lock, or waits for it."""
+    """Takes the lock, or waits for it. Raises Held where another command has it and this one may
+    not wait."""
     for tries in itertools.count():
         try:
             fcntl.flock(file, fcntl.LOCK_EX | fcntl.LOCK_NB)

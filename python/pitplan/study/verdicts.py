@@ -121,7 +121,8 @@ class Verdicts(StudyFolder):
 
     def agree(self, found: Accepted | Stated, factor: int) -> None:
         """The first two checks: the pit's worth, added up again from the planner's table in whole
-        numbers, is `pit`'s to the last digit, and so is its count of blocks."""
+        numbers, is `pit`'s to the last digit, and so is its count of blocks. Raises Disagreement
+        where the two differ."""
         if found.factor != factor or found.size != self.manifest["blocks"]:
             raise Disagreement(
                 f"the pit is of factor {share_text(found.factor)} over {found.size:,} blocks, and"
@@ -165,9 +166,10 @@ def _bits_of(path: Path) -> npt.NDArray[np.uint8] | None:
     except store.DAMAGED:
         return None
     except OSError as error:
+        # the second where a damaged file leads before its beginning
         if error.errno not in (
             errno.ENOENT,
             errno.EINVAL,
-        ):  # the second where a damaged file leads before its beginning
+        ):
             raise
         return None

@@ -29,13 +29,13 @@ from ..base.within import is_outside, refuse_outside
 _SEPARATORS = ",;\t"
 _THOUSANDS = re.compile(r"[+-]?[1-9]\d{0,2}(([,'\s]\d{3})+(\.\d+)?|([.\s]\d{3})+,\d+)")
 _COMMA_DECIMAL = re.compile(r"([+-]?\d*),(\d+(?:[eE][+-]?\d+)?)")
-_GROUPED = re.compile(
-    r"[+-]?[1-9]\d{0,2}([.,])\d{3}(\1\d{3})*"
-)  # a whole number with thousands separators, or one with three decimals
+# a whole number with thousands separators, or one with three decimals
+_GROUPED = re.compile(r"[+-]?[1-9]\d{0,2}([.,])\d{3}(\1\d{3})*")
+# bytes that any table may unpack to, and how many times its size a larger one may
 SMALL, _MOST_TIMES = (
     1 << 26,
     200,
-)  # bytes that any table may unpack to, and how many times its size a larger one may
+)
 PIECE = 1 << 20  # bytes of a table that are looked through at a time
 _HELD = 3  # bytes of memory that a byte of a table takes while it is read
 SAY_ENCODING = (
@@ -251,7 +251,7 @@ def separator_of(header: str) -> str:
 
 def names_of(header: str, separator: str) -> list[str]:
     """The names of the columns, without blanks and quotes around them; those without a name are
-    called by number."""
+    called by number. Raises PlanError where that line is none."""
     try:
         names = [
             name.strip()
@@ -278,11 +278,12 @@ def dialect_of(path: Path, encoding: str = "utf-8-sig") -> Dialect:
     has_points = any(
         "." in cell and PLAIN.fullmatch(cell) and not _GROUPED.fullmatch(cell) for cell in cells_of
     )
+    # else 14,100 is whole beside 0.45
     commas = (
         separator != ","
         and with_comma
         and not (has_points and all(map(_GROUPED.fullmatch, with_comma)))
-    )  # else 14,100 is whole beside 0.45
+    )
     decimal = "," if commas else "."
     counts = [
         sum(bool(PLAIN.fullmatch(cell.strip().replace(decimal, "."))) for cell in row)
@@ -402,7 +403,7 @@ def _tell_return(text: IO[str], path: Path, separator: str) -> None:
 
 
 def refuse_doubled(names: Sequence[str], path: object) -> None:
-    """Refuses a name that two columns have."""
+    """Refuses a name that two columns have. Raises PlanError that names it."""
     doubled = next((name for name, count in Counter(names).items() if count > 1), None)
     if doubled is not None:
         raise PlanError(
@@ -426,9 +427,8 @@ def _points_for_commas(frame: pd.DataFrame, words: Collection[str], path: Path) 
         )
         spelt = swapped.where(swapped.notna(), values)
         found = pd.to_numeric(spelt, errors="coerce")
-        frame[name] = (
-            found if found.notna().equals(spelt.notna()) else spelt
-        )  # 0,15 and 0.15 are numbers both
+        # 0,15 and 0.15 are numbers both
+        frame[name] = found if found.notna().equals(spelt.notna()) else spelt
 
 
 def _refuse_points(values: pd.Series, path: Path) -> None:

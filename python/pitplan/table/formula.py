@@ -216,7 +216,8 @@ class _Reading:
         self.table, self.stated, self.used, self.off = table, stated, list[str](), off or {}
 
     def value(self, node: ast.expr) -> Any:
-        """What a part of the formula is worth: an array, or one value for all rows."""
+        """What a part of the formula is worth: an array, or one value for all rows. Raises
+        PlanError where it is no part that a formula may have."""
         if (
             isinstance(node, ast.Constant)
             and isinstance(node.value, (int, float, str))
@@ -256,7 +257,8 @@ class _Reading:
         )
 
     def call(self, name: str, words: list[ast.expr], node: ast.expr) -> Any:
-        """What one of `_FUNCTIONS` gives, or the column of a name that is no plain word."""
+        """What one of `_FUNCTIONS` gives, or the column of a name that is no plain word. Raises
+        PlanError where it calls anything else."""
         if (
             name == "column"
             and len(words) == 1
@@ -273,7 +275,7 @@ class _Reading:
     def column(self, name: str) -> Any:
         """A column of the table; whole numbers count as floats, so that nothing wraps round. Python
         reads some letters of a plain word as others that look alike, as the sign of micro as a
-        Greek mu."""
+        Greek mu. Raises PlanError where the table has no such column."""
         if name not in self.table.columns:
             name = next(
                 (
@@ -345,7 +347,8 @@ class _Reading:
         return _NEARLY[type(op)](a, b, off) if off else _ORDER[type(op)](a, b)
 
     def words_of(self, cells: Any, word: str, part: str) -> Array:
-        """The words of a column without the blanks around them; `word` has to be one of them."""
+        """The words of a column without the blanks around them; `word` has to be one of them.
+        Raises PlanError where no block has a word that the formula compares it with."""
         found = stripped(cells)
         there = set(pd.unique(found))
         if word.strip() not in there | {"", AIR}:
@@ -412,9 +415,8 @@ def stripped(cells: Any) -> Array:
     """The words of a column without the blanks around them; an empty cell is a word of no
     letter."""
     code, kinds = pd.factorize(cells)
-    words = np.array(
-        [*(text_of(kind) for kind in kinds), ""], object
-    )  # the last is that of an empty cell, whose code is -1
+    # the last is that of an empty cell, whose code is -1
+    words = np.array([*(text_of(kind) for kind in kinds), ""], object)
     found: Array = words[code]
     return found
 

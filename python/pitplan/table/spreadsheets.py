@@ -5,12 +5,16 @@ import os
 import re
 from typing import Any
 
+import numpy as np
 import pandas as pd
 
+from ..base.arrays import Floats
 from ..base.files import whole_file
 from .csv_text import PLAIN
 
 FORMULA = re.compile(r"[=+\-@\t\r]")
+_DIGITS = 15  # that each float tells apart
+_LEAST, _MOST = 1e-8, 1e15  # between which numbers are rounded to so many
 _MARKED = re.compile(r"'[=+\-@\t\r]")
 
 
@@ -58,5 +62,23 @@ def safe(frame: pd.DataFrame) -> pd.DataFrame:
 def write_table(frame: Any, target: str | os.PathLike[str]) -> None:
     """Writes a pandas table as CSV, as `whole_file` writes, its words as `harmless` has them: all
     CSV is written here."""
+    out = safe(frame)
+    for name in out.columns[[each.kind == "f" for each in out.dtypes]]:
+        out[name] = _rounded(out[name].to_numpy(float))
     with whole_file(target) as part:
-        safe(frame).to_csv(part, index=False)
+        out.to_csv(part, index=False)
+
+
+def _rounded(values: Floats) -> Floats:
+    """The nearest numbers of 15 digits, which is what a float holds of any number: what adding up
+    has left behind them is nothing. Whole numbers stay, and so do those next to 0.
+
+    >>> _rounded(np.array([26.8 * 300, 0.1 + 0.2, 12345678901234567.0])).tolist()
+    [8040.0, 0.3, 1.2345678901234568e+16]
+    """
+    size = np.abs(values)
+    at = (size >= _LEAST) & (size < _MOST) & (values != np.trunc(values))
+    found = values.copy()
+    scale = 10.0 ** (_DIGITS - 1 - np.floor(np.log10(size[at])))  # exact, since at most 10^22
+    found[at] = np.round(values[at] * scale) / scale
+    return found

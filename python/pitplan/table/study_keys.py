@@ -24,12 +24,13 @@ NEEDED = SECTIONS[:3]  # sections that a study.toml has to have
 _LEAST_PERCENT = 2  # from which on a number in place of a share is taken for percent
 _WIDEST_VALUE = 120  # letters of a value that is told again
 _LONGEST_BARE = 60  # letters of a value in quotes that is read as one without
+# kinds whose numbers people type with separators
 _SEPARATED = (
     "number",
     "count",
     "amount",
     "angles",
-)  # kinds whose numbers people type with separators
+)
 METALS = "metals"  # the section of the keys of a metal, each a table in the list of that name in [economics]
 
 
@@ -40,7 +41,7 @@ class _Kind:
     Attributes
     ----------
     must : str
-        In words, behind "has to be".
+        In words, after "has to be".
     holds : function
         Whether a value of a TOML file is one.
     schema : dict
@@ -231,6 +232,7 @@ def has_ramp(value: Any) -> bool:
     )
 
 
+# of [schedule]: keys that it can't have, and why
 _NO_LAW = {
     name: f"{what}, for which no bound is proved: the best pit alone may not hold the best schedule"
     for what, names in {
@@ -240,18 +242,19 @@ _NO_LAW = {
         "a stockpile": ("stockpile", "stockpiles"),
     }.items()
     for name in names
-}  # of [schedule]: keys that it can't have, and why
+}
 
 
 _RAMP = "{ width = 25, grade = 0.10, height = 300, turns = 2 }"
 _RAMP_KEYS = ("width", "grade", "height")
+# of each key of a ramp what it is, and an example
 _RAMP_MEANS = {
     "width": ("with berm and ditch, in the unit of the coordinates", "25"),
     "grade": ("how far it rises for each unit along", "0.10"),
     "height": ("that of the wall, in the unit of the coordinates", "300"),
     "turns": ("how often it passes the wall over its height", "2"),
     "around": ("how long a turn is in plan", "1500"),
-}  # of each key of a ramp what it is, and an example
+}
 _FAR = 1e9  # more than any wall has, in metres or in feet
 SERIES = ("from", "to", "step")
 _UNITS = {"length": tuple(LENGTHS), "weight": tuple(WEIGHTS)}
@@ -1173,9 +1176,8 @@ def _wrong_value(key: Key, value: Any, where: str, at: KeyPath) -> PlanError:
             try_this=Remedy(at, unit) if unit in key.choices else None,
             key=at,
         )
-    if key.path == _PRICE and _is_number(
-        value
-    ):  # scaled by the factor, a penalty would fall with the price
+    # scaled by the factor, a penalty would fall with the price
+    if key.path == _PRICE and _is_number(value):
         hint = f"price = 0, selling = {-value:g}, if it is a penalty"
     if key.most == 1 and _is_number(value) and key.holds(of_percent(value)):
         hint = Remedy(at, of_percent(value))

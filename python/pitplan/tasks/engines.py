@@ -106,7 +106,8 @@ def megabytes(study: Study) -> int:
 
 
 def listed(study: Study, tasks: Sequence[Task]) -> Path:
-    """A new folder ``submit/N`` with the list of tasks, a line each."""
+    """A new folder ``submit/N`` with the list of tasks, a line each. Raises PlanError where `log` of the
+    study is a file."""
     top = study.folder / "submit"
     top.mkdir(exist_ok=True)
     try:
@@ -277,9 +278,8 @@ def write_snakefile(study: Study, tasks: Sequence[Task]) -> Path:
     """
     folder = listed(study, tasks)
     place = f"submit/{folder.name}"
-    quoted = json.dumps(command().replace("{", "{{").replace("}", "}}"))[
-        1:-1
-    ]  # Python's words are quoted as JSON's are
+    # Python's words are quoted as JSON's are
+    quoted = json.dumps(command().replace("{", "{{").replace("}", "}}"))[1:-1]
     (folder / "Snakefile").write_text(
         _SNAKEFILE.format(folder=place, count=len(tasks), mega=megabytes(study), command=quoted)
     )

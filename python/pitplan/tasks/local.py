@@ -101,7 +101,8 @@ class _Worker:
         self.lock = threading.Lock()
 
     def work(self, tell: Callable[[Task], None]) -> None:
-        """Takes tasks until there are no more."""
+        """Takes tasks until there are no more. Raises MachineError where a task's process was ended
+        each time that it was tried."""
         while not self.is_ended:
             try:
                 task = self.queue.get_nowait()
@@ -145,7 +146,8 @@ class _Worker:
         return True
 
     def running(self) -> subprocess.Popen[str]:
-        """The process, started where it isn't there."""
+        """The process, started where it isn't there. Raises KeyboardInterrupt where the tasks were
+        stopped."""
         with self.lock:
             if self.is_ended:
                 raise KeyboardInterrupt
@@ -154,6 +156,7 @@ class _Worker:
                 before = [setpriv, "--pdeathsig", "TERM", "--"] if setpriv else []
                 start = _START.format(str(Path(__file__).resolve().parents[2]))
                 environment = {**os.environ, "PIT": self.study.program.program}
+                # ctrl-C is for this process, which ends it
                 self.process = subprocess.Popen(
                     [
                         *before,
@@ -170,7 +173,7 @@ class _Worker:
                     text=True,
                     env=environment,
                     process_group=0,
-                )  # ctrl-C is for this process, which ends it
+                )
             return self.process
 
     def let_go(self) -> None:

@@ -71,7 +71,7 @@ def _state_of(of: Tasks, task: Task, handed: Handed | None) -> _State:
         return _State(task, DONE)
     if handed and handed.state == "PENDING":
         return _State(task, WAITING, "in Slurm's queue", len(missing))
-    at, is_dead = _half_done(of.study(task).place(missing[0]).parent, missing)
+    at, is_dead = _half_done(of.place(task), missing)
     if handed and not handed.state and at - {host()}:
         at, is_dead = at & {host()}, True  # it was another machine's, and Slurm has it no more
     if at or (handed and handed.state):

@@ -15,24 +15,24 @@ from __future__ import annotations
 import json
 import re
 import time
-from collections.abc import Iterable, Sequence
-from contextlib import nullcontext, suppress
+from collections.abc import Iterable, Iterator, Sequence
+from contextlib import contextmanager, nullcontext, suppress
 from pathlib import Path
+from tempfile import TemporaryDirectory
 from typing import TYPE_CHECKING
 
 from ..base.errors import PlanError
 from ..plans.task_line import BASE, NUMBERED, REALISED, SCHEDULE, Task
 from ..study.study import Study
-from ..base.files import host, sweep
+from ..base.files import host, mark, sweep
 from ..study.workers import memory_of
 
 if TYPE_CHECKING:
     from ..pit.program import Pit
 
 _MADE = 200  # bytes a block that a realisation's process holds beside its `pit` (bench/scale.csv)
-DONE_WORDS = re.compile(
-    r": (?:\d+ pits? found|schedule found|done before)$"
-)  # of `told`, at the end of a task's log
+# ends what `done_line` says
+DONE_WORDS = re.compile(r": (?:\d+ pits? found|schedule found|done before)$")
 _PROCESS = 200_000_000  # bytes of a process of this package with nothing in it
 
 
@@ -109,11 +109,12 @@ class Tasks:
             sweep(study.place(missing[0]).parent)
             try:
                 self.verify(task)
-                with study.written() if isinstance(study, Realisation) else nullcontext():
-                    for factor in missing:
-                        if task.kind != SCHEDULE or not study.verdict(factor):
-                            study.run(factor)
-                self.schedule(task)
+                with self.begun(task):
+                    with study.written() if isinstance(study, Realisation) else nullcontext():
+                        for factor in missing:
+                            if task.kind != SCHEDULE or not study.verdict(factor):
+                                study.run(factor)
+                    self.schedule(task)
             except (PlanError, OSError, MemoryError) as error:
                 self.keep_words(task, str(error) or "memory was refused")
                 raise
@@ -123,6 +124,29 @@ class Tasks:
         with suppress(NotADirectoryError):  # where log is a file
             self.note(task).unlink(missing_ok=True)
         return len(missing)
+
+    def place(self, task: Task) -> Path:
+        """The folder in which a folder of its own shows that a task is being done: that of its
+        pits, or of its schedule, since tasks that change terms alone share their pits."""
+        from ..schedule.what_ifs import place
+
+        folder = self.study(task).place(task.factors[0]).parent
+        if task.kind == SCHEDULE:
+            return place(self.base, task.name) / "runs" / "schedule"
+        return folder / "runs" / "schedule" if task.kind == REALISED else folder
+
+    @contextmanager
+    def begun(self, task: Task) -> Iterator[None]:
+        """Leaves a folder while a schedule is searched for, as a run of `pit` has one of its own:
+        by it `status` knows that the task runs, or was ended."""
+        if task.kind not in (SCHEDULE, REALISED):
+            yield
+            return
+        folder = self.place(task)
+        folder.mkdir(parents=True, exist_ok=True)
+        sweep(folder)
+        with TemporaryDirectory(prefix=f".f{task.factors[0]:05d}.{mark()}", dir=folder):
+            yield
 
     def schedule(self, task: Task) -> None:
         """Searches for the schedule of a task that asks for one."""

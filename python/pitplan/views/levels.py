@@ -43,10 +43,11 @@ def surfaces(study: Study, pits: Iterable[tuple[str, Bools]]) -> Levels:
         within rock may be left out of it, as it is of pushbacks.
     """
     index = study.model.index
+    # rows of air above the ground are no ground
     rock, high = (
         _placed(study.model.is_rock, index),
         index.shape[2],
-    )  # rows of air above the ground are no ground
+    )
     ground = np.where(rock.any(axis=2), high - rock[:, :, ::-1].argmax(axis=2), 0)
     below = np.arange(high) < ground[:, :, None]
     out = [ground]

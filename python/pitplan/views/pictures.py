@@ -40,9 +40,8 @@ _FLAT = 1 / 8  # of its width: a section that is lower is drawn higher
 _EASY = 1 / 5  # of its width: how high, about
 _MOST_EXAGGERATED = 20
 CASING = [patheffects.withStroke(linewidth=3.6, foreground="white")]
-_THIN_CASING = [
-    patheffects.withStroke(linewidth=2.4, foreground="white")
-]  # black dots on the darkest colour need one too
+# black dots on the darkest colour need one too
+_THIN_CASING = [patheffects.withStroke(linewidth=2.4, foreground="white")]
 SEPARATED = FuncFormatter(lambda value, _: f"{value:,.10g}")
 PLACES = FuncFormatter(lambda value, _: length_text(value))  # coordinates and elevations
 _LABELS_AN_INCH = 4.5  # elevations beside a section, one above the other
@@ -405,10 +404,11 @@ def add_outlines(axes: Any, shells: Shells, cut: Plane, chosen: int) -> list[Any
     there = cut.number >= 0
     axes.plot(*planes.borders(there, cut), color="#555555", linewidth=0.6)
     handles = []
+    # at low factors no pit may pay
     first, last = (
         min(int(shells.shell.min()), len(shells.factors) - 1),
         len(shells.factors) - 1,
-    )  # at low factors no pit may pay
+    )
     for i, width, stroke, word in (
         (chosen, 2.0, "-", "Pit"),
         (first, 1.2, ":", "Smallest pit,"),

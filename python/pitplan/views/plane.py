@@ -128,9 +128,8 @@ def section(model: Model, axis: str, index: int) -> Plane:
             try_this=f"a number from 0 to {g.shape[fixed] - 1}",
         )
     turned = g.rotation % 360 != 0
-    start = (
-        g.size[along] / 2 if turned else g.origin[along]
-    )  # a turned section is measured from its own end
+    # a turned section is measured from its own end
+    start = g.size[along] / 2 if turned else g.origin[along]
     u, v = np.meshgrid(
         start + (np.arange(g.shape[along] + 1) - 0.5) * g.size[along],
         g.origin[2] + (np.arange(g.shape[2] + 1) - 0.5) * g.size[2],

@@ -115,14 +115,14 @@ def _add_tonnes(axes: Any, found: Schedule, years: pd.DataFrame) -> None:
         path_effects=CASING,
         label="Feed of the mill",
     )
-    for told, stroke, colour, label in zip(
+    for capacity, stroke, colour, label in zip(
         found.production.terms.capacities,
         ("--", ":"),
         (_MINING, _MILL),
         ("Rock that may be dug", "Feed that may be milled"),
     ):
-        if told:
-            room = np.array(told[: len(at)]) / THOUSAND / rock.divisor
+        if capacity:
+            room = np.array(capacity[: len(at)]) / THOUSAND / rock.divisor
             axes.step(
                 np.append(at - 0.5, at[-1] + 0.5),
                 np.append(room, room[-1]),

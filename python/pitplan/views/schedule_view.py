@@ -16,8 +16,12 @@ if TYPE_CHECKING:
 _NOTE = (
     "When each block of the best pit is dug. pit schedule says that after each {period} the mine keeps"
     " the slopes, that none uses more than its rates, and what the schedule is worth. No schedule of"
-    " these blocks by these terms brings more than the bound, which pit check has accepted. Ore is"
+    " these blocks by these terms brings more than the bound, which pit has accepted. Ore is"
     " what goes to the mill {way}."
+)
+_NO_CLASSES = (
+    'There is no table of ore by class: it has what would pay at the mill, and with cutoff = "by'
+    ' year" some of that goes to waste.'
 )
 _FIXED = " Cash flow and net present value are what is left after the fixed costs."
 
@@ -59,7 +63,8 @@ def schedule(found: Schedule, years: pd.DataFrame) -> View:
         years["rock_t"].tolist(),
         said=[
             f"{currency} {math.floor(found.npv):,}, at most {found.gap_text} below the best: no"
-            f" schedule brings more than {currency} {math.ceil(found.bound):,}"
+            f" schedule brings more than {currency} {math.ceil(found.bound):,}",
+            *([_NO_CLASSES] if terms.is_by_year and study.classes else []),
         ],
         more=[] if terms.is_by_year else by_classes(study, own),
     )

@@ -1183,7 +1183,7 @@ def test_a_wall_errs_at_any_bearing(angles, size, rotation):
     pattern = offsets.search(offsets.wall(size, angles, rotation))
     grid = {"size": size, "rotation": rotation}
     steeper, flatter = recheck.wall_errors(
-        [list(at) for at in pattern.offsets], grid, recheck.Asked.of(angles)
+        [list(at) for at in pattern.offsets], grid, recheck.Angles.of(angles)
     )
     errors = dense(pattern, grid, angles, 0.001)
     assert (steeper, flatter) == pytest.approx((errors.max(), -errors.min()), abs=2e-4)
@@ -1215,7 +1215,7 @@ def test_a_wall_that_is_steeper_than_a_safe_one_is_found(tmp_path):
 
 @pytest.mark.parametrize("shape", [(5, 4, 3), (9, 8, 5)])
 def test_a_certificate_of_another_mine_is_told_in_words(copy, tmp_path, shape):
-    """Of a smaller one, and of a larger one: the pits behind it are looked at all the same."""
+    """Of a smaller one, and of a larger one: the pits after it are looked at all the same."""
     other = mines.study_of(tmp_path, mines.table(*shape, 1))
     other.run(1000)
     shutil.copy(other.place(1000) / "best.cert.gz", copy / "certificates" / "f01000.cert.gz")

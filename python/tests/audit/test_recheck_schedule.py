@@ -22,6 +22,7 @@ from pitplan.study.study_file import read_study_file
 RICH = mines.STUDY_TOML.replace("price = 8500", "price = 24000").replace(
     "mining = 2.0", "mining = 2.0\ndilution = 0.05"
 )
+PITPLAN = Path(__file__).resolve().parents[3] / "bin" / "pitplan"
 TERMS = "\n[schedule]\nyears = 6\nmining_rate = [600e3, 500e3]\nmill_rate = 400e3\n"
 
 
@@ -31,10 +32,21 @@ def bundled(folder, terms):
     plan = read_study_file(folder / "s")
     Study.create(folder / "s", plan.read_model(), plan.economics, plan.slopes, None, plan.digest)
     shells, told = Study(folder / "s").shells(plan.factors), plan.values["schedule"]
-    found = Schedule.of(shells, told, plan.rates, (0.005, 10))
+    found = Schedule.of(shells, told, plan.rates, (0.005, 600))
     dialect = plan.keys.dialect(plan.table)
     write_bundle(shells, folder / "bundle", plan.path, dialect, plan.rates, told)
     return folder / "bundle", found
+
+
+def test_a_plan_of_other_terms_is_left_out_with_a_word(tmp_path):
+    bundled(tmp_path, TERMS)
+    path = tmp_path / "s" / "study.toml"
+    path.write_text(path.read_text().replace("mill_rate = 400e3", "mill_rate = 300e3"))
+    words = [sys.executable, PITPLAN, "bundle", tmp_path / "again", tmp_path / "s"]
+    ran = subprocess.run(words, capture_output=True, text=True)
+    assert ran.returncode == 0, ran.stderr
+    assert "the plan by years isn't in it: it was found for other terms" in ran.stderr
+    assert not (tmp_path / "again" / "schedule").exists()
 
 
 def checked(bundle):
@@ -228,6 +240,7 @@ def of_terms(bundle):
         (of_cell("schedule.csv", 3, "npv", lambda v: v + 1), "npv"),
         (of_cell("schedule.csv", 2, "mining_used", lambda v: v / 2), "mining_used"),
         (of_cell("schedule.csv", 1, "grade_copper", lambda v: v * 1.1), "line 2"),
+        (of_cell("schedule.csv", 2, "bottom", lambda v: v + 15), "period 2 comes to: bottom"),
         (
             of_cell("schedule_benches.csv", 2, "cash_flow", lambda v: v + 1000),
             "benches.csv, line 3",

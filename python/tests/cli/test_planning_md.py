@@ -25,7 +25,7 @@ OWN = ("study.toml", ".py")  # files that the walk writes with `cat`
 
 
 def steps(lines):
-    """(first line of output, line behind it, command) of each command of the document."""
+    """(first line of output, line after it, command) of each command of the document."""
     found, i = [], 0
     while i < len(lines):
         if lines[i].startswith("    $ "):

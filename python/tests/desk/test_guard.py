@@ -318,6 +318,14 @@ def test_what_a_button_runs(root):
     newer = [{"what": "build", "number": 3, "state": "done", "asked": {}}, *runs]
     assert typed(newer, what="compare", design="d.dxf")[1].startswith("page hill --design")
     assert typed(what="vary", changes=["price=-20..20"]) == ["vary hill price=-20..20 --factor 1"]
+    by_years = {"what": "vary", "changes": ["discount=-2..2", "sink=-1..1"], "schedule": True}
+    assert typed(**by_years) == ["vary hill discount=-2..2 sink=-1..1 --schedule"]
+    assert typed(what="risk") == ["risk hill --schedule"]
+    assert typed(what="page", schedule=True) == ["page hill --schedule"]
+    assert typed(runs, what="page", schedule=True) == ["page hill --phases 0.4,1 --schedule"]
+    files = {"what": "export", "kinds": ["dxf"]}
+    assert typed(**files, schedule=True) == ["export hill --to dxf --schedule"]
+    assert typed(**files, schedule="--workers") == ["export hill --to dxf"]
     assert typed(what="plot", cut="bench", at=1005, colour="--help") == [
         "plot hill --bench 1005 --colour=--help"
     ]

@@ -176,6 +176,80 @@ def test_all_of_it_is_done_by_keys(browser, desk, folder):
     browser.sees("built in keys")
 
 
+def test_the_focus_comes_back_to_a_button_that_was_off_meanwhile(browser, desk, folder):
+    shutil.copytree(folder / "hill", folder / "focus")
+    browser.get(f"{desk.address}/#/focus/pits")
+    browser.there("#build:not([disabled])")
+    browser.script("const e = document.querySelector('#build'); e.focus(); e.click()")
+    browser.sees("build done by", "#main")
+    at = "return document.activeElement.id"
+    browser.until(lambda: browser.script(at) == "build", "the focus is back")
+
+
+COVERED = """
+document.body.classList.add("%s");
+const bad = [...document.querySelectorAll("#top a, #top input, #nav a")].filter(e => {
+  const box = e.getBoundingClientRect();
+  return !e.contains(document.elementFromPoint(box.x + box.width / 2, box.y + box.height / 2));
+}).map(e => e.outerHTML.slice(0, 80));
+document.body.classList.remove("%s");
+return bad
+"""
+
+
+@pytest.mark.parametrize("state", ["away", "shut"])
+def test_the_band_of_a_desk_that_is_away_covers_nothing(browser, desk, state):
+    browser.resized(1280, 800)
+    shown(browser, desk, "hill/table")
+    assert browser.script(COVERED.replace("%s", state)) == []
+
+
+def test_advice_is_for_who_has_no_command_line(browser, desk, folder):
+    said("init", "hill.csv", "--study", "advised", cwd=folder)
+    browser.get(f"{desk.address}/#/advised/slopes")
+    browser.there("[id='i.slopes.by'] option[value='SECTOR']")
+    browser.picks("i.slopes.by", "SECTOR")
+    browser.sees('press "+" at a region', "[id='f.slopes.by'] .fault")
+    assert "NORTH = 38" not in browser.text("[id='f.slopes.by'] .fault")
+    run = folder / "advised" / "log" / "desk" / "0001-build"
+    run.mkdir(parents=True)
+    asked = {"what": "build", "typed": ["pitplan build advised"], "steps": [["build", "advised"]]}
+    more = {"who": "Ana", "asked": {"what": "build"}, "began": 0, "root": str(folder)}
+    (run / "asked.json").write_text(json.dumps({**asked, **more}))
+    events = [
+        {"event": "begin", "command": ["pitplan", "build", "advised"]},
+        {"event": "error", "said": "too much", "try": "fewer --workers: memory was short"},
+    ]
+    (run / "events.jsonl").write_text("".join(f"{json.dumps(each)}\n" for each in events))
+    (run / "ended-4-1").touch()
+    browser.get("about:blank")
+    browser.get(f"{desk.address}/#/advised/pits")
+    browser.sees("end other programs on that machine: memory was short", "#main .step .fault")
+    assert "--workers" not in browser.text("#main .fault")
+
+
+HIDDEN = """
+return [...document.querySelectorAll("#main .scroll")].filter(e => e.scrollWidth > e.clientWidth + 1)
+  .map(e => `${e.scrollWidth} of ${e.clientWidth}: ${e.innerText.slice(0, 60)}`)
+"""
+
+
+def test_tables_of_pushbacks_and_of_slopes_fit(browser, desk, folder):
+    """As a planner sees them on a screen of 1,280 pixels."""
+    shutil.copytree(folder / "hill", folder / "fits")
+    browser.resized(1280, 800)
+    browser.get(f"{desk.address}/#/fits/pushbacks")
+    for factor in ("0.6", "1"):
+        browser.click(f"[id='phase.{factor}']")
+    browser.click("#cut")
+    browser.sees("pushbacks done by", "#main")
+    assert browser.script(HIDDEN) == []
+    browser.click("[id='to.slopes']")
+    browser.click("#slopes")
+    browser.sees("slopes done by", "#main")
+    assert browser.script(HIDDEN) == []
+
+
 def test_an_older_study_is_taken_again_and_results_of_another_one_are_marked(browser, desk, folder):
     shutil.copytree(folder / "hill", folder / "again")
     study = folder / "again" / "study.toml"
@@ -194,12 +268,22 @@ def test_an_older_study_is_taken_again_and_results_of_another_one_are_marked(bro
         browser.sees("of the study before it was changed", "#main .before")
     for answer, wanted in (("#no", typed), ("#yes", ran)):
         browser.click("[id='to.history']")
-        browser.press_on("button", "take its study.toml again")
+        browser.sees("take its study.toml again")
+        browser.script(f"performance.clearResourceTimings(); {TAKE} {TAKE}")
+        browser.there("#asks")
+        browser.until(lambda: browser.script(TAKEN) >= 2, "both were asked for")
+        assert browser.script("return document.querySelectorAll('dialog').length") == 1
         browser.click(answer)
         browser.until(lambda: study.read_text() == wanted, answer)
     browser.sees("kept as study.toml.before", "#say")
     assert study.with_name("study.toml.before").read_text() == typed
     browser.until(lambda: not browser.text("#main .before"), "no mark")
+
+
+TAKE = """[...document.querySelectorAll("button")].find(
+    e => e.innerText.startsWith("take its")).click();"""
+TAKEN = """return performance.getEntriesByType("resource")
+    .filter(e => e.name.includes("study.toml")).length"""
 
 
 SLOW = """const asks = window.fetch;

@@ -59,8 +59,13 @@ def test_a_grade_that_no_metal_uses_is_told_and_added_with_marks(browser, begin)
     assert [metal["grade"] for metal in told(study)["economics"]["metals"]] == ["CU"]
     browser.click("[id='to.money']")
     browser.sees(words, "#main .looks")
-    browser.press_on(".looks button", "add metal of S_pct")
-    browser.there("[id='i.economics.metals.1.price']")
+    browser.script(
+        "const e = [...document.querySelectorAll('.looks button')]"
+        ".find(e => e.innerText === 'add metal of S_pct'); e.focus(); e.click()"
+    )
+    at = "return document.activeElement.id"
+    name = "i.economics.metals.1.name"  # the button is no more
+    browser.until(lambda: browser.script(at) == name, "the focus is on what was added")
     assert told(study)["economics"]["metals"][1]["grade"] == "S_pct"
     browser.until(lambda: words not in browser.text(), "nothing is left to tell")
     assert marked(browser, 2) == {"price", "payable", "recovery"} == marked(browser, 1)
@@ -172,3 +177,27 @@ def test_errors_elsewhere_are_told_by_their_screens(browser, begin):
     browser.sees("What is asked for")
     browser.sees("2 errors on Prices and costs")
     assert "on Slopes" not in browser.text("#main")
+
+
+def test_regions_that_are_numbers_are_all_offered(browser, begin):
+    study = begin(HILL.replace(",NORTH", ",110").replace(",SOUTH", ",120"))
+    browser.sees("5,041 rows")
+    browser.click("[id='to.slopes']")
+    browser.press_on("button", "regions by SECTOR")
+    browser.press_on("button", "+ 120")
+    browser.until(lambda: len(told(study)["slopes"]["regions"]) == 2, "both regions are written")
+    assert set(told(study)["slopes"]["regions"]) == {"110", "120"}
+
+
+def test_a_hole_is_told_and_its_keys_are_in_sight(browser, begin):
+    rows = HILL.splitlines(keepends=True)
+    header = rows[0].rstrip().split(",")
+    x, y, z = (header.index(name) for name in ("XC", "YC", "ZC"))
+    columns = {}
+    for at, row in enumerate(rows[1:], 1):
+        cells = row.split(",")
+        columns.setdefault((cells[x], cells[y]), []).append((float(cells[z]), at))
+    highest = max(columns.values(), key=len)
+    begin("".join(row for at, row in enumerate(rows) if at != sorted(highest)[1][1]))
+    browser.sees("has no row, with blocks above and below it", "#main")
+    assert browser.script("return document.getElementById('folded.wrong').open")

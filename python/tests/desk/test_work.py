@@ -1,5 +1,6 @@
 """What the desk says of a table and a study is what a command in a terminal says."""
 import asyncio
+import functools
 import gzip
 import io
 import os
@@ -17,6 +18,7 @@ pytest.importorskip("starlette")
 from starlette.applications import Starlette
 from starlette.testclient import TestClient
 
+from pitplan.base import machine
 from pitplan.desk import manual, work, worker
 from pitplan.desk.folder import Folder
 from pitplan.desk.guard import Guard
@@ -304,7 +306,7 @@ def test_what_takes_too_long_is_ended_and_the_next_question_is_answered(tmp_path
     async def both():
         await asyncio.wrap_future(ask.begin().submit(work.warm))
         began, pids = time.monotonic(), list(ask.pool._processes)
-        late = await ask(time.sleep, 60)
+        late = await ask(time.sleep, 900)
         took = time.monotonic() - began
         monkeypatch.setattr(worker, "PATIENCE", 120)
         return late, took, pids, await ask(len, "four")
@@ -312,20 +314,38 @@ def test_what_takes_too_long_is_ended_and_the_next_question_is_answered(tmp_path
     late, took, pids, then = asyncio.run(both())
     ask.end()
     assert "longer than 1 seconds" in late["errors"][0]["said"]
-    assert took < 30
+    assert took < 600
     assert then == 4
     assert len(pids) == 1
-    assert gone(pids, 20)
+    assert gone(pids)
 
 
 def test_a_process_that_wants_too_much_memory_says_so(tmp_path):
     ask = Worker(tmp_path)
     least, most = asyncio.run(ask(resource.getrlimit, resource.RLIMIT_AS))
     ask.end()
-    pages = os.sysconf("SC_PAGE_SIZE") * os.sysconf("SC_PHYS_PAGES")
-    assert 0.5 * pages < least <= most < pages
+    whole = machine.whole_memory()
+    assert 0.5 * whole < least <= most < whole
     told = work.in_words(lambda: len(bytearray(1 << 60)))()  # as a larger table would
     assert told["errors"][0]["said"] == "memory was refused"
+
+
+def test_a_process_takes_no_more_than_the_control_group_of_the_desk_may(tmp_path, monkeypatch):
+    """As in a container of 4 gigabytes on a machine of 64."""
+    (tmp_path / "own").write_text("0::/\n")
+    (tmp_path / "memory.max").write_text("4000000000\n")
+    (tmp_path / "meminfo").write_text("MemTotal:   62500000 kB\n")
+    seen = functools.partial(machine.whole_memory, tmp_path, tmp_path / "own", tmp_path / "meminfo")
+    set_to = []
+    monkeypatch.chdir(tmp_path)
+    monkeypatch.setattr(work, "whole_memory", seen)
+    monkeypatch.setattr(work, "only_within", lambda root: None)
+    monkeypatch.setattr(work, "_end_with_the_desk", lambda: None)
+    monkeypatch.setattr(resource, "setrlimit", lambda kind, limits: set_to.append((kind, limits)))
+    work.settle(tmp_path)
+    [(kind, (least, most))] = set_to
+    assert kind == resource.RLIMIT_AS
+    assert 2 * 10**9 < least <= most < 4 * 10**9
 
 
 def test_a_process_that_was_killed_costs_no_question(tmp_path):
@@ -390,14 +410,14 @@ def test_a_design_is_looked_at_when_it_comes(desk):
     begun(desk, "designed")
     outlines = ezdxf.new("R2010")
     square = [(0, 0), (100, 0), (100, 100), (0, 100)]
-    outlines.modelspace().add_lwpolyline(square, dxfattribs={"layer": "SHELL_1000_TOE"})
+    outlines.modelspace().add_lwpolyline(square, dxfattribs={"layer": "PIT"})
     text = io.StringIO()
     outlines.write(text)
     at = "/api/studies/designed/designs"
-    told = desk.put(f"{at}/shells.dxf", content=text.getvalue().encode())
+    told = desk.put(f"{at}/lines.dxf", content=text.getvalue().encode())
     assert told.status_code == 422
     error = told.json()["errors"][0]
-    assert error["said"] == "shells.dxf: has no faces, but LWPOLYLINE"
+    assert error["said"] == "lines.dxf: has no faces, but LWPOLYLINE"
     assert "triangulate it" in error["try"]
     assert desk.put(f"{at}/none.dxf", content=b"no DXF").status_code == 422
     assert not list((desk.root / "designed" / "designs").iterdir())
@@ -410,6 +430,41 @@ def test_a_design_is_looked_at_when_it_comes(desk):
     ):
         assert desk.put(f"{at}/{name}", content=content).json()["as"] == kind, name
     assert len(desk.get("/api/studies/designed").json()["designs"]) == 4
+
+
+def test_what_pitplan_has_written_and_what_is_nonsense_is_no_design(desk):
+    study = begun(desk, "wrong")
+    for words in (["build"], ["shells"], ["export", "--to", "dxf"]):
+        ran = pitplan(*words, study)
+        assert ran.returncode == 0, ran.stderr
+    at = "/api/studies/wrong/designs"
+    ours = (study / "out" / "shells.dxf").read_bytes()
+    for name, content, words in (
+        ("shells.dxf", ours, "it has the outlines of pits, pushbacks or years that pitplan export"),
+        ("noise.txt", bytes(range(256)), "is neither a text nor a DXF"),
+        ("letter.txt", b"Dear all,\nthe pit is late.\n", "is the id of no block"),
+    ):
+        told = desk.put(f"{at}/{name}", content=content)
+        assert told.status_code == 422, name
+        assert words in told.json()["errors"][0]["said"], name
+    ids = [row.split(",")[0] for row in HILL.splitlines()[1:4]]
+    assert desk.put(f"{at}/ids.txt", content="\n".join(ids).encode()).json()["as"] == "ids"
+
+
+def test_a_refusal_says_who_was_first_and_calls_a_key_as_its_field(desk):
+    study = begun(desk, "first")
+    price = {"path": ["economics", "metals", "copper", "price"], "was": 8500}
+    asked = {"changes": [{**price, "value": 9000}], "who": "Ana"}
+    assert desk.patch("/api/studies/first", json=asked).status_code == 200
+    late = desk.patch("/api/studies/first", json={"changes": [{**price, "value": 1}], "who": "Bo"})
+    assert late.json()["errors"][0]["said"] == (
+        "Price ([economics] metals.copper.price) was changed meanwhile, by Ana on the desk; yours"
+        " isn't written"
+    )
+    text = (study / "study.toml").read_text()
+    (study / "study.toml").write_text(text.replace("price = 9000", "price = 9100"))
+    late = desk.patch("/api/studies/first", json={"changes": [{**price, "value": 1}], "who": "Bo"})
+    assert "by an editor or a command; yours" in late.json()["errors"][0]["said"]
 
 
 def test_what_is_nested_too_deep_is_told_so(desk):

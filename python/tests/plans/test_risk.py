@@ -244,7 +244,7 @@ def test_realisations_go_by_row_where_lines_hold_no_blocks(tmp_path):
     lines = frame.to_csv(index=False).splitlines()
     rows = np.r_[
         1:6, 7 : len(frame) + 2
-    ]  # a line of descriptions, and a blank one behind five blocks
+    ]  # a line of descriptions, and a blank one after five blocks
     (tmp_path / "t.csv").write_text(
         "\n".join(
             [

@@ -6,8 +6,12 @@ from decimal import Decimal
 import numpy as np
 import pandas as pd
 import pytest
-from pitplan import PlanError
+from pitplan import PlanError, Study
+from pitplan.schedule import Schedule
 from pitplan.schedule.realised import prepare
+from pitplan.schedule.tables import Tables
+from pitplan.study.study_file import read_study_file
+from pitplan.views.schedule_view import schedule
 from scipy.optimize import linprog
 from planned import RICH, WEIGHTS, built, of_table, run, scheduled
 import mines
@@ -24,8 +28,11 @@ BY_YEAR = 'cutoff = "by year"\n'
 @pytest.fixture(scope="module")
 def mine(tmp_path_factory):
     folder = tmp_path_factory.mktemp("mine") / "s"
-    built(folder, TIGHT + BY_YEAR)
-    return folder, run("schedule", folder, "--minutes", "0.3")
+    frame = mines.table(9, 8, 5, 5)
+    frame["CLASS"] = np.where(frame.AU > 0.1, "measured", "inferred")
+    text = RICH.replace("size = ", 'columns = { class = "CLASS" }\nsize = ')
+    built(folder, TIGHT + BY_YEAR, text, frame)
+    return folder, run("schedule", folder, "--minutes", "10")
 
 
 def dug_rows(folder):
@@ -73,6 +80,16 @@ def test_blocks_that_would_pay_go_to_waste_and_poor_ones_never_to_the_mill(mine)
     assert not (~dug.pays & (dug.sent == "mill")).any()
 
 
+def test_the_page_says_why_it_has_no_table_of_classes(mine):
+    """Such a table has what would pay at the mill, and some of that goes to waste."""
+    plan, study = read_study_file(mine[0]), Study(mine[0])
+    assert study.classes.names == ["measured", "inferred"]
+    found = Schedule.last(study.shells(plan.factors), plan.values["schedule"], plan.rates)
+    view = schedule(found, Tables(found).years())
+    assert not view.more
+    assert any(line.startswith("There is no table of ore by class:") for line in view.said)
+
+
 def test_it_brings_more_than_with_a_fixed_cutoff(mine):
     """And its bound is higher: neither is read for the other's."""
     folder, text = mine[0], (mine[0] / "study.toml").read_text()
@@ -88,7 +105,7 @@ def test_it_brings_more_than_with_a_fixed_cutoff(mine):
 
 def test_the_bound_is_next_to_one_linear_program_over_parts_of_blocks(mine):
     """So much of each block by each way in each year, worked out from the production's own pairs by another route."""
-    found = scheduled(mine[0], (0.0, 15))
+    found = scheduled(mine[0], (0.0, 900))
     made = found.production
     ways = [(u, v, (r, 0)) for u, (v, r) in enumerate(zip(made.values, made.uses[0]))]
     gains = dict(zip(made.millable.unit.tolist(), zip(made.millable.gains, made.millable.feeds)))

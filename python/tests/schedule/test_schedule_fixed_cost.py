@@ -19,7 +19,7 @@ COST = 3_000_000
 def mine(tmp_path_factory):
     folder = tmp_path_factory.mktemp("mine") / "s"
     built(folder, SMALL + f"fixed_cost = {COST}\n")
-    return folder, run("schedule", folder, "--minutes", "0.3")
+    return folder, run("schedule", folder, "--minutes", "10")
 
 
 def test_each_year_in_which_rock_is_dug_pays_once(mine):

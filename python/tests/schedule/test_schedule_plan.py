@@ -153,7 +153,7 @@ def test_a_sink_rate_is_kept_and_its_bound_is_lower(mine, tmp_path):
 
 def test_half_years_and_panels(tmp_path):
     folder = built(tmp_path / "s", TERMS + "per_year = 2\npanel = 2\n")
-    run("schedule", folder)
+    said = run("schedule", folder)
     rows = of_table(folder).dropna(subset=["period"])
     table = pd.read_csv(folder / "out" / "schedule.csv")
     rock = rows.groupby("period").TONNES.sum()
@@ -167,13 +167,15 @@ def test_half_years_and_panels(tmp_path):
     assert table.npv.iloc[-1] == pytest.approx(by_hand, rel=1e-12)
     square = [(rows.XC - 5000) // 40, (rows.YC - 9000) // 40, rows.ZC]
     assert rows.groupby(square).period.nunique().max() == 1
+    each = rows.groupby(square).ngroups / rows.period.nunique()
+    assert f"a period digs {each:.1f} panels on the mean" in said
 
 
 def test_after_prices_change_nothing_older_is_shown(mine, tmp_path):
     """The bound and the schedule are those of a study that never had another price. The older bound is lower than the
     schedule is now, and the older schedule has other blocks."""
     folder = built(tmp_path / "s", text=RICH.replace("24000", "18000"))
-    older = scheduled(folder, (0.01, 20))
+    older = scheduled(folder, (0.01, 600))
     text = (folder / "study.toml").read_text().replace("18000", "24000")
     (folder / "study.toml").write_text(text)
     run("build", folder)
@@ -191,10 +193,10 @@ def test_after_prices_change_nothing_older_is_shown(mine, tmp_path):
 def test_after_terms_change_nothing_older_is_shown(tmp_path, older, newer):
     """Each change brings more than was bounded before."""
     folder = built(tmp_path / "s", TERMS.replace("mill_rate = 400e3", older) + "\n")
-    before = scheduled(folder, (0.01, 20))
+    before = scheduled(folder, (0.01, 600))
     text = (folder / "study.toml").read_text().replace(older, newer)
     (folder / "study.toml").write_text(text)
-    after = scheduled(folder, (0.01, 20))
+    after = scheduled(folder, (0.01, 600))
     assert after.npv > before.bound
 
 
@@ -230,7 +232,7 @@ def test_after_ctrl_c_the_same_command_goes_on(tmp_path):
     assert "at most" in ran.stdout
     first = ran.stderr.splitlines()[0]
     assert "no bound yet" not in first
-    assert " 0 closures" not in first
+    assert " 0 pits of the mine of blocks and periods" not in first
     assert not list((folder / "runs" / "schedule").glob(".closures*"))
 
 
@@ -252,7 +254,7 @@ def test_what_pit_contradicts_is_not_shown(mine, monkeypatch):
 
     monkeypatch.setattr(Production, "worth", lambda self, plan: 1)
     with pytest.raises(Disagreement, match="pit schedule says"):
-        scheduled(mine[0], (1.0, 20))
+        scheduled(mine[0], (1.0, 600))
 
 
 def test_what_is_refused_names_the_key(mine, tmp_path):

@@ -1,10 +1,13 @@
 """`pushbacks` and `lead`: what waits for what, worked out from the planner's own table and the pits alone."""
+import subprocess
+import sys
+
 import mines
 import numpy as np
 import pandas as pd
 import pytest
 from pitplan import PlanError, Study
-from planned import RICH, built, of_table, run, scheduled
+from planned import PITPLAN, RICH, built, of_table, run, scheduled
 
 SMALL = """
 [schedule]
@@ -38,7 +41,7 @@ def rows_with_pushback(folder):
 @pytest.fixture(scope="module")
 def mine(tmp_path_factory):
     folder = study(tmp_path_factory.mktemp("mine") / "s", "pushbacks = [0.25]\nlead = 4\n")
-    return folder, run("schedule", folder, "--minutes", "0.3")
+    return folder, run("schedule", folder, "--minutes", "10")
 
 
 @pytest.mark.parametrize("lead", [0, 4])
@@ -46,7 +49,7 @@ def test_a_block_waits_for_the_pushback_before_it(mine, tmp_path, lead):
     folder = mine[0]
     if not lead:
         folder = study(tmp_path / "s", "pushbacks = [0.25]\n")
-        run("schedule", folder, "--minutes", "0.3")
+        run("schedule", folder, "--minutes", "10")
     rows = rows_with_pushback(folder)
     first, second = rows[rows.pushback == 1], rows[(rows.pushback == 2) & (rows.year < NEVER)]
     checked = 0
@@ -93,3 +96,34 @@ def test_what_is_refused_names_the_key(mine, line, words):
     finally:
         (folder / "study.toml").write_text(text)
     assert refused.value.key == ("schedule", "pushbacks")
+
+
+def test_check_says_in_which_order_pushbacks_will_be_dug(tmp_path):
+    mines.written_study(
+        tmp_path / "s", mines.table(5, 5, 3, 3), TEXT + SMALL + "pushbacks = [0.25]\nlead = 4\n"
+    )
+    lines = run("check", tmp_path / "s").splitlines()
+    at = lines.index(
+        "pushbacks, dug in this order by [schedule], each 4 benches ahead of those after it:"
+    )
+    assert lines[at + 1 : at + 3] == [
+        "  1: the pit of factor 0.25",
+        "  2: the rest of the best pit",
+    ]
+
+
+@pytest.mark.parametrize(
+    "pushbacks, words",
+    [
+        ("[0.55, 0.7]", "[schedule] pushbacks has 0.55, and [shells] factors has no 0.55"),
+        ("[0.8, 0.6]", "[schedule] pushbacks = [0.8, 0.6] don't ascend"),
+    ],
+)
+def test_check_refuses_what_schedule_would(tmp_path, pushbacks, words):
+    text = f"{TEXT}{SMALL}pushbacks = {pushbacks}\n"
+    folder = mines.written_study(tmp_path / "s", mines.table(5, 5, 3, 3), text)
+    found = subprocess.run(
+        [sys.executable, PITPLAN, "check", folder], capture_output=True, text=True
+    )
+    assert words in found.stderr
+    assert found.returncode == 3

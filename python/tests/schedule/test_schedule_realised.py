@@ -44,7 +44,7 @@ def risky(tmp_path_factory):
     words = ("risk", folder, "--realisations", folder / "grades.npy", "--schedule")
     assert "no schedule by the terms" in run(*words, status=3)
     run("schedule", folder, "--gap", "0.2")
-    said = run(*words, "--gap", "0.2", "--minutes", "0.3")
+    said = run(*words, "--gap", "0.2", "--minutes", "10")
     rows = pd.read_csv(folder / "out" / "schedule_t.csv")
     rows["year"] = rows.year.fillna(0).astype(int)
     return folder, said, pd.read_csv(folder / "out" / "risk_schedule.csv"), rows, grades
@@ -86,7 +86,7 @@ def test_the_bound_is_that_of_the_study_with_these_grades(risky, tmp_path, numbe
     plan = read_study_file(folder)
     Study.create(folder, plan.read_model(), plan.economics, plan.slopes, None, plan.digest)
     shells = Study(folder).shells(plan.factors)
-    own = Schedule.of(shells, plan.values["schedule"], plan.rates, (0.002, 15))
+    own = Schedule.of(shells, plan.values["schedule"], plan.rates, (0.002, 600))
     assert row.npv <= row.bound
     assert row.own <= row.bound
     assert float(own.npv) <= row.bound

@@ -13,6 +13,7 @@ from pitplan import PlanError, Study
 from pitplan.plans.vary import changes_of
 from pitplan.schedule import Schedule, what_ifs
 from pitplan.study.study_file import read_study_file
+from pitplan.tasks import status
 from pitplan.tasks.task import Tasks, wanted
 
 PITPLAN = Path(__file__).resolve().parents[3] / "bin" / "pitplan"
@@ -43,7 +44,7 @@ def varied(tmp_path_factory):
     run("shells", folder)
     run("schedule", folder, "--gap", "0.2")
     before = (folder / "runs" / "schedule" / "schedule.npz").read_bytes()
-    said = run("vary", folder, *WORDS, "--schedule", "--gap", "0.2", "--minutes", "0.3")
+    said = run("vary", folder, *WORDS, "--schedule", "--gap", "0.2", "--minutes", "10")
     assert (folder / "runs" / "schedule" / "schedule.npz").read_bytes() == before
     return folder, said, pd.read_csv(folder / "out" / "vary_schedule.csv")
 
@@ -118,7 +119,7 @@ def test_a_what_if_is_the_study_written_by_hand(varied, tmp_path, what, by, old,
     folder = built(tmp_path / "s", text.replace(old, new))
     plan, study = read_study_file(folder), Study(folder)
     shells = study.shells(plan.factors)
-    own = Schedule.of(shells, plan.values["schedule"], plan.rates, (0.002, 20))
+    own = Schedule.of(shells, plan.values["schedule"], plan.rates, (0.002, 600))
     assert row.npv <= own.bound
     assert own.npv <= row.bound
     assert row.bound == pytest.approx(float(own.bound), rel=2e-3)
@@ -133,7 +134,7 @@ def test_the_screen_and_the_chart_have_the_table(varied):
         assert f"{row.npv / 1e6:,.2f}" in said
         assert f"{row.bound / 1e6:,.2f}" in said
     lines = [line for line in said.splitlines() if re.match(r" +(price|sink|discount)", line)]
-    assert len(lines) == 4
+    assert len(lines) == 4, said
     assert any("-1 benches" in line for line in lines)
     axes = what_ifs.tornado(table).axes[0]
     base = table.npv.iloc[0] / 1e6
@@ -166,7 +167,7 @@ def test_tasks_are_done_once_and_again_where_something_changed(varied, tmp_path)
     assert "schedule found" in run("task", folder, "schedule", "discount+2", "1000")
     assert path.read_text() == kept
     asked = (folder / "vary" / "schedule.json").read_text()
-    (folder / "vary" / "schedule.json").write_text(asked.replace('"minutes": 0.3', '"minutes": 2'))
+    (folder / "vary" / "schedule.json").write_text(asked.replace('"minutes": 10.0', '"minutes": 2'))
     assert len(tasks.left(each)) == 9
     (folder / "vary" / "schedule.json").write_text(asked)
     with pytest.raises(PlanError, match="no schedule of 'price-11'"):
@@ -194,3 +195,28 @@ def test_what_cannot_be_varied_names_the_change(varied, tmp_path):
     text = (folder / "study.toml").read_text()
     (folder / "study.toml").write_text(text.replace("mill_rate = 400e3", "mill_rate = 390e3"))
     assert "aren't those that these schedules" in run("vary", folder, "--schedule", status=3)
+
+
+def test_a_schedule_that_is_searched_for_is_running_and_one_that_was_left_has_failed(
+    tmp_path, monkeypatch
+):
+    folder = built(tmp_path / "s")
+    plan, study, seen = read_study_file(folder), Study(folder), []
+    told = plan.values["schedule"]
+    asked = what_ifs.Asked(study.key, [("discount", 2.0)], told, plan.rates, 0.5, 1.0)
+    what_ifs.prepare(study, plan.economics, plan.slopes, asked.each(), asked)
+    todo = what_ifs.tasks(study)
+
+    def look(base, name):
+        seen.append([each.state for each in status.states(base, todo, {})])
+
+    monkeypatch.setattr(what_ifs, "find", look)
+    Tasks(folder).do(todo[1])
+    look(study, "")
+    assert seen == [[status.TO_DO, status.RUNNING], [status.TO_DO, status.TO_DO]]
+    gone = subprocess.Popen([sys.executable, "-c", ""])
+    gone.wait()  # a process that is no more
+    left = f".f01000.{status.host()}.{gone.pid}.xyz"
+    (folder / "vary" / "discount+2" / "runs" / "schedule" / left).mkdir()
+    look(study, "")
+    assert seen[-1] == [status.TO_DO, status.FAILED]

@@ -180,7 +180,7 @@ def test_a_column_is_compared_as_it_is(tmp_path):
 
 
 def test_the_blocks_of_each_region_are_counted(tmp_path):
-    """`check` and `build` say how many, against the table by loops; where `by` is a column neither does."""
+    """`check` and `build` say how many, against the table by loops."""
     frame = table(7, 6, 5, 3)
     ground = ground_of(frame, 15)
     words = [
@@ -194,8 +194,6 @@ def test_the_blocks_of_each_region_are_counted(tmp_path):
         assert f"blocks of rock by region, as the formula has them: {wanted}\n" in said(
             command, folder
         )
-    plain = STUDY_TOML.replace("angles = 45", 'angles = 45\nby = "SECTOR"\nregions = { EAST = 42 }')
-    assert "by region" not in said("check", written_study(tmp_path / "p", frame, plain))
 
 
 def test_wrong_formulas_are_told(tmp_path):

@@ -273,7 +273,7 @@ def test_the_command_shows_and_draws(tmp_path):
         told = [
             pitplan(word, cannot) for word in ("slopes", "build")
         ]  # the build says it too, and goes on
-        assert "slopes of default, 1 of 1\n" + told[0].stderr == told[1].stderr
+        assert told[0].stderr == told[1].stderr
         assert [ran.returncode for ran in told] == [0, 0]
         said[name] = told[0].stderr
     assert (
@@ -311,22 +311,14 @@ def test_the_command_shows_and_draws(tmp_path):
 
 
 def test_the_offsets_of_a_wall_are_searched_once(tmp_path, monkeypatch):
-    model, events, look = model_of(tmp_path, table(4, 4, 3, 2)), [], module.searched
+    model, events, look = model_of(tmp_path, table(4, 4, 3, 2)), [], module.pattern_of
     slopes = pp.Slopes(45, by="SECTOR", regions={"EAST": 38, "WEST": 40})
-    monkeypatch.setattr(module, "searched", lambda *asked: events.append("search") or look(*asked))
+    monkeypatch.setattr(
+        module, "pattern_of", lambda *asked: events.append("search") or look(*asked)
+    )
     for _ in range(2):
         slopes.patterns(model.grid)
     assert events == ["search"] * 3
-
-
-def test_a_build_off_a_terminal_has_a_line_for_each_region(tmp_path):
-    text = STUDY_TOML.replace("angles = 45", 'angles = 45\nby = "SECTOR"\nregions = { EAST = 38 }')
-    ran = pitplan("build", written_study(tmp_path / "s", text=text))
-    assert ran.returncode == 0, ran.stderr
-    assert ran.stderr.splitlines()[:2] == [
-        "slopes of default, 1 of 2",
-        "slopes of EAST, 2 of 2",
-    ], ran.stderr
 
 
 def test_a_region_that_is_called_as_the_slopes_of_all_others_is_refused():
@@ -334,3 +326,26 @@ def test_a_region_that_is_called_as_the_slopes_of_all_others_is_refused():
         pp.PlanError, match="'default' is what the slopes of all other blocks are called"
     ):
         pp.Slopes(45, by="SECTOR", regions={"default": 38})
+
+
+def test_values_without_a_region_of_their_own_are_counted(tmp_path):
+    """And blocks whose cell is empty: they have the slopes of all others, too."""
+    frame = table(8, 7, 4, 3)
+    frame["ZONE"] = np.where(frame.XC < frame.XC.median(), 110, 120).astype(object)
+    frame.loc[frame.YC == frame.YC.max(), "ZONE"] = 130
+    frame.loc[frame.index[:5], "ZONE"] = None
+    text = STUDY_TOML.replace("angles = 45", 'angles = 45\nby = "ZONE"\nregions = { 110 = 38 }')
+    ran = pitplan("check", written_study(tmp_path / "s", frame, text))
+    assert ran.returncode == 0, ran.stderr
+    rock = frame[frame.TONNES > 0].ZONE
+    others = {word: int((rock == number).sum()) for word, number in (("120", 120), ("130", 130))}
+    others["nothing"] = int(rock.isna().sum())
+    listed = sorted(others.items(), key=lambda of: -of[1])
+    assert (
+        f"blocks of rock by region: default {sum(others.values())}, 110 {(rock == 110).sum()}"
+        in ran.stdout
+    )
+    assert (
+        "default are those whose ZONE is " + ", ".join(f"{word} {count}" for word, count in listed)
+        in ran.stdout
+    )

@@ -765,7 +765,7 @@ def test_check_says_each_error_and_its_line_and_shows_the_tonnage(tmp_path):
 
 def until(log, words):
     """Whether a file comes to have words."""
-    for _ in range(1200):
+    for _ in range(12000):
         if words in log.read_text():
             return True
         time.sleep(0.05)
@@ -787,7 +787,7 @@ def test_check_watches_what_is_saved(tmp_path):
         assert until(log, "nothing is wrong; ctrl-C ends")
         assert log.read_text().count("ctrl-C ends") == 2
         run.send_signal(signal.SIGINT)
-        assert run.wait(60) == 130
+        assert run.wait(600) == 130
         assert log.read_text().endswith("stopped\n")
 
 

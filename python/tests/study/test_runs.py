@@ -485,11 +485,8 @@ LIMITS = [
 ]
 
 
-@pytest.mark.parametrize("own, files, count, free", LIMITS)
-def test_processors_and_memory_are_those_of_the_process(
-    tmp_path, monkeypatch, own, files, count, free
-):
-    """By its own control group and those above it, of either version; amounts in gigabytes, of which the machine has 64."""
+def groups_of(tmp_path, own, files):
+    """A tree of control groups, with the file that says which is this process's; amounts of memory in gigabytes."""
     groups = tmp_path / "groups"
     for name, text in files.items():
         (groups / name).parent.mkdir(parents=True, exist_ok=True)
@@ -502,6 +499,15 @@ def test_processors_and_memory_are_those_of_the_process(
             + "\n"
         )
     (tmp_path / "own").write_text(own)
+    return groups
+
+
+@pytest.mark.parametrize("own, files, count, free", LIMITS)
+def test_processors_and_memory_are_those_of_the_process(
+    tmp_path, monkeypatch, own, files, count, free
+):
+    """By its own control group and those above it, of either version; of memory the machine has 64 gigabytes."""
+    groups = groups_of(tmp_path, own, files)
     (tmp_path / "meminfo").write_text("MemTotal: 99 kB\nMemAvailable:   62500000 kB\n")
     monkeypatch.setattr(os, "sched_getaffinity", lambda process: set(range(8)))
     assert machine.processors(groups, tmp_path / "own") == count
@@ -510,6 +516,23 @@ def test_processors_and_memory_are_those_of_the_process(
         machine.free_memory(groups / "none", tmp_path / "none", tmp_path / "none")
         == machine.UNKNOWN
     )
+
+
+@pytest.mark.parametrize(
+    "own, files, whole",
+    [
+        ("", {}, 64),
+        (TWO, {f"{JOB}/memory.max": "16", f"{JOB}/memory.stat": "anon 3\nshmem 1"}, 16),
+        (TWO, {"memory.max": "90", f"{STEP}/memory.high": "20"}, 20),
+        (ONE, {f"memory/{OLD}/memory.limit_in_bytes": "10"}, 10),
+        (TWO, {"memory.max": "90"}, 64),
+    ],
+)
+def test_the_whole_memory_is_that_of_the_machine_or_of_a_group(tmp_path, own, files, whole):
+    """Whatever of it is taken."""
+    groups = groups_of(tmp_path, own, files)
+    (tmp_path / "meminfo").write_text("MemTotal:   62500000 kB\nMemAvailable: 9 kB\n")
+    assert machine.whole_memory(groups, tmp_path / "own", tmp_path / "meminfo") == whole * 10**9
 
 
 def test_workers_go_by_free_memory(tmp_path, monkeypatch):

@@ -265,7 +265,7 @@ def test_a_series_that_was_stopped_leaves_no_solver_and_goes_on(tmp_path, progra
     slow.chmod(0o755)
     assert pitplan("build", folder)[0] == 0
     run = command("shells", folder, env={**os.environ, "PIT": str(slow)})
-    solvers = waited_for(marks, 1)
+    solvers = waited_for(marks, 1, run)
     task = Task("run", "base", (1000,))
     assert states(pp.Study(folder), [task])[0].state == RUNNING
     run.send_signal(how)
@@ -285,13 +285,13 @@ def test_a_series_that_was_stopped_leaves_no_solver_and_goes_on(tmp_path, progra
 
 DROPS = """import sys, time
 sys.path.insert(0, sys.argv.pop(1))
-from pitplan.study.folder import Folder
+from pitplan import Study
 def drops(self):
     try:
-        time.sleep(25)
+        time.sleep(3600)
     except KeyboardInterrupt:  # as Python does with what is raised in a callback
         print("dropped", file=sys.stderr)
-Folder.read_ahead = drops
+Study.read_ahead = drops
 from pitplan.cli.main import main
 main()
 """
@@ -304,7 +304,7 @@ def test_ctrl_c_that_python_drops_ends_a_series_all_the_same(tmp_path, program):
     assert pitplan("build", folder)[0] == 0
     words = ["/usr/bin/python3", "-I", "-c", DROPS, TOP / "python", "shells", folder]
     run = started(words, env={**os.environ, "PIT": str(slow)})
-    solvers = waited_for(marks, 1)
+    solvers = waited_for(marks, 1, run)
     run.send_signal(signal.SIGINT)
     said = run.communicate(timeout=600)[1]
     assert "dropped" in said

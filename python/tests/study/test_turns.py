@@ -9,6 +9,8 @@ import pytest
 
 from mines import STUDY_TOML, table, written_study
 from pitplan.base import events
+from pitplan.cli.console import app
+from pitplan.cli.main import load_commands
 from pitplan.cli.taking_turns import WRITERS
 from pitplan.study import last_run, turns
 from pitplan.base.errors import Disagreement, MachineError, PlanError, exit_status
@@ -71,11 +73,13 @@ def test_where_nothing_can_be_held_a_command_runs(tmp_path, spoil):
 
 
 def test_a_process_that_is_killed_holds_nothing(tmp_path):
-    folder = written_study(tmp_path / "s", table(12, 10, 6, 3))
-    run = command("build", folder)
-    while turns.is_held(folder) is None and run.poll() is None:
+    folder, slow = written_study(tmp_path / "s", table(12, 10, 6, 3)), tmp_path / "pit"
+    slow.write_text("#!/bin/sh\nsleep 600\n")
+    slow.chmod(0o755)
+    run = command("build", folder, env={**os.environ, "PIT": str(slow)})
+    while not events.of_last_run(folder) and run.poll() is None:
         time.sleep(0.005)
-    assert turns.is_held(folder).pid == run.pid or run.poll() is not None
+    assert turns.is_held(folder).pid == run.pid
     run.send_signal(signal.SIGKILL)
     run.communicate()
     assert gone([run.pid])
@@ -127,6 +131,16 @@ def test_events_are_told_beside_the_words(tmp_path):
     assert last_run.last_line(folder) in said("status", folder)
 
 
+# what writes into no study that another command may have: `task` locks each pit by itself
+ALONE = {"init", "check", "status", "task", "schema", "desk", "doctor"}
+
+
+def test_of_each_command_it_is_said_whether_it_writes_into_a_study():
+    load_commands()
+    named = [command.callback.__name__ for command in app.registered_commands]
+    assert sorted(named) == sorted([*WRITERS, *ALONE])
+
+
 def test_every_command_that_writes_has_the_study_that_it_names(tmp_path):
     """And not the folder that it was started in, whatever its study is called among its arguments."""
     (tmp_path / "here").mkdir()
@@ -160,21 +174,18 @@ def test_a_command_that_waits_says_so_as_an_event(tmp_path):
     assert [event["event"] for event in found[: waits[0]]] == ["begin"]
 
 
-def test_each_region_s_offsets_and_slopes_are_events(tmp_path):
+def test_each_region_s_offsets_are_events(tmp_path):
     text = STUDY_TOML.replace("angles = 45", 'angles = 45\nby = "SECTOR"\nregions = { WEST = 38 }')
     folder, file = written_study(tmp_path / "s", text=text), tmp_path / "events"
     said("build", folder, env={**os.environ, "PITPLAN_EVENTS": str(file)})
     steps = [
         event["what"]
         for event in map(json.loads, file.read_text().splitlines())
-        if event["event"] == "step"
-        and (" offsets " in event["what"] or "slopes of" in event["what"])
+        if event["event"] == "step" and " offsets " in event["what"]
     ]
     assert steps == [
         "looking for the offsets of default, 1 of 2",
         "looking for the offsets of WEST, 2 of 2",
-        "slopes of default, 1 of 2",
-        "slopes of WEST, 2 of 2",
     ]
 
 

@@ -39,7 +39,7 @@ def built(folder, terms=TERMS, text=RICH, frame=None):
     return folder
 
 
-def scheduled(folder, limits=(0.0005, 20)):
+def scheduled(folder, limits=(0.0005, 600)):
     """The schedule of a study, in this process."""
     plan = read_study_file(folder)
     study = Study(folder)

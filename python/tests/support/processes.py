@@ -40,13 +40,16 @@ def end_started():
             run.communicate()
 
 
-def waited_for(path, lines, seconds=300):
-    """The words of a file, once it has so many lines."""
+def waited_for(path, lines, run=None, seconds=600):
+    """The words of a file, once it has so many lines; fails with the words of the process that writes it, where that ends before."""
     for _ in range(seconds * 20):
         if path.exists() and path.read_text().count("\n") >= lines:
             return path.read_text().split()
+        assert run is None or run.poll() is None, run.communicate()
         time.sleep(0.05)
-    raise AssertionError(f"{path} never had {lines} lines")
+    if run:
+        run.kill()
+    raise AssertionError((f"{path} never had {lines} lines", run and run.communicate()))
 
 
 def stat(pid):

@@ -92,9 +92,9 @@ def serve(path):
     import matplotlib.pyplot  # noqa: F401
     from mines import SIZE
     from pitplan.slopes.offsets import wall
-    from pitplan.slopes.slopes import searched
+    from pitplan.slopes.slopes import pattern_of
 
-    searched(wall(SIZE, 45), False, None)  # that of nearly all tests
+    pattern_of(wall(SIZE, 45), False, None)  # that of nearly all tests
     with socket.socket(socket.AF_UNIX) as door:
         door.bind(path + ".part")
         door.listen(64)

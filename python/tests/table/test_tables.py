@@ -274,7 +274,7 @@ def test_less_than_nothing_is_told_also_where_a_point_stands_in_place_of_a_comma
 
 
 def test_a_row_with_a_cell_too_many_is_told_below_lines_that_hold_no_blocks(tmp_path):
-    """Each line ends with a separator, and one has a cell behind it."""
+    """Each line ends with a separator, and one has a cell after it."""
     lines = table(4, 3, 3, 1).to_csv(index=False).split("\n")
     lines = [lines[0], "text," * 9, *(line + "," for line in lines[1:6]), lines[6] + ",7"]
     with pytest.raises(pp.PlanError, match="row 8: has 10 cells, and the header line 9"):
@@ -589,6 +589,10 @@ def test_missing_rows_are_told_apart(tmp_path):
     at = f.loc[hole[0]]
     said = refusal(tmp_path, f.drop(hole))
     assert f"({at.XC:g}, {at.YC:g}, {at.ZC:g}) has no row, with blocks above and below it" in said
+    kept = f.drop(hole)
+    like = f'fill = {{ tonnes = {kept.TONNES.mean():.0f}, rock = "{kept.ROCK.mode()[0]}" }}'
+    assert like in said  # a block of this mine
+    assert like in refusal(tmp_path, kept, missing="rock")
     inside = f.index[(f.XC == 5040) & (f.YC == 9040)]
     assert "the whole column at (5040, 9040) is missing" in refusal(tmp_path, f.drop(inside))
     air = read(tmp_path, f.drop(hole), missing="air")

@@ -8,7 +8,7 @@ import pytest
 
 from processes import TOP
 
-sys.path.append(str(TOP / "bench"))  # behind python, since bench has a pitplan.py too
+sys.path.append(str(TOP / "bench"))  # after python, since bench has a pitplan.py too
 from simulated_cluster import Cluster, Work, simulated  # noqa: E402
 
 PAGE = TOP / "docs" / "SCALE.md"

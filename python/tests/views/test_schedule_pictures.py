@@ -25,7 +25,7 @@ def found(tmp_path_factory):
     plan = read_study_file(folder)
     Study.create(folder, plan.read_model(), plan.economics, plan.slopes)
     shells = Study(folder).shells(plan.factors)
-    return Schedule.of(shells, plan.values["schedule"], plan.rates, (0.01, 10))
+    return Schedule.of(shells, plan.values["schedule"], plan.rates, (0.01, 600))
 
 
 def heights(axes, label):

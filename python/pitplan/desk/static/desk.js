@@ -27,6 +27,7 @@ export function say(text, kind = "") {
 /** Asks before something is done. @param {string} question @param {string} yes
  * @returns {Promise<boolean>} */
 export function agreed(question, yes) {
+  if (byId("asks")) return Promise.resolve(false); // one at a time
   return new Promise(done => {
     const end = is => {
       dialog.remove();
@@ -113,7 +114,7 @@ export function queue(body) {
   queued = queued.catch(() => undefined).then(async () => {
     if (!D.study?.text) return undefined;
     const before = new Set(D.study.text.split("\n"));
-    const [path, asked] = [api(), body()];
+    const [path, asked] = [api(), { ...body(), who: localStorage.getItem("who") ?? "" }];
     let told = await ask("PATCH", path, asked);
     while (told.isAway || told.isShut) { // what was typed waits for the desk
       await new Promise(done => { setTimeout(done, PULSE); });
@@ -404,10 +405,22 @@ export const keep = (choices, key, read = v => v) => v => {
   draw();
 };
 
+// The id of what drawing took the focus from, until it can have it again.
+let lost = "";
+function refocus(before) {
+  if (before?.id && (!before.isConnected || before.disabled)) lost = before.id;
+  const next = lost && byId(lost);
+  if (!next || next.disabled) return;
+  const isFree = [document.body, null].includes(document.activeElement);
+  if (isFree) next.focus({ preventScroll: true });
+  lost = "";
+}
+
 let drawn = null;
 export async function draw() {
   if (document.body.matches(".away, .shut")) return; // what was typed stays as it is
   const here = where();
+  const before = document.activeElement;
   const isStudy = Boolean(D.study?.text);
   const isOpening = D.study && !isStudy;
   const isFull = isStudy && ((here.screen === "pits" && here.part === "page")
@@ -428,6 +441,7 @@ export async function draw() {
     main.scrollTop = 0;
     if (drawn !== null) main.focus(); // not where the page has just been opened
   }
+  refocus(before);
   drawn = isOpening ? drawn && "" : location.hash;
   document.documentElement.dataset.drawn = drawn ?? ""; // for who tests the desk
 }

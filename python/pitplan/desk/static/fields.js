@@ -1,7 +1,7 @@
 // Fields, made from the description of the keys of study.toml: one for each kind of value.
 import { box, button, choice, counted, entry, h, having, labelled, number, same,
   tick } from "./dom.js";
-import { D, api, ask, change, draw, faults, link, screenOf, stepped, valueOf,
+import { D, api, ask, byId, change, draw, faults, link, screenOf, stepped, valueOf,
   where } from "./desk.js";
 import { screens } from "./screens.js";
 
@@ -108,7 +108,8 @@ function regions(path) {
   }
   const out = name => (Object.keys(now).length > 1 ? set([...path, name], null)
     : change({ path, value: null }, { path: ["slopes", "by"], value: null }));
-  const words = D.look?.columns?.find(c => c.name === by)?.words ?? [];
+  const words = by === D.look?.region ? D.look.regions // also of numbers, as domains are
+    : D.look?.columns?.find(c => c.name === by)?.words ?? [];
   return h("div", {}, Object.keys(now).map(name => h("div", { className: "region" },
     h("b", {}, name), angles([...path, name]),
     small("×", () => out(name), `${name} has the slopes of all others`))),
@@ -215,13 +216,15 @@ const metalsNow = () => valueOf(["economics", "metals"]) ?? [];
 
 /** Adds a metal as `pitplan init` writes that of a column: of the next one that none uses, unless
  * it is told. @param {string} column */
-function addMetal(column) {
+async function addMetal(column) {
   const has = (key, value) => metalsNow().some(m => m[key] === value);
   const next = Object.keys(D.look.metals).find(c => !has("grade", c)) ?? "GRADE";
   const more = D.look.metals[column ?? next];
   let { name } = more;
   for (let n = 2; has("name", name); n += 1) name = `${more.name}${n}`;
-  return set(["economics", "metals", metalsNow().length], { ...more, name });
+  const path = ["economics", "metals", metalsNow().length];
+  await set(path, { ...more, name });
+  if (document.activeElement === document.body) byId(idOf([...path, "name"]))?.focus();
 }
 
 /** What is said of columns that hold a grade by their name, and that nothing uses. */
@@ -260,12 +263,17 @@ export function mend(remedy) {
     () => change({ path: remedy.key, value }), { className: "small mend", title: remedy.when }));
 }
 
+// What an advice says to who has a command line and the file, and what to who has the desk.
+const ADVICE = [["fewer --workers", "end other programs on that machine"],
+  ["regions = { NORTH = 38 }", 'press "+" at a region below, and type its degrees']];
+const onDesk = advice => ADVICE.reduce((text, each) => text.replace(...each), advice);
+
 /** @param {any} fault as `PlanError.as_data` has it @returns {any} */
 export function faultBox(fault) {
   const also = (fault.cells ?? []).map(c => `row ${number(c.row)}: ${c.text}`);
   return h("div", { className: "fault", role: "alert" }, h("div", {}, fault.said),
     also.length > 0 && h("div", { className: "quiet" }, `also ${also.join(", ")}`),
-    fault.try && h("div", { className: "try" }, `try: ${fault.try}`), mend(fault.remedy),
+    fault.try && h("div", { className: "try" }, `try: ${onDesk(fault.try)}`), mend(fault.remedy),
     fault.row > 0 && D.study && rowsAbout(fault));
 }
 

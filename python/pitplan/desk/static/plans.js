@@ -1,7 +1,7 @@
 // What is asked of proved pits: pushbacks, designs, what-ifs; and all that was run.
 import { button, card, choice, entry, h, having, number, table, tick, tip, when } from "./dom.js";
 import { D, agreed, api, file, keep, link, queue, say } from "./desk.js";
-import { chipOf, nameOf, pictures, runner, runsOf } from "./runs.js";
+import { byYears, chipOf, nameOf, pictures, runner, runsOf, years } from "./runs.js";
 import { dropPlace, send } from "./screens.js";
 
 /** What stands in place of a screen that needs pits. */
@@ -55,20 +55,26 @@ export function designs() {
 }
 
 const IFS = { price: [-20, 20, "%"], recovery: [-5, 5, "%"], mining: [-10, 10, "%"],
-  processing: [-10, 10, "%"], slope: [-3, 3, "degrees"] };
+  processing: [-10, 10, "%"], slope: [-3, 3, "degrees"], discount: [-2, 2, "points"],
+  sink: [-1, 1, "benches a year"] };
 const chosen = { names: ["price", "recovery", "slope"] };
 
 export function whatIf() {
   const box = (name, i) => entry(`if.${name}.${i}`, IFS[name][i], keep(IFS[name], i, Number),
     { className: "w4", "aria-label": `${name} ${i ? "to" : "from"}` });
-  const rows = Object.keys(IFS).map(name => [tick(`if.${name}`, name, chosen.names.includes(name),
+  const names = Object.keys(IFS).filter(name => name !== "sink" || years().schedule);
+  const rows = names.map(name => [tick(`if.${name}`, name, chosen.names.includes(name),
     keep(chosen, "names", is => having(chosen.names, name, is))), box(name, 0), box(name, 1),
   IFS[name][2]]);
-  const changes = Object.keys(IFS).filter(name => chosen.names.includes(name))
+  const changes = names.filter(name => chosen.names.includes(name))
     .map(name => `${name}=${IFS[name][0]}..${IFS[name][1]}`);
-  return [needed() ?? card("One thing changed at a time", table(["", "from", "to", ""], rows),
-    runner("vary", "Find the pits of these", { what: "vary", changes }, { needs: true })),
-  runsOf("vary"), pictures(D.files.filter(f => f.path === "out/tornado.png"))];
+  const { schedule, risk } = D.study.state;
+  return [needed() ?? [card("One thing changed at a time", table(["", "from", "to", ""], rows),
+    byYears("a plan by years for each, in place of a pit"), runner("vary", years().schedule
+      ? "Find the plans of these" : "Find the pits of these", { what: "vary", changes, ...years() },
+    { needs: true })), schedule && risk && card("The plan by years under each realisation",
+    runner("risk", "Find what it is worth", { what: "risk" }, { needs: true }))],
+  runsOf("vary", "risk"), pictures(D.files.filter(f => /^out\/tornado[^/]*\.png$/.test(f.path)))];
 }
 
 export function history() {

@@ -1,6 +1,6 @@
 // Runs: how far one is, and what it has said, from its events.
-import { button, card, h, number, table, tip, when } from "./dom.js";
-import { D, draw, eventsOf, far, file, going, line, start, typed } from "./desk.js";
+import { button, card, h, number, table, tick, tip, when } from "./dom.js";
+import { D, draw, eventsOf, far, file, going, keep, line, start, typed } from "./desk.js";
 import { faultBox } from "./fields.js";
 
 /** @param {boolean} needsPits @returns {{disabled: boolean}} whether a button may be pressed */
@@ -17,6 +17,13 @@ export function runner(id, label, asked, { needs = false, main = false } = {}) {
   return h("div", { className: "runner" }, button(label, () => start(asked),
     { id, className: main ? "main" : "", ...can(needs) }), typed(asked));
 }
+
+const by = { schedule: false };
+/** @param {string} words @returns {any} a box to tick, where the study has a plan by years */
+export const byYears = words => D.study.state.schedule && tick("by.years", words, by.schedule,
+  keep(by, "schedule"));
+/** @returns {{schedule?: boolean}} what the box adds to what is asked for */
+export const years = () => (by.schedule && D.study.state.schedule ? { schedule: true } : {});
 
 /** @returns {any} what stands above results that study.toml doesn't give any more */
 export const before = () => D.study.state.old && h("p", { className: "look before" },
@@ -73,7 +80,8 @@ export const pictures = files => files.length > 0 && h("div", { className: "pict
     h("figcaption", {}, f.path))));
 
 const NAMES = { all: "build, and pits", shells: "pits", phases: "pushbacks", compare: "design",
-  vary: "what if", plot: "picture", page: "page", export: "files" };
+  vary: "what if", plot: "picture", page: "page", export: "files",
+  risk: "plan under realisations" };
 /** @param {any} run @returns {string} what it is called */
 export const nameOf = run => NAMES[run.what] ?? run.what;
 

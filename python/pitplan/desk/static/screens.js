@@ -3,7 +3,7 @@ import { at, button, card, choice, entry, h, having, labelled, number, short, si
   tip, when } from "./dom.js";
 import { D, api, ask, draw, faults, file, go, keep, link, say, state } from "./desk.js";
 import { banner, datalist, faultBox, field, fields, mend, set, unused } from "./fields.js";
-import { before, earlier, pictures, runner, runsOf } from "./runs.js";
+import { before, byYears, earlier, pictures, runner, runsOf, years } from "./runs.js";
 import { designs, history, pushbacks, whatIf } from "./plans.js";
 
 // Home: tables and studies.
@@ -109,7 +109,10 @@ function tableScreen() {
   const has = (key, usual) => JSON.stringify(now[key] ?? usual);
   const differs = look?.rows ? [["size", look.size], ["rotation", look.rotation, 0],
     ["absent", look.absent, []]].filter(([key, found, usual]) => found !== null
+    && (key !== "absent" || found.some(mark => !(now.absent ?? []).includes(mark)))
     && JSON.stringify(found) !== has(key, usual)) : [];
+  const folded = MODEL.slice(FIRST);
+  const isOpen = faults().some(f => folded.includes(f.key?.slice(0, 2).join(".")));
   const isRead = Boolean(check?.blocks);
   const paints = [...(look?.grades ?? []), look?.names?.rock, look?.region].filter(Boolean);
   const blocks = isRead && `${number(check.blocks)} blocks of ${check.size.join(" x ")} on a grid of
@@ -124,14 +127,16 @@ function tableScreen() {
       { className: "look" }, "The table looks otherwise: ", differs.map(([key, found]) => button(
         `${key} = ${JSON.stringify(found)}`, () => set(["model", key], found),
         { className: "small" }))),
-    h("details", {}, h("summary", {}, "Holes, sub-blocks, edges, the file's spelling"),
-      fields(...MODEL.slice(FIRST))))),
+    h("details", isOpen ? { open: true, id: "folded.wrong" } : { id: "folded" }, h("summary", {},
+      "Holes, sub-blocks, edges, the file's spelling"), fields(...folded)))),
   h("div", {}, isRead ? [card("The ground", picture("ground", "elevation of the ground")),
     paints.length > 0 && card(h("label", {}, "From above: ", choice("paint", paints, paint.by,
       keep(paint, "by"))),
     picture(paints.includes(paint.by) ? paint.by : paints[0], "from above"))]
     : card("From above", tip("There is a picture once the table is read.")))),
-  look?.rows && card("Columns", table(["column", "is", "least", "mean", "greatest", "no number",
+  look?.rows && card("Columns", tip("Least, mean and greatest are of the cells with a number",
+    look.absent?.length > 0 && `, without ${look.absent.join(", ")}`, "; \"no number\" counts the",
+    " others."), table(["column", "is", "least", "mean", "greatest", "no number",
     "words"], look.columns.map(c => [c.name, h("b", {}, c.is), ...[0, 1, 2].map(i => short(
     c.numbers[i])), c.without || "", c.kinds > c.words.length
     ? `${number(c.kinds)}, as ${c.words.slice(0, 3).join(", ")}` : c.words.join(", ")]),
@@ -209,14 +214,15 @@ function build() {
 function page() {
   const found = D.files.find(f => f.path === "out/pits.html");
   const s = D.study.state;
+  const asked = { what: "page", ...years() };
+  const make = s.there > 0 && !s.old && card("The page of the pits that are found",
+    byYears("with the plan by years"), runner("make", "Make the page", asked, { needs: true }));
   if (!found) {
-    return s.there && !s.old ? [card("The page of the pits that are found", runner("make",
-      "Make the page", { what: "page" }, { needs: true })), runsOf("page")]
-      : tip("The page is here once the pits are found.");
+    return make ? [make, runsOf("page")] : tip("The page is here once the pits are found.");
   }
-  return [before(), earlier(found), h("iframe", { src: `${file(found.path)}?of=${found.when}`,
-    className: "page", title: "pits in three dimensions",
-    sandbox: "allow-scripts allow-downloads" })];
+  const src = `${file(found.path)}?of=${found.when}`;
+  return [before(), earlier(found), s.schedule && make, h("iframe", { src, className: "page",
+    title: "pits in three dimensions", sandbox: "allow-scripts allow-downloads" })];
 }
 
 const cut = { cut: "bench", at: null, colour: "shell" };
@@ -254,8 +260,9 @@ function files() {
         out.kinds.includes(kind), keep(out, "kinds", is => having(out.kinds, kind, is)))),
       h("label", {}, "coordinate system ", entry("crs", out.crs, keep(out, "crs"),
         { className: "w9", placeholder: "EPSG:32719" })),
-      tick("corners", "cut corners", out.corners, keep(out, "corners"))),
-  runner("write", "Write", { what: "export", ...out }, { needs: true }),
+      tick("corners", "cut corners", out.corners, keep(out, "corners")),
+      byYears("the mine at the end of each year, in place of pits")),
+  runner("write", "Write", { what: "export", ...out, ...years() }, { needs: true }),
   runner("bundle", "Make a bundle for an auditor", { what: "bundle" }, { needs: true })),
   runsOf("export", "bundle").slice(0, 1),
   card("To take away", rows.length ? table(["file", "size", "written", ""], rows)

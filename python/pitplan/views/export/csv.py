@@ -27,7 +27,7 @@ def table_of(
     Parameters
     ----------
     columns : sequence of str, optional
-        Of the table, written behind the others. Default: none.
+        Of the table, written after the others. Default: none.
     is_whole : bool
         Whether all blocks are listed, or the rock of the largest pit alone.
 

@@ -18,6 +18,7 @@ if TYPE_CHECKING:
 
 _APP = "PITPLAN"  # of the extended data of each polyline
 _METRES = 6  # of $INSUNITS
+# of AutoCAD's index: red, orange, yellow, green, cyan, blue, magenta
 _COLOURS = (
     1,
     30,
@@ -26,7 +27,7 @@ _COLOURS = (
     4,
     5,
     6,
-)  # of AutoCAD's index: red, orange, yellow, green, cyan, blue, magenta
+)
 
 
 def _layer_of(shells: Shells, i: int, edge: str) -> str:

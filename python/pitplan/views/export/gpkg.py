@@ -85,15 +85,15 @@ def write(
 
 
 def system_of(crs: str | None) -> Any:
-    """The coordinate system of a name."""
+    """The coordinate system of a name. Raises PlanError where none of that name is known, or it is
+    in degrees."""
     import pyproj
 
     if crs is None:
         return pyproj.CRS.from_wkt(_UNKNOWN)
     try:
-        if not re.fullmatch(
-            r"[A-Za-z]+:\w+", crs
-        ):  # a name would be taken for the system whose name is most like it
+        # a name would be taken for the system whose name is most like it
+        if not re.fullmatch(r"[A-Za-z]+:\w+", crs):
             raise pyproj.exceptions.CRSError(crs)
         found = pyproj.CRS.from_user_input(crs)
     except pyproj.exceptions.CRSError:

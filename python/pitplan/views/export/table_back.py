@@ -52,7 +52,7 @@ def records(lines: Iterable[bytes]) -> Iterator[bytes]:
 
 def _plain_ends(text: bytes) -> tuple[bytes, Ints] | None:
     """The line end of a piece that has a record in each line and the same end at each, and the
-    places behind its lines; None for any other piece."""
+    places after its lines; None for any other piece."""
     if b'"' in text or not text.endswith(b"\n"):
         return None
     each = np.frombuffer(text, np.uint8)
@@ -84,7 +84,7 @@ def _with_column(record: bytes, more: bytes) -> bytes:
 
 
 def write(shells: Shells, target: Path, decimal: str | None = None) -> int:
-    """Writes the study's table again, with a column `pit_shell` behind the others: the share of the
+    """Writes the study's table again, with a column `pit_shell` after the others: the share of the
     price at which a pit first has the row's block, with the table's own mark of a decimal, and
     nothing where none has it. The way back is by row, never by coordinates.
 
@@ -118,13 +118,13 @@ def write(shells: Shells, target: Path, decimal: str | None = None) -> int:
 
 
 def write_columns(study: Study, columns: Mapping[str, Array], target: Path) -> int:
-    """Writes the study's table again, with columns behind the others.
+    """Writes the study's table again, with columns after the others.
 
     Parameters
     ----------
     study : Study
     columns : mapping
-        By name, which gets a number behind it where the table has such a column: a word or a number
+        By name, which gets a number after it where the table has such a column: a word or a number
         of each block; nothing is written where it is "" or 0.
     target : Path
         Packed where its name ends in ``.gz``.

@@ -165,7 +165,8 @@ def yes_or_no(values: pd.Series) -> Indices | None:
 
 
 def numbered(values: pd.Series, name: str, table: str) -> tuple[Indices, list[str]]:
-    """Words as numbers from 0, in the order of the words."""
+    """Words as numbers from 0, in the order of the words. Raises PlanError where there are too
+    many."""
     words = values.fillna("").astype(str)
     codes, found = pd.factorize(words, sort=True)
     if len(found) > _MOST_WORDS:

@@ -1,0 +1,65 @@
+"""The schedule of a mine so small that HiGHS can look through all of them: the program of the
+relaxation, in which no unit may be dug in parts. Nothing here needs to be trusted: `pit schedule` judges
+what is shown, and the bound doesn't come from here."""
+from __future__ import annotations
+
+import numpy as np
+from scipy.optimize import Bounds, LinearConstraint, milp
+from scipy.sparse import diags
+
+from .partition import GRAINS, Clusters, Program
+from .production import Production
+from .sending import Timetable
+
+_MOST_SHARES = 600  # of units, and of blocks that may be sent, by periods
+_MOST_NODES = 4000  # of the tree, so that its size and not the time ends it
+
+
+def is_small(production: Production) -> bool:
+    """Whether a mine is so small."""
+    rows = production.units + len(production.millable.block)
+    return rows * production.periods <= _MOST_SHARES
+
+
+def by_whole_units(production: Production, seconds: float) -> tuple[Timetable | None, bool]:
+    """The best schedule that HiGHS finds of a small mine, None where it finds none that is feasible;
+    and whether it has looked through all.
+
+    Parameters
+    ----------
+    production : Production
+    seconds : float
+        That it may take.
+    """
+    cluster = _one_for_each(production)
+    program = Program.of(production, cluster)
+    scale = np.ones(len(program.limits))
+    scale[: production.capacities.size] = GRAINS / np.maximum(production.capacities.ravel(), 1)
+    found = milp(
+        -program.gains,
+        constraints=LinearConstraint(diags(scale) @ program.table, -np.inf, scale * program.limits),
+        bounds=Bounds(0, 1),
+        integrality=np.ones(len(program.gains)),
+        options={
+            "time_limit": max(seconds, 0.0),
+            "node_limit": _MOST_NODES,
+            "mip_rel_gap": 0.0,
+        },
+    )
+    if found.x is None:
+        return None, False
+    is_so = np.append(np.asarray(found.x)[: cluster.size] > 0.5, False)  # the last one for none
+    dug, sent = is_so[cluster.dug], is_so[cluster.sent]
+    sent[:, 1:] &= ~dug[production.millable.unit, :-1]
+    plan = Timetable(production.periods - dug.sum(axis=1), sent.any(axis=1))
+    return (None, False) if production.wrong(plan) else (plan, found.status == 0)
+
+
+def _one_for_each(production: Production) -> Clusters:
+    """A cluster for each share."""
+    units, home = np.arange(production.units), production.millable.unit
+    rows = len(units) + len(home)
+    keys = np.arange(rows * production.periods).reshape(rows, -1)
+    there = np.arange(production.periods) >= production.earliest[np.append(units, home)][:, None]
+    of_dug, of_sent = slice(len(units)), slice(len(units), None)
+    return Clusters.renamed(keys[of_dug], keys[of_sent], (there[of_dug], there[of_sent]))

@@ -1,0 +1,2 @@
+"""The kinds of files that `pitplan export` writes."""
+KINDS = ("dxf", "vtu", "csv", "gpkg")

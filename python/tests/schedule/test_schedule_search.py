@@ -1,0 +1,74 @@
+"""How near a search comes to the best schedule, where that is known: on mines whose every schedule is tried. Each search ends by
+what it counts, and none by the time."""
+import pytest
+from pitplan.pit.program import Pit, Texts
+from pitplan.schedule import search as searching
+from pitplan.schedule.search import Search
+from tiny_mines import TinyMine
+
+FOREVER = 1e9  # seconds
+PANELS, BOTH = {"panel": 2}, {"panel": 2, "pushbacks": True, "lead": 1}
+ORDERED, DEAR = {"pushbacks": True}, {"pushbacks": True, "fixed_cost": 15_000}
+CASES = [
+    *((seed, PANELS) for seed in (2, 3, 9, 25, 26, 45, 52)),
+    *((seed, {**PANELS, "fixed_cost": 30_000}) for seed in (3, 25, 26, 52)),
+    *((seed, BOTH) for seed in (1, 2, 3, 32, 46)),
+    *((seed, ORDERED) for seed in (0, 28, 46, 48, 59)),
+    *((seed, DEAR) for seed in (0, 28, 46, 48, 59)),
+]
+LOST = [(59, ORDERED), (25, PANELS), (1, BOTH), (3, PANELS), (0, ORDERED)]
+
+
+def found_of(mine, folder):
+    """What a search finds: net present value and bound, in millionths."""
+    search = Search(folder, mine.production, Pit())
+    search.run(0.0, FOREVER)
+    assert not mine.production.wrong(search.plan)
+    return search.found.npv, search.found.bound
+
+
+@pytest.mark.parametrize("seed, kind", CASES)
+def test_of_a_tiny_mine_the_best_schedule_is_found(tmp_path, seed, kind):
+    mine = TinyMine(seed, **kind)
+    best = mine.best()
+    npv, bound = found_of(mine, tmp_path)
+    assert npv <= best <= bound
+    assert npv >= 0.999 * best
+
+
+@pytest.mark.parametrize("seed, kind", LOST)
+def test_a_mine_that_is_not_small_enough_for_all_schedules_is_rebuilt(
+    tmp_path, monkeypatch, seed, kind
+):
+    """Swaps between neighbouring periods alone lose 12 to 85 % on these: what pays takes several periods to reach."""
+    monkeypatch.setattr(searching, "is_small", lambda _: False)
+    mine = TinyMine(seed, **kind)
+    assert found_of(mine, tmp_path)[0] >= 0.9 * mine.best()
+
+
+def test_a_first_bound_is_waited_for_and_no_later_one(tmp_path, monkeypatch):
+    """The first relaxation has no limit; a later one that doesn't end in time ends the bound, and no more."""
+    limits, whole = [], searching.relax
+
+    def relax(production, cluster, seconds):
+        limits.append(seconds)
+        return whole(production, cluster, None) if seconds is None else None
+
+    monkeypatch.setattr(searching, "relax", relax)
+    search = Search(tmp_path, TinyMine(2, **BOTH).production, Pit())
+    search.run(0.0, FOREVER)
+    assert limits[0] is None
+    assert 0 < limits[1] <= FOREVER
+    assert len(limits) == 2
+    assert search.found.closures == 1
+    assert 0 < search.found.npv <= search.found.bound
+
+
+def test_a_pit_that_takes_too_long_is_ended(tmp_path):
+    """Of a program that never ends by itself nothing is left, and no bound is made of it."""
+    never = tmp_path / "pit"
+    never.write_text("#!/bin/sh\nexec sleep 100000\n")
+    never.chmod(0o755)
+    pit = Pit(never)
+    assert pit.richest(Texts(tmp_path / "a", tmp_path / "b"), tmp_path / "c", 0.01) is None
+    assert not pit.running
