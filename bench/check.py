@@ -95,7 +95,7 @@ def check(models, given):
 
 
 def truncated(folder):
-    """A certificate that ends behind its first line, so that nearly all the time goes into the model."""
+    """A certificate that ends after its first line, so that nearly all the time goes into the model."""
     cert = os.path.join(folder, "truncated.cert")
     Path(cert).write_bytes(b"PITCERT 1\n")
     return cert
