@@ -1,5 +1,7 @@
 -- Which block rests on which, by a pattern or by the offsets of its own region.
-use Rattle.std.specs.Prelude.{◌≡◌, ℕ, ◌<◌, ◌≤◌, ◌/◌, ◌%◌, ◌==◌, ℤ, pos, negsuc, ◌-ℤ◌, List, [], Contains, ◌≢◌, slice_index_or, length, Bool, IsTrue, cond, Option, Some, None, All}
+use Rattle.std.specs.Prelude.{◌≡◌, ℕ, ◌<◌, ◌≤◌, ◌/◌, ◌%◌, ◌==◌, ℤ, pos, negsuc, ◌-ℤ◌, List, [], Contains, ◌≢◌, slice_index_or, length, Bool, IsTrue, cond, ◌&&◌, nat_lt, Option, Some, None, All}
+use Rattle.std.specs.List.{list_any}
+use Rattle.std.specs.Ordering.{int_eq}
 use Rattle.prec_file.specs.declared.limits.TheConstants.{MOST_PAIRS}
 use Rattle.slope.specs.declared.pattern.TheConstants.{MOST_OFFSETS}
 use Rattle.slope.specs.declared.region_slopes.TheConstants.{MOST_REGIONS}
@@ -102,6 +104,14 @@ own_offsets listed m b = offsets_in listed (region_of m b)
 abbrev pub rests : List (List Offset) → BlocksView → Up → ℕ → ℕ → Type 0
 rests listed m up b p = IsOwnPair m (own_offsets listed m) up (b, p)
 
+-- Whether an offset is this one.
+abbrev pub is_offset : Offset → Offset → Bool
+is_offset o q = int_eq q.0 o.0 && (int_eq q.1 o.1 && int_eq q.2 o.2)
+
+-- The same as a test: both are blocks, and an offset of b's own region leads from b to p.
+abbrev pub rests_by_slopes : List (List Offset) → BlocksView → Up → ℕ → ℕ → Bool
+rests_by_slopes listed m up b p = (nat_lt b m.blocks && nat_lt p m.blocks) && list_any (is_offset (offset_between up (place_of m b) (place_of m p))) (own_offsets listed m b)
+
 -- The number of a region is that of a listed one.
 abbrev pub IsRegion : List (List Offset) → Option ℕ → Type 0
 IsRegion listed (Some r) = r < length listed
@@ -176,3 +186,11 @@ RegionFaultStands listed m up selection (region.TooManyOffsets r) = ArePlaced li
 RegionFaultStands listed m up selection region.TooManyRegions = ArePlaced listed m × AreAllUpward listed × HaveAllFew listed × (MOST_REGIONS < length listed)
 RegionFaultStands listed m up selection region.TooMany = ArePlaced listed m × AreAllUpward listed × HaveAllFew listed × (length listed ≤ MOST_REGIONS) × AreMoreThan MOST_PAIRS (IsSelected selection m (own_offsets listed m) up)
 RegionFaultStands listed m up selection region.NoMemory = Unit {0}
+
+-- The slopes of regions give the selected pairs of a model: no fault of them stands.
+pub record GivePairs (listed : List (List Offset)) (m : BlocksView) (up : Up) (selection : Selection) : Type 0 where
+  pub placed : ArePlaced listed m
+  pub upward : AreAllUpward listed
+  pub few_offsets : HaveAllFew listed
+  pub few_regions : length listed ≤ MOST_REGIONS
+  pub few_pairs : AreMoreThan MOST_PAIRS (IsSelected selection m (own_offsets listed m) up) → ⊥
