@@ -1,8 +1,10 @@
 -- The pairs of a text, as a list in order and as a test.
-use Rattle.fixed_worth.proofs.Common.{◌≡◌, ◌↔◌, ℕ, true, false, not, ◌==◌, List, get_or, refl, IsTrue, arith, list_any, Contains, and_parts, and_from, eq-eqb, ne_eqb, get_or_default, Any-from_list_any, list_any_at, common_steps}
-use Rattle.prec_file.specs.Rests.{ArePairsOf, IsRising}
+use Rattle.fixed_worth.proofs.Common.{◌≡◌, ◌↔◌, ℕ, Bool, true, false, not, ◌==◌, List, get_or, refl, IsTrue, arith, list_any, Contains, and_parts, and_from, eq-eqb, ne_eqb, get_or_default, Any-from_list_any, list_any_at, common_steps}
+use Rattle.prec_file.specs.Rests.{ArePairsOf, AreApart}
 use Rattle.prec_file.proofs.Pairs.{is_pair, tells_pair, pair_told}
+use Rattle.prec_file.proofs.OneListing.{one_listing}
 use Rattle.mine_inputs.specs.Mines.{rests_by}
+use Rattle.mine_inputs.specs.ReadMines.{ArePairsBy}
 
 pub is_listed : (listed : List (ℕ × ℕ)) (b p : ℕ) → Contains listed (b, p) → list_any (is_pair b p) listed ≡ true
 is_listed listed b p c = list_any_at (is_pair b p) listed c.0 (b, p) c.1 (tells_pair b p (get_or listed c.0 (b, p)) c.2)
@@ -23,10 +25,14 @@ listed_rests listed ps a b p = (
   λ h. let t = and_parts _ _ h in a.held (b, p) (where_listed listed b p t.1) (differ b p t.0),
 )
 
--- pairs in order that are those of the test are those of the list
-pub listed_pairs : (listed ps : List (ℕ × ℕ)) → IsRising ps → ((b p : ℕ) → Contains ps (b, p) ↔ IsTrue (rests_by listed b p)) → ArePairsOf listed ps
-listed_pairs listed ps r h = record {
-  rising = r;
-  held = λ q c ne. (h q.0 q.1).1 (and_from _ _ (apart q.0 q.1 ne) (is_listed listed q.0 q.1 c));
-  only = λ q c. let t = and_parts _ _ ((h q.0 q.1).0 c) in (where_listed listed q.0 q.1 t.1, differ q.0 q.1 t.0);
-}
+pub by_listed : (listed ps : List (ℕ × ℕ)) → ArePairsOf listed ps → ArePairsBy (rests_by listed) ps
+by_listed listed ps a = record { rising = a.rising; same = listed_rests listed ps a }
+
+-- one test has one list of pairs
+pub pairs_same : (rests : ℕ → ℕ → Bool) (x y : List (ℕ × ℕ)) → AreApart x → ArePairsBy rests x → ArePairsBy rests y → x ≡ y
+pairs_same rests x y apart a b =
+    let there : (q : ℕ × ℕ) → Contains x q → Contains y q = λ q c. (b.same q.0 q.1).1 ((a.same q.0 q.1).0 c) in
+    let back : (q : ℕ × ℕ) → Contains y q → Contains x q = λ q c. (a.same q.0 q.1).1 ((b.same q.0 q.1).0 c) in
+    one_listing x x y
+    (record { rising = a.rising; held = λ q c ne. c; only = λ q c. (c, apart q c) })
+    (record { rising = b.rising; held = λ q c ne. there q c; only = λ q c. (back q c, apart q (back q c)) })

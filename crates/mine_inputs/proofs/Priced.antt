@@ -12,6 +12,7 @@ use Rattle.settings_file.proofs.Known.{settings_are, settings_read}
 use Rattle.prec_file.specs.Records as prec
 use Rattle.shells.specs.Prices.{PricesView, plain_costs, mill_costs, NoRevenueNegative, PricesFaultStands, priced_count, worth_at, worths_at}
 use Rattle.mine_inputs.specs.Prelude.{priced_texts, ReadsBlocks, ReadsSettingsText, SettingsReadFails, ReadsPrices, ReadsPrec, PricesReadFail, ModelPricesFail, cell, cells, values_of, charge_list, column_list, columns_said, costs_at, first_charges, first_columns, table_at, table_by, table_of, price_keys, slope_keys, price_columns, ColumnsKnown, IsWithinLimit, AreRead, ArePricesRead, of_settings}
+use Rattle.mine_inputs.proofs.Listed.{by_listed}
 use Rattle.mine_inputs.specs.declared.engine_fault.EngineFault.{EngineFault}
 use Rattle.mine_inputs.specs.declared.engine_fault.EngineFault.TheVariants as engine
 use Rattle.mine_inputs.specs.declared.engine_fault.Problem.TheVariants as problem
@@ -29,7 +30,7 @@ worths_priced settings text precedence table rests k a = record {
         let l : b < priced_count table = omega (arith, h, a.size) in
         get_or-map-range_with_len (worth_at table k) 0 (priced_count table) b b (pos 0) l (omega arith) ∙ ap (λ (t : PricesView). worth_at t k b) a.table;
   };
-  pairs = a.pairs;
+  pairs = by_listed (prec.pairs_of_text precedence) rests.pairs a.pairs;
 }
 
 -- a chosen column of a model is that of its text
@@ -116,8 +117,7 @@ all_read settings text precedence said table rests n e positive whole s t p =
     record {
       mine = λ factor. record {
         worths_read = record { columns = columns; within = t.within; read = subst C (sym known) t.read; count = count; revenues = subst NoRevenueNegative is positive };
-        precedence_within = p.0;
-        precedence_read = subst F (sym p.2) p.1;
+        rests_read = record { within = p.0; read = subst F (sym p.2) p.1 };
       };
       table = is;
       size = size;

@@ -9,7 +9,9 @@ use Rattle.settings_file.proofs.Known.{settings_are, settings_read}
 use Rattle.shells.specs.Prices.{PricesView, PricesFaultStands, NoRevenueNegative, priced_count}
 use Rattle.mine_inputs.specs.declared.engine_fault.EngineFault.{EngineFault}
 use Rattle.mine_inputs.specs.declared.engine_fault.EngineFault.TheVariants as engine
+use Rattle.mine_inputs.specs.declared.engine_fault.Problem.{Problem}
 use Rattle.mine_inputs.specs.declared.engine_fault.Problem.TheVariants as problem
+use Rattle.settings_file.specs.declared.settings_fault.SettingsFault.{SettingsFault}
 use Rattle.mine_inputs.specs.declared.priced_inputs.PriceColumns.{PriceColumns}
 use Rattle.mine_inputs.specs.Prelude.{BlocksFails, price_keys, slope_keys, columns_said, price_columns, cell, table_by, table_of, KeysSaid, ColumnsKnown, PricesRead, SettingsFails, ReadsSettingsText, SettingsReadFails, IsMissing, ReadsPrices, PricesReadFail, ReadsPrec, PrecReadFails, PricedMineFails, ArePricesRead}
 use Rattle.mine_inputs.proofs.Priced.{all_read}
@@ -26,14 +28,18 @@ anything (Some c) = tt
 
 -- ---- the texts of a mine of prices
 
+-- what reading settings tells is a fault of settings that need some of the keys
+pub settings_refused : (needed : SettingsView → List Key) (unused : List Key) (s : List ℕ) (q : Problem SettingsFault) → SettingsReadFails unused s (engine.Settings q) → SettingsFails needed unused s q
+settings_refused needed unused s problem.InputTooLong h = h
+settings_refused needed unused s (problem.Fault settings_fault.NotToml) h = h
+settings_refused needed unused s (problem.Fault settings_fault.UnknownKey) h = h
+settings_refused needed unused s (problem.Fault (settings_fault.BadValue key)) h = h
+settings_refused needed unused s (problem.Fault (settings_fault.Unused key)) h = h
+settings_refused needed unused s (problem.Fault (settings_fault.Missing key)) h = absurd (let z : None ≡ Some key = h.1.1 in cc)
+settings_refused needed unused s (problem.Fault settings_fault.NoMemory) h = h
+
 settings_fail : (s b p : List ℕ) (e : EngineFault) → SettingsReadFails slope_keys s e → PricedMineFails s b p e
-settings_fail s b p (engine.Settings problem.InputTooLong) h = h
-settings_fail s b p (engine.Settings (problem.Fault settings_fault.NotToml)) h = h
-settings_fail s b p (engine.Settings (problem.Fault settings_fault.UnknownKey)) h = h
-settings_fail s b p (engine.Settings (problem.Fault (settings_fault.BadValue key))) h = h
-settings_fail s b p (engine.Settings (problem.Fault (settings_fault.Unused key))) h = h
-settings_fail s b p (engine.Settings (problem.Fault (settings_fault.Missing key))) h = absurd (let z : None ≡ Some key = h.1.1 in cc)
-settings_fail s b p (engine.Settings (problem.Fault settings_fault.NoMemory)) h = h
+settings_fail s b p (engine.Settings q) h = settings_refused price_keys slope_keys s q h
 settings_fail s b p engine.Memory h = tt
 settings_fail s b p engine.Device h = tt
 settings_fail s b p _ h = absurd h

@@ -111,13 +111,28 @@ pub record KeysSaid (needed : SettingsView → List Key) (unused : List Key) (se
 abbrev pub ColumnsKnown : List ℕ → Type 0
 ColumnsKnown settings = KeysSaid price_keys slope_keys settings
 
--- The settings name the columns of prices, and the text of blocks has them, of n blocks; no revenue is negative.
-pub record PricesRead (settings text : List ℕ) (n : ℕ) : Type 0 where
-  pub columns : ColumnsKnown settings
+-- What a mine of prices wants of its settings and its blocks: the keys that settings need, by what they say; those of which no use is
+-- made; and the columns that are chosen of the blocks.
+pub record Wanted : Type 0 where
+  pub needed : SettingsView → List Key
+  pub unused : List Key
+  pub chosen : SettingsView → List ℕ
+
+-- what is wanted where the precedence is a text of its own
+abbrev pub prices_alone : Wanted
+prices_alone = record { needed = price_keys; unused = slope_keys; chosen = price_columns }
+
+-- The settings say what is wanted of them, and the text of blocks has the columns, of n blocks; no revenue is negative.
+pub record PricesReadBy (w : Wanted) (settings text : List ℕ) (n : ℕ) : Type 0 where
+  pub columns : KeysSaid w.needed w.unused settings
   pub within : IsWithinLimit text
-  pub read : blocks.fault_of (price_columns (settings_of settings)) text ≡ None
+  pub read : blocks.fault_of (w.chosen (settings_of settings)) text ≡ None
   pub count : blocks.record_count_of text ≡ n
   pub revenues : NoRevenueNegative (table_of settings text)
+
+-- the settings name the columns of prices, and the text of blocks has them
+abbrev pub PricesRead : List ℕ → List ℕ → ℕ → Type 0
+PricesRead settings text n = PricesReadBy prices_alone settings text n
 
 -- a fault of settings that need the first of these keys, where no use is made of the others: one of the text, a key that isn't
 -- used, or one that is missing; want of memory isn't one
@@ -132,12 +147,18 @@ SettingsFails needed unused text problem.InputTooLong = IsTooLong text
 SettingsFails needed unused text (problem.Fault fault) = IsWithinLimit text × SettingsFaultStands needed unused text fault
 
 -- a fault of the blocks, of which the settings name the columns
+abbrev pub PricedBlocksFailBy : Wanted → List ℕ → List ℕ → Problem BlocksFault → Type 0
+PricedBlocksFailBy w settings text p = KeysSaid w.needed w.unused settings × BlocksFails (w.chosen (settings_of settings)) text p
+
 abbrev pub PricedBlocksFail : List ℕ → List ℕ → Problem BlocksFault → Type 0
-PricedBlocksFail settings text p = ColumnsKnown settings × BlocksFails (price_columns (settings_of settings)) text p
+PricedBlocksFail settings text p = PricedBlocksFailBy prices_alone settings text p
 
 -- the columns are no table of prices
-pub record PricesFail (settings text : List ℕ) (fault : PricesFault) : Type 0 where
-  pub columns : ColumnsKnown settings
+pub record PricesFailBy (w : Wanted) (settings text : List ℕ) (fault : PricesFault) : Type 0 where
+  pub columns : KeysSaid w.needed w.unused settings
   pub within : IsWithinLimit text
-  pub read : blocks.fault_of (price_columns (settings_of settings)) text ≡ None
+  pub read : blocks.fault_of (w.chosen (settings_of settings)) text ≡ None
   pub stands : PricesFaultStands (table_of settings text) fault
+
+abbrev pub PricesFail : List ℕ → List ℕ → PricesFault → Type 0
+PricesFail settings text fault = PricesFailBy prices_alone settings text fault
