@@ -1,6 +1,5 @@
 pub mod Counted
 pub mod Told
-pub mod Listed
 pub mod Judged
 pub mod Nested
 pub mod Answered
