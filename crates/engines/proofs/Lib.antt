@@ -19,3 +19,4 @@ pub mod SoundLines
 pub mod StreamAnswers
 pub mod Reduced
 pub mod RefusedRuns
+pub mod SlopePairs
