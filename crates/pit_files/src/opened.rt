@@ -27,14 +27,14 @@ pub fn open_mine<'a, R: Files + Eprint + AllocGlobal>(
         ModelArgs::Values { upit } => {
             let upit = open_file(rt, verbose, upit, Heard::nothing(rt.alloc()))?;
             let worths = WorthInputs::Values { upit };
-            Ok(MineInputs { worths, prec })
+            Ok(MineInputs::Listed { worths, prec })
         }
         ModelArgs::Prices { settings, blocks } => {
             let heard = Heard::of_settings(rt.alloc(), verbose, None);
             let settings = open_file(rt, verbose, settings, heard)?;
             let blocks = open_file(rt, verbose, blocks, Heard::nothing(rt.alloc()))?;
             let worths = WorthInputs::Prices { settings, blocks };
-            Ok(MineInputs { worths, prec })
+            Ok(MineInputs::Listed { worths, prec })
         }
     }
 }
