@@ -3,8 +3,7 @@ use Rattle.fixed_worth.proofs.Common.{◌≡◌, ◌↔◌, ℕ, Bool, true, fal
 use Rattle.prec_file.specs.Rests.{ArePairsOf, AreApart}
 use Rattle.prec_file.proofs.Pairs.{is_pair, tells_pair, pair_told}
 use Rattle.prec_file.proofs.OneListing.{one_listing}
-use Rattle.mine_inputs.specs.Mines.{rests_by}
-use Rattle.mine_inputs.specs.ReadMines.{ArePairsBy}
+use Rattle.mine_inputs.specs.Prelude.{ArePairsBy, rests_by}
 
 pub is_listed : (listed : List (ℕ × ℕ)) (b p : ℕ) → Contains listed (b, p) → list_any (is_pair b p) listed ≡ true
 is_listed listed b p c = list_any_at (is_pair b p) listed c.0 (b, p) c.1 (tells_pair b p (get_or listed c.0 (b, p)) c.2)
