@@ -11,8 +11,7 @@ use Rattle.shells.specs.Prices.{PricesView, price_of, worth_at}
 use Rattle.slope.proofs.Tested.{pairs_tested}
 use Rattle.mine_inputs.specs.Prelude.{ArePairsBy, DenoteMine, MineTexts, mine_of, placed_in, price_wanted, priced_texts, rests_by, rests_said, slopes_said, sloped_texts, up_said}
 use Rattle.mine_inputs.proofs.Listed.{by_listed}
-use Rattle.engines.specs.Prelude.{CertificateAccepted, IsProvedPit, block_by}
-use Rattle.engines.specs.SlopePairs.{SlopesAreTheirPairs}
+use Rattle.engines.specs.Prelude.{CertificateAccepted, IsProvedPit, SlopesAreTheirPairs, block_by}
 use Rattle.engines.proofs.Unread.{one_size}
 
 -- two tests that are true together are the same
