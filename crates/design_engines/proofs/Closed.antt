@@ -2,8 +2,7 @@
 use Rattle.fixed_worth.proofs.Common.{◌≡◌, ◌↔◌, ℕ, Bool, true, false, cond, not, ◌&&◌, List, [], ◌∷◌, length, get_or, refl, ap, ◌∙◌, arith, All, filter, All-nil, All-cons, All-head, All-tail, All-contains, Contains-get_or}
 use Rattle.closure_net.specs.Mine.{IsPit}
 use Rattle.design_value.specs.OpenPairs.{leads_out, open_pairs}
-use Rattle.mine_inputs.specs.Mines.{MineTexts, rests_of, mine_of}
-use Rattle.mine_inputs.specs.ReadMines.{ArePairsBy}
+use Rattle.mine_inputs.specs.Prelude.{ArePairsBy, MineTexts, rests_of, mine_of}
 
 -- ---- a list of which no element passes a test
 

@@ -7,8 +7,7 @@ use Rattle.design_file.specs.Records.{design_of}
 use Rattle.design_value.specs.OpenPairs.{AreOpen}
 use Rattle.engines.specs.declared.judgement.Verdict.{Verdict}
 use Rattle.engines.specs.declared.judgement.Verdict.TheVariants.{Done, No}
-use Rattle.mine_inputs.specs.Mines.{MineTexts, DenoteMine, mine_of, rests_of}
-use Rattle.mine_inputs.specs.ReadMines.{ArePairsBy}
+use Rattle.mine_inputs.specs.Prelude.{ArePairsBy, MineTexts, DenoteMine, mine_of, rests_of}
 use Rattle.design_engines.specs.DesignTexts.{IsDesign}
 
 -- What is told of a design: how many blocks it has, what they are worth in billionths, how many pairs lead from a block of it
