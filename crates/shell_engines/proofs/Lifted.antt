@@ -17,7 +17,7 @@ use Rattle.mine_inputs.specs.declared.engine_fault.EngineFault.{EngineFault}
 use Rattle.mine_inputs.specs.declared.engine_fault.EngineFault.TheVariants as engine
 use Rattle.mine_inputs.specs.Prelude.{priced_texts, rests_by, mine_of, DenoteMine, ArePricesRead, of_model}
 use Rattle.engines.specs.Prelude.{NetFails, ModelFails, IsNetBy}
-use Rattle.engines.proofs.Listed.{is_listed, where_listed, listed_rests}
+use Rattle.mine_inputs.proofs.Listed.{is_listed, where_listed, listed_rests}
 use Rattle.mine_inputs.proofs.Priced.{worths_priced}
 use Rattle.shell_engines.specs.declared.shell_rows.ShellRow.{ShellRow}
 use Rattle.shell_engines.specs.Prelude.{AreRowsOf, shell_table_text, IsLineOf, factors_said, IsSeriesRead, IsNetAt, NotSolvedStands, NoSeriesStands, IsWant, TellsWhy, IsFaultOf, mine_at_factor, shell_group, AreNested, DenoteSeries, IsShellTable, IsNoTable, NoNetAt, ShellsFail}
