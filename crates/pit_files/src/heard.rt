@@ -47,6 +47,19 @@ impl<'a> Heard<'a> {
         }
     }
 
+    /// Of settings whose slopes are used, if anything is told: why they are refused.
+    pub fn of_sloped_settings(alloc: Global, is_told: bool) -> Heard<'a> {
+        Heard {
+            topic: if is_told {
+                Topic::Settings
+            } else {
+                Topic::Nothing
+            },
+            text: KeptText::of_slopes(alloc),
+            bound: PairsBound::new(None),
+        }
+    }
+
     /// Of blocks, if anything is told: how many pairs their slopes may give.
     pub fn of_blocks(alloc: Global, is_told: bool, offsets: &'a AtomicU64) -> Heard<'a> {
         Heard {

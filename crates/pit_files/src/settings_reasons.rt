@@ -29,6 +29,7 @@ pub struct KeptText<'a> {
     bytes: Vec<u8>,
     is_whole: bool,
     offsets: Option<&'a AtomicU64>,
+    are_slopes_used: bool,
 }
 
 impl<'a> KeptText<'a> {
@@ -38,6 +39,17 @@ impl<'a> KeptText<'a> {
             bytes: Vec::new(alloc),
             is_whole: true,
             offsets,
+            are_slopes_used: false,
+        }
+    }
+
+    /// Nothing was read of settings whose slopes are used.
+    pub fn of_slopes(alloc: Global) -> KeptText<'a> {
+        KeptText {
+            bytes: Vec::new(alloc),
+            is_whole: true,
+            offsets: None,
+            are_slopes_used: true,
         }
     }
 
@@ -62,6 +74,7 @@ impl<'a> KeptText<'a> {
             Err(_) => {}
             Ok(settings) => match self.offsets {
                 Some(number) => number.store(most_offsets(&settings), Ordering::SeqCst),
+                None if self.are_slopes_used => {}
                 None => tell_unused(rt, name, &settings),
             },
         }
