@@ -10,12 +10,13 @@ mod series_commands;
 
 use bound_engines::{BoundFault, NodesProblem, PlanAsked, write_nodes_problem};
 use command_line::{
-    BoundArgs, Commanded, Declined, OffsetsArgs, ReplayArgs, Request, ScheduleArgs, SeriesArgs,
-    SlopesArgs, SolveArgs, ValueArgs, WrongValue, declined_for, request_of,
+    BoundArgs, CheckArgs, Commanded, Declined, OffsetsArgs, ReplayArgs, Request, ScheduleArgs,
+    SeriesArgs, SlopesArgs, SolveArgs, ValueArgs, WrongValue, declined_for, request_of,
 };
 use design_engines::{DesignProblem, ValueFault, write_problem};
 use engines::{EngineFault, Unwatched, Verdict, status, stored_check, write_fault};
 use fixed_worth::Counted;
+use mine_inputs::Problem;
 use pit_commands::{
     SolvingAsked, bound_files, check_files, effort_for_series, effort_over_periods, factor_asked,
     listed_slopes_files, pattern_asked, replay_asked, replay_files, schedule_factor_asked,
@@ -28,6 +29,7 @@ use schedule_engines::{
     PeriodsProblem, PlanFault, ScheduleProblem, write_periods_problem, write_schedule_problem,
 };
 use series_commands::series_files;
+use settings_file::{Key, SettingsFault};
 use shells::Factor;
 use std::process::ExitCode;
 use std::rt::{Clock, Env, Files};
@@ -54,6 +56,8 @@ enum Ending {
     Unexpanded(NodesProblem),
     // A schedule is wrong.
     Unscheduled(ScheduleProblem),
+    // Neither a precedence is given nor do settings list slopes, and this fault tells it.
+    Unsloped(EngineFault),
     // A help text or the version was printed, or what is wrong with the arguments; with this exit status.
     Printed(u8),
 }
@@ -79,6 +83,10 @@ fn main(rt: HostRuntime) -> ExitCode {
             let _ = write_schedule_problem(problem, &mut errors);
             ExitCode::from(FAULTY)
         }
+        Ok(Ending::Unsloped(fault)) => {
+            let _ = write_fault(&fault, &mut errors);
+            ExitCode::from(USAGE)
+        }
         Err(fault) => {
             // Where standard error fails too, the status alone says what was wrong.
             let _ = write_fault(&fault, &mut errors);
@@ -102,16 +110,46 @@ fn run<R: Files + Print + Eprint + Env + Clock + Threads + Wait + Sync + AllocGl
         return Ok(Ending::Answered(stored_check(rt, rt.alloc(), &mut out)?));
     }
     match request_of(rt.alloc(), args.as_slice()) {
-        Ok(Request::Bound(args)) => bound(rt, args),
-        Ok(Request::Check(args)) => Ok(Ending::Answered(check_files(rt, args)?)),
-        Ok(Request::Replay(args)) => replay(rt, args),
-        Ok(Request::Solve(args)) => solve(rt, args),
-        Ok(Request::Series(args)) => series(rt, args),
-        Ok(Request::Slopes(args)) => slopes(rt, args),
-        Ok(Request::Value(args)) => value(rt, args),
-        Ok(Request::Schedule(args)) => schedule(rt, args),
+        Ok(request) => answered(rt, request),
         Err(declined) => printed(rt, &declined),
     }
+}
+
+// Does what is asked. A mine to which neither arguments nor settings say who rests on whom is a wrong use.
+fn answered<R: Files + Print + Eprint + Clock + Threads + Wait + Sync + AllocGlobal>(
+    rt: &R,
+    request: Request<'_>,
+) -> Result<Ending, EngineFault> {
+    let answer = match request {
+        Request::Bound(args) => bound(rt, args),
+        Request::Check(args) => check(rt, args),
+        Request::Replay(args) => replay(rt, args),
+        Request::Solve(args) => solve(rt, args),
+        Request::Series(args) => series(rt, args),
+        Request::Slopes(args) => return slopes(rt, args),
+        Request::Value(args) => value(rt, args),
+        Request::Schedule(args) => schedule(rt, args),
+    };
+    match answer {
+        Err(fault) if is_want_of_slopes(fault) => Ok(Ending::Unsloped(fault)),
+        answer => answer,
+    }
+}
+
+// Whether settings list no slopes where a command needs them.
+fn is_want_of_slopes(fault: EngineFault) -> bool {
+    matches!(
+        fault,
+        EngineFault::Settings(Problem::Fault(SettingsFault::Missing(Key::Slopes)))
+    )
+}
+
+// Checks a certificate over the mine of files.
+fn check<R: Files + Print + Eprint + Threads + Sync + AllocGlobal>(
+    rt: &R,
+    args: CheckArgs<'_>,
+) -> Result<Ending, EngineFault> {
+    Ok(Ending::Answered(check_files(rt, args)?))
 }
 
 // Solves a mine, and tells how far it is where that is asked for.
