@@ -5,7 +5,7 @@
 
 writes copper.blocks, copper.prec, copper.upit and copper.cert (a pit with a flow that proves it), and the same blocks
 with a revenue, a cost, tonnes and a mill's two charges each: priced.blocks, with settings.toml for the cost and mill.toml
-for the mill. copper.csv is the same mine as a planner's table, for pitplan: study.toml beside it makes of it the dollars of
+for the mill; both list the slopes, so that beside them no copper.prec is needed. copper.csv is the same mine as a planner's table, for pitplan: study.toml beside it makes of it the dollars of
 priced.blocks.
 Standard library alone, no random numbers: the files are the same on every machine.
 The certificate's flow comes from a plain maximum-flow search made here, not from `pit`.
@@ -20,6 +20,9 @@ MINING = 950  # of these, dollars to dig a block that isn't treated
 PROCESSING = 780  # dollars to treat a block in the mill
 PRICE = 260  # dollars for a unit of grade
 BIG = 1 << 60  # a block's count in the number that stands for a pair of worth and count
+# what has to go before a block: the one above it and that one's four neighbours
+OFFSETS = [[0, 0, 1], [1, 0, 1], [-1, 0, 1], [0, 1, 1], [0, -1, 1]]
+SLOPES = "slopes = %s    # those of copper.prec" % [OFFSETS]
 
 
 def number(x, y, z):
@@ -85,13 +88,11 @@ def planners_row(x, y, z):
 
 def predecessors(x, y, z):
     """The blocks on the bench above that keep a one-to-one slope: five of them inside the model."""
-    if z + 1 == BENCHES:
-        return []
-    steps = [(0, 0), (1, 0), (-1, 0), (0, 1), (0, -1)]
+    places = [(x + dx, y + dy, z + dz) for dx, dy, dz in OFFSETS]
     return sorted(
-        number(x + dx, y + dy, z + 1)
-        for dx, dy in steps
-        if 0 <= x + dx < ACROSS and 0 <= y + dy < ALONG
+        number(*place)
+        for place in places
+        if 0 <= place[0] < ACROSS and 0 <= place[1] < ALONG and place[2] < BENCHES
     )
 
 
@@ -205,6 +206,7 @@ def main():
             "tonnes = 2     # the third",
             "factors = [500, 650, 800, 1000, 1200]    # of the price of the revenues, in thousandths",
             "report = 1000  # the factor at which `pit report` counts worths",
+            SLOPES,
         ],
     )
     write(
@@ -215,6 +217,7 @@ def main():
             "mining = 4      # the fifth: what it costs to dig it, be it ore or waste",
             "tonnes = 2",
             "factors = [500, 650, 800, 1000, 1200]",
+            SLOPES,
         ],
     )
     write(

@@ -39,8 +39,7 @@ UNTYPED = {
     "README.md": ("./run-example", "./install", "python3 tests/run", "pitplan "),
     "docs/GUIDE.md": (
         "python3 examples/csv_to_minelib.py mine.csv 20 20 10 mine revenue cost tonnes",
-        "pit slopes --blocks mine.blocks",
-        "pit shells --prec mine.prec",
+        "pit shells --blocks mine.blocks",
     ),
 }  # the mine of tests/day, which types them
 NUMBER = re.compile(r"(?<![\w.,-])\d[\d,]*(?:\.\d+)?")

@@ -176,7 +176,7 @@ def of_patterns(reader):
 
 def of_shells(reader):
     """Of the shells: the pit at each factor, as `pit check` has it, and what is said of some."""
-    model = "--prec copper.prec --blocks priced.blocks --settings settings.toml"
+    model = "--blocks priced.blocks --settings settings.toml"
     shells = shell_lines(reader.asks("pit shells %s" % model))
     for factor, count, worth in shells:
         answer = reader.asks(
