@@ -38,7 +38,8 @@ _README = """A bundle of pitplan %(version)s: the ultimate pits of %(table)s, an
 study.toml           prices, recoveries, costs, slopes and factors, as the planner wrote them
 table/               the planner's table of blocks, byte for byte
 model/               what pit was given. A line of mine.blocks: a block's number, its place along x, y and z, what it brings, what
-                     treating and digging it cost, its tonnes. Of mine.prec: a block, how many predecessors it has, and these
+                     treating and digging it cost, its tonnes, and its region where slopes differ. settings.toml: which column
+                     is which, and the slopes. A block rests on those at the offsets (x, y, z) that slopes lists for its region
 certificates/        for each factor the pit, and the flow that proves it
 verdicts.json        what pit check said of each, when and where
 tables/              pit by pit, bench by bench, and the row and the shell of each block
@@ -49,7 +50,7 @@ last. Read the two scripts, or take them from a copy that you trust. The pit has
 
 One certificate by hand, in this folder:
 
-    gzip -dc certificates/NAME.cert.gz | pit check --prec model/mine.prec --blocks model/mine.blocks --settings model/settings.toml /dev/stdin
+    gzip -dc certificates/NAME.cert.gz | pit check --blocks model/mine.blocks --settings model/settings.toml /dev/stdin
 
 ACCEPTED, the number of blocks and the worth: the pit has all that its blocks rest on, and no such pit is worth more at its
 factor, over the files in model/. recheck.py compares these with the table, row by row.
@@ -144,11 +145,8 @@ def _copy_files(study: Study, work: Path, more: dict[Path, str]) -> None:
     """The planner's two files, those of the model that `pit` reads, and the scripts."""
     for part in ("model", "table", "tables", "certificates"):
         (work / part).mkdir()
-    names: list[str] = [
-        name for name in study.manifest["files"] if name in READ or name.endswith(".toml")
-    ]
     copies = dict(more)
-    for part in names:
+    for part in READ:
         copies[study.where / part] = f"model/{part}"
     for source, name in copies.items():
         shutil.copyfile(source, work / name)
@@ -192,7 +190,6 @@ def facts_of(study: Study, name: str, dialect: Dialect) -> dict[str, Any]:
         "columns": model.columns,
         "depth": model.depth,
         "blocks": len(model),
-        "pairs": study.manifest["pairs"],
         "currency": study.currency,
         "settings": list(COLUMNS),
         "has_sub_blocks": model.has_sub_blocks,

@@ -2,7 +2,7 @@
 """Checks a certificate of a pit without `pit`: slowly, by Python's standard library alone (3.9 or
 later).
 
-    python3 plainly.py --prec FILE (--upit FILE | --blocks FILE --settings FILE) CERTIFICATE ..
+    python3 plainly.py (--prec FILE --upit FILE | [--prec FILE] --blocks FILE --settings FILE) CERTIFICATE ..
 
 The answer to each is a line as `pit check` prints it: ACCEPTED count worth (status 0), REFUSED why
 (1), or fault: certificate why (3); the status of several is the greatest. The model is read once. A
@@ -25,6 +25,7 @@ if __name__ == "__main__" and not (sys.flags.isolated or getattr(sys.flags, "saf
 
 import argparse
 import gzip
+import json
 import re
 from array import array
 from collections.abc import Iterator, Sequence
@@ -32,7 +33,7 @@ from fractions import Fraction
 from typing import IO, cast
 
 LINE, WHOLE_128 = 65536, 1 << 127
-MOST_BLOCKS, MOST_PAIRS = 1 << 24, 1 << 27
+MOST_BLOCKS, MOST_PAIRS, MOST_OFFSETS, MOST_REGIONS = 1 << 24, 1 << 27, 4096, 64
 MICRO, NANO = 10**6, 10**9
 SPLIT = re.compile(rb"[ \t:\r]+")
 WHOLE = re.compile(rb"[0-9]{1,39}")
@@ -40,11 +41,16 @@ SIGNED = re.compile(rb"[+-]?[0-9]{1,39}")
 DECIMAL = re.compile(rb"([+-]?)(?=\.?[0-9])([0-9]*)(?:\.([0-9]*))?(?:[eE]([+-]?[0-9]+))?")
 SPELLED = re.compile(rb"0|-?[1-9][0-9]*")
 SETTING = re.compile(r"\s*(\w+)\s*=\s*(\d+)\s*(?:#.*)?")
+SLOPES, UP = re.compile(r"^[ \t]*slopes[ \t]*=", re.M), re.compile(r'\s*up\s*=\s*"(\w+)"\s*')
 KINDS = (b"PIT", b"SOURCE", b"REST", b"SINK", b"END")
 
 
 class Wrong(Exception):
     """A file of the model can't be read: nothing is said of the certificate."""
+
+
+class Slope(Wrong):
+    """The settings' slopes give nothing for these blocks: the line, in the words of FORMATS."""
 
 
 class Refused(Exception):
@@ -104,43 +110,99 @@ def millionths(field: bytes, where: str) -> int:
     return -nearest if sign == b"-" else nearest
 
 
-def read_settings(name: str) -> list[int]:
-    """The columns of a priced model, of lines KEY = NUMBER; other keys of pit's settings aren't
-    looked at."""
-    found: dict[str, int] = {}
-    with open(name, encoding="utf-8") as file:
-        for line in file:
-            setting = SETTING.fullmatch(line.rstrip("\n"))
+class Settings:
+    """The columns of a priced model, of lines KEY = NUMBER, and its slopes where it has some: the
+    offsets of each region, the column of regions, and which way is up. Other keys of pit's settings
+    aren't looked at."""
+
+    def __init__(self, name: str) -> None:
+        self.name, found = name, dict[str, int]()
+        with open(name, encoding="utf-8") as file:
+            text = "".join(line.split("#")[0].rstrip() + "\n" for line in file)
+        self.is_up = True
+        for line in text.split("\n"):
+            setting, up = SETTING.fullmatch(line), UP.fullmatch(line)
             if setting:
                 found[setting[1]] = int(setting[2])
-    if "revenue" in found and "cost" in found and not {"processing", "mining"} & set(found):
-        return [found["revenue"], found["cost"]]
-    if {"revenue", "processing", "mining"} <= set(found) and "cost" not in found:
-        return [found["revenue"], found["processing"], found["mining"]]
-    raise Wrong("%s names neither revenue and cost nor revenue, processing and mining" % name)
+            if up:
+                self.is_up = up[1] == "plus"
+        at = SLOPES.search(text)
+        self.slopes = None if at is None else self.listed(text[at.end() :])
+        self.region = found.get("region")
+        self.columns = self.prices(found)
+
+    def prices(self, found: dict[str, int]) -> list[int]:
+        """The columns of prices."""
+        if "revenue" in found and "cost" in found and not {"processing", "mining"} & set(found):
+            return [found["revenue"], found["cost"]]
+        if {"revenue", "processing", "mining"} <= set(found) and "cost" not in found:
+            return [found["revenue"], found["processing"], found["mining"]]
+        raise Wrong(
+            "%s names neither revenue and cost nor revenue, processing and mining" % self.name
+        )
+
+    def listed(self, text: str) -> list[list[tuple[int, ...]]]:
+        """The list of lists that a text begins with, each offset of three whole numbers."""
+        depth = end = 0
+        for end, letter in enumerate(text, 1):
+            depth += (letter == "[") - (letter == "]")
+            if letter == "]" and depth == 0:
+                break
+        try:  # JSON has no comma behind the last of a list, and no _ in a number
+            found = json.loads(re.sub(r",(?=\s*\])", "", text[:end].replace("_", "")))
+            lists = [[tuple(map(int, offset)) for offset in each] for each in found]
+        except (ValueError, TypeError):
+            raise Wrong("%s: slopes are no list of lists of offsets" % self.name) from None
+        if any(len(offset) != 3 for each in lists for offset in each):
+            raise Wrong("%s: an offset has other than three numbers" % self.name)
+        return lists
+
+    def offsets(self) -> list[set[tuple[int, ...]]]:
+        """The differences of place between a block and its predecessors, for each region."""
+        lists = self.slopes or []
+        for number, each in enumerate(lists):
+            if any(offset[2] < 1 for offset in each):
+                first = next(i for i, offset in enumerate(each) if offset[2] < 1)
+                raise Slope("fault: slope NotUpward(%d, %d)" % (number, first))
+        for number, each in enumerate(lists):
+            if len(each) > MOST_OFFSETS:
+                raise Slope("fault: slope TooManyOffsets(%d)" % number)
+        if len(lists) > MOST_REGIONS:
+            raise Slope("fault: slope TooManyRegions")
+        return [{(i, j, k if self.is_up else -k) for i, j, k in each} for each in lists]
 
 
-def read_blocks(name: str, columns: list[int]) -> list[list[int]]:
-    """For each column of prices, what each block has there, in millionths."""
-    kept: dict[int, list[int]] = {}
-    for number, fields in records(name):
-        where = "%s, line %d" % (name, number)
-        if len(kept) >= MOST_BLOCKS:
-            raise Wrong(where + ": too many blocks")
-        if len(fields) <= 4 + max(columns):
-            raise Wrong(where + ": a column is missing")
-        block = whole(fields[0], 1 << 64, where)
-        if block in kept:
-            raise Wrong(where + ": a second record for the block")
-        for field in fields[1:4]:
-            if not SIGNED.fullmatch(field) or not -(1 << 31) <= int(field) < 1 << 31:
-                raise Wrong(where + ": a coordinate is no whole number of 32 bits")
-        kept[block] = [millionths(fields[4 + column], where) for column in columns]
-        if kept[block][0] < 0:
-            raise Wrong(where + ": a revenue below 0")
-    if any(block >= len(kept) for block in kept):
-        raise Wrong("%s: the blocks aren't numbered from 0 to %d" % (name, len(kept) - 1))
-    return [[kept[block][i] for block in range(len(kept))] for i in range(len(columns))]
+class Blocks:
+    """For each column of prices what each block has there, in millionths, and where blocks are."""
+
+    def __init__(self, name: str, columns: list[int], region: int | None = None) -> None:
+        self.name = name
+        kept: dict[int, list[int]] = {}
+        places: dict[int, tuple[int, ...]] = {}
+        wanted = columns if region is None else [*columns, region]
+        for number, fields in records(name):
+            where = "%s, line %d" % (name, number)
+            if len(kept) >= MOST_BLOCKS:
+                raise Wrong(where + ": too many blocks")
+            if len(fields) <= 4 + max(wanted):
+                raise Wrong(where + ": a column is missing")
+            block = whole(fields[0], 1 << 64, where)
+            if block in kept:
+                raise Wrong(where + ": a second record for the block")
+            for field in fields[1:4]:
+                if not SIGNED.fullmatch(field) or not -(1 << 31) <= int(field) < 1 << 31:
+                    raise Wrong(where + ": a coordinate is no whole number of 32 bits")
+            places[block] = tuple(map(int, fields[1:4]))
+            kept[block] = [millionths(fields[4 + column], where) for column in wanted]
+            if kept[block][0] < 0:
+                raise Wrong(where + ": a revenue below 0")
+        if any(block >= len(kept) for block in kept):
+            raise Wrong("%s: the blocks aren't numbered from 0 to %d" % (name, len(kept) - 1))
+        self.table = [[kept[block][i] for block in range(len(kept))] for i in range(len(columns))]
+        self.places = [places[block] for block in range(len(kept))]
+        self.regions = [
+            0 if region is None else kept[block][len(columns)] for block in range(len(kept))
+        ]
 
 
 def read_values(name: str) -> list[int]:
@@ -205,6 +267,37 @@ class Predecessors:
 
     def of(self, block: int) -> Sequence[int]:
         return self.listed[self.first[block] : self.after[block]]
+
+    def has(self, block: int, other: int) -> bool:
+        """Whether the other one is a predecessor of the block."""
+        return other in self.of(block)
+
+
+class Above:
+    """The predecessors of each block, where no file lists them: the blocks whose places less its
+    own are offsets of its own region."""
+
+    def __init__(self, blocks: Blocks, settings: Settings) -> None:
+        self.places, self.at = blocks.places, dict[tuple[int, ...], int]()
+        for block, place in enumerate(self.places):
+            if self.at.setdefault(place, block) != block:
+                raise Slope("fault: slope SamePlace(%d, %d)" % (self.at[place], block))
+        lists = settings.slopes or []
+        for block, region in enumerate(blocks.regions):
+            if region < 0 or region % MICRO or region // MICRO >= len(lists):
+                raise Slope("fault: slope UnknownRegion(%d)" % block)
+        offsets = settings.offsets()
+        self.offsets = [offsets[region // MICRO] for region in blocks.regions]
+
+    def of(self, block: int) -> Sequence[int]:
+        x, y, z = self.places[block]
+        found = (self.at.get((x + i, y + j, z + k)) for i, j, k in self.offsets[block])
+        return sorted(other for other in found if other is not None)
+
+    def has(self, block: int, other: int) -> bool:
+        """Whether the other one is a predecessor of the block."""
+        way = tuple(b - a for a, b in zip(self.places[block], self.places[other]))
+        return way in self.offsets[block]
 
 
 def worths_of(price: list[bytes], table: list[list[int]], values: list[int] | None) -> list[int]:
@@ -294,7 +387,7 @@ class Check:
     """A check of one certificate over one model."""
 
     def __init__(
-        self, certificate: Certificate, rests: Predecessors, worths: list[int], group: str
+        self, certificate: Certificate, rests: Predecessors | Above, worths: list[int], group: str
     ) -> None:
         self.certificate, self.rests, self.group = certificate, rests, group
         self.worths = worths
@@ -323,7 +416,7 @@ class Check:
             if place <= before:
                 raise Fault("OutOfOrder(%d)" % self.certificate.number)
             before = place
-            if words[0] == b"REST" and blocks[1] not in self.rests.of(blocks[0]):
+            if words[0] == b"REST" and not self.rests.has(*blocks):
                 raise Fault("UnknownPair(%d)" % self.certificate.number)
             if words[0] != b"PIT" and not is_closed:
                 self.closed()
@@ -402,15 +495,27 @@ def spelled(nanos: int) -> str:
 
 class Model:
     """The files of a model, read: what its blocks are worth, by values or by a table of prices, and
-    their predecessors."""
+    their predecessors, by a list or by the slopes of its settings."""
 
     def __init__(self, options: argparse.Namespace) -> None:
         self.values = read_values(options.upit) if options.upit else None
-        self.table = (
-            [] if options.upit else read_blocks(options.blocks, read_settings(options.settings))
+        self.table: list[list[int]] = []
+        if self.values is not None:
+            self.rests: Predecessors | Above = Predecessors(options.prec, len(self.values))
+            self.count = len(self.values)
+            return
+        settings = Settings(options.settings)
+        if options.prec is None and settings.slopes is None:
+            raise Slope("fault: settings Missing(slopes)")
+        if options.prec is not None and settings.slopes is not None:
+            raise Slope("fault: settings Unused(slopes)")
+        blocks = Blocks(options.blocks, settings.columns, settings.region)
+        self.table, self.count = blocks.table, len(blocks.places)
+        self.rests = (
+            Above(blocks, settings)
+            if options.prec is None
+            else Predecessors(options.prec, self.count)
         )
-        self.count = len(self.values) if self.values is not None else len(self.table[0])
-        self.rests = Predecessors(options.prec, self.count)
 
 
 def answer(model: Model, name: str) -> tuple[str, int]:
@@ -447,13 +552,14 @@ def attempted(model: Model, name: str) -> tuple[str, int]:
 def main() -> int:
     """Judges the certificates that the words name, and gives the exit status."""
     reading = argparse.ArgumentParser(description=__doc__.split("\n\n")[0])
-    reading.add_argument("--prec", required=True)
-    for name in ("upit", "blocks", "settings"):
+    for name in ("prec", "upit", "blocks", "settings"):
         reading.add_argument("--" + name)
     reading.add_argument("certificates", nargs="+", metavar="certificate")
     options = reading.parse_args()
     if bool(options.upit) == bool(options.blocks) or bool(options.blocks) != bool(options.settings):
         reading.error("either --upit, or --blocks and --settings")
+    if options.upit and not options.prec:
+        reading.error("beside --upit, --prec says what rests on what")
     worst = 0
     try:
         model = Model(options)
@@ -462,7 +568,7 @@ def main() -> int:
             print(line, flush=True)
             worst = max(worst, status)
     except UNREADABLE as error:
-        print("plainly: %s" % error)
+        print(error if isinstance(error, Slope) else "plainly: %s" % error)
         return 3
     return worst
 

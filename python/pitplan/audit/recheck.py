@@ -186,14 +186,19 @@ ANGLES = Kind(
     "degrees from 5 to 89, or a list of bearings and degrees as [[0, 38], [90, 45]]", is_angles
 )
 OFFSETS = Kind(
-    "a list of offsets as [[0, 0, 1]], each at least one level up",
+    "a list of at most 4,096 offsets as [[0, 0, 1]], each at least one level up",
     lambda value: is_list(
         value,
         lambda offset: is_list(offset, lambda step: is_whole(step, -(2**31), 2**31), 3, 3)
         and offset[2] > 0,
+        0,
+        4096,
     ),
 )
-SLOPES = Kind("for each region " + OFFSETS.must, lambda value: is_list(value, OFFSETS.holds))
+SLOPES = Kind(
+    "for each of at most 64 regions " + OFFSETS.must,
+    lambda value: is_list(value, OFFSETS.holds, 1, 64),
+)
 
 # The keys of each section of study.toml that are looked at, and what each may be; likewise of the other files.
 STUDY: dict[str, dict[str, Kind]] = {
@@ -293,7 +298,6 @@ FACTS = {
     "grid": TABLE,
     "depth": IS_SO,
     "blocks": WHOLE,
-    "pairs": WHOLE,
     "currency": WORD,
     "has_sub_blocks": IS_SO,
     "columns": Kind(
@@ -304,11 +308,11 @@ FACTS = {
 MANIFEST = {
     "source": TABLE,
     "files": Kind("a table of sha256", lambda value: is_table(value, DIGEST.holds)),
-    "offsets": Kind(
-        "a table, of each region " + OFFSETS.must, lambda value: is_table(value, OFFSETS.holds)
+    "regions": Kind(
+        "a table of whole numbers, how many blocks each region of slopes has",
+        lambda value: is_table(value, is_whole),
     ),
     "blocks": WHOLE,
-    "pairs": WHOLE,
     "currency": WORD,
 }
 VERDICT = {
@@ -331,6 +335,7 @@ PART, ORE = (
 )
 AT = Kind("a whole number from 0 to 65,535", lambda value: is_whole(value, 0, 65_535))
 COLUMNS = {"revenue": AT, "processing": AT, "mining": AT, "tonnes": AT}
+SETTINGS = {**COLUMNS, "slopes": SLOPES, "region": AT, "up": one_of("plus")}
 
 
 def is_encoding(name: str) -> bool:
@@ -536,13 +541,27 @@ def millionths(text: str) -> int:
 
 
 class Blocks:
-    """model/mine.blocks: places, and what each block brings and costs."""
+    """model/mine.blocks: places, what each block brings and costs, and by the slopes of
+    model/settings.toml what it rests on.
+
+    Attributes
+    ----------
+    slopes : list
+        The offsets of each region, from region 0 on.
+    column : int or None
+        The column that says in which region a block is; None where there is one region.
+    """
 
     def __init__(self) -> None:
-        columns = looked_at(
-            "model/settings.toml:", toml_of("model/settings.toml"), COLUMNS, COLUMNS
+        told = looked_at(
+            "model/settings.toml:",
+            toml_of("model/settings.toml"),
+            SETTINGS,
+            [*COLUMNS, "slopes", "up"],
         )
-        revenue, processing, mining, tonnes = (3 + columns[name] for name in COLUMNS)
+        self.slopes: list[list[list[int]]] = told["slopes"]
+        self.column: int | None = told.get("region")
+        revenue, processing, mining, tonnes = (3 + told[name] for name in COLUMNS)
         rows: dict[int, list[str]] = {}
         with open(within("model/mine.blocks"), encoding="ascii", errors="replace") as file:
             for n, line in enumerate(file, 1):
@@ -574,10 +593,38 @@ class Blocks:
             except Bad as error:
                 raise Bad(f"block {b}: {error}") from None
 
-    def field(self, block: int, column: int) -> str | None:
-        """What a block has in a column; None where it has fewer."""
+    def region(self, block: int) -> int:
+        """The region of slopes of a block."""
+        if self.column is None:
+            return 0
         row = self.rows[block]
-        return row[3 + column] if 3 + column < len(row) else None
+        found = row[3 + self.column] if 3 + self.column < len(row) else ""
+        if not re.fullmatch("[0-9]{1,5}", found) or int(found) >= len(self.slopes):
+            raise Bad(
+                f"model/mine.blocks: the region of block {block} is {shown(found)}, and has to be a number of the {len(self.slopes)} slopes of model/settings.toml, counted from 0"
+            )
+        return int(found)
+
+    @cached_property
+    def at(self) -> dict[tuple[int, ...], int]:
+        """The block at each place."""
+        found = {place: b for b, place in enumerate(self.places)}
+        if len(found) < len(self.places):
+            raise Bad("model/mine.blocks: two blocks are at one place")
+        return found
+
+    def above(self, block: int) -> list[int]:
+        """What a block rests on: the blocks at the offsets of its own region, wherever they lie
+        themselves, ascending."""
+        x, y, z = self.places[block]
+        ways = self.slopes[self.region(block)]
+        found = {self.at.get((x + i, y + j, z + k)) for i, j, k in ways}
+        return sorted(other for other in found if other is not None)
+
+    def most_pairs(self) -> int:
+        """At most so many pairs of a block and another on which it rests there are."""
+        count = Counter(map(self.region, range(len(self.places))))
+        return sum(min(len(self.slopes[r]), len(self.places)) * n for r, n in count.items())
 
     def worth(self, block: int, factor: int) -> int:
         """What a block is worth at a factor in thousandths, in billionths."""
@@ -617,8 +664,6 @@ class Judged(NamedTuple):
 def judged(pit: str, path: Path, most: int) -> Judged:
     """Gives a certificate to `pit check`."""
     words = [
-        "--prec",
-        str(within("model/mine.prec")),
         "--blocks",
         str(within("model/mine.blocks")),
         "--settings",
@@ -665,7 +710,8 @@ def judged(pit: str, path: Path, most: int) -> Judged:
 def check_pits(report: Report, pit: str, blocks: Blocks, is_plain: bool) -> list[int]:
     """Each certificate, and that its pit lies within the next. Returns the first factor whose pit
     has each block, 0 where none has it."""
-    most = LINE * (3 * len(blocks.places) + pairs_listed() + 10)
+    most = LINE * (3 * len(blocks.places) + blocks.most_pairs() + 10)
+    most = min(most, max(SMALL, free_memory()))
     shell, below, last = [0] * len(blocks.places), set[int](), -1
     verdicts = verdicts_of()
     plain = plainly([within(verdict["file"]) for verdict in verdicts]) if is_plain else []
@@ -787,14 +833,7 @@ def other_mine(of: int | None, here: int) -> str:
 
 def plainly(paths: list[Path]) -> list[str]:
     """What plainly.py says of these certificates, for each a line."""
-    words = [
-        "--prec",
-        "model/mine.prec",
-        "--blocks",
-        "model/mine.blocks",
-        "--settings",
-        "model/settings.toml",
-    ]
+    words = ["--blocks", "model/mine.blocks", "--settings", "model/settings.toml"]
     run = subprocess.run(
         [sys.executable, "-I", str(within("plainly.py")), *words, *map(str, paths)],
         cwd=HERE,
@@ -1439,33 +1478,6 @@ def codes_of(economics: dict[str, Any], by: str | None) -> set[str]:
     ) | ({by} if by else set())
 
 
-def slopes_listed() -> tuple[list[list[list[int]]], int | None]:
-    """The offsets of each region, and the column of model/mine.blocks that says in which a block
-    is."""
-    table = looked_at(
-        "model/slopes.toml:",
-        toml_of("model/slopes.toml"),
-        {"slopes": SLOPES, "region": AT},
-        ["slopes"],
-    )
-    column: int | None = table.get("region")
-    return table["slopes"], column
-
-
-def pairs_listed() -> int:
-    """How many pairs of a block and a predecessor model/mine.prec has."""
-    found = 0
-    with open(within("model/mine.prec"), "rb") as file:
-        for n, line in enumerate(file, 1):
-            fields = line.split()
-            if len(fields) < 2 or fields[1] != b"%d" % (len(fields) - 2):
-                raise Bad(
-                    f"model/mine.prec: line {n} is {shown(line[:80].decode(errors='replace').rstrip())}, and has to be a block, how many predecessors it has, and these"
-                )
-            found += len(fields) - 2
-    return found
-
-
 def check_facts(report: Report, blocks: Blocks, facts: dict[str, Any]) -> None:
     """What facts.json and model/manifest.json say of the other files is so, and is what study.toml
     asks for."""
@@ -1479,21 +1491,20 @@ def check_facts(report: Report, blocks: Blocks, facts: dict[str, Any]) -> None:
     listed = {name: digest for name, digest in manifest["files"].items() if name != "blocks.npz"}
     bad = [name for name, digest in listed.items() if digest_of(within(f"model/{name}")) != digest]
     report.check(
-        not bad and {"mine.blocks", "mine.prec", "settings.toml"} <= set(listed),
+        not bad and set(listed) == {"mine.blocks", "settings.toml"},
         "the files of model/ are those that were built"
         + (f": not so for {', '.join(bad)}" if bad else ""),
     )
-    offsets, _ = slopes_listed()
     regions = ["default", *study_of("slopes", "regions").get("regions", {})]
     report.check(
-        offsets == list(manifest["offsets"].values()) and list(manifest["offsets"]) == regions,
+        len(blocks.slopes) == len(regions) and list(manifest["regions"]) == regions,
         f"the lists of offsets are those of the {len(regions):,} slopes of study.toml",
     )
-    pairs = pairs_listed()
+    count = Counter(map(blocks.region, range(len(blocks.places))))
     report.check(
         len(blocks.places) == facts["blocks"] == manifest["blocks"]
-        and pairs == facts["pairs"] == manifest["pairs"],
-        f"the model has {len(blocks.places):,} blocks and {pairs:,} pairs",
+        and [count[r] for r in range(len(regions))] == list(manifest["regions"].values()),
+        f"the model has {len(blocks.places):,} blocks, in each region of slopes as many as it was built with",
     )
     asked = {"size": model.get("size", grid["size"]), "rotation": model.get("rotation", 0.0)}
     columns = {**facts["columns"], **model.get("columns", {})}
@@ -1997,43 +2008,37 @@ def check_tables(
     )
 
 
-def check_slopes(
-    report: Report, pit: str, blocks: Blocks, regions: list[int | None] | None
-) -> None:
-    """The predecessors are those that `pit slopes` gives by the lists of model/slopes.toml, each
-    block by that of its region in model/mine.blocks, and a block that has a row of the table is in
-    the region of that row."""
-    lists, column = slopes_listed()
-    words = [
-        *(pit, "slopes", "--blocks", str(within("model/mine.blocks"))),
-        *("--pattern", "settings", "--settings", str(within("model/slopes.toml"))),
-    ]
-    with subprocess.Popen(words, stdout=subprocess.PIPE) as run:
-        try:
-            with open(within("model/mine.prec"), "rb") as file:
-                found = enumerate(zip_longest(file, run.stdout or ()))
-                bad = next((n for n, (line, made) in found if line != made), None)
-        finally:
-            run.kill()
+def check_slopes(report: Report, blocks: Blocks, regions: list[int | None] | None) -> None:
+    """A block that has a row of the table is in the region of that row; and how steep the walls are
+    that the slopes of model/settings.toml make."""
+    if blocks.column is not None:
+        check_regions(report, blocks, regions)
+    tell_walls(report, blocks.slopes)
+
+
+def check_closed(report: Report, blocks: Blocks, shell: list[int]) -> None:
+    """Each pit has what its blocks rest on, looked up here by places and by the offsets of each
+    block's own region: what `pit check` says too. Pits grow, so that a block's predecessors have to
+    be in the first pit that has it."""
+    dug = [block for block, first in enumerate(shell) if first]
+    bad = next(
+        ((b, p) for b in dug for p in blocks.above(b) if not 0 < shell[p] <= shell[b]),
+        None,
+    )
     report.check(
         bad is None,
-        "each block's predecessors are those that pit slopes gives it by model/slopes.toml"
-        + (f": not so in line {bad + 1}" if bad is not None else ""),
+        "each pit has what its blocks rest on, by the slopes of model/settings.toml"
+        + (f": not so block {bad[0]}, which rests on block {bad[1]}" if bad else ""),
     )
-    if column is not None:
-        check_regions(report, blocks, regions, column)
-    tell_walls(report, lists)
 
 
-def check_regions(
-    report: Report, blocks: Blocks, regions: list[int | None] | None, column: int
-) -> None:
+def check_regions(report: Report, blocks: Blocks, regions: list[int | None] | None) -> None:
     """Each block is in the region of slopes that its row names."""
     if not regions:
         report.say("look", "whether each block is in the region that it should be in")
         return
     known = ((b, region) for b, region in enumerate(regions) if region is not None)
-    astray = next((b for b, region in known if blocks.field(b, column) != str(region)), None)
+    astray = next((b for b, region in known if blocks.region(b) != region), None)
     report.check(
         astray is None,
         "each block is in the region of slopes that its row names"
@@ -2050,7 +2055,7 @@ def tell_walls(report: Report, lists: list[list[list[int]]]) -> None:
     for offsets, (region, between) in zip(lists, asked.items()):
         angles = with_ramp(between, slopes.get("ramp", {}), region)
         steeper, flatter = wall_errors(offsets, grid, Angles.of(angles))
-        what = f"the slopes of {region}: a deep wall of model/slopes.toml is at most {degrees(steeper)} degrees steeper and {degrees(flatter)} flatter than study.toml asks"
+        what = f"the slopes of {region}: a deep wall of model/settings.toml is at most {degrees(steeper)} degrees steeper and {degrees(flatter)} flatter than study.toml asks"
         if slopes.get("safe") and steeper > ROUNDED:
             report.check(False, f"{what}, by safe = true never steeper")
         else:
@@ -2193,9 +2198,7 @@ def check_all(report: Report, pit: str, is_plain: bool) -> None:
     )
     report.attempt("facts.json, model/manifest.json", check_facts, report, blocks, facts)
     found = report.attempt("the table", check_table, report, blocks, facts)
-    report.attempt(
-        "the slopes", check_slopes, report, pit, blocks, found.regions if found else None
-    )
+    report.attempt("the slopes", check_slopes, report, blocks, found.regions if found else None)
     report.attempt("the factors", check_series, report)
     shell = report.attempt("verdicts.json", check_pits, report, pit, blocks, is_plain)
     if shell is not None and found and found.fenced:
@@ -2206,6 +2209,7 @@ def check_all(report: Report, pit: str, is_plain: bool) -> None:
             + (f": not so for {len(dug):,}, the first is block {dug[0]}" if dug else ""),
         )
     if shell is not None:
+        report.attempt("the slopes of the pits", check_closed, report, blocks, shell)
         report.attempt(
             "the tables",
             check_tables,

@@ -136,10 +136,7 @@ def read_mine() -> Mine:
         need(is_whole, f"block {number} isn't worth whole units of currency")
         costs.append(mining // MILLION)
         gains.append(gain // MILLION)
-    above: Rows = [[] for _ in costs]
-    for words in words_of(HERE / "model/mine.prec"):
-        above[int(words[0])] = [int(word) for word in words[2:]]
-        need(int(words[1]) == len(words) - 2, f"the line of block {words[0]} of mine.prec")
+    above = [blocks.above(number) for number in range(len(costs))]
     return Mine(blocks, costs, gains, [tonnes > 0 for tonnes in blocks.tonnes], above)
 
 

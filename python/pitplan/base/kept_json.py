@@ -151,16 +151,3 @@ def is_path(value: Any) -> bool:
         )
     except UnicodeEncodeError:
         return False
-
-
-def is_offset(value: Any) -> bool:
-    """Whether this is an offset, at least one level up."""
-    return (
-        isinstance(value, list)
-        and len(value) == 3
-        and all(
-            isinstance(step, int) and not isinstance(step, bool) and abs(step) < 1 << 31
-            for step in value
-        )
-        and value[2] > 0
-    )

@@ -219,7 +219,7 @@ def _print_size(study: Study, plan: StudyFile) -> None:
     count = len(plan.factors)
     workers = workers_for(study)
     say(
-        f"{guess.pairs:,} pairs of a block and a predecessor. A pit will take about"
+        f"at most {guess.pairs:,} pairs of a block and a predecessor. A pit will take about"
         f" {guess.memory / 1e6:,.0f} MB and {duration(guess.seconds)}; all {count}, {workers} at a"
         f" time, {duration(guess.seconds * count / workers)}"
     )

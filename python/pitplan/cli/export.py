@@ -7,8 +7,8 @@ from typing import TYPE_CHECKING, Callable, Optional
 import typer
 from ..base.errors import PlanError, meant
 from ..base.units_shown import length_text
-from ..views.export.kinds import KINDS
-from .console import STUDY, app, err, results, say, shells_of
+from ..views.export.kinds import KINDS, MINELIB
+from .console import STUDY, app, err, open_study, results, say, shells_of
 
 if TYPE_CHECKING:
     from ..study.shells import Shells
@@ -17,7 +17,11 @@ if TYPE_CHECKING:
 @app.command()
 def export(
     folder: Path = STUDY,
-    to: str = typer.Option("dxf,vtu,csv", "--to", help="Any of dxf, vtu, csv, gpkg, with commas."),
+    to: str = typer.Option(
+        "dxf,vtu,csv",
+        "--to",
+        help="Any of dxf, vtu, csv, gpkg, minelib, with commas. minelib is the model alone, at the full price, for programs that read .prec and .upit; it needs no pits.",
+    ),
     factors: Optional[str] = typer.Option(
         None,
         "--factors",
@@ -52,8 +56,13 @@ def export(
     ),
 ) -> None:
     """Write the pits for CAD (dxf), ParaView (vtu), GIS (gpkg) and any other program (csv), in true
-    coordinates."""
+    coordinates; or the model for other optimisers (minelib)."""
     kinds = _kinds_of(to)
+    if MINELIB in kinds:
+        _to_minelib(folder)
+        kinds.remove(MINELIB)
+        if not kinds:
+            return
     if phases:
         shells = _mines_at(folder, phases, factors or is_schedule, kinds)
     else:
@@ -144,6 +153,25 @@ def _kinds_of(text: str) -> list[str]:
         if kind not in KINDS:
             raise PlanError(f"--to: {kind!r} is no file that is written here{meant(kind, KINDS)}")
     return found
+
+
+def _to_minelib(folder: Path) -> None:
+    """Writes the three files of the model, and says what they have."""
+    from ..views.export import minelib as export_minelib
+
+    study = open_study(folder)
+    target = results(study)
+    with err.status("writing minelib"):
+        pairs = export_minelib.write(study, target)
+    count = study.manifest["blocks"]
+    what = (
+        f"{count:,} blocks",
+        f"{pairs:,} pairs of a block and a predecessor",
+        "what each block is worth at the full price",
+    )
+    for name, text in zip(export_minelib.NAMES, what):
+        path = target / name
+        say(f"{path}: {text}, {path.stat().st_size / 1e6:.1f} MB")
 
 
 def _to_dxf(shells: Shells, path: Path, cuts_corners: bool) -> str:

@@ -54,6 +54,8 @@ _HINTS = {
 }
 BEGUN = object()  # what only Pit.check hands to an Accepted, and Pit.series to a Stated
 MOST_FACTORS = 64  # of one run of `pit shells`
+_TOO_MANY_PAIRS = "fault: slope TooMany"  # what `pit` says of more than so many
+_PAIRS = 1 << 27
 _ABOVE = 1 << 30  # of a block that no pit of a series has: above all factors
 
 
@@ -141,15 +143,15 @@ class Stated:
 
 @dataclass(frozen=True)
 class Files:
-    """The three files of a model with a mill."""
+    """The two files of a model with a mill: what each block brings and costs, and settings, whose
+    slopes say which blocks go before it."""
 
-    prec: Path
     blocks: Path
     settings: Path
     after = ""  # of the line of acceptance
 
     def words(self) -> list[_Word]:
-        return ["--prec", self.prec, "--blocks", self.blocks, "--settings", self.settings]
+        return ["--blocks", self.blocks, "--settings", self.settings]
 
 
 @dataclass(frozen=True)
@@ -254,21 +256,16 @@ class Pit:
         except PlanError:
             return ["unknown"]
 
-    def slopes(self, blocks: Path, settings: Path, out: Path) -> None:
-        """Writes the predecessors of each block, by the offsets that `settings` lists."""
-        self.run(
-            [
-                "slopes",
-                "--blocks",
-                blocks,
-                "--pattern",
-                "settings",
-                "--settings",
-                settings,
-                "--verbose",
-            ],
-            out,
-        )
+    def slopes(self, files: Files, out: Path) -> None:
+        """Writes the predecessors of each block as a `.prec` file, by the slopes of a model's
+        settings: for programs that read no slopes, and for lists that go on behind it.
+
+        Raises
+        ------
+        PlanError
+            Where `pit` refuses the slopes, as where there are too many pairs.
+        """
+        self.run(["slopes", *files.words(), "--pattern", "settings", "--verbose"], out)
 
     def best(
         self,
@@ -529,7 +526,7 @@ class Pit:
         settings, table = work / "series.toml", work / "by_block.csv"
         settings.write_text(files.settings.read_text() + f"factors = {list(factors)}\n")
         words: list[_Word] = [
-            *Files(files.prec, files.blocks, settings).words(),
+            *Files(files.blocks, settings).words(),
             "--by-block",
             table,
             "--workers",
@@ -659,6 +656,13 @@ class Pit:
         """The error of a run that ended with another status than 0 or 1."""
         if self.is_stopped:
             return MachineError("stopped")
+        if fault.endswith(_TOO_MANY_PAIRS):
+            return PlanError(
+                "[slopes] the offsets make more pairs of a block and a predecessor over this model"
+                f" than pit holds, {_PAIRS:,}",
+                try_this="fewer levels in [slopes], steeper angles, or larger blocks",
+                key=("slopes",),
+            )
         how = (
             f"was ended by {signal.Signals(-status).name}"
             if status < 0

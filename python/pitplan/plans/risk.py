@@ -459,7 +459,7 @@ def lean_model(study: Study, economics: dict[str, Any]) -> Model:
 
 class Realisation(Study):
     """A study with the grades of one realisation. Its `.blocks` is made in a folder for the time of
-    a run; `.prec` is the study's.
+    a run; the settings, with the slopes, are the study's.
 
     Parameters
     ----------
@@ -592,7 +592,10 @@ class Realisation(Study):
         ) as scratch:
             self.made = Path(scratch) / "mine.blocks"
             try:
-                write_blocks(self.made, self.model, self.priced)
+                several = len(self.manifest["regions"]) > 1
+                write_blocks(
+                    self.made, self.model, self.priced, self.base.region if several else None
+                )
                 yield self.files
             except OSError as error:
                 raise MachineError(

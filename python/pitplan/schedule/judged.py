@@ -2,7 +2,6 @@
 what was counted here."""
 from __future__ import annotations
 
-import shutil
 import tempfile
 from decimal import Decimal
 from pathlib import Path
@@ -100,7 +99,9 @@ def _write_by_year(
 
     Behind the blocks of the model comes one for each that may be sent: it rests on that block, is
     worth what the mill adds and takes its feed, and is dug in the same period where the block is
-    sent. The blocks of the model are worth what digging them costs, and take rock alone.
+    sent. The blocks of the model are worth what digging them costs, and take rock alone. What
+    rests on what is a list here, which `pit` writes by the study's slopes: slopes have no blocks
+    that stand for two ways.
 
     Parameters
     ----------
@@ -119,7 +120,7 @@ def _write_by_year(
     table = [numbers, *(b[name].to_numpy()[each] for name in ("ix", "iy", "iz")), rock, feed]
     dug = np.append(np.flatnonzero(of_blocks >= 0), count + np.searchsorted(own, sent))
     texts = Texts(folder / "mine.prec", folder / "mine.upit")
-    shutil.copyfile(study.files.prec, texts.prec)
+    study.program.slopes(study.files, texts.prec)
     with open(texts.prec, "a") as file:
         file.writelines(f"{count + place} 1 {block}\n" for place, block in enumerate(own.tolist()))
     with open(texts.upit, "w") as file:

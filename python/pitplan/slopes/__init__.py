@@ -1,4 +1,4 @@
-"""From slope angles to offsets, and to the `.prec` file that `pit slopes` writes."""
+"""From slope angles to offsets, and to the settings that list them."""
 from __future__ import annotations
 
 from typing import TYPE_CHECKING
@@ -6,6 +6,6 @@ from typing import TYPE_CHECKING
 from ..base.door import door
 
 if TYPE_CHECKING:
-    from .slopes import Slopes as Slopes, write_prec as write_prec
+    from .slopes import Slopes as Slopes
 else:
-    __getattr__, __dir__, __all__ = door(__name__, {"slopes": "Slopes write_prec"})
+    __getattr__, __dir__, __all__ = door(__name__, {"slopes": "Slopes"})

@@ -657,8 +657,8 @@ def settings(pattern: Pattern) -> str:
 
 
 def settings_by_region(patterns: Mapping[str, Pattern]) -> str:
-    """The offsets of each region as settings of `pit slopes --pattern settings`: a list for each,
-    in this order, after a remark of what walls they make."""
+    """The offsets of each region as settings of `pit`: a list for each, in this order, after a
+    remark of what walls they make."""
     lists = (
         "".join(f"    # {line}\n" for line in f"{name}: {pattern}".splitlines())
         + "    [%s],\n" % ", ".join("[%d, %d, %d]" % offset for offset in pattern.offsets)

@@ -1,5 +1,4 @@
-"""Slopes by bearing and by region: from angles to offsets, and the `.prec` file that `pit slopes`
-writes of them.
+"""Slopes by bearing and by region: from angles to offsets, and to the settings that list them.
 
 A block's predecessors follow from the region of that block, wherever they lie themselves: settings
 list the offsets of each region, and the `.blocks` file has a column with that of each block.
@@ -7,9 +6,8 @@ list the offsets of each region, and the `.blocks` file has a column with that o
 from __future__ import annotations
 
 import functools
-from collections.abc import Iterable, Iterator, Mapping
+from collections.abc import Iterable, Mapping
 from dataclasses import dataclass, field
-from pathlib import Path
 from typing import Any, cast
 
 import numpy as np
@@ -21,15 +19,16 @@ from ..base.events import event
 from ..model.grid import Grid
 from ..model.model import Model
 from ..model.subblocks import coded
-from ..pit.program import Pit
 from ..table.formula import is_formula, names_in, text_of, words_out
 from ..table.study_keys import has_ramp, keys_of, refuse_wrong
 from . import offsets
-from .offsets import Angles, Offset, Pattern
+from .listed import offsets_listed, slopes_text
+from .offsets import Angles, Offset, Outline, Pattern
 from .ramps import ramp_of
 
 DEFAULT = "default"
 _REGION = 4  # the column of a block's region, after what it brings, costs and weighs
+_MOST_REGIONS = 64  # that `pit` takes
 _OF_PLACES = ("elevation", "below_ground")  # what a formula of regions may name beside columns
 _OFF = 1e-3  # of a block's height: that much less or more makes no other elevation, nor depth
 _STEP = 15  # degrees of bearing between two rows of the table of asked and built angles
@@ -101,6 +100,13 @@ class Slopes:
                 f"[slopes] regions: {DEFAULT!r} is what the slopes of all other blocks are called",
                 try_this="angles, for the blocks of no region; or another word in that column",
                 key=("slopes", "regions", DEFAULT),
+            )
+        if len(self.names) > _MOST_REGIONS:
+            raise PlanError(
+                f"[slopes] has {len(self.names)} slopes with that of all other blocks, and pit takes"
+                f" {_MOST_REGIONS}",
+                try_this="one name for regions whose angles are the same",
+                key=("slopes", "regions"),
             )
         wrong = Gathered()
         for name in self.ramp or {}:
@@ -176,6 +182,21 @@ class Slopes:
         """The offsets (dx, dy, dz) of each region, "default" first."""
         return {name: list(pattern.offsets) for name, pattern in self.patterns(grid).items()}
 
+    def settings(self, grid: Grid) -> str:
+        """The settings that list the offsets of each region, as `pit` reads them beside a `.blocks`
+        file; its column after those of amounts and tonnes is that of regions, where there are
+        several. Raises PlanError as `patterns`."""
+        return slopes_text(self.patterns(grid), _REGION if self.regions else None)
+
+    def outlines(self, grid: Grid) -> dict[str, Outline]:
+        """The walls that each region's offsets make, "default" first; the offsets are read back
+        from the text of `settings`. Raises PlanError as `patterns`."""
+        listed = offsets_listed(self.settings(grid))
+        return {
+            name: Outline(pattern.wall, found)
+            for (name, pattern), found in zip(self.patterns(grid).items(), listed)
+        }
+
     def built(self, grid: Grid) -> pd.DataFrame:
         """The angles that are asked for and those of the walls that are built.
 
@@ -186,10 +207,10 @@ class Slopes:
             steeper than asked.
         """
         rows = []
-        for name, pattern in self.patterns(grid).items():
-            outline = offsets.Outline(pattern.wall, pattern.offsets)
+        patterns = self.patterns(grid)
+        for name, outline in self.outlines(grid).items():
             for bearing in range(0, 360, _STEP):
-                asked, is_now = pattern.wall.slope(bearing), outline.slope(bearing)
+                asked, is_now = patterns[name].wall.slope(bearing), outline.slope(bearing)
                 rows.append((name, bearing, asked, is_now, is_now - asked))
         return pd.DataFrame(rows, columns=["region", "bearing", "asked", "built", "error"])
 
@@ -312,129 +333,3 @@ def pattern_of(wall: offsets.Wall, safe: bool, levels: int | None) -> Pattern:
     """As `offsets.search`; a wall that was asked for before, as by what-ifs over the same slopes,
     isn't searched again."""
     return offsets.search(wall, safe=safe, levels=levels)
-
-
-def _pairs(there: Bools, of: Bools, offset: Offset) -> int:
-    """How many blocks of a set have a block at an offset; both sets over the places of the grid."""
-    low, high = [], []
-    for step, count in zip(offset, there.shape):
-        if abs(step) >= count:
-            return 0
-        low.append(slice(max(-step, 0), count - max(step, 0)))
-        high.append(slice(max(step, 0), count - max(-step, 0)))
-    return int(np.count_nonzero(of[tuple(low)] & there[tuple(high)]))
-
-
-def pairs_by_region(slopes: Slopes, model: Model) -> dict[str, int]:
-    """How many pairs of a block and a predecessor the blocks of each region have."""
-    there, b = model.index >= 0, model.blocks
-    region = np.full(there.shape, -1, np.int16)
-    region[b.ix, b.iy, b.iz] = slopes.region_of(model)
-    lists = slopes.offsets_by_region(model.grid)
-    return {
-        name: sum(_pairs(there, region == i, offset) for offset in listed)
-        for i, (name, listed) in enumerate(lists.items())
-    }
-
-
-def count_pairs(slopes: Slopes, model: Model) -> int:
-    """How many pairs of a block and a predecessor the `.prec` file lists."""
-    return sum(pairs_by_region(slopes, model).values())
-
-
-def check_limits(slopes: Slopes, model: Model) -> None:
-    """Counts the pairs that `pit slopes` has to write, before it is run.
-
-    Raises
-    ------
-    PlanError
-        Where there are more than 134,217,728. Of the region with most of them it says with how many
-        levels there aren't, and how steep the walls are then.
-    """
-    patterns = slopes.patterns(model.grid)
-    if max(len(pattern.offsets) for pattern in patterns.values()) * len(model) <= offsets.PAIRS:
-        return
-    counts = pairs_by_region(slopes, model)
-    total = sum(counts.values())
-    if total <= offsets.PAIRS:
-        return
-    name = max(counts, key=lambda region: counts[region])
-    pattern, others = patterns[name], total - counts[name]
-    share = f"{counts[name]:,} of {total:,}" if others else f"{total:,}"
-    text = (
-        f"[slopes] {name}: {len(pattern.offsets)} offsets make {share} pairs over"
-        f" {len(model):,} blocks, and pit takes {offsets.PAIRS:,}"
-    )
-    of = slopes.region_of(model) == list(patterns).index(name)
-    fitting = [
-        (levels, tried)
-        for levels, tried in _with_fewer_levels(pattern, slopes.safe)
-        if others + _pairs_of(tried, model, of) <= offsets.PAIRS
-    ]
-    if not fitting:
-        raise PlanError(
-            text, try_this="larger blocks: even one level up is too much", key=_key_of(name)
-        )
-    levels, tried = min(fitting, key=lambda found: (found[1].error.badness(slopes.safe), -found[0]))
-    raise PlanError(
-        text,
-        try_this=f"levels = {levels} in [slopes]: {tried}; or larger blocks",
-        key=_key_of(name),
-    )
-
-
-def _with_fewer_levels(pattern: Pattern, safe: bool) -> Iterator[tuple[int, Pattern]]:
-    """What each lesser number of levels makes of the same wall, the greatest first."""
-    for levels in range(pattern.levels - 1, 0, -1):
-        try:
-            yield levels, pattern_of(pattern.wall, safe, levels)
-        except offsets.TooSteep:
-            continue
-
-
-def _pairs_of(pattern: Pattern, model: Model, chosen: Bools) -> int:
-    """The pairs that the chosen blocks of a model have by a pattern."""
-    there, b = model.index >= 0, model.blocks
-    of = np.zeros(there.shape, bool)
-    of[b.ix[chosen], b.iy[chosen], b.iz[chosen]] = True
-    return sum(_pairs(there, of, offset) for offset in pattern.offsets)
-
-
-def write_prec(
-    slopes: Slopes,
-    model: Model,
-    pit: Pit,
-    blocks_file: Path,
-    out: Path,
-) -> dict[str, list[Offset]]:
-    """Writes the predecessors of each block, by the slopes of the region that the block is in.
-
-    Parameters
-    ----------
-    slopes : Slopes
-    model : Model
-    pit : Pit
-    blocks_file : Path
-        The `.blocks` file of the model; where there are regions, with the number of each block's in
-        the column `_REGION`.
-    out : Path
-        The `.prec` file. Beside it slopes.toml is left, the settings with the offsets of each
-        region.
-
-    Returns
-    -------
-    dict
-        The offsets of each region, "default" first.
-
-    Raises
-    ------
-    PlanError
-        Where there are too many pairs, before anything is run; or what `pit slopes` says.
-    """
-    check_limits(slopes, model)
-    patterns = slopes.patterns(model.grid)
-    column = f"region = {_REGION}\n" if len(patterns) > 1 else ""
-    settings = out.with_name("slopes.toml")
-    settings.write_text(offsets.settings_by_region(patterns) + column)
-    pit.slopes(blocks_file, settings, out)
-    return slopes.offsets_by_region(model.grid)

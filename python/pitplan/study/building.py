@@ -21,7 +21,7 @@ from ..model.economics import Economics
 from ..model.model import Model
 from ..model.subblocks import coded
 from ..pit.program import Pit
-from ..slopes.slopes import Slopes, count_pairs, write_prec
+from ..slopes.slopes import Slopes
 from ..slopes.steep_ground import with_air
 from .folder import READ
 
@@ -69,47 +69,49 @@ class Building:
         priced = economics.priced(model)
         if model.has_sub_blocks:
             model = replace(model, fenced=(economics.forbid, priced.forbidden))
-        region = slopes.region_of(model)
+        region, names = slopes.region_of(model), slopes.names
         self.folder.mkdir(parents=True, exist_ok=True)
         sweep(self.folder, ".model.*")
         with made_whole(self.folder / "model") as work:
-            write_blocks(
-                work / "mine.blocks", model, priced, region if len(slopes.names) > 1 else None
-            )
+            write_blocks(work / "mine.blocks", model, priced, region if len(names) > 1 else None)
             (work / "settings.toml").write_text(
                 "".join(f"{name} = {i}\n" for i, name in enumerate(COLUMNS))
-            )
-            offsets = write_prec(
-                slopes, model, self.program, work / "mine.blocks", work / "mine.prec"
+                + slopes.settings(model.grid)
             )
             store.save(work / "blocks.npz", model, priced, region)
             files = {path.name: sha256(path) for path in sorted(work.iterdir())}
-            manifest = {
-                "key": _key_of(files),
-                "files": files,
-                "blocks": len(model),
-                "pairs": count_pairs(slopes, model),
-                "pit": self.program.version(),
-                "keys": self.keys,
-                "notes": model.notes,
-                "source": {"table": near(model.source, self.folder), "sha256": sha256(model.source)}
-                if model.source
-                else None,
-                "offsets": {
-                    name: [list(map(int, o)) for o in found] for name, found in offsets.items()
-                },
-                "currency": economics.currency,
-                "waste_classes": list(economics.waste_classes),
-                "metals": {
-                    m.name: {
-                        "grade": m.grade,
-                        "grade_unit": m.grade_unit,
-                        "price_unit": m.price_unit,
-                    }
-                    for m in economics.metals
-                },
-            }
+            counts = np.bincount(region, minlength=len(names)).tolist()
+            manifest = self._manifest(model, files, dict(zip(names, counts)))
             (work / "manifest.json").write_text(json.dumps(manifest, indent=1))
+
+    def _manifest(
+        self, model: Model, files: dict[str, str], regions: dict[str, int]
+    ) -> dict[str, Any]:
+        """What is known of a model: the digests of its files, how many blocks are in each region,
+        and what it was made of."""
+        economics = self.economics
+        return {
+            "key": _key_of(files),
+            "files": files,
+            "blocks": len(model),
+            "regions": regions,
+            "pit": self.program.version(),
+            "keys": self.keys,
+            "notes": model.notes,
+            "source": {"table": near(model.source, self.folder), "sha256": sha256(model.source)}
+            if model.source
+            else None,
+            "currency": economics.currency,
+            "waste_classes": list(economics.waste_classes),
+            "metals": {
+                m.name: {
+                    "grade": m.grade,
+                    "grade_unit": m.grade_unit,
+                    "price_unit": m.price_unit,
+                }
+                for m in economics.metals
+            },
+        }
 
 
 def _codes_of(economics: Economics, slopes: Slopes) -> set[str]:
@@ -126,13 +128,13 @@ def near(table: Path, folder: Path) -> str:
 
 
 def _key_of(files: dict[str, str]) -> str:
-    """What names a model: the digest of the digests of the three files that `pit` reads."""
+    """What names a model: the digest of the digests of the two files that `pit` reads."""
     return hashlib.sha256("".join(files[name] for name in READ).encode()).hexdigest()
 
 
 def write_blocks(path: Path, model: Model, priced: Priced, region: Ints | None = None) -> None:
     """`.blocks`: number, place, the four columns of `COLUMNS`, amounts as exact decimals, and each
-    block's region of slopes, where it is given."""
+    block's region of slopes, where there are several."""
     b = model.blocks
     write_numbers(
         path,

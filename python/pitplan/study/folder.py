@@ -18,10 +18,13 @@ from ..model import store
 from ..model.classes import Classes, classes_of
 from ..model.model import Model
 from ..pit.program import Files, Pit
+from ..slopes.listed import offsets_listed
+from ..slopes.offsets import Offset
 from . import edges
 
 _IS_WORDS = kept_json.is_list(kept_json.is_word)
-READ = ("mine.blocks", "mine.prec", "settings.toml")
+READ = ("mine.blocks", "settings.toml")
+_OLDER = "mine.prec"  # what a build of an older version left: a list of all pairs
 # What manifest.json and a verdict have at least, and what each may be. A file of the model lies
 # beside the manifest, and nowhere else.
 _MANIFEST: dict[str, kept_json.Holds] = {
@@ -29,8 +32,7 @@ _MANIFEST: dict[str, kept_json.Holds] = {
     "files": lambda value: kept_json.is_table(kept_json.is_digest, kept_json.is_file_name)(value)
     and {*READ, "blocks.npz"} <= set(value),
     "blocks": kept_json.is_count,
-    "pairs": kept_json.is_count,
-    "offsets": kept_json.is_table(kept_json.is_list(kept_json.is_offset)),
+    "regions": kept_json.is_table(kept_json.is_count),
     "metals": kept_json.is_table(
         kept_json.is_one(
             {
@@ -57,6 +59,12 @@ class StudyFolder:
     ) -> None:
         self.folder, self.named = Path(folder), named or Path(folder)
         self.where = self.folder / "model"
+        if (self.where / _OLDER).exists():
+            raise PlanError(
+                f"{self.folder} was built by an older version of pitplan: its model has a list of"
+                f" predecessors ({_OLDER}), which now follow from the slopes in settings.toml",
+                try_this=command("build", self.named),
+            )
         try:
             self.manifest = kept_json.read(
                 self.where / "manifest.json", _MANIFEST, command("build", self.named)
@@ -95,16 +103,39 @@ class StudyFolder:
         return self.where / "mine.blocks"
 
     @property
-    def prec_file(self) -> Path:
-        return self.where / "mine.prec"
-
-    @property
     def settings_file(self) -> Path:
         return self.where / "settings.toml"
 
     @property
     def files(self) -> Files:
-        return Files(self.prec_file, self.blocks_file, self.settings_file)
+        return Files(self.blocks_file, self.settings_file)
+
+    @cached_property
+    def offsets(self) -> dict[str, list[Offset]]:
+        """The offsets of each region of slopes by its name, as the text of settings lists them.
+
+        Raises
+        ------
+        Damaged
+            Where it lists none, or not those of so many regions.
+        """
+        names: list[str] = list(self.manifest["regions"])
+        try:
+            listed = offsets_listed(self.settings_file.read_text("utf-8"))
+            if len(listed) != len(names):
+                raise ValueError(f"it lists {len(listed)} slopes, and there are {len(names)}")
+        except (ValueError, RecursionError) as error:
+            raise kept_json.Damaged(
+                f"{self.settings_file} is damaged: {error}", try_this=command("build", self.named)
+            ) from None
+        return dict(zip(names, listed))
+
+    @property
+    def most_pairs(self) -> int:
+        """How many pairs of a block and a predecessor there are at most: a block has as many
+        predecessors as its region has offsets, and fewer at a side of the model."""
+        counts: dict[str, int] = self.manifest["regions"]
+        return sum(counts[name] * len(listed) for name, listed in self.offsets.items())
 
     @cached_property
     def model(self) -> Model:
@@ -122,15 +153,14 @@ class StudyFolder:
 
     @cached_property
     def region(self) -> Ints:
-        """The region of slopes of each block, of shape (blocks,): an index into
-        ``manifest["offsets"]``."""
+        """The region of slopes of each block, of shape (blocks,): an index into `offsets`."""
         return store.load_region(self.where / "blocks.npz")
 
     @cached_property
     def sides(self) -> list[Ints]:
         """For each region of slopes how high up a block of each column asks for a place beside or
         below the model; see `edges.highest_touching`."""
-        return list(edges.highest_touching(self.model, self.manifest["offsets"].values()))
+        return list(edges.highest_touching(self.model, self.offsets.values()))
 
     def read_ahead(self) -> None:
         """Reads what the tables of a series will need, while its first pits are looked for."""

@@ -1,5 +1,5 @@
-"""Which block rests on which, by the slopes that were built: pairs that a set of blocks breaks, and
-what would mend it.
+"""Which block rests on which, by the slopes that settings list: pairs that a set of blocks breaks,
+and what would mend it.
 
 These are this package's own look-ups, for telling where a design is wrong. Whether it is closed is
 for `pit` to say.
@@ -29,9 +29,7 @@ class Resting:
         b = study.model.blocks
         self.place = np.column_stack([b.ix, b.iy, b.iz]).astype(np.int64)
         self.index, self.region = study.model.index, study.region
-        self.offsets: list[list[tuple[int, int, int]]] = [
-            [(o[0], o[1], o[2]) for o in found] for found in study.manifest["offsets"].values()
-        ]
+        self.offsets = list(study.offsets.values())
 
     def pairs(self, blocks: Ints) -> Iterator[tuple[Ints, Ints, tuple[int, int, int]]]:
         """Blocks and the predecessors that they have at an offset, offset by offset.

@@ -1,7 +1,7 @@
 """A study: a folder that holds the model as `pit` reads it, and a proved pit for each factor.
 
     study.toml                                     what the planner says
-    model/   mine.blocks mine.prec settings.toml slopes.toml blocks.npz manifest.json
+    model/   mine.blocks settings.toml blocks.npz manifest.json
     runs/base/f00800/   pit.npz verdict.json, and best.cert.gz where its certificate was asked for
     out/     tables and pictures
 
@@ -41,8 +41,8 @@ class Study(Runs):
     Attributes
     ----------
     manifest : dict
-        ``key`` (of the three files that `pit` reads), ``files`` (sha256 by name), ``blocks``,
-        ``pairs``, ``offsets`` by region, ``metals``, ``currency``, ``source`` (the table, as `near`
+        ``key`` (of the two files that `pit` reads), ``files`` (sha256 by name), ``blocks``,
+        ``regions`` (how many blocks each region of slopes has), ``metals``, ``currency``, ``source`` (the table, as `near`
         has it, and its sha256), ``keys`` (the digest of study.toml), ``pit``.
 
     Raises

@@ -6,8 +6,6 @@ from typing import TYPE_CHECKING
 
 from matplotlib.figure import Figure
 
-from ..slopes.offsets import Outline
-
 if TYPE_CHECKING:
     from ..model.grid import Grid
     from ..slopes.slopes import Slopes
@@ -22,7 +20,7 @@ def rose(slopes: Slopes, grid: Grid) -> Figure:
     grid : Grid
         Whose blocks they are built of.
     """
-    patterns = slopes.patterns(grid)
+    patterns, outlines = slopes.patterns(grid), slopes.outlines(grid)
     figure = Figure(figsize=(7, 7))
     axes = figure.add_subplot(projection="polar")
     axes.set_theta_zero_location("N")
@@ -30,9 +28,8 @@ def rose(slopes: Slopes, grid: Grid) -> Figure:
     bearings = [math.radians(b) for b in range(361)]
     lowest = 90.0
     for i, (name, pattern) in enumerate(patterns.items()):
-        outline = Outline(pattern.wall, pattern.offsets)
         asked, built = (
-            [slope(b) for b in range(361)] for slope in (pattern.wall.slope, outline.slope)
+            [slope(b) for b in range(361)] for slope in (pattern.wall.slope, outlines[name].slope)
         )
         lowest = min(lowest, *asked, *built)
         axes.plot(

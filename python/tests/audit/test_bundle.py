@@ -341,10 +341,7 @@ FILES = [
     "table/t.csv",
     "verdicts.json",
     *(f"certificates/f{factor:05d}.cert.gz" for factor in (600, 1000, 1200)),
-    *(
-        f"model/{name}"
-        for name in ("manifest.json", "mine.blocks", "mine.prec", "settings.toml", "slopes.toml")
-    ),
+    *(f"model/{name}" for name in ("manifest.json", "mine.blocks", "settings.toml")),
     *(f"tables/{name}.csv" for name in ("benches", "blocks", "pit_by_pit")),
 ]
 
@@ -402,7 +399,7 @@ def test_files_that_are_gone_or_new_are_found(copy):
     (copy / "table" / "more.csv").write_text("1")
     assert any("more.csv isn't listed" in line for line in rechecked(copy)[0])
     (copy / "table" / "more.csv").unlink()
-    (copy / "model" / "slopes.toml").unlink()
+    (copy / "model" / "settings.toml").unlink()
     assert rechecked(copy)[1] == 1
 
 
@@ -467,13 +464,10 @@ def dearer(folder):
     )
 
 
-def fewer_predecessors(folder):
-    path = folder / "model" / "mine.prec"
-    lines = path.read_text().splitlines()
-    at = next(i for i, line in enumerate(lines) if line.split()[1] != "0")
-    block, count, *rest = lines[at].split()
-    lines[at] = " ".join([block, str(int(count) - 1), *rest[1:]])
-    path.write_text("\n".join(lines) + "\n")
+def more_offsets(folder):
+    """A wall that asks for more than the pits have: the certificates are of another mine then."""
+    ways = ", ".join(f"[{i}, {j}, 1]" for i in (-2, 0, 2) for j in (-2, 0, 2))
+    replaced(folder / "model" / "settings.toml", "    [[", f"    [{ways}, [")
 
 
 def told_otherwise(name, *keys, value):
@@ -525,14 +519,7 @@ def no_pits(folder):
 def empty_pit(folder):
     """The pit of no block is worth 0 at every factor, and is the best at factor 0 alone."""
     model = folder / "model"
-    files = [
-        "--prec",
-        model / "mine.prec",
-        "--blocks",
-        model / "mine.blocks",
-        "--settings",
-        model / "settings.toml",
-    ]
+    files = ["--blocks", model / "mine.blocks", "--settings", model / "settings.toml"]
     text = subprocess.run(
         [os.environ["PIT"], "solve", *files, "--factor", "0"],
         capture_output=True,
@@ -582,12 +569,16 @@ CHANGES = {
         "are descriptions and no blocks",
     ),
     "the digest of a file": (
-        told_otherwise("model/manifest.json", "files", "mine.prec", value="0" * 64),
+        told_otherwise("model/manifest.json", "files", "settings.toml", value="0" * 64),
         "the files of model/",
     ),
     "a list of offsets more": (
-        lambda f: replaced(f / "model" / "slopes.toml", "\n]\n", "\n    [[0, 0, 1]],\n]\n"),
+        lambda f: replaced(f / "model" / "settings.toml", "\n]\n", "\n    [[0, 0, 1]],\n]\n"),
         "the lists of offsets",
+    ),
+    "how many blocks a region has": (
+        told_otherwise("model/manifest.json", "regions", "default", value=7),
+        "in each region of slopes as many",
     ),
     "ore of a pit": (column("pit_by_pit.csv", "ore_t", "1.0"), "tables/pit_by_pit.csv"),
     "the strip ratio of a pit": (column("pit_by_pit.csv", "strip", "9.0"), "tables/pit_by_pit.csv"),
@@ -640,7 +631,8 @@ CHANGES = {
     "a coordinate": (cell(1, "4000"), "the place of each block"),
     "a tonnage": (cell(4, "1.0"), "the tonnage of each block"),
     "what blocks cost": (dearer, "what each block brings and costs"),
-    "a predecessor": (fewer_predecessors, "predecessors are those that pit slopes gives"),
+    "more offsets": (more_offsets, "pit check at factor 0.6"),
+    "more offsets, looked up again": (more_offsets, "each pit has what its blocks rest on"),
     "a PIT line": (
         lambda f: packed(
             f / "certificates" / "f01000.cert.gz", lambda t: re.sub(r"PIT \d+\n", "", t, count=1)
@@ -859,8 +851,10 @@ STRANGE = {
         "model/manifest.json: files is 7, and has to be a table of sha256",
     ),
     "offsets": (
-        lambda f: (f / "model" / "slopes.toml").write_text("slopes = [[[0, 0, 0]]]\n"),
-        "model/slopes.toml: slopes is [[[0, 0, 0]]], and has to be for each region a list of offsets as [[0, 0, 1]], each at least one level up",
+        lambda f: (f / "model" / "settings.toml").write_text(
+            "revenue = 0\nprocessing = 1\nmining = 2\ntonnes = 3\nslopes = [[[0, 0, 0]]]\n"
+        ),
+        "model/settings.toml: slopes is [[[0, 0, 0]]], and has to be for each of at most 64 regions a list of at most 4,096 offsets as [[0, 0, 1]], each at least one level up",
     ),
     "a column of the model": (
         lambda f: (f / "model" / "settings.toml").write_text(
@@ -877,9 +871,9 @@ STRANGE = {
         cell_of("model/mine.blocks", 4, 0, "x"),
         "model/mine.blocks: line 5 begins with no number of a block",
     ),
-    "how many predecessors": (
-        cell_of("model/mine.prec", 4, 1, "x"),
-        "model/mine.prec: line 5 is '4 x",
+    "which way is up": (
+        lambda f: replaced(f / "model" / "settings.toml", '"plus"', '"minus"'),
+        "model/settings.toml: up is 'minus', and has to be one of plus",
     ),
     "a factor": (
         told_otherwise("verdicts.json", 0, "factor", value="0.6"),
@@ -1002,7 +996,6 @@ VALUES = (
         "model/manifest.json",
         "verdicts.json",
         "model/settings.toml",
-        "model/slopes.toml",
         "study.toml",
     ],
 )
@@ -1012,9 +1005,8 @@ def test_no_value_of_a_file_is_answered_by_the_name_of_an_error(
     """Each value becomes two others, one after the other, or is taken away. `pit` is a script that says at once what it said of the sound bundle."""
     verdicts = json.loads((copy / "verdicts.json").read_text())
     said = "\n".join(f"{v['factor']}) echo ACCEPTED {v['count']} {v['worth']};;" for v in verdicts)
-    shutil.copy(copy / "model" / "mine.prec", tmp_path / "prec")
     (tmp_path / "pit").write_text(
-        f"#!/bin/sh\ncase $1 in\nslopes) cat '{tmp_path}/prec';;\ncheck) case $(sed -n 's/^PRICE MILL //p') in\n{said}\nesac;;\n*) echo pit;;\nesac\n"
+        f"#!/bin/sh\ncase $1 in\ncheck) case $(sed -n 's/^PRICE MILL //p') in\n{said}\nesac;;\n*) echo pit;;\nesac\n"
     )
     (tmp_path / "pit").chmod(0o755)
     monkeypatch.setattr(recheck, "HERE", copy)
@@ -1260,10 +1252,11 @@ def test_a_certificate_that_unpacks_without_end_is_not_read_on(copy):
     with gzip.open(path, "wb", 9) as file:
         for _ in range(60):
             file.write(bytes(1 << 20))
+    ways = ", ".join(f"[{n}, 0, 1]" for n in range(4000))
     for told in (
         lambda: None,
-        lambda: told_otherwise("facts.json", "pairs", value=10**17)(copy),
-    ):  # nor where the sender says that there are so many pairs
+        lambda: replaced(copy / "model" / "settings.toml", "    [[", f"    [{ways}, ["),
+    ):  # nor where the sender lists offsets that lead to no block
         told()
         summed(copy)
         lines, status = rechecked(copy)
@@ -1271,15 +1264,35 @@ def test_a_certificate_that_unpacks_without_end_is_not_read_on(copy):
         assert any("unpacks to more than" in line for line in lines), lines
 
 
-def test_pairs_are_counted_and_no_number_of_them_is_believed(copy, monkeypatch):
-    prec, told = copy / "model" / "mine.prec", json.loads((copy / "facts.json").read_text())
-    monkeypatch.setattr(recheck, "HERE", copy)
-    assert recheck.pairs_listed() == told["pairs"]
-    prec.write_text(prec.read_text() + "7 9999999999\n")
-    with pytest.raises(
-        recheck.Bad, match="has to be a block, how many predecessors it has, and these"
-    ):
-        recheck.pairs_listed()
+SECTORS = mines.STUDY_TOML.replace(
+    "angles = 45", 'angles = 45\nby = "SECTOR"\nregions = { EAST = 32 }'
+)
+
+
+def test_predecessors_are_looked_up_by_the_offsets_of_each_block_s_own_region(
+    tmp_path, monkeypatch
+):
+    folder = bundled(tmp_path, SECTORS)
+    monkeypatch.setattr(recheck, "HERE", folder)
+    blocks = recheck.Blocks()
+    wanted = mines.predecessors(folder / "model")
+    assert [blocks.above(b) for b in range(len(wanted))] == wanted
+    assert sum(map(len, wanted)) <= blocks.most_pairs()
+    regions = [blocks.region(b) for b in range(len(wanted))]
+    assert any(regions[b] < regions[p] for b, on in enumerate(wanted) for p in on)
+    assert any(regions[b] > regions[p] for b, on in enumerate(wanted) for p in on)
+
+
+def test_a_block_of_no_region_is_told(tmp_path):
+    folder = bundled(tmp_path, SECTORS)
+    cell_of("model/mine.blocks", 4, 8, "2")(folder)
+    summed(folder)
+    lines, status = rechecked(folder)
+    assert status == 1
+    assert any(
+        "the region of block 4 is '2', and has to be a number of the 2 slopes" in line
+        for line in lines
+    ), lines
 
 
 @pytest.mark.parametrize(

@@ -11,7 +11,7 @@ import pytest
 
 import mines
 from pitplan.audit import plainly
-from pitplan.pit.program import Files, Pit
+from pitplan.pit.program import Pit
 
 TOP = Path(__file__).resolve().parents[3]
 CASES = sorted(path for path in (TOP / "tests" / "cases" / "check").iterdir() if path.is_dir())
@@ -124,14 +124,7 @@ def test_they_agree_on_faults_in_a_model_of_values(tmp_path, capsys):
 @pytest.mark.parametrize("group", ["pair", "scaled", "worth"])
 def test_they_agree_on_faults_in_a_model_of_a_mill(tmp_path, capsys, group):
     study = mines.study_of(tmp_path, mines.table(5, 4, 3, 8))
-    files = [
-        "--prec",
-        study.prec_file,
-        "--blocks",
-        study.blocks_file,
-        "--settings",
-        study.settings_file,
-    ]
+    files = study.files.words()
     text = subprocess.run(
         [os.environ["PIT"], "solve", *files, "--factor", "1000", "--group", group],
         capture_output=True,
@@ -149,19 +142,10 @@ def test_they_agree_on_sound_certificates(tmp_path, capsys):
             if (tmp_path / str(seed)).mkdir() is None
             else None
         )
-        files = [
-            "--prec",
-            study.prec_file,
-            "--blocks",
-            study.blocks_file,
-            "--settings",
-            study.settings_file,
-        ]
+        files = study.files.words()
         for factor in (0, 700, 1300):
             path = tmp_path / f"{seed}-{factor}.cert"
-            found = Pit().best(
-                Files(study.prec_file, study.blocks_file, study.settings_file), factor, path
-            )
+            found = Pit().best(study.files, factor, path)
             line, status = plain([*files, f"{path}.gz"], capsys)
             assert (line, status) == (f"ACCEPTED {found.count} {found.worth}", 0)
 

@@ -30,8 +30,6 @@ def test_the_script_runs(tmp_path):
         [
             sys.executable,
             str(TOP / "python" / "pitplan" / "audit" / "plainly.py"),
-            "--prec",
-            "mine.prec",
             "--blocks",
             "mine.blocks",
             "--settings",

@@ -43,7 +43,7 @@ def test_a_pit_is_worth_what_an_independent_flow_says(tmp_path_factory, nx, ny, 
     folder = tmp_path_factory.mktemp("s")
     study = study_of(folder, table(nx, ny, nz, seed))
     found = study.pit(share)
-    offsets = study.manifest["offsets"]["default"]
+    offsets = study.offsets["default"]
     assert float(found.worth) == pytest.approx(
         best_worth(rows_of(folder / "t.csv"), lambda row: offsets, share), abs=1e-4
     )
@@ -56,7 +56,7 @@ def test_with_regions_too(tmp_path_factory, nx, ny, nz, seed):
         folder, table(nx, ny, nz, seed), pp.Slopes(45, by="SECTOR", regions={"EAST": 32})
     )
     found = study.pit(1.0)
-    offsets = study.manifest["offsets"]
+    offsets = study.offsets
     assert len(offsets) == 2
     assert float(found.worth) == pytest.approx(
         best_worth(
@@ -107,7 +107,7 @@ def test_a_penalty_element_moves_the_pit(tmp_path, share):
         (tmp_path / name).mkdir()
         study = study_of(tmp_path / name, frame, economics=economics)
         pits.append(study.pit(share))
-        offsets = study.manifest["offsets"]["default"]
+        offsets = study.offsets["default"]
     assert float(pits[1].worth) == pytest.approx(
         best_worth(
             rows_of(tmp_path / "metal" / "t.csv"), lambda row: offsets, share, with_a_penalty

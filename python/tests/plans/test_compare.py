@@ -17,7 +17,7 @@ from shapely.geometry import Point, Polygon
 
 import pitplan as pp
 from designs import HALVES, HALVES_TOML, above, face
-from mines import STUDY_TOML, costs, study_of, table, written_study
+from mines import STUDY_TOML, costs, pairs_of, study_of, table, written_study
 from pitplan.cli import compare as commands_compare
 from pitplan.plans import compare, compare_words, design, walls
 from pitplan.views import compare_plan
@@ -26,15 +26,6 @@ from pitplan.pit.valued import Valued
 from pitplan.plans.walls import worst
 from processes import TOP
 from served import pitplan
-
-
-def pairs_in(path):
-    """The pairs of a .prec file, line by line."""
-    return [
-        (int(b), int(p))
-        for b, _, *ps in (line.split() for line in path.read_text().splitlines())
-        for p in ps
-    ]
 
 
 def wanted(study, held, factor=1000):
@@ -75,7 +66,7 @@ def test_the_best_pit_itself(study):
 @pytest.mark.parametrize("factor", [600, 1200])
 def test_a_design_that_keeps_the_slopes(study, factor):
     held, best = study.mask(factor), study.mask(1000)
-    assert all(held[p] for b, p in pairs_in(study.prec_file) if held[b])
+    assert all(held[p] for b, p in pairs_of(study.where) if held[b])
     assert (held != best).any()
     found = compare.compare(study, as_design(study, held))
     assert found.said == "CLOSED"
@@ -107,7 +98,7 @@ def test_a_design_that_keeps_the_slopes(study, factor):
 def test_a_design_that_breaks_slopes(study, seed):
     r = np.random.default_rng(seed)
     held = study.mask(1200) & (r.random(len(study.model)) < r.choice([0.5, 0.9, 0.99]))
-    broken = sorted((b, p) for b, p in pairs_in(study.prec_file) if held[b] and not held[p])
+    broken = sorted((b, p) for b, p in pairs_of(study.where) if held[b] and not held[p])
     found = compare.compare(study, as_design(study, held))
     if not broken:
         assert found.is_closed
@@ -124,7 +115,7 @@ def test_a_design_that_breaks_slopes(study, seed):
     assert found.walls.pairs.sum() == len(broken)
     whole, todo = set(), list(np.flatnonzero(held))  # a plain search upwards
     above = {}
-    for b, p in pairs_in(study.prec_file):
+    for b, p in pairs_of(study.where):
         above.setdefault(b, []).append(p)
     while todo:
         b = todo.pop()
@@ -158,8 +149,7 @@ def test_predecessors_are_those_that_pit_read(study):
         for blocks, above, _ in resting.pairs(np.arange(len(study.model)))
         for pair in zip(blocks.tolist(), above.tolist())
     }
-    assert found == set(pairs_in(study.prec_file))
-    assert len(found) == study.manifest["pairs"]
+    assert found == set(pairs_of(study.where))
 
 
 def test_the_worst_wall_of_a_shaft(tmp_path):
@@ -610,11 +600,7 @@ def test_the_figures_of_a_design_by_faces_come_out_by_another_way(tmp_path):
     designed = {b for b, height in enumerate(above) if height > 0}
     text = gzip.decompress((folder / "runs/base/f01000/best.cert.gz").read_bytes()).decode()
     best = {int(line[4:]) for line in text.splitlines() if line.startswith("PIT ")}
-    pairs = [
-        (b, p)
-        for b, p in pairs_in(folder / "model/mine.prec")
-        if b in designed and p not in designed
-    ]
+    pairs = [(b, p) for b, p in pairs_of(folder / "model") if b in designed and p not in designed]
     told = json.loads((folder / "out/compare-hill-design/summary.json").read_text())
     assert (
         told["blocks"],

@@ -11,7 +11,7 @@ import pandas as pd
 import pytest
 
 import pitplan as pp
-from mines import SIZE, costs, study_of, table, written_study
+from mines import SIZE, costs, pairs_of, study_of, table, written_study
 from pitplan.study import edges
 from pitplan.plans import risk
 from pitplan.model.model import TableKeys
@@ -60,8 +60,7 @@ def test_blocks_of_a_likelihood_are_a_closed_pit_and_nested(tmp_path):
 def test_the_word_on_a_set_that_isnt_closed(tmp_path):
     study = prepared(tmp_path, 4)
     mask = done(study).pit(0.5).copy()
-    pairs = [list(map(int, line.split())) for line in study.prec_file.read_text().splitlines()]
-    block, before = next((p[0], p[2]) for p in pairs if p[1] and mask[p[0]] and mask[p[2]])
+    block, before = next((b, p) for b, p in pairs_of(study.where) if mask[b] and mask[p])
     mask[before] = False
     said = judged(study, mask, tmp_path)
     assert "NotClosed" in said, (said, block)

@@ -10,7 +10,7 @@ from shapely.geometry import Point, box
 from shapely.ops import unary_union
 
 import pitplan as pp
-from mines import rows_of, study_of, table, written_study
+from mines import predecessors, rows_of, study_of, table, written_study
 from pitplan.base.errors import Disagreement
 from pitplan.plans.phases import Phases
 from pitplan.plans import widths
@@ -51,9 +51,8 @@ def mine(request, tmp_path_factory):
 
 
 def needs_of(study):
-    """What each block rests on, by the file that pit reads."""
-    lines = study.prec_file.read_text().splitlines()
-    return [[int(word) for word in line.split()[2:]] for line in lines]
+    """What each block rests on, by the files that pit reads."""
+    return predecessors(study.where)
 
 
 def test_each_mine_is_closed_and_lies_between_proved_pits(mine):

@@ -11,7 +11,7 @@ import pytest
 
 import pitplan as pp
 from bundles import bundled
-from mines import CUBE, STUDY_TOML, WASTE, below, study_of, table, written_study
+from mines import CUBE, STUDY_TOML, WASTE, below, predecessors, study_of, table, written_study
 from processes import said
 
 REGIONS = {"TOP": 35, "OLD": [[0, 38], [180, 48]], "2": 52}
@@ -51,7 +51,7 @@ def both(folder, frame, formula, word, regions=REGIONS, **keys):
 
 
 def prec(study):
-    return study.prec_file.read_bytes()
+    return predecessors(study.where)
 
 
 def test_a_region_by_depth_and_elevation_is_that_of_a_column(tmp_path):
@@ -81,7 +81,7 @@ def test_each_block_has_the_predecessors_of_its_own_region(tmp_path):
     for angle in (35, 52):
         (tmp_path / str(angle)).mkdir()
         alone = study_of(tmp_path / str(angle), frame, pp.Slopes(angle))
-        lines[angle] = prec(alone).splitlines()
+        lines[angle] = prec(alone)
     slopes = pp.Slopes(52, by="where(below_ground < 30, 'SOFT', '')", regions={"SOFT": 35})
     study = study_of(tmp_path, frame, slopes)
     ground, b = ground_of(frame, 15), study.model.blocks
@@ -90,9 +90,9 @@ def test_each_block_has_the_predecessors_of_its_own_region(tmp_path):
     count = len(frame)  # blocks of air that one slope needs and another doesn't come after these
 
     def needed(line):
-        return {int(word) for word in line.split()[2:] if int(word) < count}
+        return {block for block in line if block < count}
 
-    assert [needed(line) for line in prec(study).splitlines()[:count]] == [
+    assert [needed(line) for line in prec(study)[:count]] == [
         needed(lines[35 if is_soft else 52][n]) for n, is_soft in enumerate(soft[:count])
     ]
     assert lines[35] != lines[52]

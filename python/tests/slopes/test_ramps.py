@@ -10,7 +10,7 @@ import pytest
 import pitplan as pp
 from pitplan.study.looks import of_ramps
 from bundles import bundled
-from mines import STUDY_TOML, study_of, table, written_study
+from mines import STUDY_TOML, predecessors, study_of, table, written_study
 from pitplan.model.grid import Grid
 from pitplan.plans.vary import Change, changed
 from pitplan.slopes.ramps import Ramp, ramp_of
@@ -68,9 +68,8 @@ def test_a_study_with_a_ramp_is_that_of_the_overall_angles(tmp_path):
             ("hand", pp.Slopes(angles, by="SECTOR", regions={"EAST": of_east})),
         ):
             (tmp_path / f"{name}-{kind}").mkdir()
-            found.append(
-                study_of(tmp_path / f"{name}-{kind}", frame, slopes).prec_file.read_bytes()
-            )
+            study = study_of(tmp_path / f"{name}-{kind}", frame, slopes)
+            found.append(predecessors(study.where))
         assert found[0] == found[1], name
     asked = pp.Slopes(45, ramp=RAMP).built(GRID).asked
     assert asked.to_numpy() == pytest.approx(by_hand[45])

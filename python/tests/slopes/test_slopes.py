@@ -1,7 +1,8 @@
-"""Slopes by region: the pairs against a plain search, limits before `pit` runs, what a planner is told."""
+"""Slopes by region: the pairs against a plain search, what settings list and what is read back, what a planner is told."""
 import math
 import re
 import sys
+import tomllib
 from pathlib import Path
 
 import numpy as np
@@ -11,9 +12,10 @@ from hypothesis import given, settings, strategies as st
 
 import pitplan as pp
 from mines import STUDY_TOML, places_of, rows_of, table, written_study
-from pitplan.slopes import offsets as search, slopes as module
+from pitplan.slopes import listed, slopes as module
 from pitplan.base.errors import PlanError
-from pitplan.pit.program import Pit
+from pitplan.pit.program import Files, Pit
+from pitplan.views import slope_rose
 from served import pitplan
 
 sys.path.insert(0, str(Path(__file__).resolve().parents[3] / "tests"))
@@ -37,14 +39,15 @@ def model_of(folder, frame, **keys):
 
 
 def written(folder, slopes, model):
-    """The pairs of the .prec file, as sets of predecessors by block."""
+    """The pairs that `pit` makes of the settings, as sets of predecessors by block."""
     places = zip(model.blocks.ix, model.blocks.iy, model.blocks.iz)
     with open(folder / "m.blocks", "w") as file:
         file.writelines(
             "%d %d %d %d 0 0 0 0 %d\n" % (b, *place, region)
             for b, (place, region) in enumerate(zip(places, slopes.region_of(model)))
         )
-    module.write_prec(slopes, model, Pit(), folder / "m.blocks", folder / "m.prec")
+    (folder / "m.toml").write_text(slopes.settings(model.grid))
+    Pit().slopes(Files(folder / "m.blocks", folder / "m.toml"), folder / "m.prec")
     lines = [list(map(int, line.split())) for line in (folder / "m.prec").read_text().splitlines()]
     assert [line[0] for line in lines] == list(range(len(model)))
     assert all(line[1] == len(line) - 2 for line in lines)
@@ -74,7 +77,6 @@ def test_each_block_has_the_slopes_of_its_own_region(
         for (x, y, z), row in zip(at, rows)
     ]
     assert got == wanted
-    assert module.count_pairs(slopes, model) == sum(map(len, wanted))
 
 
 def test_offsets_lead_the_way_that_bearings_say():
@@ -132,52 +134,82 @@ def test_wrong_regions(tmp_path):
         pp.Slopes(45, by="SECTOR", regions={"EASST": 38}).region_of(model)
 
 
-def test_too_many_pairs_are_told_before_pit_runs(tmp_path, monkeypatch):
-    model = model_of(tmp_path, table(12, 12, 6, 1))
-    most = module.count_pairs(pp.Slopes(45), model)
-    monkeypatch.setattr(search, "PAIRS", most)
-    module.check_limits(pp.Slopes(45), model)
-    monkeypatch.setattr(search, "PAIRS", most - 1)
-    with pytest.raises(
-        PlanError,
-        match=rf"offsets make {most:,} pairs over {len(model)} blocks, and pit takes {most - 1:,}",
-    ) as told:
-        module.write_prec(
-            pp.Slopes(45), model, None, tmp_path / "none.blocks", tmp_path / "m.prec"
-        )  # no program: nothing is run
-    assert not list(tmp_path.glob("m.prec*"))
-    levels = int(str(told.value).split("levels = ")[1].split()[0])
-    fewer = pp.Slopes(45, levels=levels)
-    module.check_limits(fewer, model)
-    assert module.count_pairs(fewer, model) < most
-    assert str(fewer.patterns(model.grid)["default"]) in str(told.value)
-    monkeypatch.setattr(search, "PAIRS", 10)
-    with pytest.raises(PlanError, match="even one level up is too much"):
-        module.check_limits(pp.Slopes(45), model)
+REFUSING = """#!/bin/sh
+case "$1" in --version|value) exec {pit} "$@";; esac
+echo "reason: the offsets give more than 134217728 pairs" >&2
+echo "fault: slope TooMany" >&2
+exit 3
+"""
 
 
-def test_pairs_are_counted_by_the_region_of_their_block(tmp_path, monkeypatch):
-    """A region of few blocks may have many offsets: the pairs of all together are bounded."""
-    frame = table(12, 12, 6, 1)
-    frame["SECTOR"] = ["EAST" if i % 9 == 0 else "WEST" for i in range(len(frame))]
-    model = model_of(tmp_path, frame)
-    slopes = pp.Slopes(60, by="SECTOR", regions={"EAST": 35})
-    counts = module.pairs_by_region(slopes, model)
-    offsets = slopes.offsets_by_region(model.grid)
-    there = set(zip(model.blocks.ix, model.blocks.iy, model.blocks.iz))
-    rows = zip(model.blocks.ix, model.blocks.iy, model.blocks.iz, frame.SECTOR)
-    plain = {"default": 0, "EAST": 0}
-    for x, y, z, sector in rows:
-        name = "EAST" if sector == "EAST" else "default"
-        plain[name] += sum((x + i, y + j, z + k) in there for i, j, k in offsets[name])
-    assert counts == plain
-    monkeypatch.setattr(search, "PAIRS", sum(plain.values()))
-    module.check_limits(slopes, model)
-    monkeypatch.setattr(search, "PAIRS", sum(plain.values()) - 1)
-    with pytest.raises(
-        PlanError, match=f"make {plain['default']:,} of {sum(plain.values()):,} pairs"
-    ):
-        module.check_limits(slopes, model)
+def test_slopes_of_too_many_pairs_are_told_in_the_planner_s_terms(tmp_path, monkeypatch, program):
+    study = written_study(tmp_path / "s")
+    assert pitplan("build", study).returncode == 0
+    (tmp_path / "pit").write_text(REFUSING.format(pit=program))
+    (tmp_path / "pit").chmod(0o755)
+    ran = pitplan("shells", study, PIT=str(tmp_path / "pit"))
+    assert ran.returncode == 3, ran.stderr
+    assert (
+        "[slopes] the offsets make more pairs of a block and a predecessor over this model than pit holds, 134,217,728"
+        in " ".join(ran.stderr.split())
+    )
+    assert "try: fewer levels in [slopes], steeper angles, or larger blocks" in " ".join(
+        ran.stderr.split()
+    )
+    assert "TooMany" not in ran.stderr
+
+
+def test_what_settings_list_is_what_was_searched():
+    """The text, read back by a reader of TOML; and by what walls are told and drawn from."""
+    grid = pp.Grid((0, 0, 0), (20, 20, 15), (1, 1, 1), 30.0)
+    slopes = pp.Slopes(45, by="S", regions={"N ] # 1": [(0, 38), (180, 46)]})
+    text = slopes.settings(grid)
+    told = tomllib.loads(text)
+    found = list(slopes.offsets_by_region(grid).values())
+    assert [[tuple(offset) for offset in each] for each in told["slopes"]] == found
+    assert {key: told[key] for key in told if key != "slopes"} == {"region": 4, "up": "plus"}
+    assert listed.offsets_listed(text) == found
+    assert "region" not in tomllib.loads(pp.Slopes(45).settings(grid))
+
+
+def test_walls_are_told_and_drawn_of_what_settings_list(monkeypatch):
+    """The text is the one thing that `pit` reads: where it lists other offsets, other walls are shown."""
+    grid, slopes = pp.Grid((0, 0, 0), (10, 10, 10), (1, 1, 1), 0.0), pp.Slopes(45)
+    five = "slopes = [[[0, 0, 1], [1, 0, 1], [-1, 0, 1], [0, 1, 1], [0, -1, 1]]]\n"
+    monkeypatch.setattr(pp.Slopes, "settings", lambda self, grid: five)
+    found = slopes.built(grid).set_index("bearing").built
+    assert found[0] == pytest.approx(45)  # a block out on each level: the corner of a square
+    assert found[45] == pytest.approx(math.degrees(math.atan(math.sqrt(2))))
+    drawn = slope_rose.rose(slopes, grid).axes[0].lines[0].get_ydata()
+    assert drawn[45] == pytest.approx(math.degrees(math.atan(math.sqrt(2))))
+
+
+@pytest.mark.parametrize(
+    "text, said",
+    [
+        ("", "lists no slopes"),
+        ("slopes = []", "lists no slopes"),
+        ("slopes = [1]", "no list"),
+        ("slopes = [[[0, 0]]]", "three whole numbers that lead upward"),
+        ("slopes = [[[0, 0, 0]]]", "three whole numbers that lead upward"),
+        ("slopes = [[[0, 0, -1]]]", "three whole numbers that lead upward"),
+        ("slopes = [[[0, 0, 1.0]]]", "three whole numbers that lead upward"),
+        ("slopes = [[[0, true, 1]]]", "three whole numbers that lead upward"),
+        ("slopes = [[[2147483648, 0, 1]]]", "three whole numbers that lead upward"),
+        ('slopes = [[[0, 0, 1]]]\nup = "minus"', "where z is less"),
+        ("slopes = [[", "Invalid value"),
+    ],
+)
+def test_settings_that_list_no_offsets_upward_are_refused(text, said):
+    with pytest.raises(ValueError, match=said):
+        listed.offsets_listed(text)
+
+
+def test_more_regions_than_pit_takes_are_told():
+    most = {f"R{n}": 45 for n in range(63)}
+    pp.Slopes(45, by="S", regions=most)
+    with pytest.raises(PlanError, match="65 slopes .* pit takes 64"):
+        pp.Slopes(45, by="S", regions={**most, "R63": 45})
 
 
 def test_built_is_what_the_offsets_make():
@@ -203,7 +235,7 @@ def test_a_safe_wall_is_built_flatter_or_not_at_all(tmp_path):
         text=STUDY_TOML.replace("angles = 45", "angles = 44\nsafe = true\nlevels = 1"),
     )
     ran = pitplan("build", few)
-    offsets = re.findall(r"\[(-?\d), (-?\d), 1\]", (few / "model/slopes.toml").read_text())
+    offsets = re.findall(r"\[(-?\d), (-?\d), 1\]", (few / "model/settings.toml").read_text())
     assert ran.returncode == 0, ran.stderr
     assert sorted(offsets) == sorted(
         (str(i), str(j)) for i in (-1, 0, 1) for j in (-1, 0, 1)

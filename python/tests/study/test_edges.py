@@ -15,7 +15,7 @@ from pitplan.study import edges
 def leading_out(study, only=None):
     """Whether each block has an offset that leads out of the sides of a box that is full up to a flat ground; by the slopes of its
     region, or of one for all."""
-    b, (nx, ny, nz), offsets = study.model.blocks, study.model.grid.shape, study.manifest["offsets"]
+    b, (nx, ny, nz), offsets = study.model.blocks, study.model.grid.shape, study.offsets
     for x, y, z, name in zip(
         b.ix, b.iy, b.iz, b["SECTOR"] if "SECTOR" in b else ["default"] * len(b)
     ):

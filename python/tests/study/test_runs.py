@@ -5,6 +5,7 @@ import re
 import os
 import shutil
 import signal
+import tomllib
 from contextlib import nullcontext
 
 import numpy as np
@@ -12,7 +13,7 @@ import pandas as pd
 import pytest
 
 import pitplan as pp
-from mines import SIZE, costs, shells_of, study_of, table, written_study
+from mines import SIZE, costs, pairs_of, shells_of, study_of, table, written_study
 from pitplan.base import machine
 from pitplan.pit import program as programs
 from pitplan.plans import risk, vary
@@ -243,7 +244,7 @@ def test_pits_that_arent_nested_are_never_shown(tmp_path):
         pp.Shells(study, [600, 1200])
 
 
-@pytest.mark.parametrize("name", ["mine.blocks", "mine.prec", "settings.toml", "blocks.npz"])
+@pytest.mark.parametrize("name", ["mine.blocks", "settings.toml", "blocks.npz"])
 def test_a_pit_over_other_files_is_never_shown(tmp_path, name):
     study = shells_of(tmp_path).study
     path = study.folder / "model" / name
@@ -538,13 +539,13 @@ def test_the_whole_memory_is_that_of_the_machine_or_of_a_group(tmp_path, own, fi
 def test_workers_go_by_free_memory(tmp_path, monkeypatch):
     study = study_of(tmp_path, table(6, 5, 4, 3))
     need = workers.guess_of(study).memory
-    assert need == workers.memory_of(len(study.model), study.manifest["pairs"])
+    assert need == workers.memory_of(len(study.model), study.most_pairs)
     for free, wanted, most in ((need * 10, 3, 3), (need * 10, 64, 8), (need, 3, 1), (0, 3, 1)):
         monkeypatch.setattr(workers, "free_memory", lambda free=free: free)
         assert workers.workers_for(study, wanted) == most
-    assert workers.guess_of(study).pairs == sum(
-        int(line.split()[1]) for line in study.prec_file.read_text().splitlines()
-    )
+    told = tomllib.loads(study.settings_file.read_text())
+    assert workers.guess_of(study).pairs == len(study.model) * len(told["slopes"][0])
+    assert workers.guess_of(study).pairs > len(pairs_of(study.where))  # sides have fewer
 
 
 def test_forbidden_blocks_stay(tmp_path):
@@ -647,6 +648,7 @@ def test_the_program_is_found_by_its_three_ways(tmp_path, monkeypatch):
 
 def test_words_of_pit_reach_the_planner(tmp_path):
     study = study_of(tmp_path, table(6, 5, 4, 3))
-    study.settings_file.write_text("revenue = 40\nprocessing = 1\nmining = 2\n")
+    text = study.settings_file.read_text()
+    study.settings_file.write_text(text.replace("revenue = 0", "revenue = 40"))
     with pytest.raises(pp.PlanError, match=r"pit solve ended with status 3: .*NoColumn"):
         study.run(900)

@@ -3,6 +3,7 @@ import hashlib
 import json
 import os
 import random
+import re
 import signal
 import subprocess
 import time
@@ -102,10 +103,11 @@ def test_what_contradicts_itself_is_never_kept(tmp_path, program, what):
 
 def test_files_that_arent_those_of_the_build_give_no_pit(tmp_path):
     study = study_of(tmp_path, table(6, 5, 4, 3))
-    lines = study.prec_file.read_text().splitlines()
-    study.prec_file.write_text(
-        "\n".join(f"{b} 0" for b in range(len(lines))) + "\n"
+    text = study.settings_file.read_text()
+    study.settings_file.write_text(
+        re.sub(r"slopes = .*?\n\]\n", "slopes = [[]]\n", text, flags=re.S)
     )  # no slopes: other pits, and a sound file
+    assert study.settings_file.read_text() != text
     with pytest.raises(pp.PlanError, match="isn't the file that the build made"):
         study.shells(SERIES)
     assert list((study.folder / "runs/base").iterdir()) == []

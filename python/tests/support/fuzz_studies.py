@@ -24,7 +24,6 @@ sys.path[:0] = [str(Path(__file__).resolve().parents[2]), str(Path(__file__).res
 import mines  # noqa: E402
 from pitplan.base.errors import exit_status  # noqa: E402
 from pitplan.base.errors import PlanError  # noqa: E402
-from pitplan.slopes.slopes import count_pairs  # noqa: E402
 from pitplan.study.study_file import read_study_file  # noqa: E402
 
 FULL = """[model]
@@ -257,7 +256,7 @@ def answer(folder, text, table, is_searched=True):
         told.economics.priced(model)
         told.slopes.region_of(model)
         if is_searched:
-            count_pairs(told.slopes, model)
+            told.slopes.settings(model.grid)
     except PlanError as error:
         if not all(MESSAGE.fullmatch(str(each)) for each in error.each()):
             raise AssertionError(f"a message of another form: {str(error)!r}") from error

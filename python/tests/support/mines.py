@@ -2,6 +2,7 @@
 import csv
 import math
 import tempfile
+import tomllib
 from pathlib import Path
 
 import numpy as np
@@ -82,6 +83,28 @@ def study_of(folder, frame, slopes=None, economics=None, **keys):
     frame.to_csv(path, index=False)
     model = pp.read_table(path, **{**dict(size=SIZE), **keys})
     return pp.Study.create(Path(folder) / "s", model, economics or costs(), slopes or pp.Slopes(45))
+
+
+def predecessors(folder):
+    """What each block rests on, ascending: the blocks at the offsets of its own region. Looked up plainly from the two texts that
+    `pit` reads, in a study's folder of the model."""
+    told = tomllib.loads((folder / "settings.toml").read_text())
+    assert told["up"] == "plus"
+    rows = [list(map(float, line.split())) for line in open(folder / "mine.blocks")]
+    assert [row[0] for row in rows] == list(range(len(rows)))
+    at = {tuple(row[1:4]): block for block, row in enumerate(rows)}
+    column = told.get("region")
+    regions = [0 if column is None else int(row[4 + column]) for row in rows]
+    near = (
+        {(row[1] + i, row[2] + j, row[3] + k) for i, j, k in told["slopes"][region]}
+        for row, region in zip(rows, regions)
+    )
+    return [sorted(at[place] for place in places if place in at) for places in near]
+
+
+def pairs_of(folder):
+    """The pairs of a block and a predecessor, ascending, likewise."""
+    return [(block, other) for block, on in enumerate(predecessors(folder)) for other in on]
 
 
 def model_of(frame, **keys):

@@ -138,7 +138,7 @@ def test_a_scheduler_starts_the_pit_that_was_named(tmp_path, asked_for, program,
     assert not Tasks(study.folder).missing(Task("realisation", "3", (1000,)))
 
 
-def test_memory_is_asked_by_the_size_of_the_model(tmp_path):
+def test_memory_is_asked_by_the_size_of_the_model(tmp_path, monkeypatch):
     study = prepared(tmp_path, 2, table(6, 5, 4, 3))
     small = engines.megabytes(study)
     measured = pd.read_csv(TOP / "bench/scale.csv")
@@ -146,11 +146,13 @@ def test_memory_is_asked_by_the_size_of_the_model(tmp_path):
     for row in measured[
         measured.step == "pit"
     ].itertuples():  # no less than it took, and no more than half as much again beyond a process alone
-        study.manifest |= {"blocks": row.blocks, "pairs": row.pairs}
+        study.manifest["blocks"] = row.blocks
+        monkeypatch.setattr(type(study), "most_pairs", row.pairs)
         assert (
             row.memory_mb < engines.megabytes(study) / engines.SPARE < 1.5 * row.memory_mb + 200
         ), row
-    study.manifest |= {"blocks": 10_000_000, "pairs": 49_000_000}
+    study.manifest["blocks"] = 10_000_000
+    monkeypatch.setattr(type(study), "most_pairs", 49_000_000)
     assert small < 400
     assert 7_000 < engines.megabytes(study) < 12_000
     script = engines.slurm_script(study, 12, "submit/1", engines.Limits(30, 5))

@@ -278,11 +278,11 @@ def test_digests_are_those_of_the_files(reported):
     rows = dict(cells_of(book_of(folder)["Digests"]))
     assert rows["table t.csv"] == of_file(folder / "t.csv")
     assert rows["study.toml"] == of_file(folder / "study.toml")
-    for name in ("mine.blocks", "mine.prec", "settings.toml"):
+    for name in ("mine.blocks", "settings.toml"):
         assert rows[f"model/{name}"] == of_file(folder / "model" / name)
     flat = "".join(pdf_text(folder).split())
     assert all(digest in flat for digest in rows.values())
-    assert len(rows) >= 2 + 3 + 3
+    assert len(rows) >= 2 + 2 + 3
 
 
 def of_file(path):

@@ -6,6 +6,7 @@ from typing import TYPE_CHECKING
 from ...base.door import door
 
 if TYPE_CHECKING:
-    from . import csv as csv, dxf as dxf, gpkg as gpkg, table_back as table_back, vtu as vtu
+    from . import csv as csv, dxf as dxf, gpkg as gpkg, minelib as minelib
+    from . import table_back as table_back, vtu as vtu
 else:
-    __getattr__, __dir__, __all__ = door(__name__, {"": "csv dxf gpkg table_back vtu"})
+    __getattr__, __dir__, __all__ = door(__name__, {"": "csv dxf gpkg minelib table_back vtu"})

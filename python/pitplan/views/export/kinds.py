@@ -1,2 +1,3 @@
 """The kinds of files that `pitplan export` writes."""
-KINDS = ("dxf", "vtu", "csv", "gpkg")
+MINELIB = "minelib"  # of the model alone, whatever pits it has
+KINDS = ("dxf", "vtu", "csv", "gpkg", MINELIB)
