@@ -260,7 +260,7 @@ def measured(name):
     rows += in_a_process("task", study, 0)
     rows += in_a_process("tables", study)
     sizes = {
-        "prec_mb": size(study.prec_file) / 1e6,
+        "prec_mb": 0.0,  # no list of pairs is written; older rows are of studies that had one
         "kept_mb": sum(size(path) for path in study.folder.glob("runs/r0000/*/*"))
         / len(FACTORS)
         / 1e6,
@@ -269,7 +269,7 @@ def measured(name):
     found = pd.DataFrame(rows)
     found.insert(0, "model", name)
     found.insert(1, "blocks", study.manifest["blocks"])
-    found.insert(2, "pairs", study.manifest["pairs"])
+    found.insert(2, "pairs", study.most_pairs)
     return found.assign(**sizes, load=os.getloadavg()[0]).round(3)
 
 

@@ -64,7 +64,7 @@ complete -c pitplan -n '__fish_seen_subcommand_from schedule' -l mining-width -x
 complete -c pitplan -n '__fish_seen_subcommand_from schedule' -s h -l help -d 'Show this message and exit'
 complete -c pitplan -n __fish_use_subcommand -a export -d 'Write the pits for CAD (dxf), ParaView (vtu), GIS (gpkg) and any other program (csv), in true coordinates'
 complete -c pitplan -n '__fish_seen_subcommand_from export' -F
-complete -c pitplan -n '__fish_seen_subcommand_from export' -l to -x -d 'Any of dxf, vtu, csv, gpkg, with commas'
+complete -c pitplan -n '__fish_seen_subcommand_from export' -l to -x -d 'Any of dxf, vtu, csv, gpkg, minelib, with commas'
 complete -c pitplan -n '__fish_seen_subcommand_from export' -l factors -x -d 'The pits to export, as 0.5,0.75,1.0'
 complete -c pitplan -n '__fish_seen_subcommand_from export' -l phases -x -d 'Export pushbacks in place of pits'
 complete -c pitplan -n '__fish_seen_subcommand_from export' -l schedule -d 'Export the mine at the end of each year in place of pits, as `schedule` found it last'

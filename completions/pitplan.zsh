@@ -71,7 +71,7 @@ _pitplan() {
             '--minutes[End after so many minutes]:minutes: ' \
             '--mining-width[The least width that machines need, in the unit of the coordinates]:mining-width: ' \
             '-h[Show this message and exit]' '--help[Show this message and exit]' '*:file:_files' ;;
-        export) _arguments '--to[Any of dxf, vtu, csv, gpkg, with commas]:to: ' \
+        export) _arguments '--to[Any of dxf, vtu, csv, gpkg, minelib, with commas]:to: ' \
             '--factors[The pits to export, as 0.5,0.75,1.0]:factors: ' \
             '--phases[Export pushbacks in place of pits]:phases: ' \
             '--schedule[Export the mine at the end of each year in place of pits, as `schedule` found it last]' \
