@@ -10,6 +10,7 @@ from pathlib import Path
 import pytest
 
 import mines
+import pitplan as pp
 from pitplan.audit import plainly
 from pitplan.pit.program import Pit
 
@@ -148,6 +149,45 @@ def test_they_agree_on_sound_certificates(tmp_path, capsys):
             found = Pit().best(study.files, factor, path)
             line, status = plain([*files, f"{path}.gz"], capsys)
             assert (line, status) == (f"ACCEPTED {found.count} {found.worth}", 0)
+
+
+def test_predecessors_are_those_at_the_offsets_of_a_block_s_own_region(tmp_path):
+    """Block by block, by a plain search; and pair by pair."""
+    slopes = pp.Slopes(45, by="SECTOR", regions={"EAST": 32}, levels=3)
+    study = mines.study_of(tmp_path, mines.table(6, 5, 4, 8), slopes)
+    told = plainly.Settings(str(study.settings_file))
+    blocks = plainly.Blocks(str(study.blocks_file), told.columns, told.region)
+    above, wanted = plainly.Above(blocks, told), mines.predecessors(study.where)
+    assert [list(above.of(block)) for block in range(len(wanted))] == wanted
+    for block, on in enumerate(wanted):
+        assert [other for other in range(len(wanted)) if above.has(block, other)] == on
+    regions = study.region
+    assert {(int(regions[b]), int(regions[p])) for b, p in mines.pairs_of(study.where)} == {
+        (0, 0),
+        (0, 1),
+        (1, 0),
+        (1, 1),
+    }
+
+
+@pytest.mark.parametrize(
+    "settings, column, said",
+    [
+        ("slopes = [[[0, 0, 1], [1, 0, 0]]]", "0", "fault: slope NotUpward(0, 1)"),
+        ("slopes = [[], [[0, 0, -1]]]\nregion = 2", "1", "fault: slope NotUpward(1, 0)"),
+        ("slopes = [[[0, 0, 1]]]\nregion = 2", "1", "fault: slope UnknownRegion(0)"),
+        ("slopes = [[[0, 0, 1]]]\nregion = 2", "0.5", "fault: slope UnknownRegion(0)"),
+        ("slopes = [[[0, 0, 1]]]\nregion = 2", "-1", "fault: slope UnknownRegion(0)"),
+        (f"slopes = [{[[0, 0, 1]] * 4097}]", "0", "fault: slope TooManyOffsets(0)"),
+        (f"slopes = {[[]] * 65}", "0", "fault: slope TooManyRegions"),
+    ],
+)
+def test_faults_of_slopes_are_those_of_pit(tmp_path, capsys, settings, column, said):
+    (tmp_path / "b").write_text(f"0 0 0 0 1 2 {column}\n1 0 0 1 1 2 {column}\n")
+    (tmp_path / "s").write_text(f"revenue = 0\ncost = 1\n{settings}\n")
+    (tmp_path / "c").write_text("PITCERT 1\nBLOCKS 2\n")
+    words = ["--blocks", tmp_path / "b", "--settings", tmp_path / "s", tmp_path / "c"]
+    assert plain(words, capsys) == checked(words) == (said, 3)
 
 
 def test_several_certificates_are_judged_in_one_reading_of_the_model(tmp_path, capsys, monkeypatch):

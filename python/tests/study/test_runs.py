@@ -22,6 +22,7 @@ from pitplan.study import workers
 from pitplan.pit.program import Accepted, Pit, PitLines
 from pitplan.base.files import made_whole
 from processes import TOP, command, gone, waited_for, slow_pit
+from served import pitplan
 
 
 def test_nobody_but_the_check_makes_an_accepted():
@@ -251,6 +252,38 @@ def test_a_pit_over_other_files_is_never_shown(tmp_path, name):
     path.write_bytes(path.read_bytes() + b"\n")
     with pytest.raises(pp.PlanError, match="isn't the file that the build made"):
         pp.Shells(pp.Study(study.folder), [600, 800])
+
+
+def test_a_study_that_was_built_with_a_list_of_predecessors_is_built_again(tmp_path):
+    folder = written_study(tmp_path / "s")
+    assert pitplan("build", folder).returncode == 0
+    model = folder / "model"
+    settings = re.sub(r"slopes = .*", "", (model / "settings.toml").read_text(), flags=re.S)
+    (model / "settings.toml").write_text(settings)
+    (model / "slopes.toml").write_text("slopes = [[[0, 0, 1]]]\n")
+    (model / "mine.prec").write_text("0 0\n")
+    for words in (("shells",), ("page",), ("compare", "--column", "ROCK=SUL"), ("status",)):
+        ran = pitplan(words[0], folder, *words[1:])
+        assert ran.returncode == 3, ran.stderr
+        said = " ".join(ran.stderr.split())
+        assert "was built by an older version of pitplan: its model has a list" in said
+        assert f"try: pitplan build {folder}" in said or "pitplan build" in said, said
+    assert pitplan("build", folder).returncode == 0
+    assert pitplan("shells", folder).returncode == 0
+    assert not list(folder.rglob("*.prec"))
+
+
+def test_settings_without_the_slopes_of_each_region_are_told(tmp_path):
+    study = study_of(tmp_path, table(6, 5, 4, 3))
+    text = study.settings_file.read_text()
+    for slopes, said in (
+        ("", "it lists no slopes"),
+        ("slopes = [[[0, 0, 1]], []]", "it lists 2 slopes, and there are 1"),
+        ("slopes = [[[0, 0, 0]]]", "three whole numbers that lead upward"),
+    ):
+        study.settings_file.write_text(re.sub(r"slopes = .*", slopes, text, flags=re.S))
+        with pytest.raises(pp.PlanError, match=f"settings.toml is damaged: .*{said}"):
+            pp.Study(study.folder).offsets
 
 
 def test_a_changed_model_has_no_pits(tmp_path):

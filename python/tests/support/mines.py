@@ -82,7 +82,12 @@ def study_of(folder, frame, slopes=None, economics=None, **keys):
     path = Path(folder) / "t.csv"
     frame.to_csv(path, index=False)
     model = pp.read_table(path, **{**dict(size=SIZE), **keys})
-    return pp.Study.create(Path(folder) / "s", model, economics or costs(), slopes or pp.Slopes(45))
+    study = pp.Study.create(
+        Path(folder) / "s", model, economics or costs(), slopes or pp.Slopes(45)
+    )
+    files = {"mine.blocks", "settings.toml", "blocks.npz", "manifest.json"}
+    assert {path.name for path in study.where.iterdir()} == files  # no list of pairs
+    return study
 
 
 def predecessors(folder):
