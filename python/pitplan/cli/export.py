@@ -2,7 +2,7 @@
 from __future__ import annotations
 
 from pathlib import Path
-from typing import TYPE_CHECKING, Callable, Optional
+from typing import TYPE_CHECKING, Any, Callable, Optional
 
 import typer
 from ..base.errors import PlanError, meant
@@ -13,15 +13,17 @@ from .console import STUDY, app, err, open_study, results, say, shells_of
 if TYPE_CHECKING:
     from ..study.shells import Shells
 
+_TO: Any = typer.Option(
+    "dxf,vtu,csv",
+    "--to",
+    help="Any of dxf, vtu, csv, gpkg, minelib, with commas. minelib is the model alone, for programs that read .prec and .upit.",
+)
+
 
 @app.command()
 def export(
     folder: Path = STUDY,
-    to: str = typer.Option(
-        "dxf,vtu,csv",
-        "--to",
-        help="Any of dxf, vtu, csv, gpkg, minelib, with commas. minelib is the model alone, at the full price, for programs that read .prec and .upit; it needs no pits.",
-    ),
+    to: str = _TO,
     factors: Optional[str] = typer.Option(
         None,
         "--factors",
@@ -57,12 +59,9 @@ def export(
 ) -> None:
     """Write the pits for CAD (dxf), ParaView (vtu), GIS (gpkg) and any other program (csv), in true
     coordinates; or the model for other optimisers (minelib)."""
-    kinds = _kinds_of(to)
-    if MINELIB in kinds:
-        _to_minelib(folder)
-        kinds.remove(MINELIB)
-        if not kinds:
-            return
+    kinds = _pit_kinds_of(to, folder)
+    if not kinds:
+        return
     if phases:
         shells = _mines_at(folder, phases, factors or is_schedule, kinds)
     else:
@@ -141,6 +140,15 @@ def _tell_pushbacks(folder: Path, unit: str) -> None:
             "as cut" if kept["widen"] is None else f"widened to {length_text(kept['widen'])} {unit}"
         )
         say(f"these are pits by factor; pushbacks, {how}, are in {folder / 'phase_blocks.csv'}")
+
+
+def _pit_kinds_of(text: str, folder: Path) -> list[str]:
+    """The kinds of files of pits that are asked for, once the model itself is written where that is
+    asked for too. Raises PlanError as `_kinds_of` and `_to_minelib`."""
+    kinds = _kinds_of(text)
+    if MINELIB in kinds:
+        _to_minelib(folder)
+    return [kind for kind in kinds if kind != MINELIB]
 
 
 def _kinds_of(text: str) -> list[str]:
