@@ -116,6 +116,8 @@ class StudyFolder:
 
         Raises
         ------
+        PlanError
+            Where it isn't there.
         Damaged
             Where it lists none, or not those of so many regions.
         """
@@ -124,6 +126,10 @@ class StudyFolder:
             listed = offsets_listed(self.settings_file.read_text("utf-8"))
             if len(listed) != len(names):
                 raise ValueError(f"it lists {len(listed)} slopes, and there are {len(names)}")
+        except FileNotFoundError:
+            raise PlanError(
+                f"{self.settings_file} is gone", try_this=command("build", self.named)
+            ) from None
         except (ValueError, RecursionError) as error:
             raise kept_json.Damaged(
                 f"{self.settings_file} is damaged: {error}", try_this=command("build", self.named)

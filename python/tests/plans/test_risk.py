@@ -84,6 +84,20 @@ def test_each_realisation_is_the_study_with_its_grades(tmp_path):
     assert (found.likelihood(1000) == likely).all()
 
 
+def test_a_realisation_of_two_regions_has_the_slopes_of_each(tmp_path):
+    """Its blocks are written anew, with the regions of the study's own; the slopes are those of the study's settings."""
+    frame = table(7, 6, 4, 5)
+    slopes = pp.Slopes(48, by="SECTOR", regions={"EAST": 30}, levels=2)
+    study = prepared(tmp_path, 1, frame, factors=(1000,), slopes=slopes)
+    done(study)
+    found = risk.realisation(study, 0).mask(1000)
+    own = frame.assign(CU=np.load(tmp_path / "sims.npy")[0].astype(float))
+    for name, angles, is_same in (("own", slopes, True), ("one", pp.Slopes(48, levels=2), False)):
+        (tmp_path / name).mkdir()
+        alone = study_of(tmp_path / name, own, angles)
+        assert bool((alone.pit(1.0).mask == found).all()) == is_same
+
+
 def test_realisations_of_a_table_with_lines_that_are_no_blocks(tmp_path):
     """A line of units below the header and a blank one: a grade for each row that has a block, or for each line."""
     frame = table(6, 5, 4, 3)
