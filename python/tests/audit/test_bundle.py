@@ -1265,7 +1265,7 @@ def test_a_certificate_that_unpacks_without_end_is_not_read_on(copy):
 
 
 SECTORS = mines.STUDY_TOML.replace(
-    "angles = 45", 'angles = 45\nby = "SECTOR"\nregions = { EAST = 32 }'
+    "angles = 45", 'angles = 45\nlevels = 2\nby = "SECTOR"\nregions = { EAST = 32 }'
 )
 
 
@@ -1278,6 +1278,14 @@ def test_predecessors_are_looked_up_by_the_offsets_of_each_block_s_own_region(
     wanted = mines.predecessors(folder / "model")
     assert [blocks.above(b) for b in range(len(wanted))] == wanted
     assert sum(map(len, wanted)) <= blocks.most_pairs()
+    for region, offsets in enumerate(blocks.slopes):  # each of them leads to a block somewhere
+        own = {
+            tuple(q - p for p, q in zip(blocks.places[b], blocks.places[above]))
+            for b, on in enumerate(wanted)
+            for above in on
+            if blocks.region(b) == region
+        }
+        assert own == set(map(tuple, offsets))
     regions = [blocks.region(b) for b in range(len(wanted))]
     assert any(regions[b] < regions[p] for b, on in enumerate(wanted) for p in on)
     assert any(regions[b] > regions[p] for b, on in enumerate(wanted) for p in on)
