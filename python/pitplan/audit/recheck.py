@@ -638,7 +638,7 @@ def spelled(nanos: int) -> str:
     return ("-" if nanos < 0 else "") + f"{whole}.{rest:09d}".rstrip("0").rstrip(".")
 
 
-def pieces(file: BinaryIO, most: int, what: str = "a certificate of this model") -> Iterator[bytes]:
+def pieces(file: BinaryIO, most: int, what: str) -> Iterator[bytes]:
     """What a packed file has, in pieces; one that unpacks to more than `most` bytes, which is more
     than it can have, isn't read on."""
     with gzip.open(file, "rb") as unpacked:
@@ -661,8 +661,8 @@ class Judged(NamedTuple):
     factor: int | None
 
 
-def judged(pit: str, path: Path, most: int) -> Judged:
-    """Gives a certificate to `pit check`."""
+def judged(pit: str, path: Path, most: int, what: str) -> Judged:
+    """Gives a certificate to `pit check`, one that unpacks to no more than so many bytes."""
     words = [
         "--blocks",
         str(within("model/mine.blocks")),
@@ -679,7 +679,7 @@ def judged(pit: str, path: Path, most: int) -> Judged:
     assert run.stdin and run.stdout
     try:
         with open(path, "rb") as file:
-            for data in pieces(file, most):
+            for data in pieces(file, most, what):
                 digest.update(data)
                 text += data
                 try:
@@ -711,7 +711,8 @@ def check_pits(report: Report, pit: str, blocks: Blocks, is_plain: bool) -> list
     """Each certificate, and that its pit lies within the next. Returns the first factor whose pit
     has each block, 0 where none has it."""
     most = LINE * (3 * len(blocks.places) + blocks.most_pairs() + 10)
-    most = min(most, max(SMALL, free_memory()))
+    room = max(SMALL, free_memory())
+    limit = (most, "a certificate of this model") if most <= room else (room, "the free memory")
     shell, below, last = [0] * len(blocks.places), set[int](), -1
     verdicts = verdicts_of()
     plain = plainly([within(verdict["file"]) for verdict in verdicts]) if is_plain else []
@@ -719,7 +720,7 @@ def check_pits(report: Report, pit: str, blocks: Blocks, is_plain: bool) -> list
         factor = verdict["factor"]
         at = f"factor {share_text(factor)}"
         found = report.attempt(
-            f"the certificate at {at}", judged, pit, within(verdict["file"]), most
+            f"the certificate at {at}", judged, pit, within(verdict["file"]), *limit
         )
         if factor <= last:
             report.check(False, f"{at} comes after {share_text(last)}")
