@@ -660,8 +660,13 @@ def settings_by_region(patterns: Mapping[str, Pattern]) -> str:
     """The offsets of each region as settings of `pit`: a list for each, in this order, after a
     remark of what walls they make."""
     lists = (
-        "".join(f"    # {line}\n" for line in f"{name}: {pattern}".splitlines())
+        "".join(f"    # {_printable(line)}\n" for line in f"{name}: {pattern}".splitlines())
         + "    [%s],\n" % ", ".join("[%d, %d, %d]" % offset for offset in pattern.offsets)
         for name, pattern in patterns.items()
     )
     return "slopes = [\n%s]\n" % "".join(lists)
+
+
+def _printable(line: str) -> str:
+    """A line as a remark of TOML may have it: without control characters."""
+    return "".join(c if c.isprintable() else "?" for c in line)

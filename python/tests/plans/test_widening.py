@@ -1,4 +1,4 @@
-"""Pushbacks that are made wide: against plain loops over cells, predecessors as `pit slopes` wrote them, and circles by shapely."""
+"""Pushbacks that are made wide: against plain loops over cells, predecessors as a plain search finds them, and circles by shapely."""
 import itertools
 import math
 import re

@@ -162,7 +162,7 @@ def test_slopes_of_too_many_pairs_are_told_in_the_planner_s_terms(tmp_path, monk
 def test_what_settings_list_is_what_was_searched():
     """The text, read back by a reader of TOML; and by what walls are told and drawn from."""
     grid = pp.Grid((0, 0, 0), (20, 20, 15), (1, 1, 1), 30.0)
-    slopes = pp.Slopes(45, by="S", regions={"N ] # 1": [(0, 38), (180, 46)]})
+    slopes = pp.Slopes(45, by="S", regions={"N ] # 1\a\n": [(0, 38), (180, 46)]})
     text = slopes.settings(grid)
     told = tomllib.loads(text)
     found = list(slopes.offsets_by_region(grid).values())

@@ -4,8 +4,8 @@
     python3 python/tests/fuzz_studies.py [SAMPLES [SECONDS [SEED]]]
 
 A sample is a study.toml and a table that were sound, with one to four changes: keys, values and sections that are others,
-cells and lines that are gone, doubled or others, bytes that are no text. Each is read and priced, and the pairs of one of 100 are
-counted, in this process; `pit` isn't run. Prints how many were read and how many of each message came, and the first that is neither.
+cells and lines that are gone, doubled or others, bytes that are no text. Each is read and priced, and the slopes of one of 100 are
+searched, in this process; `pit` isn't run. Prints how many were read and how many of each message came, and the first that is neither.
 """
 import itertools
 import multiprocessing
