@@ -2012,7 +2012,7 @@ def check_tables(
 def check_slopes(report: Report, blocks: Blocks, regions: list[int | None] | None) -> None:
     """A block that has a row of the table is in the region of that row; and how steep the walls are
     that the slopes of model/settings.toml make."""
-    if blocks.column is not None:
+    if len(blocks.slopes) > 1:
         check_regions(report, blocks, regions)
     tell_walls(report, blocks.slopes)
 

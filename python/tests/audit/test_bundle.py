@@ -1291,6 +1291,21 @@ def test_predecessors_are_looked_up_by_the_offsets_of_each_block_s_own_region(
     assert any(regions[b] > regions[p] for b, on in enumerate(wanted) for p in on)
 
 
+def test_slopes_of_several_regions_without_a_column_of_them_are_found(tmp_path):
+    """All blocks would have the slopes of the first, whatever their rows name; and nothing else contradicts that."""
+    folder = bundled(tmp_path, SECTORS)
+    replaced(folder / "model" / "settings.toml", "region = 4\n", "")
+    count = len((folder / "model" / "mine.blocks").read_text().splitlines())
+    told_otherwise("model/manifest.json", "regions", value={"default": count, "EAST": 0})(folder)
+    summed(folder)
+    lines, status = rechecked(folder)
+    assert status == 1
+    assert any(
+        line.startswith("WRONG   each block is in the region of slopes that its row names: not so")
+        for line in lines
+    ), lines
+
+
 def test_a_block_of_no_region_is_told(tmp_path):
     folder = bundled(tmp_path, SECTORS)
     cell_of("model/mine.blocks", 4, 8, "2")(folder)
