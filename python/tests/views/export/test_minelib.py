@@ -1,12 +1,13 @@
 """The model as MineLib's files: the pairs against a plain search, the values against the text that `pit` reads, and the pit of the
 three files against that of the two."""
 import subprocess
+import tomllib
 from decimal import Decimal
 
 import pytest
 
 import pitplan as pp
-from mines import STUDY_TOML, pairs_of, predecessors, table, written_study
+from mines import STUDY_TOML, pairs_of, places_of, predecessors, rows_of, table, written_study
 from served import pitplan
 
 TEXT = STUDY_TOML.replace(
@@ -23,13 +24,20 @@ def exported(tmp_path_factory):
 
 
 def test_the_pairs_are_those_of_each_block_s_own_region(exported):
+    """By the two texts; and by the planner's own table, whose SECTOR says which slope a row has."""
     folder, ran = exported
     assert ran.returncode == 0, ran.stderr
     lines = (folder / "out/mine.prec").read_text().splitlines()
+    found = [list(map(int, line.split())) for line in lines]
     wanted = predecessors(folder / "model")
-    assert [list(map(int, line.split())) for line in lines] == [
-        [block, len(on), *on] for block, on in enumerate(wanted)
-    ]
+    assert found == [[block, len(on), *on] for block, on in enumerate(wanted)]
+    rows = rows_of(folder / "t.csv")
+    at = {place: row for row, place in enumerate(places_of(rows))}
+    slopes = tomllib.loads((folder / "model/settings.toml").read_text())["slopes"]
+    for (x, y, z), row in at.items():
+        ways = slopes[rows[row]["SECTOR"] == "EAST"]
+        above = {at.get((x + i, y + j, z + k)) for i, j, k in ways} - {None}
+        assert {block for block in found[row][2:] if block < len(rows)} == above  # else added air
     assert f"{len(pairs_of(folder / 'model')):,} pairs of a block and a predecessor" in ran.stdout
     assert (folder / "out/mine.blocks").read_bytes() == (folder / "model/mine.blocks").read_bytes()
 
