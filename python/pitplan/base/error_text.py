@@ -3,6 +3,7 @@ further wrong cells, and what to try."""
 from __future__ import annotations
 
 from pathlib import Path
+from typing import Any
 
 from .errors import PlanError, in_a_line
 
@@ -17,7 +18,7 @@ def lines_of(error: PlanError, study_toml: Path | None = None) -> list[str]:
     study_toml : Path, optional
         The file that the error's key is of.
     """
-    place = place_of(error, study_toml)
+    place = _place_of(error, study_toml)
     found = [
         error.said,
         *(
@@ -34,7 +35,13 @@ def lines_of(error: PlanError, study_toml: Path | None = None) -> list[str]:
     return found + ([f"  try: {in_a_line(error.try_this)}"] if error.try_this else [])
 
 
-def place_of(error: PlanError, study_toml: Path | None) -> tuple[int, str] | None:
+def errors_told(error: PlanError, study_toml: Path | None = None) -> list[dict[str, Any]]:
+    """Each error as JSON has it, with its line of study.toml or None."""
+    places = [(each, _place_of(each, study_toml)) for each in error.each()]
+    return [{**each.as_data(), "line": place[0] if place else None} for each, place in places]
+
+
+def _place_of(error: PlanError, study_toml: Path | None) -> tuple[int, str] | None:
     """The line of study.toml that an error concerns, and its number; None where it concerns none,
     or the file can't be read."""
     if not error.key or study_toml is None:

@@ -118,27 +118,42 @@ def look(text: str) -> None:
 def error(found: PlanError, study_toml: Path | None = None) -> None:
     """Says each error, with the number of its line of study.toml, where it has one."""
     if _SINKS.opened:
-        from .error_text import place_of
+        from .error_text import errors_told
 
-        for each in found.each():
-            place = place_of(each, study_toml)
-            event("error", **each.as_data(), line=place[0] if place else None)
+        for told in errors_told(found, study_toml):
+            event("error", **told)
 
 
 def of_last_run(folder: Path) -> list[dict[str, Any]]:
     """The events of the last command that had a study; a line that is cut off, as where the machine
     went down, is left out."""
-    return list(_lines_of(folder / _LAST))
+    return read_on(folder / _LAST)[0]
 
 
-def _lines_of(path: Path) -> Iterator[dict[str, Any]]:
-    """The events of a file."""
-    with suppress(OSError), open(path, encoding="utf-8") as file:
-        for line in file:
-            with suppress(ValueError):
-                found = json.loads(line)
-                if isinstance(found, dict) and "event" in found:
-                    yield found
+def read_on(path: Path, place: int = 0, most: int = -1) -> tuple[list[dict[str, Any]], int]:
+    """The events of a file from a byte on, and the byte behind them. A line that isn't whole yet is
+    left for the next time, and one that is no event is left out; of a file that isn't there nothing
+    is told.
+
+    Parameters
+    ----------
+    path : Path
+    place : int
+        The byte.
+    most : int
+        Bytes that are read. Default: all.
+    """
+    found, new = [], b""
+    with suppress(OSError), open(path, "rb") as file:
+        file.seek(place)
+        new = file.read(most)
+    whole = new[: new.rfind(b"\n") + 1]
+    for line in whole.splitlines():
+        with suppress(ValueError):  # cut off where the disk was full
+            told = json.loads(line)
+            if isinstance(told, dict) and "event" in told:
+                found.append(told)
+    return found, place + len(whole)
 
 
 def words() -> list[str]:

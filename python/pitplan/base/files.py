@@ -2,6 +2,7 @@
 from __future__ import annotations
 
 import errno
+import itertools
 import os
 import secrets
 import shutil
@@ -47,6 +48,27 @@ def whole_file(target: str | os.PathLike[str]) -> Iterator[Path]:
         if error.filename is None or str(error.filename).startswith(str(path.with_name(place))):
             error.filename = str(path)
         raise
+
+
+def put_aside(path: Path) -> Path:
+    """Keeps what a file has beside it, under a name that nothing has yet, as study.toml.before or
+    study.toml.before-2, and gives the copy's path; one that has the same already is enough.
+
+    Raises
+    ------
+    OSError
+        Where the file can't be read, or nothing can be written beside it.
+    """
+    text = path.read_bytes()
+    place = path.with_name(f"{path.name}.before")
+    for n in itertools.count(2):
+        if not place.exists():
+            with whole_file(place) as part:
+                part.write_bytes(text)
+        if place.read_bytes() == text:
+            break
+        place = path.with_name(f"{path.name}.before-{n}")
+    return place
 
 
 @contextmanager

@@ -16,10 +16,8 @@ from .console import STUDY, app, described, err, print_columns, say, warn
 if TYPE_CHECKING:
     import pandas as pd
 
-    from ..base.amounts import Priced
     from ..base.arrays import Bools
     from ..base.strange import Strange
-    from ..model.model import Model
     from ..study.study import Study
     from ..study.study_file import StudyFile
 
@@ -48,7 +46,7 @@ def init(
     is_forced: bool = typer.Option(False, "--force", help="Write over a study.toml that is there."),
 ) -> None:
     """Look at a table of blocks, and write a study.toml for it."""
-    from ..base.files import whole_file
+    from ..base.files import put_aside, whole_file
     from ..study.first_look import look_at, unused_grades, written
     from ..study.building import near
 
@@ -66,6 +64,8 @@ def init(
         )
     refuse_outside(folder, "written")
     folder.mkdir(parents=True, exist_ok=True)
+    if path.exists():
+        say(f"what stood in {path} is kept as {put_aside(path).name}")
     with whole_file(path) as part:
         part.write_text(written(look, near(table, folder)))
     say(f"{table}: {look.rows:,} rows")
@@ -102,6 +102,7 @@ def build(folder: Path = STUDY) -> None:
 
     from ..base.amounts import THOUSAND
 
+    from ..model.tonnage import by_rock
     from ..study.looks import looks
     from ..study.building import Building
     from ..study.study import Study
@@ -129,7 +130,7 @@ def build(folder: Path = STUDY) -> None:
         study.priced.check_room(max(plan.factors, default=THOUSAND))
     for note in study.model.notes[len(model.notes) :]:
         say("  " + note)
-    print_tonnage(study.model, study.priced, study.manifest["metals"])
+    print_tonnage(by_rock(study.model, study.priced, study.manifest["metals"]))
     print_classes(study, {"": np.ones(len(study.model), bool)}, "in place, by resource class")
     if plan.economics.forbid:
         part = int(plan.economics.partly_forbidden(model).sum())
@@ -161,11 +162,11 @@ def _set_aside(study: Study, walls: str) -> None:
         )
 
 
-def print_tonnage(model: Model, priced: Priced, metals: Mapping[str, Mapping[str, str]]) -> None:
+def print_tonnage(lines: pd.DataFrame) -> None:
     """The grade-tonnage line of each rock."""
-    from ..model.tonnage import TITLE, by_rock
+    from ..model.tonnage import TITLE
 
-    _print_lines(TITLE, by_rock(model, priced, metals), 1)
+    _print_lines(TITLE, lines, 1)
 
 
 def print_classes(

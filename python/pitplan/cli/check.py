@@ -94,15 +94,9 @@ def _once(folder: Path) -> Checked:
             )
         if not any(error.key[:1] == ("slopes",) for error in found.errors):
             print_regions(parts.slopes, model)
-    if model is not None and found.priced is not None and parts and parts.economics:
-        print_tonnage(
-            model,
-            found.priced,
-            {
-                metal.name: {"grade_unit": metal.grade_unit, "price_unit": metal.price_unit}
-                for metal in parts.economics.metals
-            },
-        )
+    tonnage = found.tonnage
+    if tonnage is not None:
+        print_tonnage(tonnage)
     if parts and not found.errors:
         plan = parts.whole()
         found.errors += _wrong_pushbacks(plan, folder)

@@ -37,9 +37,9 @@ def desk(
 ) -> None:
     """Serve the same commands and the same study.toml as a page in the browser, over a folder of tables and studies."""
     try:
-        from ..desk.serve import Settings, serve
+        from ..desk.serve import serve
     except ModuleNotFoundError as error:
         raise PlanError(
             f"pitplan desk needs the Python package {error.name}", try_this=_NEEDS
         ) from None
-    serve(Settings(folder, host, port, name, upload_limit))
+    serve(folder, host, port, name, upload_limit)

@@ -6,7 +6,7 @@ from __future__ import annotations
 
 import math
 import re
-from collections.abc import Callable, Mapping, Sequence
+from collections.abc import Mapping, Sequence
 from pathlib import Path
 from typing import Any
 
@@ -45,118 +45,114 @@ class Commands:
         PlanError
             Where something of it is none that pitplan takes.
         """
-        does: dict[str, Callable[[_Asked], list[_Words]]] = {
-            "build": lambda _: [["build", self.name]],
-            "shells": self.pits,
-            "all": lambda asked: [["build", self.name], *self.pits(asked)],
-            "page": self.with_all,
-            "risk": lambda _: [["risk", self.name, "--schedule"]],
-            "slopes": lambda _: [["slopes", self.name]],
-            "phases": self.phases,
-            "compare": self.compare,
-            "vary": self.vary,
-            "plot": self.plot,
-            "export": self.export,
-            "bundle": self.bundle,
-        }
         what = asked.get("what")
-        if what not in does:
-            raise PlanError(f"the desk has no {what!r}", try_this=", ".join(does))
         try:
-            return does[what](asked)
+            return [[word, self.name, *words] for word, *words in self._asked(what, asked)]
         except (KeyError, TypeError, ValueError) as error:
             raise PlanError(f"{what}: {error} is missing or wrong") from None
 
-    def pits(self, asked: _Asked) -> list[_Words]:
-        """The pits, their page and their pictures."""
-        more = ["--certificates"] if asked.get("certificates") else []
-        return [["shells", self.name, *more], self.page(None, None), ["plot", self.name]]
+    def _asked(self, what: Any, asked: _Asked) -> list[_Words]:
+        """The same without the study, which comes first in each."""
+        pits = [["shells", *_flag("certificates", asked)], self._page(None, None), ["plot"]]
+        match what:
+            case "build" | "slopes":
+                return [[what]]
+            case "shells":
+                return pits
+            case "all":
+                return [["build"], *pits]
+            case "risk":
+                return [["risk", "--schedule"]]
+            case "page":
+                page = self._page(self._latest("phases"), self._latest("compare"))
+                return [page + _flag("schedule", asked)]
+            case "phases":
+                cut = [
+                    "phases",
+                    _shares(asked["factors"]),
+                    *_option("--mining-width", asked, "width"),
+                ]
+                return [cut, self._page(asked, self._latest("compare"))]
+            case "compare":
+                kind = "--ids" if asked.get("as") == "ids" else "--surface"
+                words = ["compare", kind, self._design(asked), *_factor(asked)]
+                return [words, self._page(self._latest("phases"), asked)]
+            case "vary":
+                return [["vary", *_changes(asked), *(_flag("schedule", asked) or _factor(asked))]]
+            case "plot":
+                colour = f"--colour={asked.get('colour') or 'shell'}"
+                return [["plot", _CUTS[asked["cut"]], _number(asked["at"]), colour]]
+            case "export":
+                more = _flag("corners", asked, "--cut-corners") + _flag("schedule", asked)
+                return [["export", "--to", *_kinds(asked), *more]]
+            case "bundle":
+                return [["bundle", self._new_bundle()]]
+        raise PlanError(f"the desk has no {what!r}")
 
-    def phases(self, asked: _Asked) -> list[_Words]:
-        """Pushbacks, and the page with them."""
-        width = asked.get("width")
-        more = ["--mining-width", _number(width)] if width else []
-        cut = ["phases", _shares(asked["factors"]), self.name, *more]
-        return [cut, self.page(asked, self.latest("compare"))]
-
-    def compare(self, asked: _Asked) -> list[_Words]:
-        """A design beside the best pit, and the page with it."""
-        kind = "--surface" if asked.get("as") != "ids" else "--ids"
-        words = ["compare", self.name, kind, self.design(asked)]
-        return [
-            [*words, "--factor", _number(asked.get("factor", 1))],
-            self.page(self.latest("phases"), asked),
-        ]
-
-    def design(self, asked: _Asked) -> str:
+    def _design(self, asked: _Asked) -> str:
         """A dropped design, as a planner names it in the desk's folder."""
         path = self.folder.file(str(asked["design"]), DESIGNS, self.study / "designs")
         if not path.is_file():
             raise PlanError(f"there is no design {path.name}", try_this="drop its file here")
         return f"{self.name}/designs/{path.name}"
 
-    def with_all(self, asked: _Asked) -> list[_Words]:
-        """The page with what was asked for last, and with a schedule where that is wanted."""
-        page = self.page(self.latest("phases"), self.latest("compare"))
-        return [page + _schedule(asked)]
+    def _page(self, cut: _Asked | None, design: _Asked | None) -> _Words:
+        """The page of the pits, with pushbacks and a design."""
+        cuts = ["--phases", _shares(cut["factors"])] if cut else []
+        return [
+            "page",
+            *cuts,
+            *(["--design", self._design(design), *_factor(design)] if design else []),
+        ]
 
-    def page(self, cut: _Asked | None, design: _Asked | None) -> _Words:
-        """The page of the pits."""
-        words = ["page", self.name]
-        if cut:
-            words += ["--phases", _shares(cut["factors"])]
-        if design:
-            words += ["--design", self.design(design), "--factor", _number(design.get("factor", 1))]
-        return words
-
-    def latest(self, what: str) -> _Asked | None:
+    def _latest(self, what: str) -> _Asked | None:
         """What was asked for last, where that is of the model that stands there."""
         done = [run for run in self.runs if run["state"] == "done"]
         built = max((run["number"] for run in done if run["what"] in _AGAIN), default=0)
         newer = (run["asked"] for run in done if run["what"] == what and run["number"] > built)
         return next(newer, None)
 
-    def vary(self, asked: _Asked) -> list[_Words]:
-        """What-ifs."""
-        changes = list(map(str, asked["changes"]))
-        wrong = [word for word in changes if not _CHANGE.fullmatch(word)]
-        if wrong or not changes:
-            raise PlanError(
-                f"{wrong[0]!r} is no change" if wrong else "nothing is changed",
-                try_this="price=-20..20 or slope=-3..3",
-            )
-        more = _schedule(asked) or ["--factor", _number(asked.get("factor", 1))]
-        return [["vary", self.name, *changes, *more]]
-
-    def plot(self, asked: _Asked) -> list[_Words]:
-        """A plan or a section."""
-        colour = str(asked.get("colour") or "shell")
-        cut = _CUTS[asked["cut"]]
-        return [["plot", self.name, cut, _number(asked["at"]), f"--colour={colour}"]]
-
-    def export(self, asked: _Asked) -> list[_Words]:
-        """Files for CAD, GIS, ParaView and spreadsheets."""
-        kinds = [kind for kind in KINDS if kind in asked["kinds"]]
-        crs = str(asked.get("crs") or "")
-        if not kinds or not _CRS.fullmatch(crs):
-            raise PlanError(
-                f"{crs!r} is no coordinate system" if kinds else "no kind of file is chosen",
-                try_this="EPSG:32719" if kinds else ", ".join(KINDS),
-            )
-        more = ["--crs", crs] if crs else []
-        more += ["--cut-corners"] if asked.get("corners") else []
-        return [["export", self.name, "--to", ",".join(kinds), *more, *_schedule(asked)]]
-
-    def bundle(self, asked: _Asked) -> list[_Words]:
-        """The bundle for an auditor, in a new folder."""
-        there = [path.name.removeprefix(BUNDLE) for path in self.study.glob(f"{BUNDLE}*")]
-        last = max((int(name[:4]) for name in there if re.match(r"\d{4}", name)), default=0)
-        return [["bundle", f"{self.name}/{BUNDLE}{last + 1:04d}", self.name]]
+    def _new_bundle(self) -> str:
+        """A folder for an auditor that isn't there yet."""
+        found = (re.match(r"\d{4}", it.name[len(BUNDLE) :]) for it in self.study.glob(f"{BUNDLE}*"))
+        last = max((int(number[0]) for number in found if number), default=0)
+        return f"{self.name}/{BUNDLE}{last + 1:04d}"
 
 
-def _schedule(asked: _Asked) -> _Words:
-    """What asks for the schedule by years in place of pits, or beside them."""
-    return ["--schedule"] if asked.get("schedule") is True else []
+def _changes(asked: _Asked) -> _Words:
+    """What-ifs."""
+    changes = list(map(str, asked["changes"]))
+    wrong = [word for word in changes if not _CHANGE.fullmatch(word)]
+    if wrong or not changes:
+        said = f"{wrong[0]!r} is no change" if wrong else "nothing is changed"
+        raise PlanError(said, try_this="price=-20..20 or slope=-3..3")
+    return changes
+
+
+def _kinds(asked: _Asked) -> _Words:
+    """Kinds of files for CAD, GIS, ParaView and spreadsheets, and their coordinate system."""
+    kinds = [kind for kind in KINDS if kind in asked["kinds"]]
+    crs = str(asked.get("crs") or "")
+    if not kinds:
+        raise PlanError("no kind of file is chosen", try_this=", ".join(KINDS))
+    if not _CRS.fullmatch(crs):
+        raise PlanError(f"{crs!r} is no coordinate system", try_this="EPSG:32719")
+    return [",".join(kinds), *(["--crs", crs] if crs else [])]
+
+
+def _flag(key: str, asked: _Asked, option: str = "") -> _Words:
+    """An option without a value, where it is asked for."""
+    return [option or f"--{key}"] if asked.get(key) is True else []
+
+
+def _option(option: str, asked: _Asked, key: str) -> _Words:
+    """An option with a number, where there is one."""
+    return [option, _number(asked[key])] if asked.get(key) else []
+
+
+def _factor(asked: _Asked) -> _Words:
+    """The pit that is meant: at the price as it is, unless another one is told."""
+    return ["--factor", _number(asked.get("factor", 1))]
 
 
 def _number(value: Any) -> str:

@@ -8,16 +8,15 @@ import os
 import re
 import tomllib
 from collections.abc import Iterator
-from contextlib import contextmanager
+from contextlib import contextmanager, suppress
 from pathlib import Path
 from typing import Any
 
 from ..base.errors import PlanError
 from ..base.files import FULL
 
-_NAME = re.compile(
-    r"\w[\w .+-]{0,79}"
-)  # begins with no sign, so that no command takes it for an option
+_NAME = re.compile(r"\w[\w .+-]{0,79}")  # no sign first, so that it is no option of a command
+_LETTERS = "letters, digits, blanks and . + - _"
 TABLES, DESIGNS = (".csv", ".csv.gz"), (".dxf", ".csv", ".txt")
 _SHOWN = ("out", "designs", "log")  # of a study what may be saved, beside study.toml and bundles
 HOME = Path("log", "desk")  # within a study, what is the desk's own
@@ -76,9 +75,7 @@ class Folder:
     def place(self, name: str) -> Path:
         """Where a study of this name is."""
         if not _NAME.fullmatch(name) or name.endswith((" ", ".")):
-            raise Refused(
-                404, f"{name!r} is no name of a study", "letters, digits, blanks and . + - _"
-            )
+            raise Refused(404, f"{name!r} is no name of a study", _LETTERS)
         path = self.within(self.root / name)
         if path.parent != self.root:
             raise Refused(403, f"{name} is a link to another study")
@@ -87,32 +84,24 @@ class Folder:
     def file(self, name: str, endings: tuple[str, ...], folder: Path | None = None) -> Path:
         """A file that may be there or come there, by its bare name."""
         if not _NAME.fullmatch(name) or not name.lower().endswith(endings):
-            raise Refused(
-                415,
-                f"{name!r} can't be taken: a file here ends in {', '.join(endings)}",
-                "a name of letters, digits, blanks and . + - _",
-            )
+            said = f"{name!r} can't be taken: a file here ends in {', '.join(endings)}"
+            raise Refused(415, said, f"a name of {_LETTERS}")
         return self.within((folder or self.root) / name)
 
     def studies(self) -> list[str]:
-        """The names of all studies."""
-        names = sorted(path.parent.name for path in self.root.glob("*/study.toml"))
-        return [name for name in names if self.is_there(name)]
-
-    def is_there(self, name: str) -> bool:
-        """Whether a study may be opened by this name."""
-        try:
-            return self.study(name) == self.root / name
-        except Refused:
-            return False
+        """The names of all studies that may be opened by their own name."""
+        found = []
+        for path in sorted(self.root.glob("*/study.toml")):
+            with suppress(Refused):
+                if self.study(path.parent.name) == path.parent:
+                    found.append(path.parent.name)
+        return found
 
     def tables(self) -> list[dict[str, Any]]:
         """The tables of the folder."""
-        return [
-            _told_of(path, path.name)
-            for path in sorted(self.root.iterdir())
-            if path.name.lower().endswith(TABLES) and _NAME.fullmatch(path.name) and path.is_file()
-        ]
+        files = [path for path in sorted(self.root.iterdir()) if _NAME.fullmatch(path.name)]
+        tables = [path for path in files if path.name.lower().endswith(TABLES) and path.is_file()]
+        return [_told_of(path, path.name) for path in tables]
 
     def table_of(self, study: Path) -> Path | None:
         """The study's table; None where study.toml doesn't say it.
@@ -139,13 +128,10 @@ class Folder:
 
     def results(self, study: Path) -> list[dict[str, Any]]:
         """What there is to take away: tables, pictures, files for CAD, designs, bundles."""
-        found = []
-        for top in (study / "out", study / "designs"):
-            for path in sorted(top.rglob("*")) if top.is_dir() else ():
-                name = path.relative_to(study)
-                if path.is_file() and not any(part.startswith(".") for part in name.parts):
-                    found.append(_told_of(path, name.as_posix()))
-        bundles = sorted(path for path in study.glob(f"{BUNDLE}*") if path.is_dir())
+        inside = [path for top in ("out", "designs") for path in sorted((study / top).rglob("*"))]
+        names = [path.relative_to(study).as_posix() for path in inside if path.is_file()]
+        found = [_told_of(study / it, it) for it in names if not re.search(r"(^|/)\.", it)]
+        bundles = [path for path in sorted(study.glob(f"{BUNDLE}*")) if path.is_dir()]
         return found + [{**_told_of(it, f"{it.name}.zip"), "bytes": None} for it in bundles]
 
 
@@ -177,16 +163,12 @@ def refusal(error: OSError, what: str = "") -> Refused:
     """A disk that is full, or a folder where nothing may be written, in words; `what` is what isn't done, where that is more than
     a file that isn't written."""
     where = Path(str(error.filename or "")).name
-    said = f"{where}: {error.strerror}" if where else str(error.strerror)
     if error.errno in FULL:
         undone = what or f"{where} wasn't written"
-        return Refused(
-            507,
-            f"{undone}: {error.strerror}; what was there before is kept",
-            "make room on the disk, and do it again",
-        )
+        said = f"{undone}: {error.strerror}; what was there before is kept"
+        return Refused(507, said, "make room on the disk, and do it again")
+    said = f"{where}: {error.strerror}" if where else str(error.strerror)
     if error.errno in (errno.EACCES, errno.EPERM, errno.EROFS):
-        return Refused(
-            403, said, f"a folder that {os.environ.get('USER', 'the desk')} may write in"
-        )
+        user = os.environ.get("USER", "the desk")
+        return Refused(403, said, f"a folder that {user} may write in")
     return Refused(404 if error.errno == errno.ENOENT else 500, said)

@@ -3,9 +3,11 @@ from __future__ import annotations
 
 import hmac
 from collections.abc import Awaitable, Callable, Mapping
-from http.cookies import CookieError, SimpleCookie
 from typing import Any
-from urllib.parse import parse_qs
+
+from starlette.datastructures import MutableHeaders
+from starlette.requests import Request
+from starlette.responses import HTMLResponse, PlainTextResponse, Response
 
 _App = Callable[[Any, Any, Any], Awaitable[None]]
 # A page of the desk's own goes on to "/": a cookie that is strict isn't sent where another site's page led here.
@@ -56,35 +58,27 @@ class Guard:
         self.app, self.token, self.names, self.cookie = app, token, names, cookie
 
     async def __call__(self, scope: Any, receive: Any, send: Any) -> None:
-        if scope["type"] == "lifespan":
-            await self.app(scope, receive, send)
         if scope["type"] != "http":
-            return
-        headers = {
-            key.decode("latin-1"): value.decode("latin-1") for key, value in scope["headers"]
-        }
-        host = headers.get("host", "")
-        if host not in self.names:
-            await _answer(
-                send, 421, f"The desk isn't called {host!r}; --name gives it a name more."
-            )
-            return
-        asked = parse_qs(scope["query_string"].decode("latin-1"))
-        if self.is_token(asked.get("token", [""])[0]) and scope["path"] == "/":
-            await _answer(send, 200, _WELCOME, self.welcome(host))
-        elif not self.is_ours(scope["method"], headers, self.names[host]):
-            await _answer(send, 403, "This comes from another page than the desk's.")
-        elif not self.is_token(self.kept(headers.get("cookie", ""))):
-            told = "Open the address that `pitplan desk` has printed: it has ?token=.."
-            await _answer(send, 403, told, {"x-desk": "another token"})
-        else:
-            await self.app(scope, receive, _hardened(send))
+            return await self.app(scope, receive, send) if scope["type"] == "lifespan" else None
+        request = Request(scope)
+        answer = self.answer(request, request.headers.get("host", ""))
+        await (answer or self.app)(scope, receive, _hardened(send))
 
-    def welcome(self, host: str) -> dict[str, str]:
-        """The headers that put the token into a cookie."""
-        secure = "; Secure" if self.names[host].startswith("https:") else ""
-        cookie = f"{self.cookie}={self.token}; Path=/; HttpOnly; SameSite=Strict{secure}"
-        return {"content-type": "text/html; charset=utf-8", "set-cookie": cookie}
+    def answer(self, request: Request, host: str) -> Response | None:
+        """What a stranger gets; None where a request comes from the desk's own pages."""
+        if host not in self.names:
+            told = f"The desk isn't called {host!r}; --name gives it a name more."
+            return PlainTextResponse(told, 421)
+        if self.is_token(request.query_params.get("token", "")) and request.url.path == "/":
+            secure = "; Secure" if self.names[host].startswith("https:") else ""
+            cookie = f"{self.cookie}={self.token}; Path=/; HttpOnly; SameSite=Strict{secure}"
+            return HTMLResponse(_WELCOME, headers={"set-cookie": cookie})
+        if not self.is_ours(request.method, request.headers, self.names[host]):
+            return PlainTextResponse("This comes from another page than the desk's.", 403)
+        if not self.is_token(request.cookies.get(self.cookie, "")):
+            told = "Open the address that `pitplan desk` has printed: it has ?token=.."
+            return PlainTextResponse(told, 403, {"x-desk": "another token"})
+        return None
 
     def is_ours(self, method: str, headers: Mapping[str, str], own: str) -> bool:
         """Whether a request comes from a page of the desk's own; one that only reads may say nothing of where it comes from."""
@@ -92,14 +86,6 @@ class Guard:
         if headers.get("sec-fetch-site", "none") not in _OURS:
             return False
         return origin == own or (origin is None and method in ("GET", "HEAD"))
-
-    def kept(self, cookies: str) -> str:
-        """The token that a cookie has."""
-        try:
-            jar: SimpleCookie[str] = SimpleCookie(cookies)
-        except CookieError:
-            return ""
-        return jar[self.cookie].value if self.cookie in jar else ""
 
     def is_token(self, told: str) -> bool:
         """Whether this is the token, without telling by the time how much of it is right."""
@@ -111,17 +97,9 @@ def _hardened(send: Any) -> Callable[[Any], Awaitable[None]]:
 
     async def guarded(message: Any) -> None:
         if message["type"] == "http.response.start":
-            there = {key.decode().lower() for key, _ in message["headers"]}
-            more = [(k.encode(), v.encode()) for k, v in _ALWAYS.items() if k not in there]
-            message["headers"] = [*message["headers"], *more]
+            headers = MutableHeaders(scope=message)
+            for name, value in _ALWAYS.items():
+                headers.setdefault(name, value)
         await send(message)
 
     return guarded
-
-
-async def _answer(send: Any, status: int, text: str, headers: Mapping[str, str] = {}) -> None:
-    """Answers with a text."""
-    told = {**_ALWAYS, "content-type": "text/plain; charset=utf-8", **headers}
-    head = [(key.encode(), value.encode()) for key, value in told.items()]
-    await send({"type": "http.response.start", "status": status, "headers": head})
-    await send({"type": "http.response.body", "body": text.encode()})

@@ -2,6 +2,7 @@
 from __future__ import annotations
 
 import asyncio
+import inspect
 import json
 import math
 import os
@@ -12,19 +13,18 @@ import tomllib
 from collections.abc import Awaitable, Callable
 from contextlib import suppress
 from dataclasses import asdict
-from itertools import count
 from pathlib import Path
-from typing import Any
+from typing import IO, Any
 
 from starlette.requests import ClientDisconnect, Request
 from starlette.responses import FileResponse, JSONResponse, Response
 from starlette.routing import Route
 
 from ..base.errors import PlanError
-from ..base.files import whole_file
+from ..base.files import put_aside, whole_file
 from ..study import turns
 from ..table.study_keys import KEYS, METALS
-from . import runs, toml_text, work
+from . import runs, toml_text
 from .asked import Commands
 from .folder import BUNDLE, DESIGNS, HOME, TABLES, Folder, Refused, etag, refusal, writing
 from .guard import SANDBOX
@@ -64,22 +64,26 @@ class Desk:
             ("GET", "/api/folder", self.home),
             ("PUT", "/api/tables/{name}", self.upload),
             ("POST", "/api/studies", self.begin),
-            ("GET", at, self.study),
+            ("GET", at, self.of_study(self.told)),
             ("PATCH", at, self.change),
-            ("GET", at + "/pulse", self.pulse),
-            ("GET", at + "/look", self.asks(self.heavy, work.look)),
-            ("GET", at + "/check", self.asks(self.heavy, work.check)),
-            ("GET", at + "/rose", self.asks(self.quick, work.rose)),
-            ("GET", at + "/ground", self.asks(self.heavy, work.ground, "what")),
-            ("GET", at + "/rose.png", self.asks(self.heavy, work.rose_picture)),
-            ("GET", at + "/cells", self.asks(self.heavy, work.cells, "row")),
+            ("GET", at + "/pulse", self.of_study(_beat)),
+            ("GET", at + "/look", self.asks(self.heavy, "look")),
+            ("GET", at + "/check", self.asks(self.heavy, "check")),
+            ("GET", at + "/rose", self.asks(self.quick, "rose")),
+            ("GET", at + "/ground", self.asks(self.heavy, "ground", "what")),
+            ("GET", at + "/rose.png", self.asks(self.heavy, "rose_picture")),
+            ("GET", at + "/cells", self.asks(self.heavy, "cells", "row")),
             ("PUT", at + "/designs/{name}", self.upload),
-            ("POST", at + "/commands", self.commands),
-            ("GET", at + "/runs", self.runs),
+            ("POST", at + "/commands", self.typed),
+            ("GET", at + "/runs", self.of_study(lambda it: [_shown(run) for run in runs.of(it)])),
             ("POST", at + "/runs", self.start),
-            ("GET", at + "/runs/{number:int}", self.run),
-            ("DELETE", at + "/runs/{number:int}", self.stop),
-            ("GET", at + "/files", self.files),
+            ("GET", at + "/runs/{number:int}", self.of_run(_run_from)),
+            (
+                "DELETE",
+                at + "/runs/{number:int}",
+                self.of_run(lambda it, _: {"stopped": runs.stop(it)}),
+            ),
+            ("GET", at + "/files", self.of_study(self.folder.results)),
             ("GET", "/files/{study}/{path:path}", self.file),
             ("GET", "/manual/{path:path}", page_of),
             ("GET", "/{name:path}", _own),
@@ -101,7 +105,16 @@ class Desk:
         self.folder.table_of(study)
         return study
 
-    def asks(self, worker: Worker, do: Callable[..., Any], *words: str) -> _Answer:
+    def of_study(self, do: Callable[[Path], Any]) -> _Answer:
+        """A route that has a function of a study's folder answer."""
+
+        async def answer(request: Request) -> Any:
+            found = do(self.named(request))
+            return await found if inspect.isawaitable(found) else found
+
+        return answer
+
+    def asks(self, worker: Worker, do: str, *words: str) -> _Answer:
         """A route that has a function of `work` answer, with these words of the address."""
 
         async def answer(request: Request) -> Any:
@@ -113,7 +126,7 @@ class Desk:
     async def home(self, request: Request) -> _Told:
         """The folder, and how studies are described."""
         found = [
-            {"name": name, **await self.quick(work.overview, self.folder.root / name)}
+            {"name": name, **await self.quick("overview", self.folder.root / name)}
             for name in self.folder.studies()
         ]
         keys = [{**asdict(key), "must": key.must} for key in KEYS]
@@ -131,18 +144,12 @@ class Desk:
             raise Refused(409, f"{path.name} is there already", "another name", exists=True)
         where.mkdir(exist_ok=True)
         handle, part = tempfile.mkstemp(prefix=".upload-", suffix=path.suffix, dir=where)
-        announced = int(request.headers.get("content-length") or 0)
-        size, kind = 0, {}
         try:
             with os.fdopen(handle, "wb") as file:
-                async for piece in request.stream():
-                    size += len(piece)
-                    if max(size, announced) > self.upload_limit:
-                        said = f"{path.name} has more than {self.upload_limit:,} bytes"
-                        raise Refused(413, said, _LARGER)
-                    file.write(piece)
+                size = await self.taken(request, file, path.name)
+            kind = {}
             if is_design:
-                kind = await self.heavy(work.kind_of, Path(part), path.name, where.parent)
+                kind = await self.heavy("kind_of", Path(part), path.name, where.parent)
                 if "errors" in kind:
                     raise Refused(422, kind["errors"][0]["said"], kind["errors"][0]["try"])
             os.chmod(part, 0o664)
@@ -156,6 +163,16 @@ class Desk:
             Path(part).unlink(missing_ok=True)
         return {"name": path.name, "bytes": size, **kind}
 
+    async def taken(self, request: Request, file: IO[bytes], name: str) -> int:
+        """Writes what comes with a request, and gives its bytes."""
+        size, announced = 0, int(request.headers.get("content-length") or 0)
+        async for piece in request.stream():
+            size += len(piece)
+            if max(size, announced) > self.upload_limit:
+                raise Refused(413, f"{name} has more than {self.upload_limit:,} bytes", _LARGER)
+            file.write(piece)
+        return size
+
     async def begin(self, request: Request) -> Any:
         """A study over a table, as `pitplan init`; or a copy of a study's study.toml."""
         asked = await _told_in(request)
@@ -163,50 +180,29 @@ class Desk:
         name = str(asked.get("name") or re.sub(r"(?i)(\.csv)?(\.gz)?$", "", table))
         study = self.folder.new_study(name)
         if "copy" in asked:
-            other = self.folder.study(str(asked["copy"]))
-            study.mkdir(exist_ok=True)
-            text = (other / "study.toml").read_bytes()
-            with whole_file(study / "study.toml") as part:
-                part.write_bytes(text)
+            text = (self.folder.study(str(asked["copy"])) / "study.toml").read_bytes()
+            _write(study / "study.toml", text)
             return {"study": name}
         columns = {str(key): str(value) for key, value in dict(asked.get("columns", {})).items()}
         encoding = str(asked.get("encoding") or "") or None
-        return await self.heavy(
-            work.begin, study, self.folder.file(table, TABLES), columns, encoding
-        )
-
-    async def study(self, request: Request) -> _Told:
-        """A study, as its forms need it."""
-        return await self.told(self.named(request))
+        return await self.heavy("begin", study, self.folder.file(table, TABLES), columns, encoding)
 
     async def told(self, study: Path) -> _Told:
         """All of a study that stands in its folder."""
-        text = (study / "study.toml").read_bytes()
+        before = (study / "study.toml").read_bytes()
         # of this very text, whatever is written while the rest is found: the page sees that it is old
-        pulse = {**_beat(study), "etag": etag(text)}
-        try:
-            values = tomllib.loads(text.decode("utf-8-sig"))
-        except (ValueError, RecursionError):
-            values = None
+        pulse = {**_beat(study), "etag": etag(before)}
+        values, outside, text = None, [], before.decode("utf-8-sig", "replace")
+        with suppress(ValueError, RecursionError):
+            values = tomllib.loads(before.decode("utf-8-sig"))
         try:
             self.folder.table_of(study)
-            outside = []
         except Refused as refused:
             outside = [{**refused.told["errors"][0], "key": ["model", "table"]}]
         designs = sorted(it.name for it in (study / "designs").glob("[!.]*"))
-        return {
-            "name": study.name,
-            "text": text.decode("utf-8-sig", "replace"),
-            "values": values,
-            "outside": outside,
-            "state": await self.quick(work.overview, study),
-            "designs": designs,
-            "pulse": pulse,
-        }
-
-    async def pulse(self, request: Request) -> _Told:
-        """What changes where somebody else did something."""
-        return _beat(self.named(request))
+        told = {"name": study.name, "text": text, "values": values, "outside": outside}
+        state = await self.quick("overview", study)
+        return {**told, "state": state, "designs": designs, "pulse": pulse}
 
     async def change(self, request: Request) -> _Told:
         """Writes study.toml: some keys, or the whole text. Refused where somebody has changed the same meanwhile."""
@@ -218,26 +214,13 @@ class Desk:
                 if etag(before) != asked["etag"]:
                     raise _stale("study.toml", study)
                 new = str(asked["text"]).encode()
-                if asked.get("keeps"):
-                    kept = _put_aside(path, before)
+                kept = put_aside(path).name if asked.get("keeps") else None
             else:
-                mark = "\ufeff" if before.startswith(b"\xef\xbb\xbf") else ""
-                try:
-                    text = toml_text.changed(before.decode("utf-8-sig"), asked["changes"])
-                except toml_text.Conflict as conflict:
-                    raise _stale(_labelled(conflict), study) from None
-                except (ValueError, KeyError, TypeError) as error:
-                    raise Refused(422, f"study.toml can't be changed so: {error}") from None
-                new = (mark + text).encode()
-            with whole_file(path) as part:
-                part.write_bytes(new)
+                new = _changed(before, asked["changes"], study)
+            _write(path, new)
             with suppress(OSError):  # who it was may be lost on a full disk, and no more
                 runs.write(study / HOME / _CHANGED, {"etag": etag(new), "who": _who(asked)})
         return {**await self.told(study), "kept": kept}
-
-    async def commands(self, request: Request) -> _Told:
-        """What a button would run, as it is typed."""
-        return {"typed": (await self.wanted(request)).typed}
 
     async def wanted(self, request: Request) -> runs.Wanted:
         """What is asked for, as commands."""
@@ -246,9 +229,9 @@ class Desk:
         kept = {key: value for key, value in asked.items() if key != "who"}
         return runs.Wanted(str(asked["what"]), steps, _who(asked), kept)
 
-    async def runs(self, request: Request) -> list[_Told]:
-        """The runs of a study."""
-        return [_shown(run) for run in runs.of(self.named(request))]
+    async def typed(self, request: Request) -> _Told:
+        """What a button would run, as it is typed."""
+        return {"typed": (await self.wanted(request)).typed}
 
     async def start(self, request: Request) -> _Told:
         """Starts a run."""
@@ -261,27 +244,17 @@ class Desk:
             raise refusal(error, "the run wasn't begun") from None
         return {"number": number}
 
-    def found(self, request: Request) -> _Told:
-        """The run that a request names."""
-        number = request.path_params["number"]
-        for run in runs.of(self.named(request)):
-            if run["number"] == number:
-                return run
-        raise Refused(404, f"there is no run {number}")
+    def of_run(self, do: Callable[[_Told, Request], _Told]) -> _Answer:
+        """A route that has a function of a run answer."""
 
-    async def run(self, request: Request) -> _Told:
-        """A run, and what it has done since a place."""
-        run = self.found(request)
-        events, upto = runs.told_since(run, int(request.query_params.get("from", 0)))
-        return {**_shown(run), "events": events, "upto": upto}
+        async def answer(request: Request) -> _Told:
+            number, found = request.path_params["number"], runs.of(self.named(request))
+            for run in found:
+                if run["number"] == number:
+                    return do(run, request)
+            raise Refused(404, f"there is no run {number}")
 
-    async def stop(self, request: Request) -> _Told:
-        """Stops a run, as ctrl-C does."""
-        return {"stopped": runs.stop(self.found(request))}
-
-    async def files(self, request: Request) -> list[_Told]:
-        """What there is to take away."""
-        return self.folder.results(self.named(request))
+        return answer
 
     async def file(self, request: Request) -> Response:
         """A file of a study: a page or a picture to be looked at, as a stranger's, all else to be saved."""
@@ -329,6 +302,17 @@ def _labelled(conflict: toml_text.Conflict) -> str:
     return f"{label} ({conflict})" if label else str(conflict)
 
 
+def _changed(before: bytes, changes: Any, study: Path) -> bytes:
+    """study.toml with some keys changed."""
+    mark = "\ufeff" if before.startswith(b"\xef\xbb\xbf") else ""
+    try:
+        return (mark + toml_text.changed(before.decode("utf-8-sig"), changes)).encode()
+    except toml_text.Conflict as conflict:
+        raise _stale(_labelled(conflict), study) from None
+    except (ValueError, KeyError, TypeError) as error:
+        raise Refused(422, f"study.toml can't be changed so: {error}") from None
+
+
 def _stale(what: str, study: Path) -> Refused:
     """The refusal of a change that another one came before: the desk knows who has changed
     study.toml where that was done on it last."""
@@ -343,16 +327,10 @@ def _stale(what: str, study: Path) -> Refused:
     )
 
 
-def _put_aside(path: Path, text: bytes) -> str:
-    """Keeps a text beside its file, under a name that nothing has yet, and gives the name."""
-    for n in count(1):
-        place = path.with_name(f"{path.name}.before" + (f"-{n}" if n > 1 else ""))
-        if not place.exists():
-            with whole_file(place) as part:
-                part.write_bytes(text)
-        if place.read_bytes() == text:
-            return place.name
-    raise AssertionError("names don't end")
+def _write(path: Path, text: bytes) -> None:
+    """A file of bytes, there whole or not at all."""
+    with whole_file(path) as part:
+        part.write_bytes(text)
 
 
 def _beat(study: Path) -> _Told:
@@ -370,6 +348,12 @@ def _shown(run: _Told) -> _Told:
     """A run as the browser takes it."""
     names = ("number", "what", "typed", "asked", "who", "began", "state", "status", "seconds")
     return {name: run[name] for name in names} | {"folder": f"log/desk/{run['folder'].name}"}
+
+
+def _run_from(run: _Told, request: Request) -> _Told:
+    """A run, and what it has done since a place."""
+    events, upto = runs.told_since(run, int(request.query_params.get("from", 0)))
+    return {**_shown(run), "events": events, "upto": upto}
 
 
 async def _told_in(request: Request) -> _Told:
@@ -396,19 +380,27 @@ def _answering(do: _Answer) -> _Answer:
             if isinstance(found, bytes):
                 return Response(found, media_type="image/png")
             return found if isinstance(found, Response) else JSONResponse(_finite(found))
-        except Refused as error:
-            no = error
-        except PlanError as error:
-            no = Refused(422, error.said, error.try_this)
-        except RecursionError:
-            no = Refused(400, "the desk can't do that: it is nested too deep")
-        except (ValueError, KeyError) as error:
-            no = Refused(400, f"the desk can't do that: {error}")
-        except OSError as error:
-            no = refusal(error)
+        except Exception as error:
+            no = _refused(error)
         return JSONResponse(no.told, no.status)
 
     return answer
+
+
+def _refused(error: Exception) -> Refused:
+    """What a route has raised, as an answer; what is no planner's doing is raised again."""
+    match error:
+        case Refused():
+            return error
+        case PlanError():
+            return Refused(422, error.said, error.try_this)
+        case RecursionError():
+            return Refused(400, "the desk can't do that: it is nested too deep")
+        case ValueError() | KeyError():
+            return Refused(400, f"the desk can't do that: {error}")
+        case OSError():
+            return refusal(error)
+    raise error
 
 
 def _finite(value: Any) -> Any:

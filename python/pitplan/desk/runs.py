@@ -22,12 +22,13 @@ import sys
 import time
 from collections.abc import Mapping, Sequence
 from contextlib import suppress
-from dataclasses import dataclass, field
+from dataclasses import asdict, dataclass, field
 from pathlib import Path
 from typing import Any
 
 from ..base import events
-from ..base.files import whole_file
+from ..base.kept_json import write
+from ..base.files import host
 from ..base.within import NAME as WITHIN
 from ..study import turns
 from .folder import HOME
@@ -69,14 +70,7 @@ class Wanted:
 
 
 def start(root: Path, study: Path, wanted: Wanted) -> int:
-    """Starts a run, and gives its number.
-
-    Parameters
-    ----------
-    root : Path
-        The folder that the commands run in, and that nothing outside of is read.
-    study : Path
-    wanted : Wanted
+    """Starts a run in the folder `root`, outside of which it reads nothing, and gives its number.
 
     Raises
     ------
@@ -95,9 +89,8 @@ def start(root: Path, study: Path, wanted: Wanted) -> int:
         folder.mkdir(parents=True)
         try:
             shutil.copyfile(study / "study.toml", folder / "study.toml")
-            told = {"what": wanted.what, "typed": wanted.typed, "steps": wanted.steps}
-            more = {"who": wanted.who, "asked": wanted.asked, "began": time.time()}
-            write(folder / "asked.json", {**told, **more, "root": str(root)})
+            told = {**asdict(wanted), "typed": wanted.typed, "began": time.time()}
+            write(folder / "asked.json", told)
             (folder / "going").touch()
             _spawned(folder, root, lock.fileno())
         except OSError:
@@ -168,27 +161,26 @@ def _run_in(folder: Path) -> dict[str, Any] | None:
     told = read(folder / "asked.json")
     if told is None:
         return None
-    number, _, _ = folder.name.partition("-")
-    end = next(folder.glob("ended-*-*"), None)
-    process = read(folder / "process.json") or {}
-    run = {**told, "number": int(number), "folder": folder, **process}
-    run.pop("root"), run.pop("steps", None)
+    told.pop("root", None)  # as earlier versions had it
+    steps, end = told.pop("steps"), next(folder.glob("ended-*-*"), None)
+    run = {**told, "number": int(folder.name.partition("-")[0]), "folder": folder}
+    run |= {**(read(folder / "process.json") or {}), "status": None}
     if end is None:
-        return {**run, **_unended(run), "seconds": time.time() - told["began"]}
+        return {**run, "state": _unended(run), "seconds": time.time() - told["began"]}
     status, at = (int(part) for part in end.name.split("-")[1:])
-    well = is_done(status, [told["steps"][at - 1][0]] if at else [""])
+    well = is_done(status, [steps[at - 1][0]] if at else [""])
     state = "done" if well else "stopped" if status == _STOPPED else "failed"
     seconds = end.stat().st_mtime - told["began"]
     return {**run, "state": state, "status": status, "at": at, "seconds": seconds}
 
 
-def _unended(run: Mapping[str, Any]) -> dict[str, Any]:
+def _unended(run: Mapping[str, Any]) -> str:
     """The state of a run that has left no end: it runs, or was killed."""
     if run.get("host", host()) != host():
-        return {"state": f"runs on {run['host']}", "status": None}
+        return f"runs on {run['host']}"
     young = "pid" not in run and time.time() - run["began"] < 5
     runs = young or (run.get("since") is not None and since(run["pid"]) == run["since"])
-    return {"state": "running" if runs else "killed", "status": None}
+    return "running" if runs else "killed"
 
 
 def stop(run: Mapping[str, Any]) -> bool:
@@ -200,26 +192,8 @@ def stop(run: Mapping[str, Any]) -> bool:
 
 
 def told_since(run: Mapping[str, Any], place: int) -> tuple[list[dict[str, Any]], int]:
-    """The events of a run from a byte on, and the byte behind them; a line that isn't whole yet is left for the next time."""
-    try:
-        with open(run["folder"] / "events.jsonl", "rb") as file:
-            file.seek(place)
-            new = file.read(_LONGEST)
-    except OSError:
-        return [], place
-    whole = new[: new.rfind(b"\n") + 1]
-    found = []
-    for line in whole.splitlines():
-        try:
-            found.append(json.loads(line))
-        except ValueError:  # cut off where the disk was full
-            continue
-    return found, place + len(whole)
-
-
-def host() -> str:
-    """This machine's name."""
-    return os.uname().nodename
+    """The events of a run from a byte on, and the byte behind them."""
+    return events.read_on(run["folder"] / "events.jsonl", place, _LONGEST)
 
 
 def since(pid: int) -> str | None:
@@ -229,12 +203,6 @@ def since(pid: int) -> str | None:
         return None if state == "Z" else f"{_BOOT.read_text().strip()} {rest[18]}"
     except OSError:
         return None
-
-
-def write(path: Path, told: Any) -> None:
-    """A small file, there whole or not at all."""
-    with whole_file(path) as part:
-        part.write_text(json.dumps(told, indent=1, ensure_ascii=False))
 
 
 def read(path: Path) -> Any:

@@ -6,7 +6,6 @@ import secrets
 import socket
 import threading
 from collections.abc import Sequence
-from dataclasses import dataclass, field
 from pathlib import Path
 from typing import Any
 from urllib.parse import urlsplit
@@ -29,47 +28,6 @@ _TOLD = """pitplan desk over {folder}. Open
 Ctrl-C ends the desk. What it has started goes on, and is found again when it is started again."""
 
 
-@dataclass(frozen=True)
-class Settings:
-    """What a desk is started with.
-
-    Attributes
-    ----------
-    folder : Path
-    host : str
-        The address that it listens at.
-    port : int
-    addresses : sequence of str
-        Further ones by which browsers call it, as "https://desk.mine.example".
-    upload_limit : int
-        Bytes.
-    """
-
-    folder: Path
-    host: str = "127.0.0.1"
-    port: int = 8750
-    addresses: Sequence[str] = field(default_factory=list)
-    upload_limit: int = 2_000_000_000
-
-    def names(self) -> dict[str, str]:
-        """What browsers call it, as the header Host has it, and of each the origin of its pages.
-
-        Raises
-        ------
-        PlanError
-            Where a further address is none.
-        """
-        found = {f"{name}:{self.port}": f"http://{name}:{self.port}" for name in _HERE}
-        for address in self.addresses:
-            parts = urlsplit(address)
-            if parts.scheme not in ("http", "https") or not parts.netloc or parts.path:
-                raise PlanError(
-                    f"--name {address} is no address", try_this="https://desk.mine.example"
-                )
-            found[parts.netloc] = f"{parts.scheme}://{parts.netloc}"
-        return found
-
-
 class _Server(uvicorn.Server):  # type: ignore[misc]  # uvicorn shows mypy no types
     """Ends a while after it is told to, whatever is still asked: what was started goes on by
     itself."""
@@ -82,30 +40,43 @@ class _Server(uvicorn.Server):  # type: ignore[misc]  # uvicorn shows mypy no ty
         late.start()
 
 
-def serve(settings: Settings) -> None:
+def serve(
+    folder: Path,
+    host: str = "127.0.0.1",
+    port: int = 8750,
+    addresses: Sequence[str] = (),
+    upload_limit: int = 2_000_000_000,
+) -> None:
     """Serves until ctrl-C.
+
+    Parameters
+    ----------
+    folder : Path
+    host, port : str, int
+        Where it listens.
+    addresses : sequence of str
+        Further ones by which browsers call it, as "https://desk.mine.example".
+    upload_limit : int
+        Bytes.
 
     Raises
     ------
     PlanError
         Where the folder or an address is none, or another program listens there.
     """
-    if not settings.folder.is_dir():
-        raise PlanError(f"{settings.folder} is no folder", try_this="one with tables and studies")
-    names = settings.names()
+    if not folder.is_dir():
+        raise PlanError(f"{folder} is no folder", try_this="one with tables and studies")
+    names = names_of(port, addresses)
     try:  # before the address is told, so that it answers
-        listens = socket.create_server((settings.host, settings.port))
+        listens = socket.create_server((host, port))
     except OSError as error:
-        raise MachineError(
-            f"{settings.host}:{settings.port}: {error.strerror}",
-            try_this=f"--port {settings.port + 1}",
-        ) from None
+        said = f"{host}:{port}: {error.strerror}"
+        raise MachineError(said, try_this=f"--port {port + 1}") from None
     token = os.environ.pop(_TOKEN, "") or secrets.token_urlsafe(24)
-    desk = Desk(Folder(settings.folder), settings.upload_limit)
-    app = Guard(Starlette(routes=desk.routes()), token, names, f"pitplan-desk-{settings.port}")
-    address = settings.addresses[0] if settings.addresses else f"http://localhost:{settings.port}"
-    told = _TOLD.format(folder=desk.folder.root, address=address, token=token)
-    print(told, flush=True)
+    desk = Desk(Folder(folder), upload_limit)
+    app = Guard(Starlette(routes=desk.routes()), token, names, f"pitplan-desk-{port}")
+    address = next(iter(addresses), f"http://localhost:{port}")
+    print(_TOLD.format(folder=desk.folder.root, address=address, token=token), flush=True)
     desk.heavy.begin()
     desk.quick.begin()
     config = uvicorn.Config(app, log_level="warning", access_log=False, server_header=False)
@@ -113,3 +84,21 @@ def serve(settings: Settings) -> None:
         _Server(config).run(sockets=[listens])
     finally:
         desk.end()
+
+
+def names_of(port: int, addresses: Sequence[str]) -> dict[str, str]:
+    """What browsers call the desk, as the header Host has it, and of each the origin of its pages.
+
+    Raises
+    ------
+    PlanError
+        Where a further address is none.
+    """
+    found = {f"{name}:{port}": f"http://{name}:{port}" for name in _HERE}
+    for address in addresses:
+        parts = urlsplit(address)
+        if parts.scheme not in ("http", "https") or not parts.netloc or parts.path:
+            said = f"--name {address} is no address"
+            raise PlanError(said, try_this="https://desk.mine.example")
+        found[parts.netloc] = f"{parts.scheme}://{parts.netloc}"
+    return found

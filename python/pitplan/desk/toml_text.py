@@ -14,10 +14,9 @@ from tomlkit.exceptions import TOMLKitError
 from ..base.errors import spelled
 from ..base.study_lines import step_of, value_at
 
-_Path = list[
-    Any
-]  # as ["economics", "metals", "copper", "price"]; an item of a list by its place, too
+_Path = list[Any]  # as ["economics", "metals", "copper", "price"]; a list's item by its place, too
 _NOTHING = None  # what stands where a key isn't there
+_HEADER = re.compile(r"\s*\[[^\],]*\]\]?\s*(#|$)")
 
 
 class Conflict(Exception):
@@ -111,29 +110,20 @@ def _put(tree: Any, path: _Path, value: Any) -> None:
 def _in_text(text: str, path: _Path, value: Any) -> str:
     """The text with one value set. A key that `init` left as a comment comes to stand in that line."""
     document = tomlkit.parse(text)
-    if not all(isinstance(step, str) for step in path[:2]):
+    section, key, *rest = path
+    if not isinstance(section, str) or not isinstance(key, str):
         raise ValueError("a section and a key are wanted")
-    section, key = path[:2]
-    is_there = key in document.get(section, {})
-    if value is not _NOTHING and not is_there:
-        whole: Any = value
-        if len(path) > 2:  # a table that isn't there yet
-            whole = {}
-            _put(whole, copy.copy(path[2:]), value)
-        end = _newline(text)
-        if section not in document:
-            text = (
-                f"{text.rstrip()}{end}{end}[{section}]{end}"
-                if text.strip()
-                else f"[{section}]{end}"
-            )
-        return _with_new_key(text, section, key, _written(whole))
-    if value is _NOTHING and len(path) == 2:
+    if value is _NOTHING and not rest:
         off = _without(text, section, key)
         if off is not None:
             return off
-    _put(document, path, _NOTHING if value is _NOTHING else tomlkit.value(_written(value)))
-    return tomlkit.dumps(document)
+    if value is _NOTHING or key in document.get(section, {}):
+        _put(document, path, _NOTHING if value is _NOTHING else tomlkit.value(_written(value)))
+        return tomlkit.dumps(document)
+    whole: Any = {} if rest else value
+    if rest:  # a table that isn't there yet
+        _put(whole, rest, value)
+    return _with_new_key(text, section, key, _written(whole))
 
 
 def _without(text: str, section: str, key: str) -> str | None:
@@ -141,7 +131,7 @@ def _without(text: str, section: str, key: str) -> str | None:
     wanted, lines = tomllib.loads(text), text.splitlines(keepends=True)
     _put(wanted, [section, key], _NOTHING)
     for i, line in enumerate(lines):
-        if re.match(rf"{re.escape(key)} = ", line):
+        if line.startswith(f"{key} = "):
             new = "".join([*lines[:i], f"# {line}", *lines[i + 1 :]])
             with suppress(ValueError):
                 if tomllib.loads(new) == wanted:
@@ -156,27 +146,19 @@ def _written(value: Any) -> str:
     return spelled(value)
 
 
-def _newline(text: str) -> str:
-    """How the lines of a text end."""
-    return "\r\n" if "\r\n" in text else "\n"
-
-
 def _with_new_key(text: str, section: str, key: str, value: str) -> str:
-    """A key more in a section: in place of its line of comment, or after the section's last line."""
-    end, lines = _newline(text), text.splitlines(keepends=True)
+    """A key more in a section: in place of its line of comment, or after the section's last line; in a section of its own at the
+    end where there is none."""
+    end = "\r\n" if "\r\n" in text else "\n"
+    if section not in tomllib.loads(text):
+        text = f"{text.rstrip()}{end}{end}[{section}]{end}".lstrip()
+    lines, value = text.splitlines(keepends=True), value.replace("\n", end)
     head = re.compile(rf"\s*\[\s*{re.escape(section)}\s*\]")
     start = next((i for i, line in enumerate(lines) if head.match(line)), None)
     if start is None:
         raise ValueError(f"the file has no line [{section}]")
-    stop = next(
-        (
-            i
-            for i in range(start + 1, len(lines))
-            if re.match(r"\s*\[[^\],]*\]\]?\s*(#|$)", lines[i])
-        ),
-        len(lines),
-    )
-    value = value.replace("\n", end)
+    after = range(start + 1, len(lines))
+    stop = next((i for i in after if _HEADER.match(lines[i])), len(lines))
     for i in range(start + 1, stop):
         off = re.match(rf"#\s*{re.escape(key)} = .*?(\s\s+#.*)?$", lines[i].rstrip("\r\n"))
         if off:

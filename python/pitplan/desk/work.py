@@ -8,23 +8,35 @@ from __future__ import annotations
 import csv
 import functools
 import io
-import multiprocessing
-import os
 import re
-import threading
 import time
 import tomllib
-from collections.abc import Callable, Mapping
-from itertools import zip_longest
+from collections.abc import Mapping
 from contextlib import suppress
+from itertools import zip_longest
 from pathlib import Path
 from typing import Any
 
-from ..base.error_text import place_of
+import pandas as pd
+
+from ..base.error_text import errors_told
 from ..base.errors import PlanError
-from ..base.machine import whole_memory
-from ..base.within import only_within
-from .folder import refusal
+from ..base.files import whole_file
+from ..base.units import Units
+from ..model.tonnage import TITLE, texts_of
+from ..plans.design import by_ids_of, has_points
+from ..plans.surface import of_dxf
+from ..study.building import near
+from ..study.check import check as checked, model_of
+from ..study.first_look import GRADE, look_at, metal_in, named_grades, written
+from ..study.looks import not_held
+from ..study.study import Study
+from ..study.study_file import parts_of_file, read_study_file
+from ..table.column_names import PLACES, columns_found, nearest
+from ..table.csv_text import SAY_ENCODING, dialect_of, head_of, names_of, numbers_among
+from ..table.csv_text import open_table, read_frame
+from ..views import slope_rose
+from ..views.ground import from_above
 
 _LOOKED = "rows names grades size rotation absent region regions rocks notes".split()
 ASK_COLUMNS = 'choose below which column is which, and press "Go on"'
@@ -33,65 +45,12 @@ _MOST_WORDS = 12  # words of a column that are listed
 _WIDEST = 60  # columns of a row that are shown
 _MOST_ROWS = 20  # in which a column that may be a coordinate has a number
 _NUMBER = re.compile(r"\s*[-+]?[\d.,]*\d[\d.,]*(e[-+]?\d+)?\s*", re.IGNORECASE)
-_SHARE = 0.85  # of the memory of the machine, or of its container, that this process may take
+_KEPT = {"schedule": "runs/schedule/schedule.npz", "risk": "risk/risk.json"}
 _Told = dict[str, Any]
 
 
-def settle(root: Path) -> None:
-    """At the start of a process: where it works, that it reads nothing outside, and what memory it may take."""
-    import resource
-
-    os.chdir(root)
-    only_within(root)
-    threading.Thread(target=_end_with_the_desk, daemon=True).start()
-    most = int(_SHARE * whole_memory())
-    resource.setrlimit(resource.RLIMIT_AS, (most, most))
-
-
-def _end_with_the_desk() -> None:
-    """Waits for the desk's end, and ends this process: a desk that is killed ends nothing itself.
-
-    Linux's signal at a parent's end would come when the thread ends that began this process.
-    """
-    desk = multiprocessing.parent_process()
-    assert desk is not None
-    desk.join()
-    os._exit(1)
-
-
 def warm() -> None:
-    """Loads what the first question would wait for."""
-    from ..study import check, first_look, study  # noqa: F401
-    from ..views import ground  # noqa: F401
-
-
-def in_words(do: Callable[..., Any]) -> Callable[..., Any]:
-    """Gives an error as a planner is told it."""
-
-    @functools.wraps(do)
-    def doing(*words: Any) -> Any:
-        try:
-            return do(*words)
-        except PlanError as error:
-            return {"errors": _errors_of(error)}
-        except OSError as error:
-            return refusal(error).told
-        except RecursionError:
-            return {"errors": _errors_of(PlanError("study.toml is nested too deep"))}
-        except MemoryError:
-            short = PlanError("memory was refused", try_this="a machine with more memory")
-            return {"errors": _errors_of(short)}
-
-    return doing
-
-
-def _errors_of(error: PlanError, study_toml: Path | None = None) -> list[_Told]:
-    """An error as data, each with its line of study.toml."""
-    found = []
-    for each in error.each():
-        place = place_of(each, study_toml)
-        found.append({**each.as_data(), "line": place[0] if place else None})
-    return found
+    """Loads what the first question would wait for: all of this module."""
 
 
 def _stamp(path: Path) -> tuple[str, int, int]:
@@ -100,15 +59,10 @@ def _stamp(path: Path) -> tuple[str, int, int]:
     return str(path), there.st_size, there.st_mtime_ns
 
 
-@in_words
 def begin(study: Path, table: Path, columns: Mapping[str, str], encoding: str | None) -> _Told:
     """As `pitplan init`: looks at a table and writes study.toml. What is asked for in its place comes with an error."""
-    from ..base.files import whole_file
-    from ..study.building import near
-    from ..study.first_look import written
-
     try:
-        look = looked(_stamp(table), tuple(sorted(columns.items())), encoding)
+        look = _looked(_stamp(table), tuple(sorted(columns.items())), encoding)
     except PlanError as error:
         return _asked_for(table, columns, encoding, error)
     study.mkdir(exist_ok=True)
@@ -121,10 +75,7 @@ def _asked_for(
     table: Path, columns: Mapping[str, str], encoding: str | None, error: PlanError
 ) -> _Told:
     """What the desk asks where a table can't be read so: which column is which, with a guess for each; or its encoding."""
-    from ..table.column_names import PLACES, columns_found, nearest
-    from ..table.csv_text import SAY_ENCODING, dialect_of, head_of, names_of
-
-    told = _errors_of(error)
+    told = errors_told(error)
     try:
         dialect = dialect_of(table, encoding or "utf-8-sig")
         first, *rows = head_of(table, dialect.encoding, 1 + _MOST_ROWS)
@@ -141,68 +92,61 @@ def _asked_for(
         if it["column"] in set(found.values()) - set(numbers):  # the choice is wrong, not the cells
             it["try"] = "choose another column in its place"
     free = [name for name in numbers if name not in found.values()]
-    near = {key: name for key, name in nearest(missing, free).items() if name in header}
+    guessed = {key: name for key, name in nearest(missing, free).items() if name in header}
     known = columns_found(header, {})
-    return {"errors": told, "header": header, "known": known, "found": found, "near": near}
+    return {"errors": told, "header": header, "known": known, "found": found, "near": guessed}
 
 
 @functools.lru_cache(maxsize=2)
-def looked(table: tuple[str, int, int], columns: Any, encoding: str | None) -> Any:
+def _looked(table: tuple[str, int, int], columns: Any, encoding: str | None) -> Any:
     """A table's first look, taken once."""
-    from ..study.first_look import look_at
-
     return look_at(Path(table[0]), dict(columns), encoding, ASK_COLUMNS)
 
 
-@in_words
 def look(study: Path) -> _Told:
-    """What a study's table looks like, what `init` would say of it, and a line for each column."""
-    from ..study.first_look import GRADE, metal_in, named_grades, written
-
-    table, columns, encoding = _read_with(study)
-    of = _stamp(table), columns, encoding
-    found = looked(*of)
-    told = {name: getattr(found, name) for name in _LOOKED}
+    """What a study's table looks like, what `init` would say of it, and a line for each column, without the cells that study.toml
+    calls not estimated."""
+    table, model = _table_of(study)
+    columns, absent = model.get("columns", {}), model.get("absent")
+    names = tuple(sorted(columns.items())) if isinstance(columns, dict) else ()
+    of = _stamp(table), names, model.get("encoding")
+    found = _looked(*of)
+    marks = found.absent if absent is None else [str(each) for each in absent]
     each = [*found.grades, GRADE]
     metals = tomllib.loads(f"metals = [{''.join(map(metal_in, each))}]")["metals"]
-    told |= {"named": named_grades(found), "metals": dict(zip(each, metals))}
-    init = tomllib.loads(written(found, "t"))
-    return {**told, "columns": _lines_of(*of), "init": init}
+    told = {name: getattr(found, name) for name in _LOOKED}
+    told |= {"named": named_grades(found), "metals": dict(zip(each, metals)), "marks": marks}
+    return {
+        **told,
+        "columns": _lines(*of, tuple(marks)),
+        "init": tomllib.loads(written(found, "t")),
+    }
 
 
-def _read_with(study: Path) -> tuple[Path, Any, Any]:
-    """A study's table, and by which names of columns and in which encoding it is read."""
-    from ..study.study_file import parts_of_file
-
+def _table_of(study: Path) -> tuple[Path, _Told]:
+    """A study's table, and its keys of [model]."""
     parts = parts_of_file(study)
     if parts.table is None:
         raise PlanError("study.toml names no table", key=("model", "table"))
-    model = parts.document.get("model", {})
-    columns = model.get("columns", {})
-    names = tuple(sorted(columns.items())) if isinstance(columns, dict) else ()
-    return parts.table, names, model.get("encoding")
+    return parts.table, parts.document.get("model", {})
 
 
 @functools.lru_cache(maxsize=1)
-def _lines_of(table: tuple[str, int, int], columns: Any, encoding: str | None) -> list[_Told]:
+def _lines(table: Any, columns: Any, encoding: str | None, absent: tuple[str, ...]) -> list[_Told]:
     """A line for each column of a table, made once."""
-    from ..table.csv_text import numbers_among, read_frame
-
-    found = looked(table, columns, encoding)
+    found, marks = _looked(table, columns, encoding), numbers_among(absent)
     frame = read_frame(Path(table[0]), found.dialect)
-    is_what = {own: name for name, own in found.names.items()}
-    is_what.update(dict.fromkeys(found.grades, "grade"))
-    marks = numbers_among(found.absent)
+    is_what = {own: name for name, own in found.names.items()} | dict.fromkeys(
+        found.grades, "grade"
+    )
     return [
         {"name": name, "is": is_what.get(name, ""), **_line_of(frame[name], marks)}
         for name in map(str, frame.columns)
     ]
 
 
-def _line_of(values: Any, marks: list[float]) -> _Told:
+def _line_of(values: pd.Series, marks: list[float]) -> _Told:
     """What a column has: its least, mean and greatest number, or its commonest words."""
-    import pandas as pd
-
     numbers = pd.to_numeric(values, errors="coerce")
     numbers = numbers.mask(numbers.isin(marks))
     there = numbers.notna()
@@ -220,8 +164,6 @@ _model: dict[Any, Any] = {}  # the model that was read last, by what it was read
 
 def _kept_model(parts: Any) -> Any:
     """The model that a table holds, read once for the same keys of [model]."""
-    from ..study.check import model_of
-
     if parts.table is None or parts.keys is None:
         return None
     key = (_stamp(parts.table) if parts.table.is_file() else None, repr(parts.keys))
@@ -232,33 +174,28 @@ def _kept_model(parts: Any) -> Any:
     return _model[key]
 
 
-@in_words
 def check(study: Path) -> _Told:
     """What `pitplan check` says: each error and look, and what lies in the ground at the prices as they stand."""
-    from ..model.tonnage import TITLE, by_rock, texts_of
-    from ..study.check import check as checked
-
     began, path = time.monotonic(), study / "study.toml"
     found = checked(study, _kept_model)
-    errors = [told for error in found.errors for told in _errors_of(error, path)]
-    looks = [
-        {
-            "said": str(it).replace("\n  try: ", "; try: "),
-            "remedy": it.remedy and it.remedy.as_data(),
-        }
-        for it in found.looks
-    ]
-    told: _Told = {"errors": errors, "looks": looks, "factors": found.parts and found.parts.factors}
-    model, parts = found.model, found.parts
+    model, tonnage = found.model, found.tonnage
+    told: _Told = {
+        "errors": [each for error in found.errors for each in errors_told(error, path)],
+        "looks": [
+            {
+                "said": str(it).replace("\n  try: ", "; try: "),
+                "remedy": it.remedy and it.remedy.as_data(),
+            }
+            for it in found.looks
+        ],
+        "factors": found.parts and found.parts.factors,
+    }
     if model is not None:
         told |= {"blocks": len(model), "size": model.grid.size, "shape": model.grid.shape}
         told |= {"notes": model.notes, "benches": _benches_of(model.grid)}
-    if model is not None and found.priced is not None and parts and parts.economics:
-        metals = parts.economics.metals
-        units = {m.name: {"grade_unit": m.grade_unit, "price_unit": m.price_unit} for m in metals}
-        names, rows = texts_of(by_rock(model, found.priced, units))
-        told["tonnage"] = {"title": TITLE, "names": names, "rows": rows}
-        if parts.economics.forbid:
+    if tonnage is not None and found.parts and found.priced is not None:
+        told["tonnage"] = dict(zip(("title", "names", "rows"), (TITLE, *texts_of(tonnage))))
+        if found.parts.economics and found.parts.economics.forbid:
             told["forbidden"] = int(found.priced.forbidden.sum())
     return {**told, "seconds": round(time.monotonic() - began, 2)}
 
@@ -268,20 +205,15 @@ def _benches_of(grid: Any) -> list[float]:
     return [float(grid.origin[2] + level * grid.size[2]) for level in range(grid.shape[2])][::-1]
 
 
-@in_words
 def overview(study: Path) -> _Told:
     """How far a study is, by its files."""
-    from ..study.study import Study
-    from ..study.study_file import read_study_file
-
     told: _Told = {"built": False, "old": None, "there": 0, "of": 0}
     told["when"] = (study / "study.toml").stat().st_mtime
     try:
         built = Study(study)
     except PlanError:
         return told
-    kept = {"schedule": "runs/schedule/schedule.npz", "risk": "risk/risk.json"}
-    told |= {name: (study / path).is_file() for name, path in kept.items()}
+    told |= {name: (study / path).is_file() for name, path in _KEPT.items()}
     told |= {"built": True, "blocks": built.manifest["blocks"], "currency": built.currency}
     try:
         file = read_study_file(study)
@@ -301,15 +233,10 @@ def overview(study: Path) -> _Told:
     }
 
 
-@in_words
 def kind_of(design: Path, name: str, study: Path) -> _Told:
     """What a dropped design is, as `compare` takes it: a surface or ids, where that can be told. A
     DXF without faces is an error, and so is a text none of whose words is an id of the study's
-    table, where the study is built."""
-    from ..plans.design import by_ids_of, has_points
-    from ..plans.surface import of_dxf
-    from ..study.study import Study
-
+    table, built or not."""
     try:
         if design.suffix.lower() == ".dxf":
             of_dxf(design)
@@ -319,49 +246,46 @@ def kind_of(design: Path, name: str, study: Path) -> _Told:
         has_ids = None
         with suppress(PlanError):  # which of the two can't be told: who dropped it says so
             has_ids = not has_points(design, "id")
-        if has_ids and (study / "model").is_dir():
-            by_ids_of(Study(study).model, design)
+        model = _model_at_hand(study) if has_ids else None
+        if model is not None:
+            by_ids_of(model, design)
     except PlanError as error:
         error.table = name
         raise
     return {} if has_ids is None else {"as": "ids" if has_ids else "surface"}
 
 
-@in_words
+def _model_at_hand(study: Path) -> Any:
+    """A study's model: the one that was built, else that of its table; None where neither can be read."""
+    with suppress(PlanError):
+        return Study(study).model
+    with suppress(PlanError):
+        return _kept_model(parts_of_file(study))
+    return None
+
+
 def rose(study: Path) -> _Told:
     """The walls that are asked for and those that would be built, by degrees of bearing, for each region."""
-    from ..base.units import Units
-    from ..study.looks import not_held
-    from ..study.study_file import read_study_file
-
     file = read_study_file(study)
     grid, slopes, unit = file.grid(), file.slopes, Units(**file.keys.units).length
     table, regions = slopes.built(grid), []
     table = table[table.bearing % 45 == 0]
     for name, pattern in slopes.patterns(grid).items():
         rows, lines = table[table.region == name], slopes.lines(name, grid, unit)
-        look = "" if pattern.is_held else not_held(name, pattern, slopes.levels)
+        said = "" if pattern.is_held else not_held(name, pattern, slopes.levels)
         told = {"name": name, "asked": rows.asked.tolist(), "built": rows.built.tolist()}
-        regions.append({**told, "said": lines, "look": look})
+        regions.append({**told, "said": lines, "look": said})
     return {"regions": regions, "bearings": rows.bearing.tolist()}
 
 
-@in_words
 def rose_picture(study: Path) -> bytes:
     """The rose of the same, as PNG."""
-    from ..study.study_file import read_study_file
-    from ..views.slope_rose import rose as drawn
-
     file = read_study_file(study)
-    return _png(drawn(file.slopes, file.grid()))
+    return _png(slope_rose.rose(file.slopes, file.grid()))
 
 
-@in_words
 def ground(study: Path, what: str) -> bytes:
     """The model from above, as PNG."""
-    from ..study.study_file import parts_of_file
-    from ..views.ground import from_above
-
     model = _kept_model(parts_of_file(study))
     if model is None:
         raise PlanError("the table can't be read yet")
@@ -375,18 +299,13 @@ def _png(figure: Any) -> bytes:
     return image.getvalue()
 
 
-@in_words
 def cells(study: Path, row: str) -> _Told:
     """The header and the rows about one, as a spreadsheet counts them: what an error names."""
-    from ..table.csv_text import dialect_of, open_table
-
-    table, _, encoding = _read_with(study)
-    dialect, found, middle = dialect_of(table, encoding or "utf-8-sig"), [], int(row)
+    table, model = _table_of(study)
+    dialect, found = dialect_of(table, model.get("encoding") or "utf-8-sig"), []
     with open_table(table) as file:
-        for number, line in enumerate(file, 1):
-            if number == 1 or abs(number - middle) <= 1:
+        for number, line in zip(range(1, int(row) + 2), file):
+            if number == 1 or number >= int(row) - 1:
                 text = line.decode(dialect.encoding, "replace").rstrip("\r\n")
                 found.append([number, text.split(dialect.separator)[:_WIDEST]])
-            if number > middle:
-                break
     return {"rows": found}

@@ -3,16 +3,25 @@ from __future__ import annotations
 
 import asyncio
 import multiprocessing
-from collections.abc import Callable, Sequence
+import os
+import threading
+from collections.abc import Callable
 from concurrent.futures import ProcessPoolExecutor
 from concurrent.futures.process import BrokenProcessPool
 from pathlib import Path
-from typing import Any
+from typing import Any, Union
 
+from ..base.error_text import errors_told
 from ..base.errors import PlanError
-from . import work
+from ..base.machine import whole_memory
+from ..base.within import only_within
+from .folder import refusal
 
 PATIENCE = 300  # seconds that a question may take
+_SHARE = 0.85  # of the memory of the machine, or of its container, that this process may take
+_Do = Union[
+    str, Callable[..., Any]
+]  # a function of `work` by its name, which only the process loads
 
 
 class Worker:
@@ -31,32 +40,26 @@ class Worker:
         """The process, started where there is none."""
         if self.pool is None:
             context = multiprocessing.get_context("spawn")
-            self.pool = ProcessPoolExecutor(1, context, work.settle, (self.root,))
-            self.pool.submit(work.warm)
+            self.pool = ProcessPoolExecutor(1, context, settle, (self.root,))
+            self.pool.submit(answered, "warm")
         return self.pool
 
-    async def __call__(self, do: Callable[..., Any], *words: Any) -> Any:
+    async def __call__(self, do: _Do, *words: Any) -> Any:
         """Has a function of `work` done; paths are told as from the desk's folder."""
         near = [it.relative_to(self.root) if isinstance(it, Path) else it for it in words]
-        try:
+        said = "the process that did this was ended: memory was short, or somebody ended it"
+        for _ in range(2):  # once more alone: the question itself may end the process
+            pool = self.begin()
             try:
-                return await self.asked(do, near)
-            except BrokenProcessPool:  # once more alone: the question itself may end the process
-                return await self.asked(do, near)
-        except asyncio.TimeoutError:
-            said = f"that took longer than {PATIENCE} seconds, and was ended"
-        except BrokenProcessPool:
-            said = "the process that did this was ended: memory was short, or somebody ended it"
-        return {"errors": [PlanError(said, try_this="the same once more").as_data()]}
-
-    async def asked(self, do: Callable[..., Any], words: Sequence[Any]) -> Any:
-        """The same, once; a process that doesn't answer is ended."""
-        pool = self.begin()
-        try:
-            return await asyncio.wait_for(asyncio.wrap_future(pool.submit(do, *words)), PATIENCE)
-        except (asyncio.TimeoutError, BrokenProcessPool):
-            self.end(pool)
-            raise
+                asked = asyncio.wrap_future(pool.submit(answered, do, *near))
+                return await asyncio.wait_for(asked, PATIENCE)
+            except BrokenProcessPool:
+                self.end(pool)
+            except asyncio.TimeoutError:
+                self.end(pool)
+                said = f"that took longer than {PATIENCE} seconds, and was ended"
+                break
+        return {"errors": errors_told(PlanError(said, try_this="the same once more"))}
 
     def end(self, pool: ProcessPoolExecutor | None = None) -> None:
         """Ends the process, whatever it does."""
@@ -68,3 +71,44 @@ class Worker:
         pool.shutdown(wait=False)
         if self.pool is pool:
             self.pool = None
+
+
+def settle(root: Path) -> None:
+    """At the start of a process: where it works, that it reads nothing outside, and what memory it may take."""
+    import resource
+
+    os.chdir(root)
+    only_within(root)
+    threading.Thread(target=_end_with_the_desk, daemon=True).start()
+    most = int(_SHARE * whole_memory())
+    resource.setrlimit(resource.RLIMIT_AS, (most, most))
+
+
+def _end_with_the_desk() -> None:
+    """Waits for the desk's end, and ends this process: a desk that is killed ends nothing itself.
+
+    Linux's signal at a parent's end would come when the thread ends that began this process.
+    """
+    desk = multiprocessing.parent_process()
+    assert desk is not None
+    desk.join()
+    os._exit(1)
+
+
+def answered(do: _Do, *words: Any) -> Any:
+    """What a function gives, or its error as a planner is told it."""
+    try:
+        if isinstance(do, str):
+            from . import work
+
+            do = getattr(work, do)
+        return do(*words)
+    except PlanError as error:
+        return {"errors": errors_told(error)}
+    except OSError as error:
+        return refusal(error).told
+    except RecursionError:
+        return {"errors": errors_told(PlanError("study.toml is nested too deep"))}
+    except MemoryError:
+        short = PlanError("memory was refused", try_this="a machine with more memory")
+        return {"errors": errors_told(short)}

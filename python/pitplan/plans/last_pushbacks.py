@@ -2,13 +2,11 @@
 from __future__ import annotations
 
 import hashlib
-import json
 from pathlib import Path
 from typing import TYPE_CHECKING, Any
 
 from ..base import kept_json
 from ..base.errors import PlanError
-from ..base.files import whole_file
 from ..base.next_command import command
 from ..base.units_shown import share_text
 from .phases import Phases
@@ -37,8 +35,7 @@ def keep(found: Phases, folder: Path) -> None:
         "widen": None if found.mines is None else found.mining_width,
         "blocks": _digest_of(found),
     }
-    with whole_file(folder / _NAME) as part:
-        part.write_text(json.dumps(kept) + "\n")
+    kept_json.write(folder / _NAME, kept)
 
 
 def kept_in(folder: Path) -> dict[str, Any] | None:

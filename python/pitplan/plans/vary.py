@@ -8,7 +8,6 @@ its own in ``vary/recovery-5/``, built by the same code. ``vary.json`` says what
 from __future__ import annotations
 
 import hashlib
-import json
 import re
 from collections.abc import Iterable, Sequence
 from dataclasses import asdict, dataclass, replace
@@ -21,7 +20,6 @@ from ..base import kept_json
 from ..base.amounts import THOUSAND
 from ..base.errors import PlanError, meant
 from ..base.next_command import command
-from ..base.files import whole_file
 from ..base.units_shown import share_text
 from ..model.economics import Amount, Economics
 from ..model.model import Model
@@ -222,10 +220,7 @@ def prepare(
             for each in error.each():
                 each.what = f"{change}: {each.what}"
             raise
-    path = study.folder / "vary" / "vary.json"
-    path.parent.mkdir(exist_ok=True)
-    with whole_file(path) as part:
-        part.write_text(json.dumps(asdict(asked)))
+    kept_json.write(study.folder / "vary" / "vary.json", asdict(asked))
     return asked
 
 

@@ -7,7 +7,7 @@ from collections.abc import Callable, Iterator, Mapping, Sequence
 from contextlib import contextmanager, suppress
 from dataclasses import dataclass, field, replace
 from pathlib import Path
-from typing import Any, Optional
+from typing import TYPE_CHECKING, Any, Optional
 
 from ..base.amounts import Priced
 from ..base.errors import Gathered, PlanError, Remedy, about
@@ -16,9 +16,13 @@ from ..base.study_lines import value_at
 from ..base.within import refuse_outside
 from ..model.model import Model, TableKeys, read_with, rows_alone
 from ..model.subblocks import coded
+from ..model.tonnage import by_rock
 from .first_look import look_at
 from .looks import looks
 from .study_file import Parts, parts_of_file, path_of, table_found
+
+if TYPE_CHECKING:
+    import pandas as pd
 
 _OF_THE_FILE = ("table", "encoding", "decimal", "skip")  # keys without which no cell can be read
 
@@ -49,6 +53,15 @@ class Checked:
     looks: list[Strange] = field(default_factory=list)
     model: Model | None = None
     priced: Priced | None = None
+
+    @property
+    def tonnage(self) -> pd.DataFrame | None:
+        """What lies in the ground at the prices as they stand, by rock; None where that can't be told."""
+        if self.model is None or self.priced is None or not (self.parts and self.parts.economics):
+            return None
+        metals = self.parts.economics.metals
+        units = {m.name: {"grade_unit": m.grade_unit, "price_unit": m.price_unit} for m in metals}
+        return by_rock(self.model, self.priced, units)
 
 
 def check(study: Path, read: _Reader | None = None) -> Checked:

@@ -1,4 +1,5 @@
 """Who may talk to the desk, and what they may reach: a test for each row of docs/DESK.md's table of dangers."""
+import inspect
 import re
 from pathlib import Path
 
@@ -8,6 +9,7 @@ pytest.importorskip("starlette")
 from starlette.applications import Starlette
 from starlette.testclient import TestClient
 
+from pitplan.cli.desk import desk as command
 from pitplan.desk import folder, routes, serve
 from pitplan.desk.asked import Commands
 from pitplan.desk.folder import Folder, Refused
@@ -308,7 +310,7 @@ def test_what_a_button_runs(root):
 
     assert typed(what="all") == ["build hill", "shells hill", "page hill", "plot hill"]
     assert typed(what="phases", factors=[0.4, 1], width=40) == [
-        "phases 0.4,1 hill --mining-width 40",
+        "phases hill 0.4,1 --mining-width 40",
         "page hill --phases 0.4,1",
     ]
     assert typed(runs, what="compare", design="d.dxf", factor=0.9) == [
@@ -329,7 +331,7 @@ def test_what_a_button_runs(root):
     assert typed(what="plot", cut="bench", at=1005, colour="--help") == [
         "plot hill --bench 1005 --colour=--help"
     ]
-    assert typed(what="phases", factors=[0.1 + 0.2])[0] == "phases 0.3 hill"
+    assert typed(what="phases", factors=[0.1 + 0.2])[0] == "phases hill 0.3"
 
 
 def test_no_shell_reads_anything():
@@ -338,13 +340,14 @@ def test_no_shell_reads_anything():
 
 
 def test_it_listens_to_this_machine_alone_unless_told():
-    assert serve.Settings(Path(".")).host == "127.0.0.1"
-    names = serve.Settings(Path("."), port=8750, addresses=["https://desk.mine.example"]).names()
+    assert inspect.signature(serve.serve).parameters["host"].default == "127.0.0.1"
+    assert inspect.signature(command).parameters["host"].default.default == "127.0.0.1"
+    names = serve.names_of(8750, ["https://desk.mine.example"])
     assert names["localhost:8750"] == "http://localhost:8750"
     assert names["desk.mine.example"] == "https://desk.mine.example"
     for wrong in ("desk.mine.example", "ftp://x", "https://x/path", "https://"):
         with pytest.raises(PlanError, match="is no address"):
-            serve.Settings(Path("."), addresses=[wrong]).names()
+            serve.names_of(8750, [wrong])
 
 
 def test_an_answer_of_the_system_is_told_in_words(tmp_path):

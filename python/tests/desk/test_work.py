@@ -10,6 +10,7 @@ import signal
 import subprocess
 import sys
 import time
+from pathlib import Path
 
 import ezdxf
 import pytest
@@ -19,7 +20,7 @@ from starlette.applications import Starlette
 from starlette.testclient import TestClient
 
 from pitplan.base import machine
-from pitplan.desk import manual, work, worker
+from pitplan.desk import manual, routes, work, worker
 from pitplan.desk.folder import Folder
 from pitplan.desk.guard import Guard
 from pitplan.desk.routes import Desk
@@ -84,6 +85,25 @@ def test_a_study_is_begun_as_init_does(desk, tmp_path):
     assert again.status_code == 409
     assert desk.post("/api/studies", json={"copy": "begun", "name": "copied"}).status_code == 200
     assert (desk.root / "copied" / "study.toml").read_text() == wanted
+
+
+def test_what_a_route_asks_a_process_for_is_there():
+    """By its name, since the server loads none of it."""
+    there = {
+        "begin",
+        "cells",
+        "check",
+        "ground",
+        "kind_of",
+        "look",
+        "overview",
+        "rose",
+        "rose_picture",
+    }
+    text = Path(routes.__file__).read_text()
+    asked = re.findall(r"self\.(?:quick|heavy)[(,] ?\"(\w+)\"", text)
+    assert set(asked) == there
+    assert all(callable(getattr(work, name)) for name in asked)
 
 
 def test_the_check_is_the_one_of_the_terminal(desk):
@@ -326,7 +346,7 @@ def test_a_process_that_wants_too_much_memory_says_so(tmp_path):
     ask.end()
     whole = machine.whole_memory()
     assert 0.5 * whole < least <= most < whole
-    told = work.in_words(lambda: len(bytearray(1 << 60)))()  # as a larger table would
+    told = worker.answered(lambda: len(bytearray(1 << 60)))  # as a larger table would
     assert told["errors"][0]["said"] == "memory was refused"
 
 
@@ -338,11 +358,11 @@ def test_a_process_takes_no_more_than_the_control_group_of_the_desk_may(tmp_path
     seen = functools.partial(machine.whole_memory, tmp_path, tmp_path / "own", tmp_path / "meminfo")
     set_to = []
     monkeypatch.chdir(tmp_path)
-    monkeypatch.setattr(work, "whole_memory", seen)
-    monkeypatch.setattr(work, "only_within", lambda root: None)
-    monkeypatch.setattr(work, "_end_with_the_desk", lambda: None)
+    monkeypatch.setattr(worker, "whole_memory", seen)
+    monkeypatch.setattr(worker, "only_within", lambda root: None)
+    monkeypatch.setattr(worker, "_end_with_the_desk", lambda: None)
     monkeypatch.setattr(resource, "setrlimit", lambda kind, limits: set_to.append((kind, limits)))
-    work.settle(tmp_path)
+    worker.settle(tmp_path)
     [(kind, (least, most))] = set_to
     assert kind == resource.RLIMIT_AS
     assert 2 * 10**9 < least <= most < 4 * 10**9
