@@ -40,6 +40,8 @@ def typed_number(text: str) -> _Typed | None:
     [9250, 1250.5, 12.5, 1250000]
     >>> typed_number("9250"), typed_number("1.250"), typed_number("ZC, 5")
     (None, None, None)
+    >>> typed_number("0,965").value, typed_number("0,965").other  # no thousands begin with 0
+    (0.965, None)
     """
     text = text.strip()
     found, comma = _GROUPS.fullmatch(text), _COMMA.fullmatch(text)
@@ -51,7 +53,7 @@ def typed_number(text: str) -> _Typed | None:
             return _Typed(float(f"{whole}.{decimals}"), f"has {group!r} between thousands{sign}")
         if more or group not in ",.":
             return _Typed(int(whole), f"has {group!r} between thousands")
-        if group == ",":
+        if group == "," and not first.lstrip("+-").startswith("0"):
             other = float(f"{first}.{second}")
             when = f"if ',' stands between thousands, or {other:g} if it stands before decimals"
             return _Typed(int(whole), "has ',' between thousands or before decimals", when, other)

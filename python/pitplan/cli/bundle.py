@@ -2,22 +2,20 @@
 from __future__ import annotations
 
 from pathlib import Path
-
-import typer
+from typing import List
 
 from ..base.next_command import command
-from .console import STUDY, app, described, err, say, shells_of, warn
+from .console import and_study, app, described, err, say, shells_of, study_and, warn
 
 
 @app.command()
-def bundle(
-    target: Path = typer.Argument(..., metavar="DIR", help="The new folder."), folder: Path = STUDY
-) -> None:
+def bundle(pair: List[str] = and_study("DIR", "the new folder.")) -> None:
     """All that the numbers rest on, with scripts that check it again: for an auditor."""
     from ..audit.bundle import write_bundle
     from .shells import with_certificates
 
-    plan = described(folder)
+    folder, named = study_and("bundle", pair)
+    target, plan = Path(named), described(folder)
     with err.status("the pits are read again"):
         shells, rates = shells_of(folder)
     shells = with_certificates(shells)

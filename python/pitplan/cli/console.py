@@ -94,6 +94,39 @@ study_toml: Path | None = None  # that was read last, whose lines errors show
 STUDY: Any = typer.Argument(
     Path("."), help="The folder of the study, with its study.toml.", show_default="this folder"
 )
+
+
+def and_study(metavar: str, what: str) -> Any:
+    """The argument of a command that takes a study, which may be left out, and one more word; `study_and` parts them."""
+    told = f"The folder of the study (default: this one), and {what}"
+    return typer.Argument(..., metavar=f"[STUDY] {metavar}", help=told)
+
+
+def study_and(name: str, pair: Sequence[str]) -> tuple[Path, str]:
+    """The study that a command of this name is given, and the word after it.
+
+    Raises
+    ------
+    PlanError
+        Where there are further words, or the study stands last, as earlier versions took it.
+    """
+    *first, last = pair
+    if len(first) > 1:
+        raise PlanError(f"{pair[2]!r} is a word too many", try_this=command(name, *pair[:2]))
+    if first and _is_study(last) and not _is_study(first[0]):
+        raise PlanError(
+            f"the study comes first: {first[0]} is none, and {last} is one",
+            try_this=command(name, last, first[0]),
+        )
+    return Path(*first), last
+
+
+def _is_study(word: str) -> bool:
+    """Whether a word names a study that is there."""
+    path = Path(word)
+    return (path if path.suffix == ".toml" else path / "study.toml").is_file()
+
+
 # beside an option --column that names the column of a design
 COLUMN_VALUE: Any = typer.Option(
     None,

@@ -2,7 +2,7 @@
 from __future__ import annotations
 
 from pathlib import Path
-from typing import TYPE_CHECKING, Any, Optional
+from typing import TYPE_CHECKING, Any, List, Optional
 
 import typer
 
@@ -17,7 +17,7 @@ from ..base.units_shown import (
     share_text,
 )
 from .build import print_classes
-from .console import STUDY, app, err, print_columns, results, say, warn
+from .console import and_study, app, err, print_columns, results, say, study_and, warn
 
 if TYPE_CHECKING:
     import pandas as pd
@@ -25,14 +25,14 @@ if TYPE_CHECKING:
     from ..plans.phases import Phases
 
 _WORST = 3  # thin benches of a pushback that are named
+_PAIR = and_study(
+    "FACTORS", "the factors of the pits that end the pushbacks, ascending, as 0.5,0.75,1.0."
+)
 
 
 @app.command()
 def phases(
-    factors: str = typer.Argument(
-        ..., help="Factors of the pits that end the pushbacks, ascending, as 0.5,0.75,1.0."
-    ),
-    folder: Path = STUDY,
+    pair: List[str] = _PAIR,
     mining_width: Optional[float] = typer.Option(
         None,
         "--mining-width",
@@ -53,6 +53,7 @@ def phases(
     from ..table.spreadsheets import write_table
     from .chosen import pits_at, shares_of
 
+    folder, factors = study_and("phases", pair)
     if widen is not None and mining_width is not None:
         raise PlanError(
             "--widen and --mining-width are one width", try_this=f"--widen {widen:g} alone"

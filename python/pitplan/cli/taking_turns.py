@@ -44,8 +44,9 @@ def take_turns(app: typer.Typer) -> None:
 
 
 def _named_study(said: Mapping[str, Any]) -> Path:
-    """The study that a command was given: by an argument of its own, or by the one of its words that is no change."""
+    """The study that a command was given: by an argument of its own, by the one of its words that is no change, or by the first of two."""
     words = [word for word in said.get("words") or () if "=" not in word]
+    words += said.get("pair", ())[:-1]
     return Path(said.get("folder") or (words[0] if words else "."))
 
 

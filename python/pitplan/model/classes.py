@@ -12,7 +12,7 @@ import pandas as pd
 
 from ..base.arrays import Bools, Floats, Ints
 from ..base.errors import PlanError, meant
-from ..table.column_names import MOST_CLASSES
+from ..table.column_names import MOST_CLASSES, columns_with
 from ..table.formula import text_of
 from .model import Model
 from .subblocks import coded
@@ -113,7 +113,7 @@ def of_waste(model: Model, names: Collection[str]) -> Bools:
         raise PlanError(
             "[economics] has waste_classes, and no column of the table is known to say a block's class",
             table=model.table,
-            try_this='columns = { class = "CLASS" } in [model]',
+            try_this=columns_with(model.columns, **{"class": "CLASS"}),
             key=key,
         )
     for name in names:

@@ -16,6 +16,7 @@ from ..table.column_names import (
     PLACES,
     SIZES,
     columns_found,
+    columns_with,
     misnamed,
     said_of_misnamed,
     which_columns,
@@ -652,7 +653,7 @@ def _weights_of(
         raise PlanError(
             "no column is known as tonnes or density",
             table=table,
-            try_this='columns = { tonnes = "..." } in [model]',
+            try_this=columns_with(names, tonnes="..."),
         )
     with about("model", "columns", key):
         found = number_column(frame[names[key]], table, absent, NO_WEIGHT)

@@ -11,7 +11,7 @@ import pandas as pd
 
 from ..base.arrays import Floats, Indices, Ints
 from ..base.errors import PlanError
-from ..table.column_names import PLACES, SIZES
+from ..table.column_names import PLACES, SIZES, columns_with
 from ..table.csv_text import NO_WEIGHT, number_column
 from ..table.formula import stripped
 from .grid import Grid
@@ -105,7 +105,7 @@ def whole_blocks(
                     " dy and dz"
                 ),
                 table=wanted.table,
-                try_this='columns = { dx = "XINC", dy = "YINC", dz = "ZINC" } in [model]',
+                try_this=columns_with(names, dx="XINC", dy="YINC", dz="ZINC"),
             )
         return same
     lengths = [
@@ -370,7 +370,7 @@ def _weights(
     raise PlanError(
         "no column is known as tonnes or density",
         table=parents.table,
-        try_this='columns = { tonnes = "..." } in [model]',
+        try_this=columns_with(names, tonnes="..."),
     )
 
 

@@ -73,6 +73,6 @@ def again(shells: Shells) -> tuple[Phases, str]:
     if _digest_of(found) != kept["blocks"]:
         raise PlanError(
             f"the pushbacks at {named} aren't those that were widened to {kept['widen']:g} last",
-            try_this=f"{command('phases', named, str(shells.study.named))} --widen {kept['widen']:g}",
+            try_this=f"{command('phases', shells.study.named, named)} --widen {kept['widen']:g}",
         )
     return found, f"pushbacks {found.set_name}, as phases widened them last"

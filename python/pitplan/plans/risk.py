@@ -48,7 +48,7 @@ from ..study.runs import FactorProgress
 from ..study.verdicts import Verdict
 from ..study.building import write_blocks
 from ..study.study_file import economics_of, refuse_digits
-from ..table.column_names import PLACES
+from ..table.column_names import PLACES, columns_with
 from ..table.csv_text import dialect_beside, number_column, numbers_among, read_frame
 from ..table.formula import names_in
 from .task_line import Task
@@ -355,9 +355,8 @@ def of_table(path: Path, model: Model | None, keys: TableKeys | None) -> Singles
                 row=error.row,
                 column=error.column,
                 try_this=(
-                    f"columns = {{ id = {json.dumps(error.column, ensure_ascii=False)} }} in"
-                    " [model] and pitplan build, if these are the blocks' ids, or a file without"
-                    " this column"
+                    f"{columns_with(model.columns if model else {}, id=error.column)} and pitplan"
+                    " build, if these are the blocks' ids, or a file without this column"
                 ),
             ) from None
         raise

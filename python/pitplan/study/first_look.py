@@ -36,6 +36,7 @@ from .study_template import aligned, metal, template
 _UTF_8 = Dialect().encoding
 GRADE = "GRADE"  # a column of a grade where none is found
 _MARKS = (
+    "-9",
     "-99",
     "-999",
     "-9999",
@@ -220,9 +221,11 @@ def _marks_in(frame: pd.DataFrame, names: dict[str, str]) -> tuple[list[str], di
 def _marks_of(values: pd.Series) -> list[str]:
     """The cells of a column that seem to stand for "not estimated"; none in a column of words."""
     if values.dtype.kind in "iuf":
-        least = float(values.min())
-        empty = [""] if values.isna().any() and not values.isna().all() else []
-        return empty + ([f"{least:g}"] if least < 0 and f"{least:g}" in _MARKS else [])
+        found = [""] if values.isna().any() and not values.isna().all() else []
+        while float(values.min()) < 0 and f"{values.min():g}" in _MARKS:
+            found.append(f"{values.min():g}")
+            values = values[values > values.min()]
+        return found
     if _share_of_numbers(values) <= 0.5:
         return []
     words = _words_among(values)
@@ -278,7 +281,7 @@ def _find_parts(look: _Look, frame: pd.DataFrame) -> None:
             most = float(free[name].max())
             look.notes.append(
                 f"{name} is from {free[name].min():g} to {most:g}, and no grade by its name: "
-                + remedy_of_part(name, most)
+                + remedy_of_part(name, most, look.names)
             )
 
 

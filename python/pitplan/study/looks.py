@@ -22,7 +22,7 @@ from ..base.usual_metals import usual_price
 from ..model.economics import Economics, Metal
 from ..model.model import Model, TableKeys
 from .plausible import strange
-from ..table.column_names import AIR, misnamed, said_of_misnamed
+from ..table.column_names import AIR, columns_with, misnamed, said_of_misnamed
 from ..table.parts_of_blocks import is_part, remedy_of_part
 from ..table.study_keys import METALS, has_ramp
 from ..slopes.offsets import MEAN, WORST, Outline, Pattern
@@ -117,7 +117,7 @@ def _of_axes(model: Model) -> Iterator[Strange]:
         better = {axis: model.columns[key] for key, axis in wrong.items()}
         yield Strange(
             *said_of_misnamed(model.columns, wrong),
-            f"columns = {spelled(better)} in [model]",
+            columns_with(model.columns, **better),
             ("model", "columns", next(iter(wrong))),
         )
 
@@ -278,7 +278,7 @@ def of_unread(model: Model, plan: _Says) -> Iterator[Strange]:
         yield Strange(
             f"nothing reads the column {name}, which is from {values.min():g} to {values.max():g}",
             "a share of a block that is there makes it weigh less, or less of it ore",
-            remedy_of_part(name, float(values.max())),
+            remedy_of_part(name, float(values.max()), model.columns),
             ("model", "columns"),
         )
 

@@ -6,7 +6,7 @@ import difflib
 import re
 from collections.abc import Callable, Mapping, Sequence
 
-from ..base.errors import Gathered, PlanError, meant, swap_of
+from ..base.errors import Gathered, PlanError, meant, spelled, swap_of
 
 AIR = "air"  # the rock of a place within the model that the planner calls air
 
@@ -291,15 +291,25 @@ def which_columns(
         raise PlanError(
             f"no column is known as {', '.join(missing)}; the header line has {', '.join(header)}",
             table=table,
-            try_this=(
-                typed(near)
-                if typed
-                else "columns = { "
-                + ", ".join(f'{key} = "{name}"' for key, name in near.items())
-                + " } in [model]"
-            ),
+            try_this=(typed(near) if typed else columns_with(found, **near)),
         )
     return found
+
+
+def columns_with(known: Mapping[str, str], **more: str) -> str:
+    """What to write into study.toml where further columns have to be named: the whole table, as it comes in place of the one that
+    stands there.
+
+    Parameters
+    ----------
+    known : mapping
+        The names of the columns that are known, by their keys; of other keys nothing is written.
+
+    >>> columns_with({"x": "XC", "y": "YC", "ix": "ix"}, tonnes="...")
+    'columns = { x = "XC", y = "YC", tonnes = "..." } in [model]'
+    """
+    kept = {key: name for key, name in known.items() if key in USUAL}
+    return f"columns = {spelled({**kept, **more})} in [model]"
 
 
 def columns_found(header: Sequence[str], given: Mapping[str, str]) -> dict[str, str]:

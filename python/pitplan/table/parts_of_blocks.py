@@ -3,8 +3,11 @@ one."""
 from __future__ import annotations
 
 import re
+from collections.abc import Mapping
 
 import pandas as pd
+
+from .column_names import columns_with
 
 _PART = re.compile(r"topo|ore|rock|air\b|mined|solid|inside|below|parcial|partial", re.IGNORECASE)
 _SHARE = re.compile(r"%|pct|perc|frac|prop", re.IGNORECASE)
@@ -37,21 +40,24 @@ def is_part(name: str, values: pd.Series) -> bool:
     )
 
 
-def remedy_of_part(name: str, most: float) -> str:
-    """What to write where a column is one: percents are named in `columns`, shares stand in a
-    formula. What the name says stands first."""
+def remedy_of_part(name: str, most: float, known: Mapping[str, str]) -> str:
+    """What to write where a column is one: percents are named in `columns`, beside those that are
+    known, and shares stand in a formula. What the name says stands first."""
     if most > 1:
         both = [
-            (
-                f'columns = {{ topography = "{name}" }}',
-                "if it is the percent of a block that is rock",
-            ),
-            (f'columns = {{ ore = "{name}" }}', "if it is the percent that is ore"),
+            (columns_with(known, topography=name), "if it is the percent of a block that is rock"),
+            (columns_with(known, ore=name), "if it is the percent that is ore"),
         ]
     else:
         both = [
-            (f'tonnes = "SG * 4000 * {name}"', "if it is the share of a block that is rock"),
-            ("a column of 100 times as much as ore in columns", "if it is the share that is ore"),
+            (
+                f'tonnes = "SG * 4000 * {name}" in [model]',
+                "if it is the share of a block that is rock",
+            ),
+            (
+                "a column of 100 times as much as ore in columns in [model]",
+                "if it is the share that is ore",
+            ),
         ]
     (first, why), (second, other) = reversed(both) if _OF_ORE.match(name) else both
-    return f"{first} in [model], {why}; {second}, {other}"
+    return f"{first}, {why}; {second}, {other}"

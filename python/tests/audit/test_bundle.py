@@ -1398,7 +1398,7 @@ def test_a_table_that_has_changed_since_is_not_bundled(tmp_path):
 def test_the_command(whole, tmp_path):
     top = Path(__file__).resolve().parents[3]
     ran = subprocess.run(
-        [str(top / "bin" / "pitplan"), "bundle", str(tmp_path / "b"), str(whole.parent)],
+        [str(top / "bin" / "pitplan"), "bundle", str(whole.parent), str(tmp_path / "b")],
         capture_output=True,
         text=True,
     )

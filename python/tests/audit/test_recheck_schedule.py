@@ -42,7 +42,7 @@ def test_a_plan_of_other_terms_is_left_out_with_a_word(tmp_path):
     bundled(tmp_path, TERMS)
     path = tmp_path / "s" / "study.toml"
     path.write_text(path.read_text().replace("mill_rate = 400e3", "mill_rate = 300e3"))
-    words = [sys.executable, PITPLAN, "bundle", tmp_path / "again", tmp_path / "s"]
+    words = [sys.executable, PITPLAN, "bundle", tmp_path / "s", tmp_path / "again"]
     ran = subprocess.run(words, capture_output=True, text=True)
     assert ran.returncode == 0, ran.stderr
     assert "the plan by years isn't in it: it was found for other terms" in ran.stderr

@@ -251,7 +251,7 @@ def strange(tmp_path_factory):
     mines.written_study(folder, strange_mine(), STRANGE)
     for word in ("build", "shells", "page"):
         pitplan(word, folder)
-    pitplan("bundle", folder / "bundle", folder)
+    pitplan("bundle", folder, folder / "bundle")
     return folder
 
 

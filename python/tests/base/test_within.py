@@ -75,7 +75,7 @@ def test_nothing_is_written_outside_the_folder(tmp_path, nowhere_else, monkeypat
     said("build", inside)
     said("shells", inside)
     for words, made in (
-        (["bundle", tmp_path / "b", inside], tmp_path / "b"),
+        (["bundle", inside, tmp_path / "b"], tmp_path / "b"),
         (["init", inside / "t.csv", "--study", tmp_path / "i"], tmp_path / "i"),
     ):
         run = command("--within", nowhere_else, *words)

@@ -97,7 +97,7 @@ def test_each_hint_can_be_pasted(tmp_path):
         tmp_path / "my mine" / "high price.toml"
     )
     path = f"{linked(tmp_path / 'bin')}:{os.environ['PATH']}"
-    typed, said = "pitplan phases 0.6,1 'my mine/high price.toml'", []
+    typed, said = "pitplan phases 'my mine/high price.toml' 0.6,1", []
     while typed and len(said) < 6:
         ran = subprocess.run(
             ["bash", "-c", typed],
@@ -116,10 +116,33 @@ def test_each_hint_can_be_pasted(tmp_path):
             "",
         )
     assert said == [
-        "pitplan phases 0.6,1 'my mine/high price.toml'",
+        "pitplan phases 'my mine/high price.toml' 0.6,1",
         "pitplan build 'my mine/high price.toml'",
         "pitplan shells 'my mine/high price.toml'",
     ], ran.stderr
+
+
+def test_the_study_comes_first_and_the_order_of_earlier_versions_is_refused_by_the_new_one(
+    tmp_path,
+):
+    study = written_study(tmp_path / "s")
+    for words in (("build",), ("shells",)):
+        assert pitplan(*words, study).returncode == 0
+    for name, word in (("phases", "0.6,1"), ("bundle", "b")):
+        old = pitplan(name, word, "s", cwd=tmp_path)
+        assert old.returncode == 3, old.stderr
+        assert f"the study comes first: {word} is none, and s is one" in old.stderr
+        assert f"pitplan {name} s {word}\n" in old.stderr
+        assert not (tmp_path / word).exists()
+        new = pitplan(name, "s", word, cwd=tmp_path)
+        assert new.returncode == 0, new.stderr
+        here = pitplan(name, word, cwd=study)
+        assert here.returncode == 0, here.stderr
+        many = pitplan(name, "s", word, "third", cwd=tmp_path)
+        assert many.returncode == 3
+        assert "'third' is a word too many" in many.stderr
+    assert (tmp_path / "b" / "recheck.py").is_file()
+    assert (study / "b" / "recheck.py").is_file()
 
 
 def test_tables_of_the_model_before_are_set_aside(tmp_path):
@@ -135,9 +158,8 @@ def test_tables_of_the_model_before_are_set_aside(tmp_path):
     ):
         ran = pitplan(
             words[0],
-            *words[1:2] if words[0] == "phases" else (),
             study,
-            *words[1:] if words[0] == "compare" else (),
+            *words[1:],
         )
         assert ran.returncode == (
             words[0] == "compare"
@@ -248,7 +270,7 @@ def test_what_a_killed_build_and_bundle_left_is_taken_away(tmp_path):
     gone = f"{host()}.{subprocess.run(['sh', '-c', 'echo $$'], capture_output=True, text=True).stdout.strip()}.abcdefgh"
     for name in (f".model.{gone}", f".for me.{gone}", f".model.{host()}.{os.getpid()}.abcdefgh"):
         (folder / name).mkdir()
-    for words in (("build", folder), ("shells", folder), ("bundle", folder / "for me", folder)):
+    for words in (("build", folder), ("shells", folder), ("bundle", folder, folder / "for me")):
         assert pitplan(*words).returncode == 0
     assert sorted(path.name for path in folder.iterdir() if path.name.startswith(".")) == [
         f".model.{host()}.{os.getpid()}.abcdefgh"
@@ -275,10 +297,10 @@ def test_markup_in_names_does_no_harm(tmp_path):
         ("shells", folder),
         ("plot", folder),
         ("page", folder),
-        ("phases", "0.6,1.2", folder),
+        ("phases", folder, "0.6,1.2"),
         ("export", folder, "--to", "csv"),
         ("vary", folder, "price=-10"),
-        ("bundle", tmp_path / "b [bold]", folder),
+        ("bundle", folder, tmp_path / "b [bold]"),
     ):
         ran = pitplan(*words)
         assert ran.returncode == 0, (words, ran.stdout, ran.stderr)

@@ -64,7 +64,7 @@ def test_pits_have_kilotonnes_and_thousands(mine):
 
 def test_pushbacks_and_what_ifs(mine):
     folder, _ = mine
-    said = run("phases", "0.6,1.0", folder, "--mining-width", "60")
+    said = run("phases", folder, "0.6,1.0", "--mining-width", "60")
     assert "worths in thousand $" in said
     assert "ore kt" in said
     assert re.search(r"blocks?, \d+\.\d\d kt:", said)

@@ -320,7 +320,7 @@ def test_a_page_that_is_not_there_is_made_alone_and_a_picture_is_of_a_bench(brow
     browser.click("#draw")
     browser.sees("picture done by", "#main")
     browser.click("[id='part.files']")
-    browser.sees("pitplan bundle pageless/bundle-0001 pageless", "#main")
+    browser.sees("pitplan bundle pageless pageless/bundle-0001", "#main")
 
 
 def test_an_older_page_is_marked_where_the_latest_run_was_stopped(browser, desk, folder):

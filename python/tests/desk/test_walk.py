@@ -124,7 +124,7 @@ def plans(browser, study):
     for factor in ("0.6", "1"):
         browser.click(f"[id='phase.{factor}']")
     browser.fills("#width", "40")
-    browser.sees("pitplan phases 0.6,1 hill --mining-width 40")
+    browser.sees("pitplan phases hill 0.6,1 --mining-width 40")
     browser.click("#cut")
     browser.sees("pushbacks, worths in million")
     browser.sees("pushbacks done by", "#main")

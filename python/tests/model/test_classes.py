@@ -314,7 +314,7 @@ def test_commands_tell_of_classes(tmp_path):
     text = STUDY_TOML.replace("mining = 2.0", 'mining = 2.0\nwaste_classes = ["INFERRED"]')
     folder = written_study(tmp_path / "s", classed(7, 6, 4, 3), text)
     for words in (("build",), ("shells",), ("phases", "0.6,1.2")):
-        ran = pitplan(*words, folder)
+        ran = pitplan(words[0], folder, *words[1:])
         assert ran.returncode == 0, ran
         assert "Indicated" in ran.stdout, ran
     rows = rows_of(folder / "out" / "phase_reserves.csv")

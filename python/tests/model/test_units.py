@@ -138,10 +138,10 @@ def test_tables_and_pictures_say_their_units(tmp_path):
     assert "Mt " not in built
     pits = said("shells", folder)
     assert re.search(r"waste [Mk]st\b", pits)
-    thin = said("phases", "0.6,1.0", folder, "--mining-width", "40")
+    thin = said("phases", folder, "0.6,1.0", "--mining-width", "40")
     assert "from ft" in thin
     assert "thinnest ft" in thin
-    wide = said("phases", "0.6,1.0", folder, "--widen", "40")
+    wide = said("phases", folder, "0.6,1.0", "--widen", "40")
     assert "widened to 40 ft: " in wide
     assert re.search(r" [Mk]st\), ", wide)
     assert not re.search(r"\d (m|[Mk]?t)\b", wide)
@@ -206,7 +206,7 @@ def test_elevations_in_feet_have_few_decimals(tmp_path):
     folder = written_study(tmp_path / "s", frame, text)
     said("build", folder)
     said("shells", folder)
-    cut = said("phases", "0.6,1.0", folder, "--mining-width", "131")
+    cut = said("phases", folder, "0.6,1.0", "--mining-width", "131")
     assert " 303.5 " in cut
     assert not re.search(r"\d\.\d{4}", cut)
     drawn = said("plot", folder, "--bench", "401.9")

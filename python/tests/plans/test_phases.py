@@ -140,7 +140,7 @@ def test_the_command(tmp_path):
     study = written_study(tmp_path / "s")
     assert pitplan("build", study).returncode == 0
     assert pitplan("shells", study).returncode == 0
-    ran = pitplan("phases", "0.6,1.0", study, "--mining-width", "60")
+    ran = pitplan("phases", study, "0.6,1.0", "--mining-width", "60")
     assert ran.returncode == 0, ran.stderr
     assert "pushbacks" in ran.stdout, ran.stderr
     phases, benches = pd.read_csv(study / "out/phases.csv"), pd.read_csv(
@@ -170,7 +170,7 @@ def test_the_command(tmp_path):
         pd.read_csv(study / "out/phase_blocks.csv").pushback.value_counts().sort_index().tolist()
         == phases.blocks.tolist()
     )
-    wide = pitplan("phases", "0.6,1.0", study, "--mining-width", "1")
+    wide = pitplan("phases", study, "0.6,1.0", "--mining-width", "1")
     assert "at least 1 m wide" in wide.stdout
     assert wide.stderr == ""
     for words, said in (
@@ -178,7 +178,7 @@ def test_the_command(tmp_path):
         (("0.6,0.7",), "the nearest that have are 0.6, 1"),
         (("0.6;1",), "no factor"),
     ):
-        wrong = pitplan("phases", *words, study)
+        wrong = pitplan("phases", study, *words)
         assert wrong.returncode == 3, wrong.stderr
         assert said in wrong.stderr, wrong.stderr
 
@@ -193,7 +193,7 @@ def test_no_figure_of_the_table_is_cut_off(tmp_path):
     study = written_study(tmp_path / "s", text=text)
     assert pitplan("build", study).returncode == 0
     assert pitplan("shells", study).returncode == 0
-    ran = pitplan("phases", "0.6,1.2", study)
+    ran = pitplan("phases", study, "0.6,1.2")
     every = pd.read_csv(study / "out/phases.csv")
     assert ran.returncode == 0
     assert "…" not in ran.stdout

@@ -264,8 +264,8 @@ def test_the_command_widens_and_says_what_can_not_be(tmp_path):
     folder = written_study(tmp_path / "s", table(11, 10, 5, 1))
     assert pitplan("build", folder).returncode == 0
     assert pitplan("shells", folder).returncode == 0
-    plain = pitplan("phases", "0.6,1.0", folder, "--mining-width", "40")
-    ran = pitplan("phases", "0.6,1.0", folder, "--widen", "40")
+    plain = pitplan("phases", folder, "0.6,1.0", "--mining-width", "40")
+    ran = pitplan("phases", folder, "0.6,1.0", "--widen", "40")
     assert ran.returncode == 0, ran.stderr
     told = re.search(
         r"pushback 1 widened to 40 m: (\d+) blocks? of the next pit taken in \(([\d.]+) Mt\), (\d+) blocks? left for it .*\n"
@@ -284,13 +284,13 @@ def test_the_command_widens_and_says_what_can_not_be(tmp_path):
     worth = np.maximum(metal - treating, 0).sum() - np.rint(first.TONNES * 2.0).sum()
     assert float(told[4].replace(",", "")) == worth
     assert float(told[4].replace(",", "")) <= float(told[6].replace(",", ""))
-    wrong = pitplan("phases", "0.6,1.0", folder, "--widen", "40", "--mining-width", "40")
+    wrong = pitplan("phases", folder, "0.6,1.0", "--widen", "40", "--mining-width", "40")
     assert wrong.returncode == 3
     assert "are one width" in wrong.stderr
-    none = pitplan("phases", "0.6,1.0", folder, "--widen", "0")
+    none = pitplan("phases", folder, "0.6,1.0", "--widen", "0")
     assert none.returncode == 3
     assert "--widen is 0, and has to be above 0" in none.stderr
-    large = pitplan("phases", "0.6,1.0", folder, "--widen", "900")
+    large = pitplan("phases", folder, "0.6,1.0", "--widen", "900")
     assert large.returncode == 0
     assert "stays thinner than 900 m" in large.stderr
     assert "0 blocks of the next pit taken in (0.00 Mt), 0 blocks left" in large.stdout

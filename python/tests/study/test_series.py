@@ -217,7 +217,7 @@ def test_what_asks_for_certificates_makes_those_that_it_needs(tmp_path):
     study = pp.Study(folder)
     for words in (
         ("page", folder),
-        ("phases", "0.6,1", folder),
+        ("phases", folder, "0.6,1"),
         ("status", folder),
         ("export", folder, "--to", "csv"),
     ):
@@ -236,7 +236,7 @@ def test_what_asks_for_certificates_makes_those_that_it_needs(tmp_path):
     assert "the design is the best pit" in said
     assert certificates(study) == ["f01000"]
     assert "factor 1 done" in err
-    code, said, err = pitplan("bundle", tmp_path / "bundle", folder)
+    code, said, err = pitplan("bundle", folder, tmp_path / "bundle")
     assert code == 0
     assert certificates(study) == ["f00600", "f01000", "f01200"]
     assert "factor 0.6 done" in err

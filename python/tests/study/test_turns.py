@@ -146,11 +146,10 @@ def test_every_command_that_writes_has_the_study_that_it_names(tmp_path):
     (tmp_path / "here").mkdir()
     folder = written_study(tmp_path / "s", table(5, 4, 3, 3))
     said("build", folder)
-    first = {"bundle": [tmp_path / "b"], "phases": ["0.6,1.0"]}
+    more = {"bundle": [tmp_path / "b"], "phases": ["0.6,1.0"], "vary": ["price=-9..9"]}
     with turns.turn(folder, WORDS):
         for name in WRITERS:
-            words = [*first.get(name, []), folder, *(["price=-9..9"] if name == "vary" else [])]
-            run = command("--no-wait", name, *words, cwd=tmp_path / "here")
+            run = command("--no-wait", name, folder, *more.get(name, []), cwd=tmp_path / "here")
             told = run.communicate(timeout=600)[1]
             assert run.returncode == 4, (name, told)
             assert "has the study" in told, (name, told)

@@ -41,9 +41,12 @@ def told(folder, frame, **keys):
 def test_a_percent_that_nothing_reads_names_the_keys_that_of_its_name_first(tmp_path, name, first):
     (look,) = told(tmp_path, with_part(name))
     assert f"nothing reads the column {name}, which is from 4 to 100" in str(look)
-    assert look.try_this.startswith(f'columns = {{ {first} = "{name}" }} in [model], if')
-    assert f'columns = {{ topography = "{name}" }}' in look.try_this
-    assert f'columns = {{ ore = "{name}" }}' in look.try_this
+    known = 'columns = { id = "IJK", x = "XC", y = "YC", z = "ZC"'
+    assert look.try_this.startswith(known)
+    assert f'{first} = "{name}" }} in [model], if' in look.try_this.partition(";")[0]
+    assert f'topography = "{name}" }}' in look.try_this
+    assert f'ore = "{name}" }}' in look.try_this
+    assert look.try_this.count(known) == 2  # what is copied names all columns
     for key in ("topography", "ore"):
         assert not told(tmp_path, with_part(name), columns={key: name})
 

@@ -13,7 +13,7 @@ from mines import rows_of, table, written_study
 from processes import said
 from served import pitplan
 
-WIDEN = ("phases", "0.6,1.0", "--widen", "40")
+WIDEN = ("0.6,1.0", "--widen", "40")
 
 
 @pytest.fixture(scope="module")
@@ -47,7 +47,7 @@ def pushbacks_in(folder):
 
 
 def test_a_report_shows_the_set_that_phases_cut_last(folder):
-    said("phases", "0.6,1.0", folder)
+    said("phases", folder, "0.6,1.0")
     plain = weighed(folder)
     told = said("report", "--phases", "0.6,1.0", folder)
     assert "pushbacks as cut between proved pits\n" in told
@@ -57,7 +57,7 @@ def test_a_report_shows_the_set_that_phases_cut_last(folder):
     assert fact == "2, as cut between proved pits, at factors 0.60, 1.00"
     assert not any("Widened" in text for text in captions)
 
-    said(*WIDEN, folder)
+    said("phases", folder, *WIDEN)
     wide = weighed(folder)
     assert wide != pytest.approx(plain)
     told = said("report", "--phases", "0.6,1.0", folder)
@@ -70,14 +70,14 @@ def test_a_report_shows_the_set_that_phases_cut_last(folder):
 
 
 def test_other_factors_than_the_widened_are_told(folder):
-    said(*WIDEN, folder)
+    said("phases", folder, *WIDEN)
     told = said("report", "--xlsx", "--phases", "0.6,1.2", folder)
     assert "pushbacks as cut between proved pits: those that were widened last end at 0.6,1" in told
     assert "as cut" in pushbacks_in(folder)[1]
 
 
 def test_a_page_shows_the_widened_set(folder):
-    said(*WIDEN, folder)
+    said("phases", folder, *WIDEN)
     told = said("page", "--phases", "0.6,1.0", folder)
     assert "pushbacks widened to 40 m" in told
     text = (folder / "out/pits.html").read_text()
@@ -92,16 +92,16 @@ def test_a_page_shows_the_widened_set(folder):
 
 
 def test_an_export_says_where_the_pushbacks_are(folder):
-    said(*WIDEN, folder)
+    said("phases", folder, *WIDEN)
     told = said("export", "--to", "csv", folder)
     assert "these are pits by factor; pushbacks, widened to 40 m, are in" in told
-    said("phases", "0.6,1.0", folder)
+    said("phases", folder, "0.6,1.0")
     assert "pushbacks, as cut, are in" in said("export", "--to", "csv", folder)
 
 
 def test_pushbacks_are_exported_as_they_were_widened(folder):
     """A row for each block with its pushback in csv and in vtu; in dxf the area of each bench of the mine after each, by the shoelace."""
-    said(*WIDEN, folder)
+    said("phases", folder, *WIDEN)
     told = said("export", "--to", "csv,vtu,dxf", "--phases", "0.6,1.0", folder)
     assert "pushbacks widened to 40 m" in told
     assert "layers PUSHBACK_<factor>_TOE" in told
@@ -140,7 +140,7 @@ def test_exports_that_can_not_be_are_told(folder):
 
 def test_pushbacks_that_come_out_otherwise_are_no_report(folder):
     """A note that is of other pushbacks, or is damaged, is told, and how it is made again."""
-    said(*WIDEN, folder)
+    said("phases", folder, *WIDEN)
     note = folder / "out/phases.json"
     kept = note.read_text()
     note.write_text(
@@ -150,7 +150,7 @@ def test_pushbacks_that_come_out_otherwise_are_no_report(folder):
     told = pitplan(*words)
     assert told.returncode == 3
     assert "aren't those that were widened to 40 last" in told.stderr
-    assert re.search(r"try: \S*pitplan phases 0\.6,1 \S+ --widen 40", told.stderr)
+    assert re.search(r"try: \S*pitplan phases \S+ 0\.6,1 --widen 40", told.stderr)
     note.write_text("{}")
     told = pitplan(*words)
     assert told.returncode == 3
