@@ -8,6 +8,7 @@ from typing import Any
 from .errors import PlanError, in_a_line
 
 _WIDEST = 160  # letters of a line of study.toml that are shown
+_MOST_PLACES = 5  # of the model that are told
 
 
 def lines_of(error: PlanError, study_toml: Path | None = None) -> list[str]:
@@ -32,6 +33,8 @@ def lines_of(error: PlanError, study_toml: Path | None = None) -> list[str]:
             "  also "
             + ", ".join(f"row {cell.row + 2}: {in_a_line(cell.text)!r}" for cell in error.cells)
         )
+    if error.places[1:]:
+        found.append(f"  the first are {', '.join(error.places[:_MOST_PLACES])}")
     return found + ([f"  try: {in_a_line(error.try_this)}"] if error.try_this else [])
 
 

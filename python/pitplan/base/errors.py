@@ -14,6 +14,7 @@ STOPPED = "stopped; what is done is kept, and the same command goes on from ther
 # has no name of its own
 KeyPath = tuple[Union[str, int], ...]
 MOST_CELLS = 20  # wrong cells of a column that are told at a time
+MOST_PLACES = 500  # in a model that an error lists
 
 
 @dataclass(frozen=True)
@@ -86,6 +87,9 @@ class PlanError(Exception):
     ----------
     cells : tuple of Cell
         The next wrong cells of the same column.
+    places : tuple of str
+        Where the same is wrong in the model, by the table's coordinates: the
+        first `MOST_PLACES`.
     swap : tuple of two str or None
         A word in that key's value, and what seems to be meant in its place.
     said : str
@@ -106,6 +110,7 @@ class PlanError(Exception):
         self.what, self.table, self.row, self.column, self.key = what, table, row, column, key
         self.swap: tuple[str, str] | None = None
         self.cells: tuple[Cell, ...] = ()
+        self.places: tuple[str, ...] = ()
         self.remedy = try_this if isinstance(try_this, Remedy) else None
         self.try_this = None if try_this is None else str(try_this)
         super().__init__(what)
@@ -132,6 +137,11 @@ class PlanError(Exception):
         self.cells = tuple(cells)
         return self
 
+    def with_places(self, places: Iterable[str]) -> PlanError:
+        """The same error, with the places of the model that it is of."""
+        self.places = tuple(places)
+        return self
+
     def with_swap(self, swap: tuple[str, str] | None) -> PlanError:
         """The same error, with a word of its key's value and what seems to be meant."""
         self.swap = swap
@@ -153,6 +163,7 @@ class PlanError(Exception):
             "try": self.try_this,
             "remedy": self.remedy and self.remedy.as_data(),
             "cells": [{"row": cell.row + 2, "text": cell.text} for cell in self.cells],
+            "places": list(self.places),
         }
 
 
@@ -210,7 +221,7 @@ class Several(PlanError):
             try_this=first.remedy or first.try_this,
             key=first.key,
         )
-        self.cells = first.cells
+        self.cells, self.places = first.cells, first.places
 
     def __str__(self) -> str:
         return "\n".join(map(str, self.errors))

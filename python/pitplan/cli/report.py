@@ -7,9 +7,13 @@ from typing import TYPE_CHECKING, Optional
 import typer
 
 from ..base.errors import PlanError
-from .console import STUDY, app, described, err, results, say, shells_of
+from ..base.next_command import command
+from .console import STUDY, app, described, err, results, say, shells_of, warn
 
 if TYPE_CHECKING:
+    from ..schedule.plan import Schedule
+    from ..study.shells import Shells
+    from ..study.study_file import StudyFile
     from ..views.report import Report
 
 
@@ -32,7 +36,7 @@ def report(
         None, show_default=False, help="Of the cover. Default: the table's name."
     ),
 ) -> None:
-    """Write a report: what was asked for, tables, pictures, slopes with their errors, what is proved and what isn't, digests. As PDF and as a workbook, unless one of them is asked for."""
+    """Write a report: what was asked for, tables, pictures, the plan by years where there is one, slopes with their errors, what is proved and what isn't, digests. As PDF and as a workbook, unless one of them is asked for."""
     from ..views.report import gathered
     from .chosen import pushbacks_at
 
@@ -40,12 +44,28 @@ def report(
     shells, _ = shells_of(folder)
     cut = pushbacks_at(folder, phases) if phases else None
     with err.status("the report is gathered"):
-        found = gathered(shells, plan, cut, title)
+        found = gathered(shells, plan, cut, title, _years_of(plan, shells))
         target = results(shells.study)
         for name, is_wanted in (("pdf", pdf), ("xlsx", xlsx)):
             if is_wanted or not (pdf or xlsx):
                 path = _written(name, found, target / f"report.{name}")
                 say(f"{path}: {path.stat().st_size / 1e6:.1f} MB")
+
+
+def _years_of(plan: StudyFile, shells: Shells) -> Schedule | None:
+    """The plan by years that `schedule` found last; None where there is none by study.toml as it stands, which is told where there
+    is another one."""
+    if not (shells.study.folder / "runs" / "schedule").is_dir():
+        return None
+    from ..schedule.plan import Schedule  # needs Numba
+
+    found = Schedule.last(shells, plan.values["schedule"], plan.rates)
+    if found is None:
+        warn(
+            "the plan by years isn't in it: it was found for other terms, prices or pits than"
+            f" those of study.toml now\n  try: {command('schedule', shells.study.named)}, and report again"
+        )
+    return found
 
 
 def _written(kind: str, found: Report, path: Path) -> Path:

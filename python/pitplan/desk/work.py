@@ -111,7 +111,7 @@ def look(study: Path) -> _Told:
     names = tuple(sorted(columns.items())) if isinstance(columns, dict) else ()
     of = _stamp(table), names, model.get("encoding")
     found = _looked(*of)
-    marks = found.absent if absent is None else [str(each) for each in absent]
+    marks = list(map(str, absent)) if isinstance(absent, list) else found.absent
     each = [*found.grades, GRADE]
     metals = tomllib.loads(f"metals = [{''.join(map(metal_in, each))}]")["metals"]
     told = {name: getattr(found, name) for name in _LOOKED}

@@ -10,7 +10,7 @@ import numpy as np
 import pandas as pd
 
 from ..base.arrays import Bools
-from ..base.errors import PlanError, spelled
+from ..base.errors import MOST_PLACES, PlanError, spelled
 from ..table.column_names import AIR
 from .grid import Grid
 
@@ -81,10 +81,10 @@ def close(model: Model, missing: str, fill: Mapping[str, Any], table: str) -> No
     if not within.any():
         return
     if missing == "refuse":
-        i, j, k = (int(v[0]) for v in np.nonzero(within))
+        places = [_place(model, *map(int, each)) for each in np.argwhere(within)[:MOST_PLACES]]
         raise PlanError(
             (
-                f"{_place(model, i, j, k)} has no row, with blocks above and below it"
+                f"{places[0]} has no row, with blocks above and below it"
                 f" ({int(within.sum()):,} such); through such a hole no wall is held"
             ),
             table=table,
@@ -92,7 +92,7 @@ def close(model: Model, missing: str, fill: Mapping[str, Any], table: str) -> No
                 'missing = "air" in [model] (old workings), or missing = "rock" with fill ='
                 f" {_mean_block(model)}"
             ),
-        )
+        ).with_places(places)
     _add_within(model, within, missing, fill)
 
 
@@ -110,16 +110,16 @@ def _shafts(model: Model, holes: Bools, missing: str, table: str) -> None:
     if not holes.any():
         return
     if missing != "air":
-        i, j = (int(v[0]) for v in np.nonzero(holes))
-        east, north, _ = model.grid.world(i, j, 0)
+        worlds = (model.grid.world(int(i), int(j), 0) for i, j in np.argwhere(holes)[:MOST_PLACES])
+        places = [f"({east:.10g}, {north:.10g})" for east, north, _ in worlds]
         raise PlanError(
             (
-                f"the whole column at ({east:.10g}, {north:.10g}) is missing within the model"
+                f"the whole column at {places[0]} is missing within the model"
                 f" ({int(holes.sum()):,} such); through such a gap no wall is held"
             ),
             table=table,
             try_this='export it too, or missing = "air" in [model], if it is a shaft',
-        )
+        ).with_places(places)
     model.notes.append(f"{int(holes.sum()):,} whole columns within the model left empty, as air")
 
 

@@ -201,3 +201,59 @@ def test_a_hole_is_told_and_its_keys_are_in_sight(browser, begin):
     begin("".join(row for at, row in enumerate(rows) if at != sorted(highest)[1][1]))
     browser.sees("has no row, with blocks above and below it", "#main")
     assert browser.script("return document.getElementById('folded.wrong').open")
+
+
+def test_many_holes_are_listed_and_filled_with_their_domain(browser, begin):
+    rows = HILL.splitlines(keepends=True)
+    header = rows[0].rstrip().split(",")
+    at = [header.index(name) for name in ("XC", "YC", "ZC")]
+    cells = [row.split(",") for row in rows]
+    columns = {}
+    for n, row in enumerate(cells[1:], 1):
+        columns.setdefault((row[at[0]], row[at[1]]), []).append((float(row[at[2]]), n))
+    high = [sorted(column) for column in columns.values() if len(column) > 4]
+    gone = {high[0][1][1], high[0][2][1], high[-1][1][1]}
+    study = begin("".join(row for n, row in enumerate(rows) if n not in gone))
+    browser.click(".places summary")
+    browser.sees("show all 3 places", ".places")
+    listed = "return [...document.querySelectorAll('.places li')].map(e => e.innerText)"
+    found = {tuple(float(v) for v in it.strip("()").split(",")) for it in browser.script(listed)}
+    for n in gone:
+        place = [float(cells[n][i]) for i in at]
+        assert any(all(abs(a - b) < 1 for a, b in zip(place, it)) for it in found), (place, found)
+    browser.picks("i.model.missing", "rock")
+    browser.press_on("button", "say what is in a hole")
+    browser.press_on("button", "+ SECTOR")
+    browser.picks("i.model.fill.SECTOR", "SOUTH")
+    browser.picks("i.model.fill.rock", "SUL")
+    browser.sees("3 blocks added where rows are missing", "#main")
+    assert told(study)["model"]["fill"] == {"tonnes": 10400, "rock": "SUL", "SECTOR": "SOUTH"}
+
+
+def test_statistics_leave_out_the_marks_that_the_planner_adds(browser, begin):
+    rows = HILL.splitlines()
+    at = rows[0].split(",").index("CU")
+    for n, mark in ((5, "-7"), (9, "-5")):
+        cells = rows[n].split(",")
+        cells[at] = mark
+        rows[n] = ",".join(cells)
+    study = begin("\n".join(rows) + "\n")
+    least = (
+        "return [...document.querySelectorAll('.columns tbody tr')]"
+        ".find(r => r.cells[0].innerText === 'CU')?.cells[2].innerText"
+    )
+    browser.until(lambda: browser.script(least) == "-7", "the least of all")
+    for mark, then in (("-7", "-5"), ("-5", "0")):
+        browser.types("i.model.absent", mark)
+        browser.until(lambda: browser.script(least) == then, f"without {mark}")
+    assert {"-7", "-5"} <= set(told(study)["model"]["absent"])
+    browser.sees("without -99, -7, -5", "#main")
+
+
+def test_a_share_with_a_decimal_comma_has_a_button(browser, begin):
+    study = begin(HILL)
+    browser.click("[id='to.money']")
+    browser.types("i.economics.metals.0.payable", "0,965")
+    browser.press_on(".mend", "put it in: payable = 0.965")
+    browser.until(lambda: told(study)["economics"]["metals"][0]["payable"] == 0.965, "it is put in")
+    browser.until(lambda: not browser.text(".fault"), "no error")

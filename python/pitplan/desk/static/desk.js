@@ -123,6 +123,7 @@ export function queue(body) {
     if (told.stale) await reread();
     if (!told.ok) return draw();
     if (told.name !== D.study?.name) return undefined; // the study was left meanwhile
+    if (!same(told.values?.model, D.study.values?.model)) relook();
     D.study = told;
     if (told.kept) say(`what stood in study.toml is kept as ${told.kept}`, "good");
     D.changed = new Set(told.text.split("\n").flatMap((l, n) => (before.has(l) ? [] : [n])));
@@ -175,10 +176,14 @@ async function open(name) {
   if (isLeft()) return;
   await draw();
   if (D.runs[0]?.state === "running") follow(D.runs[0].number);
-  const looking = look(api("look"));
-  await refresh();
-  const found = await looking;
-  if (isLeft()) return;
+  await Promise.all([refresh(), relook()]);
+}
+
+/** Asks anew what the table looks like, by the keys of [model]. */
+async function relook() {
+  const of = D.study.name;
+  const found = await look(api("look"));
+  if (D.study?.name !== of) return;
   D.look = found;
   await draw();
 }

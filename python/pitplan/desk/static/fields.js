@@ -47,6 +47,7 @@ const forms = (path, choices, now, pick) => choice(idOf([...path, "how"]), choic
 
 const small = (text, onclick, title) => button(text, onclick, { className: "small", title,
   "aria-label": title });
+const without = (path, title) => small("×", () => set(path, null), title);
 const amounts = (...parts) => h("span", { className: "amount" }, parts);
 
 function amount(path, key) {
@@ -135,17 +136,24 @@ function chosenRocks(path) {
 
 function fill(path) {
   const now = valueOf(path);
-  const usual = { tonnes: 10400, rock: "waste" };
+  const usual = { tonnes: 10400, rock: rocks()[0] ?? "waste" };
   if (!now) return small("say what is in a hole", () => set(path, usual));
-  return amounts(Object.keys(now).map(key => labelled(idOf([...path, key]), key,
-    input([...path, key], { width: 7 }))), small("×", () => set(path, null), "take it out"));
+  const domain = valueOf(["slopes", "by"]) ?? D.look?.region;
+  const lists = { rock: rocks(), [domain]: D.look?.region === domain ? D.look?.regions : null };
+  const box = key => (lists[key] ? choice(idOf([...path, key]), [...new Set([...lists[key],
+    now[key]].map(String))], String(now[key]), v => set([...path, key], value(v)))
+    : input([...path, key], { width: 7 }));
+  return amounts(Object.keys(now).map(key => labelled(idOf([...path, key]), key, box(key))),
+    domain && !(domain in now) && small(`+ ${domain}`, () => set([...path, domain],
+      value(lists[domain]?.[0] ?? "")), "of which region a hole is"),
+    without(path, "take it out"));
 }
 
 function size(path) {
   const now = valueOf(path);
   if (!now) return small("say it", () => set(path, D.look?.size ?? [20, 20, 10]));
   return amounts([0, 1, 2].map(i => input([...path, i], { width: 4, label: `along ${"xyz"[i]}` })),
-    small("×", () => set(path, null), "as the table's columns of sizes say"));
+    without(path, "as the table's columns of sizes say"));
 }
 
 function factors(path) {
@@ -273,9 +281,15 @@ export function faultBox(fault) {
   const also = (fault.cells ?? []).map(c => `row ${number(c.row)}: ${c.text}`);
   return h("div", { className: "fault", role: "alert" }, h("div", {}, fault.said),
     also.length > 0 && h("div", { className: "quiet" }, `also ${also.join(", ")}`),
+    fault.places?.length > 1 && placesOf(fault),
     fault.try && h("div", { className: "try" }, `try: ${onDesk(fault.try)}`), mend(fault.remedy),
     fault.row > 0 && D.study && rowsAbout(fault));
 }
+
+/** The places of a model that an error is of, behind a button. @param {any} fault */
+const placesOf = ({ said, places }) => h("details", { className: "places",
+  id: `places.${said.length}` }, h("summary", {}, `show ${places.length < 500 ? "all" : "the first"} ${
+  counted(places.length, "place")}`), h("ol", {}, places.map(place => h("li", {}, place))));
 
 function rowsAbout(fault) {
   const key = `${D.study.name} ${fault.row}`;

@@ -135,8 +135,8 @@ function tableScreen() {
     picture(paints.includes(paint.by) ? paint.by : paints[0], "from above"))]
     : card("From above", tip("There is a picture once the table is read.")))),
   look?.rows && card("Columns", tip("Least, mean and greatest are of the cells with a number",
-    look.absent?.length > 0 && `, without ${look.absent.join(", ")}`, "; \"no number\" counts the",
-    " others."), table(["column", "is", "least", "mean", "greatest", "no number",
+    look.marks.length > 0 && `, without ${look.marks.map(m => m || "empty ones").join(", ")}`,
+    "; \"no number\" counts the others."), table(["column", "is", "least", "mean", "greatest", "no number",
     "words"], look.columns.map(c => [c.name, h("b", {}, c.is), ...[0, 1, 2].map(i => short(
     c.numbers[i])), c.without || "", c.kinds > c.words.length
     ? `${number(c.kinds)}, as ${c.words.slice(0, 3).join(", ")}` : c.words.join(", ")]),

@@ -2,6 +2,7 @@
 it is laid out, `pdf` and `xlsx` know."""
 from __future__ import annotations
 
+import math
 import time
 from collections.abc import Mapping
 from dataclasses import dataclass, field
@@ -22,6 +23,7 @@ if TYPE_CHECKING:
     from matplotlib.figure import Figure
 
     from ...plans.phases import Phases
+    from ...schedule.plan import Schedule
     from ...study.shells import Shells
     from ...study.study import Study
     from ...study.study_file import StudyFile
@@ -39,6 +41,7 @@ _CHECKED = (
     "Each pit lies within the next.",
     "The digests in this report are those of the files that pit read; they were taken again before the report was written.",
 )
+_JUDGED = "The plan by years keeps the slopes and its capacities, as pit schedule says. No plan by these terms is worth more than {currency} {bound:,}: that bound is proved, and the plan is at most {gap} below it."
 _OPEN = (
     "Grades, tonnes, prices, costs, recoveries, units and slope angles are what the table and study.toml say. Nothing shows that they are true.",
     "Walls are made of whole blocks, so they are as steep as asked only as nearly as the table of slopes says.",
@@ -120,7 +123,11 @@ class Report:
 
 
 def gathered(
-    shells: Shells, plan: StudyFile, phases: Phases | None = None, title: str | None = None
+    shells: Shells,
+    plan: StudyFile,
+    phases: Phases | None = None,
+    title: str | None = None,
+    years: Schedule | None = None,
 ) -> Report:
     """What the report of a study says.
 
@@ -134,6 +141,8 @@ def gathered(
         Pushbacks to tell of.
     title : str, optional
         Default: the table's name.
+    years : Schedule, optional
+        The plan by years to tell of.
 
     Raises
     ------
@@ -153,13 +162,15 @@ def gathered(
     ]
     if phases is not None:
         tables += [*_of_phases(phases), *of_phase_classes(phases)]
+    by_year = _of_years(years) if years is not None else []
+    tables += [table for table, _ in by_year]
     tables += [_of_slopes(plan, shells), _of_digests(plan, shells)]
     level, row = pictures.middle_of(shells)
     grid, unit = study.model.grid, study.model.units.length
     return Report(
         title or study.model.name,
         time.strftime("%Y-%m-%d %H:%M UTC", time.gmtime()),
-        [*_facts_of(shells, table, chosen), *_facts_of_phases(phases)],
+        [*_facts_of(shells, table, chosen), *_facts_of_phases(phases), *_facts_of_years(years)],
         plan.path.read_text("utf-8-sig"),
         tables,
         [
@@ -169,10 +180,11 @@ def gathered(
             ),
             ("Plan of a bench", pictures.plan(shells, level)),
             ("Section along a row of the model", pictures.section(shells, row=row)),
+            *(("The plan by years", picture) for _, picture in by_year),
             ("Slopes by bearing", slope_rose.rose(plan.slopes, grid)),
         ],
         [line for name in plan.slopes.names for line in plan.slopes.lines(name, grid, unit)],
-        proved_of(shells),
+        proved_of(shells, years),
         [*_OPEN, *([_WIDENED] if phases is not None and phases.moved else []), *_edges_of(shells)],
     )
 
@@ -183,6 +195,40 @@ def _facts_of_phases(phases: Phases | None) -> list[tuple[str, str]]:
         return []
     factors = ", ".join(map(factor_text, phases.shells.factors))
     return [("Pushbacks", f"{len(phases)}, {phases.set_name}, at factors {factors}")]
+
+
+def _facts_of_years(years: Schedule | None) -> list[tuple[str, str]]:
+    """What the plan by years that the report tells of comes to."""
+    if years is None:
+        return []
+    worth = f"{years.shells.study.currency} {math.floor(years.npv):,}"
+    return [("Plan by years", f"worth {worth} today, at most {years.gap_text} below the best")]
+
+
+def _of_years(found: Schedule) -> list[tuple[Table, Figure]]:
+    """The plan by years, as a table and a picture."""
+    from ...schedule.tables import Tables  # these need Numba
+    from ..schedule_pictures import by_year
+
+    study = found.shells.study
+    years, currency = Tables(found).years(), study.currency
+    columns = [
+        Column("Period", "", "count", years["period"].tolist()),
+        Column("Year", "", "count", years["year"].tolist()),
+        *_amounts(years, study),
+        Column("Cash flow", currency, "amount", years["cash_flow"].tolist()),
+        Column("Discounted", currency, "amount", years["discounted"].tolist()),
+        Column("Discounted so far", currency, "amount", years["npv"].tolist()),
+        Column(
+            "Toe of the lowest bench", study.model.units.length, "length", years["bottom"].tolist()
+        ),
+    ]
+    return [
+        (
+            Table("Plan by years", "What each period digs, mills and earns", columns),
+            by_year(found, years),
+        )
+    ]
 
 
 def _facts_of(shells: Shells, table: pd.DataFrame, chosen: int) -> list[tuple[str, str]]:
@@ -449,8 +495,8 @@ def _of_digests(plan: StudyFile, shells: Shells) -> Table:
     )
 
 
-def proved_of(shells: Shells) -> list[str]:
-    """What is proved: first of all pits, by what of them has a certificate."""
+def proved_of(shells: Shells, years: Schedule | None = None) -> list[str]:
+    """What is proved: first of all pits, by what of them has a certificate; last of a plan by years."""
     certified = shells.certified
     stated, found = len(shells) - certified, []
     if certified:
@@ -460,7 +506,11 @@ def proved_of(shells: Shells) -> list[str]:
     if stated:
         pits, them = ("1 pit is", "it") if stated == 1 else (f"{stated} pits are", "them")
         found.append(_STATED.format(pits=pits, them=them))
-    return [f"{', '.join(found)}: {_BEST}", *_CHECKED]
+    judged = []
+    if years is not None:
+        bound, currency = math.ceil(years.bound), shells.study.currency
+        judged.append(_JUDGED.format(currency=currency, bound=bound, gap=years.gap_text))
+    return [f"{', '.join(found)}: {_BEST}", *_CHECKED, *judged]
 
 
 def _edges_of(shells: Shells) -> list[str]:

@@ -1,0 +1,61 @@
+"""A study with a plan by years at the desk: its page with the years in a frame, its files, and what else goes by years."""
+import pytest
+
+pytest.importorskip("numba")
+pytest.importorskip("selenium")
+pytest.importorskip("starlette")
+
+from desks import Chromium, Desk
+from planned import built, of_table, run
+
+TABLE = """
+if (!document.documentElement?.dataset.ready) return null;
+const years = document.querySelector("#view-1");
+return years && [years.getAttribute("aria-label"), [...years.querySelectorAll("tbody")[0].rows]
+  .map(row => [...row.cells].slice(0, 2).map(cell => Number(cell.textContent.replaceAll(",", ""))))];
+"""
+
+
+@pytest.fixture(scope="module")
+def planned(tmp_path_factory):
+    folder = tmp_path_factory.mktemp("mines")
+    study = built(folder / "planned")
+    run("schedule", study, "--gap", "5")
+    run("page", study)  # without the years
+    return study
+
+
+def test_a_plan_by_years_is_shown_and_saved(planned):
+    desk, browser = Desk(planned.parent), Chromium()
+    try:
+        browser.get(f"{desk.door}")
+        browser.press_on("a", "planned")
+        browser.click("[id='to.pits']")
+        browser.click("[id='part.page']")
+        browser.there("iframe.page")
+        browser.click("[id='by.years']")
+        browser.sees("pitplan page planned --schedule")
+        browser.click("#make")
+        browser.sees("page: done", "#say")
+        label, rows = browser.within("iframe.page", TABLE)
+        dug = of_table(planned)
+        count = dug[dug.year > 0].year.value_counts().sort_index()
+        assert label == "Schedule by years"
+        assert rows == [[year, blocks] for year, blocks in count.items()]
+        browser.click("[id='part.files']")
+        browser.sees("pitplan export planned --to dxf,vtu,csv --schedule")
+        browser.click("#write")
+        for name in ("years.dxf", "years.csv", "schedule.csv", "pits.html"):
+            browser.sees(f"out/{name}", "#main")
+            assert browser.saved(f"out/{name}") == (planned / "out" / name).stat().st_size
+        browser.click("[id='to.vary']")
+        browser.click("[id='if.sink']")
+        words = (
+            "pitplan vary planned price=-20..20 recovery=-5..5 slope=-3..3 sink=-1..1 --schedule"
+        )
+        browser.sees(words, "#main")
+        assert not browser.complaint()
+        assert not browser.complaints()
+    finally:
+        browser.close()
+        desk.end()

@@ -1,0 +1,56 @@
+"""A report of a study with a plan by years; its figures are added up from the planner's own table."""
+import re
+
+import openpyxl
+import pytest
+
+pytest.importorskip("numba")
+
+from planned import TERMS, WEIGHTS, built, of_table, run
+from processes import command
+
+
+@pytest.fixture(scope="module")
+def planned(tmp_path_factory):
+    """A study with a plan by years and its report, and the rows of its table by years."""
+    folder = built(tmp_path_factory.mktemp("years") / "s")
+    run("schedule", folder, "--gap", "5")
+    run("report", folder)
+    return folder, of_table(folder)
+
+
+def test_a_report_has_the_plan_by_years(planned):
+    folder, rows = planned
+    book = openpyxl.load_workbook(folder / "out" / "report.xlsx")
+    heads, *lines = book["Plan by years"].iter_rows(min_row=2, values_only=True)
+    while heads[0] != "Period":
+        heads, *lines = lines
+    at = {str(head).partition(" (")[0]: i for i, head in enumerate(heads)}
+    lines = [line for line in lines if isinstance(line[0], (int, float))]
+    dug = rows[rows.year > 0]
+    assert [line[at["Period"]] for line in lines] == sorted(dug.year.unique())
+    npv = 0.0
+    for line in lines:
+        here = dug[dug.year == line[at["Period"]]]
+        npv += here.worth.sum() * WEIGHTS[int(line[at["Period"]])]
+        assert line[at["Rock"]] == pytest.approx(here.TONNES.sum())
+        assert line[at["Ore"]] == pytest.approx(here.ore.sum())
+        assert line[at["Cash flow"]] == pytest.approx(here.worth.sum(), abs=2)
+        assert line[at["Discounted so far"]] == pytest.approx(npv, rel=1e-6)
+    cover = " ".join(str(cell.value) for row in book.worksheets[0] for cell in row)
+    assert re.search(rf"worth \\S+ {int(npv):,}".replace("\\\\", "\\")[:12], cover)
+
+
+def test_a_plan_of_other_terms_is_not_shown_and_told(planned):
+    folder, _ = planned
+    path = folder / "study.toml"
+    text = path.read_text()
+    path.write_text(text.replace("years = 6", "years = 5"))
+    ran = command("report", folder, "--xlsx")
+    said, faults = ran.communicate(timeout=600)
+    path.write_text(text)
+    assert ran.returncode == 0, faults
+    assert "the plan by years isn't in it" in faults
+    assert "pitplan schedule" in faults
+    book = openpyxl.load_workbook(folder / "out" / "report.xlsx")
+    assert "Plan by years" not in book.sheetnames
