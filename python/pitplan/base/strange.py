@@ -2,6 +2,7 @@
 from __future__ import annotations
 
 from dataclasses import dataclass
+from typing import Any
 
 from .errors import KeyPath, Remedy
 
@@ -27,6 +28,11 @@ class Strange:
     try_this: str
     key: KeyPath = ()
     remedy: Remedy | None = None
+
+    def as_data(self) -> dict[str, Any]:
+        """In one line, and its remedy, as JSON has them."""
+        said = str(self).replace("\n  try: ", "; try: ")
+        return {"said": said, "remedy": self.remedy and self.remedy.as_data()}
 
     def __str__(self) -> str:
         return (

@@ -23,15 +23,8 @@ _Words = list[str]
 
 
 class Commands:
-    """What may be asked for over one study.
-
-    Parameters
-    ----------
-    folder : Folder
-    study : Path
-    runs : sequence of dict
-        Those before, the latest first: the page keeps the pushbacks and the design that were asked for last.
-    """
+    """What may be asked for over one study. Of the `runs` before, the latest first, the page keeps the pushbacks and the design
+    that were asked for last."""
 
     def __init__(self, folder: Folder, study: Path, runs: Sequence[_Asked]) -> None:
         self.folder, self.study, self.runs = folder, study, runs

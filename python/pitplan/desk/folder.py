@@ -33,12 +33,7 @@ class Refused(Exception):
 
 
 class Folder:
-    """Paths are followed to their end before they are used: a link that leads out is outside.
-
-    Parameters
-    ----------
-    root : Path
-    """
+    """A folder `root`. Paths are followed to their end before they are used: a link that leads out is outside."""
 
     def __init__(self, root: Path) -> None:
         self.root = root.resolve()

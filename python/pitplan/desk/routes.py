@@ -43,14 +43,7 @@ _Answer = Callable[[Request], Awaitable[Any]]
 
 
 class Desk:
-    """The routes over a folder.
-
-    Parameters
-    ----------
-    folder : Folder
-    upload_limit : int
-        Bytes of a table or a design that is dropped.
-    """
+    """The routes over a folder; a table or a design that is dropped has at most `upload_limit` bytes."""
 
     def __init__(self, folder: Folder, upload_limit: int) -> None:
         self.folder, self.upload_limit = folder, upload_limit

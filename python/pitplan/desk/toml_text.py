@@ -20,13 +20,7 @@ _HEADER = re.compile(r"\s*\[[^\],]*\]\]?\s*(#|$)")
 
 
 class Conflict(Exception):
-    """What is to be changed isn't any more what whoever changes it has seen.
-
-    Parameters
-    ----------
-    path : list
-        Of what was changed.
-    """
+    """What is to be changed, at `path`, isn't any more what whoever changes it has seen."""
 
     def __init__(self, path: _Path) -> None:
         super().__init__(_told(path))

@@ -181,13 +181,7 @@ def check(study: Path) -> _Told:
     model, tonnage = found.model, found.tonnage
     told: _Told = {
         "errors": [each for error in found.errors for each in errors_told(error, path)],
-        "looks": [
-            {
-                "said": str(it).replace("\n  try: ", "; try: "),
-                "remedy": it.remedy and it.remedy.as_data(),
-            }
-            for it in found.looks
-        ],
+        "looks": [it.as_data() for it in found.looks],
         "factors": found.parts and found.parts.factors,
     }
     if model is not None:

@@ -25,12 +25,7 @@ _Do = Union[
 
 
 class Worker:
-    """It works in the desk's folder, so that messages name files as a planner there would.
-
-    Parameters
-    ----------
-    root : Path
-    """
+    """It works in the desk's folder `root`, so that messages name files as a planner there would."""
 
     def __init__(self, root: Path) -> None:
         self.root = root

@@ -445,11 +445,28 @@ def test_a_design_is_looked_at_when_it_comes(desk):
     for name, content, kind in (
         ("faces.dxf", faces, "surface"),
         ("points.csv", b"x,y,z\n1,2,3\n", "surface"),
-        ("ids.csv", b"BLOCKID,note\nb1,x\n", "ids"),
-        ("ids.txt", b"b1\nb2\n", "ids"),
+        ("ids.csv", b"BLOCKID,note\nH00001,x\n", "ids"),
+        ("ids.txt", b"H00001\nH00002\n", "ids"),
     ):
         assert desk.put(f"{at}/{name}", content=content).json()["as"] == kind, name
     assert len(desk.get("/api/studies/designed").json()["designs"]) == 4
+
+
+def test_ids_are_held_against_the_table_before_a_build(desk):
+    study = begun(desk, "unbuilt")
+    at = "/api/studies/unbuilt/designs"
+    for name, content, row in (
+        ("letter.txt", b"Dear all,\nthe pit is late.\n", "letter.txt, row 2: 'the pit is late.'"),
+        ("ids.csv", b"BLOCKID\nH00001\nH99999\n", "ids.csv, row 3: 'H99999'"),
+    ):
+        told = desk.put(f"{at}/{name}", content=content)
+        assert told.status_code == 422, name
+        error = told.json()["errors"][0]
+        assert error["said"].startswith(f"{row} is the id of no block"), error
+        assert error["try"] == "ids as in column BLOCKID of the table"
+    assert not list((study / "designs").iterdir())
+    (study / "study.toml").write_text("[model]\n")  # with nothing to hold them against
+    assert desk.put(f"{at}/ids.txt", content=b"b1\nb2\n").json()["as"] == "ids"
 
 
 def test_what_pitplan_has_written_and_what_is_nonsense_is_no_design(desk):

@@ -4,6 +4,7 @@ import json
 import re
 import subprocess
 import sys
+import tomllib
 
 import numpy as np
 import pandas as pd
@@ -106,6 +107,16 @@ def test_what_weighs_nothing_known_is_told(tmp_path, frame, keys, words):
     with pytest.raises(pp.PlanError, match=words) as error:
         pp.read_table(tmp_path / "t.csv", size=SIZE, **keys)
     assert error.value.key[0] == "model"
+
+
+def test_a_hint_of_a_column_names_those_that_are_known_too(tmp_path):
+    """It comes in place of the table that stands there, so that x, y and z aren't lost."""
+    BARE.drop(columns="SG").rename(columns={"XC": "este"}).to_csv(tmp_path / "t.csv", index=False)
+    with pytest.raises(pp.PlanError) as error:
+        pp.read_table(tmp_path / "t.csv", size=SIZE, columns={"x": "este"})
+    found = re.search(r"(columns = .*) in \[model\]", str(error.value))[1]
+    told = tomllib.loads(found.replace("...", "weight"))["columns"]
+    assert told == {**told, "x": "este", "y": "YC", "z": "ZC", "tonnes": "weight"}
 
 
 def test_a_mark_counts_only_where_the_formula_reads_it(tmp_path):

@@ -41,6 +41,26 @@ def test_init_sees_marks_sub_blocks_and_descriptions(tmp_path):
     assert told.keys.regularise
 
 
+def test_init_tells_marks_of_nines_and_each_of_several(tmp_path):
+    f = table(6, 5, 3, 3)
+    f.loc[4, "CU"], f.loc[7, "CU"], f.loc[9, "AU"] = -9, -99, -9
+    f.to_csv(tmp_path / "t.csv", index=False)
+    look = first_look.look_at(tmp_path / "t.csv")
+    assert sorted(look.absent) == ["-9", "-99"]
+    assert {"CU", "AU"} <= set(look.grades)
+    notes = [note for note in look.notes if "not estimated" in note]
+    assert notes == [
+        '-99 stands for "not estimated" in CU, and counts as 0',
+        '-9 stands for "not estimated" in CU, AU, and counts as 0',
+    ]
+    (tmp_path / "study.toml").write_text(first_look.written(look, "t.csv"))
+    model = read_study_file(tmp_path).read_model()
+    assert model.blocks.CU.min() >= 0
+    f.loc[7, "CU"] = -8  # no such mark, so none of the others either: `build` names its row
+    f.to_csv(tmp_path / "t.csv", index=False)
+    assert first_look.look_at(tmp_path / "t.csv").absent == ["-9"]
+
+
 def test_init_names_rocks_without_the_blanks_around_them(tmp_path):
     """As `build` reads them; else the rocks that init shows are none that the model has."""
     f = table(6, 5, 3, 3)

@@ -8,11 +8,11 @@ const AGAIN = 300; // .. before what didn't reach the desk is asked once more
 const PULSE = 2000; // .. at what others do
 const SHOWN = 6000; // that a message stays
 
+/** What is known of a study that is opened. */
+const opened = study => ({ study, look: null, check: null, rose: null, files: [], runs: [],
+  events: {}, typed: {}, cells: {}, edits: null, changed: new Set() });
 /** All that is known of the folder and of the open study. */
-export const D = {
-  home: null, study: null, look: null, check: null, rose: null, files: [], runs: [], events: {},
-  typed: {}, cells: {}, edits: null, naming: null, dropped: null, changed: new Set(),
-};
+export const D = { home: null, naming: null, dropped: null, ...opened(null) };
 
 /** @param {string} id @returns {any} */
 export const byId = id => document.getElementById(id);
@@ -42,9 +42,7 @@ export function agreed(question, yes) {
 }
 
 /** Asks the server. What it refuses comes with `errors`, in pitplan's words.
- * @param {string} method @param {string} path @param {any} body
- * @param {{quiet?: boolean, raw?: boolean}} how
- * @returns {Promise<any>} */
+ * @param {string} method @param {string} path @param {any} body @returns {Promise<any>} */
 export async function ask(method, path, body, { quiet = false, raw = false } = {}) {
   if (!path) return { ok: false, errors: [] }; // the study was left meanwhile
   const headers = body === undefined || raw ? {} : { "content-type": "application/json" };
@@ -55,21 +53,20 @@ export async function ask(method, path, body, { quiet = false, raw = false } = {
     await new Promise(done => { setTimeout(done, AGAIN); });
     answer = await send();
   }
-  if (!answer) {
-    document.body.classList.add("away");
-    return { ok: false, isAway: true, errors: [] };
-  }
-  const wasGone = document.body.matches(".away, .shut");
-  document.body.classList.remove("away");
-  const isShut = answer.status === 403 && answer.headers.get("x-desk") === "another token";
+  const wasGone = isGone();
+  const isShut = answer?.status === 403 && answer.headers.get("x-desk") === "another token";
+  document.body.classList.toggle("away", !answer);
   document.body.classList.toggle("shut", isShut);
-  if (isShut) return { ok: false, isShut, errors: [] };
+  if (isGone()) return { ok: false, isGone: true, errors: [] };
   if (wasGone && D.study?.text) refresh();
   const isJson = answer.headers.get("content-type")?.startsWith("application/json");
   const told = isJson ? await answer.json() : { errors: [{ said: await answer.text() }] };
   if (!answer.ok && !quiet) say(told.errors?.[0]?.said ?? answer.statusText, "bad");
   return Object.assign(told, { ok: answer.ok, status: answer.status });
 }
+
+/** Whether the desk doesn't answer, or has another token. */
+const isGone = () => document.body.matches(".away, .shut");
 
 /** Asks for something; what is refused is shown where it belongs. @param {string} path */
 export const look = path => ask("GET", path, undefined, { quiet: true });
@@ -116,7 +113,7 @@ export function queue(body) {
     const before = new Set(D.study.text.split("\n"));
     const [path, asked] = [api(), { ...body(), who: localStorage.getItem("who") ?? "" }];
     let told = await ask("PATCH", path, asked);
-    while (told.isAway || told.isShut) { // what was typed waits for the desk
+    while (told.isGone) { // what was typed waits for the desk
       await new Promise(done => { setTimeout(done, PULSE); });
       told = await ask("PATCH", path, asked);
     }
@@ -144,7 +141,7 @@ export async function refresh() {
       const of = D.study.name;
       const wants = where().screen === "slopes" ? ["check", "rose"] : ["check"];
       const [check, rose] = await Promise.all(wants.map(it => look(api(it))));
-      if (document.body.matches(".away, .shut")) break; // it is asked anew once the desk is back
+      if (isGone()) break; // it is asked anew once the desk is back
       if (of === D.study?.name && !isStale) {
         Object.assign(D, { check, rose: rose ?? null, typed: {} });
         await draw();
@@ -154,50 +151,39 @@ export async function refresh() {
   return asking;
 }
 
-async function reread() {
-  const told = await ask("GET", api());
-  if (told.ok && told.name === D.study?.name) D.study = told;
-}
-
 /** @param {string} name */
 async function open(name) {
-  Object.assign(D, { look: null, check: null, rose: null, files: [], runs: [], events: {} });
-  Object.assign(D, { study: { name }, typed: {}, cells: {}, edits: null, changed: new Set() });
+  Object.assign(D, opened({ name }));
   await draw(); // nothing of another study is left to be pressed
-  const told = await ask("GET", api());
-  const isLeft = () => D.study?.name !== name;
-  if (isLeft()) return;
+  const told = await reread();
+  if (D.study?.name !== name) return;
   if (!told.ok) {
+    say(told.errors[0]?.said ?? "", "bad");
     location.hash = "#/";
     return;
   }
-  D.study = told;
-  await Promise.all([reruns(), refiles()]);
-  if (isLeft()) return;
+  await reresults();
+  if (D.study?.name !== name) return;
   await draw();
   if (D.runs[0]?.state === "running") follow(D.runs[0].number);
   await Promise.all([refresh(), relook()]);
 }
 
-/** Asks anew what the table looks like, by the keys of [model]. */
-async function relook() {
-  const of = D.study.name;
-  const found = await look(api("look"));
-  if (D.study?.name !== of) return;
-  D.look = found;
-  await draw();
-}
-
 const unread = new Set(); // what the desk couldn't tell, and is asked again
-const kept = async (key, path) => {
+/** Asks for something of the open study, and keeps it. @param {string} key of D
+ * @param {string[]} path @returns {Promise<any>} */
+async function kept(key, ...path) {
   const of = D.study?.name;
-  const found = await look(api(path));
-  if (D.study?.name !== of) return;
+  const found = await look(api(...path));
+  if (D.study?.name !== of) return found;
   unread[found.ok ? "delete" : "add"](key);
-  if (found.ok) D[key] = found;
-};
+  if (found.ok || key === "look") D[key] = found; // what is wrong with a table is told
+  return found;
+}
+const reread = () => kept("study");
 const reruns = () => kept("runs", "runs");
-const refiles = () => kept("files", "files");
+const reresults = () => Promise.all([reruns(), kept("files", "files")]);
+const relook = () => kept("look", "look").then(draw); // by the keys of [model]
 
 /** @param {number} which @returns {Promise<any>} a run with all that it has told */
 export async function eventsOf(which) {
@@ -227,7 +213,7 @@ export async function follow(which) {
   following = 0;
   const ended = D.runs.find(run => run.number === which);
   say(`${nameOf(ended)}: ${ended.state}`, ended.state === "done" ? "good" : "bad");
-  await Promise.all([reread(), refiles()]);
+  await Promise.all([reread(), kept("files", "files")]);
   await draw();
 }
 
@@ -262,11 +248,11 @@ export function typed(asked) {
 setInterval(async () => { // what others do: in other windows, in an editor, in a terminal
   if (!D.study?.text || following || document.hidden || D.edits !== null) return;
   const told = await look(api("pulse"));
-  const { ok, status, isAway, isShut, errors, ...beat } = told;
+  const { ok, status, errors, ...beat } = told;
   if (!ok || !D.study?.text || (same(beat, D.study.pulse) && !unread.size)) return;
   const isOther = beat.etag !== D.study.pulse.etag;
   if (isOther) say("study.toml was changed, and is read again");
-  await Promise.all([reread(), reruns(), refiles()]);
+  await Promise.all([reread(), reresults()]);
   await draw();
   if (isOther) await refresh();
   if (D.runs[0]?.state === "running") follow(D.runs[0].number);
@@ -423,7 +409,7 @@ function refocus(before) {
 
 let drawn = null;
 export async function draw() {
-  if (document.body.matches(".away, .shut")) return; // what was typed stays as it is
+  if (isGone()) return; // what was typed stays as it is
   const here = where();
   const before = document.activeElement;
   const isStudy = Boolean(D.study?.text);

@@ -137,6 +137,11 @@ export const entry = (id, now, pick, more = {}) => h("input", { id, value: now, 
 export const having = (list, value, is) => [...list.filter(each => each !== value),
   ...(is ? [value] : [])];
 
+/** The first of some names that isn't there yet. @param {(n: number) => string} named
+ * @param {string[]} there @param {number} n @returns {string} */
+export const free = (named, there, n = 1) => (there.includes(named(n))
+  ? free(named, there, n + 1) : named(n));
+
 /** A box for a value that others may change meanwhile. What stood there when typing began goes with
  * what was typed, so that the later of two changes is known.
  * @param {any} seen @param {Object<string, any>} attributes

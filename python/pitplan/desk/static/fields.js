@@ -1,5 +1,5 @@
 // Fields, made from the description of the keys of study.toml: one for each kind of value.
-import { box, button, choice, counted, entry, h, having, labelled, number, same,
+import { box, button, choice, counted, entry, free, h, having, labelled, number, same,
   tick } from "./dom.js";
 import { D, api, ask, byId, change, draw, faults, link, screenOf, stepped, valueOf,
   where } from "./desk.js";
@@ -49,6 +49,10 @@ const small = (text, onclick, title) => button(text, onclick, { className: "smal
   "aria-label": title });
 const without = (path, title) => small("×", () => set(path, null), title);
 const amounts = (...parts) => h("span", { className: "amount" }, parts);
+/** A box with its name for each key of a table. @param {any[]} path @param {string[]} keys
+ * @param {(path: any[], key: string) => any} make */
+const each = (path, keys, make) => keys.map(key => labelled(idOf([...path, key]), key,
+  make([...path, key], key)));
 
 function amount(path, key) {
   const now = valueOf(path) ?? undefined;
@@ -63,13 +67,11 @@ function amount(path, key) {
     ["formula", "column or formula"]], how, v => set(path, starts[v]));
   if (how === "rock") {
     const left = "other" in now ? [] : rocks().filter(rock => !(rock in now));
-    return amounts(pick, Object.keys(now).map(rock => labelled(idOf([...path, rock]), rock,
-      input([...path, rock], { width: 5 }))),
-    left.map(rock => small(`+ ${rock}`, () => set([...path, rock], usual))));
+    return amounts(pick, each(path, Object.keys(now), p => input(p, { width: 5 })),
+      left.map(rock => small(`+ ${rock}`, () => set([...path, rock], usual))));
   }
-  const formula = { width: 34, list: "columns", read: word, label: key.label };
-  if (how === "formula") return amounts(pick, input(path, formula));
-  return amounts(pick, input(path, { width: 7, hint: key.default, label: key.label }));
+  return amounts(pick, input(path, { label: key.label, ...(how === "formula"
+    ? { width: 34, list: "columns", read: word } : { width: 7, hint: key.default }) }));
 }
 
 function angles(path) {
@@ -121,9 +123,9 @@ function regions(path) {
 function words(path) {
   const now = valueOf(path) ?? [];
   const more = text => text && set(path, [...now, text]);
-  return amounts(now.map((each, i) => h("span", { className: "word" },
-    h("code", {}, each === "" ? "an empty cell" : each),
-    small("×", () => set(path, now.filter((_, n) => n !== i)), `take ${each || "it"} out`))),
+  return amounts(now.map(said => h("span", { className: "word" },
+    h("code", {}, said === "" ? "an empty cell" : said),
+    small("×", () => set(path, having(now, said, false)), `take ${said || "it"} out`))),
   entry(idOf(path), "", more, { className: "w9", placeholder: "one more" }));
 }
 
@@ -140,10 +142,9 @@ function fill(path) {
   if (!now) return small("say what is in a hole", () => set(path, usual));
   const domain = valueOf(["slopes", "by"]) ?? D.look?.region;
   const lists = { rock: rocks(), [domain]: D.look?.region === domain ? D.look?.regions : null };
-  const box = key => (lists[key] ? choice(idOf([...path, key]), [...new Set([...lists[key],
-    now[key]].map(String))], String(now[key]), v => set([...path, key], value(v)))
-    : input([...path, key], { width: 7 }));
-  return amounts(Object.keys(now).map(key => labelled(idOf([...path, key]), key, box(key))),
+  const box = (p, key) => (lists[key] ? choice(idOf(p), [...new Set([...lists[key], now[key]]
+    .map(String))], String(now[key]), v => set(p, value(v))) : input(p, { width: 7 }));
+  return amounts(each(path, Object.keys(now), box),
     domain && !(domain in now) && small(`+ ${domain}`, () => set([...path, domain],
       value(lists[domain]?.[0] ?? "")), "of which region a hole is"),
     without(path, "take it out"));
@@ -165,18 +166,16 @@ function factors(path) {
       small("as a series", () => set(path, series)));
   }
   const list = (D.check?.factors ?? []).map(f => f / 1000);
-  return amounts(Object.keys(now).map(key => labelled(idOf([...path, key]), key, box(now[key],
-    { id: idOf([...path, key]), className: "w4", value: now[key] }, (text, was) => (valueOf(path)
-      ? set([...path, key], value(text), was) : set(path, { ...now, [key]: value(text) }))))),
+  return amounts(each(path, Object.keys(now), (p, key) => box(now[key],
+    { id: idOf(p), className: "w4", value: now[key] }, (text, was) => (valueOf(path)
+      ? set(p, value(text), was) : set(path, { ...now, [key]: value(text) })))),
   list.length > 0 && small("as a list", () => set(path, list)));
 }
 
 function columnsOf(path, key) {
-  return h("div", { className: "grid" }, key.choices.map(each => {
-    const found = D.look?.names?.[each];
-    const empty = found && !valueOf([...path, each]) ? `(${found})` : "none";
-    const id = [...path, each];
-    return labelled(idOf(id), each, select(id, columns(), { empty }));
+  return h("div", { className: "grid" }, each(path, key.choices, (p, name) => {
+    const found = D.look?.names?.[name];
+    return select(p, columns(), { empty: found && !valueOf(p) ? `(${found})` : "none" });
   }));
 }
 
@@ -225,11 +224,10 @@ const metalsNow = () => valueOf(["economics", "metals"]) ?? [];
 /** Adds a metal as `pitplan init` writes that of a column: of the next one that none uses, unless
  * it is told. @param {string} column */
 async function addMetal(column) {
-  const has = (key, value) => metalsNow().some(m => m[key] === value);
-  const next = Object.keys(D.look.metals).find(c => !has("grade", c)) ?? "GRADE";
+  const used = metalsNow().map(m => m.grade);
+  const next = Object.keys(D.look.metals).find(c => !used.includes(c)) ?? "GRADE";
   const more = D.look.metals[column ?? next];
-  let { name } = more;
-  for (let n = 2; has("name", name); n += 1) name = `${more.name}${n}`;
+  const name = free(n => more.name + (n > 1 ? n : ""), metalsNow().map(m => m.name));
   const path = ["economics", "metals", metalsNow().length];
   await set(path, { ...more, name });
   if (document.activeElement === document.body) byId(idOf([...path, "name"]))?.focus();
@@ -287,9 +285,12 @@ export function faultBox(fault) {
 }
 
 /** The places of a model that an error is of, behind a button. @param {any} fault */
-const placesOf = ({ said, places }) => h("details", { className: "places",
-  id: `places.${said.length}` }, h("summary", {}, `show ${places.length < 500 ? "all" : "the first"} ${
-  counted(places.length, "place")}`), h("ol", {}, places.map(place => h("li", {}, place))));
+function placesOf({ said, places }) {
+  const which = places.length < 500 ? "show all" : "show the first";
+  return h("details", { className: "places", id: `places.${said}` },
+    h("summary", {}, `${which} ${counted(places.length, "place")}`),
+    h("ol", {}, places.map(place => h("li", {}, place))));
+}
 
 function rowsAbout(fault) {
   const key = `${D.study.name} ${fault.row}`;

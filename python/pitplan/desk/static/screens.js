@@ -1,6 +1,6 @@
 // The screens: each draws itself from what is known. Table, prices, slopes, build and pits.
-import { at, button, card, choice, entry, h, having, labelled, number, short, size, table, tick,
-  tip, when } from "./dom.js";
+import { at, button, card, choice, entry, free, h, having, labelled, number, short, size, table,
+  tick, tip, when } from "./dom.js";
 import { D, api, ask, draw, faults, file, go, keep, link, say, state } from "./desk.js";
 import { banner, datalist, faultBox, field, fields, mend, set, unused } from "./fields.js";
 import { before, byYears, earlier, pictures, runner, runsOf, years } from "./runs.js";
@@ -73,7 +73,8 @@ export function home() {
     s.blocks ? number(s.blocks) : "", s.pit ? number(s.pit) : "",
     s.worth ? `${number(s.worth / 1e6, 1)} M ${s.currency}` : "", when(s.when),
     button("copy", async () => {
-      const told = await ask("POST", "/api/studies", { name: copyOf(s.name), copy: s.name });
+      const name = free(n => `${s.name}-${n + 1}`, D.home.studies.map(it => it.name));
+      const told = await ask("POST", "/api/studies", { name, copy: s.name });
       if (told.ok) await go();
     }, { className: "small", "aria-label": `copy ${s.name}` })]);
   const tables = D.home.tables.map(t => [t.path, size(t.bytes), when(t.when),
@@ -85,13 +86,6 @@ export function home() {
     tip("A table of blocks is a .csv file with a line for each block: where it is, what it weighs,",
       " its grades. The desk makes a study of it: your prices, slopes and pits. ",
       D.home.manual && h("a", { href: D.home.manual, target: "_blank" }, "The manual"))];
-}
-
-function copyOf(name) {
-  const there = new Set(D.home.studies.map(s => s.name));
-  let n = 2;
-  while (there.has(`${name}-${n}`)) n += 1;
-  return `${name}-${n}`;
 }
 
 // The table.
@@ -136,10 +130,10 @@ function tableScreen() {
     : card("From above", tip("There is a picture once the table is read.")))),
   look?.rows && card("Columns", tip("Least, mean and greatest are of the cells with a number",
     look.marks.length > 0 && `, without ${look.marks.map(m => m || "empty ones").join(", ")}`,
-    "; \"no number\" counts the others."), table(["column", "is", "least", "mean", "greatest", "no number",
-    "words"], look.columns.map(c => [c.name, h("b", {}, c.is), ...[0, 1, 2].map(i => short(
-    c.numbers[i])), c.without || "", c.kinds > c.words.length
-    ? `${number(c.kinds)}, as ${c.words.slice(0, 3).join(", ")}` : c.words.join(", ")]),
+    "; \"no number\" counts the others."), table(["column", "is", "least", "mean", "greatest",
+    "no number", "words"], look.columns.map(c => [c.name, h("b", {}, c.is),
+    ...[0, 1, 2].map(i => short(c.numbers[i])), c.without || "", c.kinds > c.words.length
+      ? `${number(c.kinds)}, as ${c.words.slice(0, 3).join(", ")}` : c.words.join(", ")]),
   { words: 2, className: "columns" }))];
 }
 
