@@ -307,6 +307,23 @@ def test_markup_in_names_does_no_harm(tmp_path):
         assert " [bold]" in ran.stdout, (words, ran.stdout, ran.stderr)
 
 
+def test_a_study_toml_that_init_writes_over_is_kept(tmp_path):
+    table(6, 5, 4, 3).to_csv(tmp_path / "t.csv", index=False)
+    path = tmp_path / "t" / "study.toml"
+    assert pitplan("init", "t.csv", cwd=tmp_path).returncode == 0
+    fresh = path.read_text()
+    for mine, name in (("a = 1\n", "before"), ("b = 2\n", "before-2"), ("a = 1\n", "before")):
+        path.write_text(mine)
+        assert pitplan("init", "t.csv", cwd=tmp_path).returncode == 3
+        assert path.read_text() == mine
+        ran = pitplan("init", "t.csv", "--force", cwd=tmp_path)
+        assert ran.returncode == 0, ran.stderr
+        assert f"what stood in t/study.toml is kept as study.toml.{name}\n" in ran.stdout
+        assert path.with_name(f"study.toml.{name}").read_text() == mine
+        assert path.read_text() == fresh
+    assert len(list(path.parent.glob("study.toml.*"))) == 2
+
+
 def test_commas_beside_marks_and_column_names_of_ones_own(tmp_path):
     f = table(6, 5, 4, 3).rename(columns={"XC": "xx", "YC": "yy"})
     f["CU"] = f.CU.astype(object)
