@@ -58,8 +58,10 @@ class Guard:
         self.app, self.token, self.names, self.cookie = app, token, names, cookie
 
     async def __call__(self, scope: Any, receive: Any, send: Any) -> None:
+        if scope["type"] == "lifespan":
+            await self.app(scope, receive, send)
         if scope["type"] != "http":
-            return await self.app(scope, receive, send) if scope["type"] == "lifespan" else None
+            return
         request = Request(scope)
         answer = self.answer(request, request.headers.get("host", ""))
         await (answer or self.app)(scope, receive, _hardened(send))

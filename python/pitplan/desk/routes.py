@@ -20,6 +20,7 @@ from starlette.requests import ClientDisconnect, Request
 from starlette.responses import FileResponse, JSONResponse, Response
 from starlette.routing import Route
 
+from ..base import kept_json
 from ..base.errors import PlanError
 from ..base.files import put_aside, whole_file
 from ..study import turns
@@ -140,7 +141,7 @@ class Desk:
         try:
             with os.fdopen(handle, "wb") as file:
                 size = await self.taken(request, file, path.name)
-            kind = {}
+            kind: _Told = {}
             if is_design:
                 kind = await self.heavy("kind_of", Path(part), path.name, where.parent)
                 if "errors" in kind:
@@ -185,7 +186,8 @@ class Desk:
         before = (study / "study.toml").read_bytes()
         # of this very text, whatever is written while the rest is found: the page sees that it is old
         pulse = {**_beat(study), "etag": etag(before)}
-        values, outside, text = None, [], before.decode("utf-8-sig", "replace")
+        values: _Told | None = None
+        outside, text = list[_Told](), before.decode("utf-8-sig", "replace")
         with suppress(ValueError, RecursionError):
             values = tomllib.loads(before.decode("utf-8-sig"))
         try:
@@ -212,7 +214,7 @@ class Desk:
                 new = _changed(before, asked["changes"], study)
             _write(path, new)
             with suppress(OSError):  # who it was may be lost on a full disk, and no more
-                runs.write(study / HOME / _CHANGED, {"etag": etag(new), "who": _who(asked)})
+                kept_json.write(study / HOME / _CHANGED, {"etag": etag(new), "who": _who(asked)})
         return {**await self.told(study), "kept": kept}
 
     async def wanted(self, request: Request) -> runs.Wanted:

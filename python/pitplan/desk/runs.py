@@ -26,8 +26,7 @@ from dataclasses import asdict, dataclass, field
 from pathlib import Path
 from typing import Any
 
-from ..base import events
-from ..base.kept_json import write
+from ..base import events, kept_json
 from ..base.files import host
 from ..base.within import NAME as WITHIN
 from ..study import turns
@@ -90,7 +89,7 @@ def start(root: Path, study: Path, wanted: Wanted) -> int:
         try:
             shutil.copyfile(study / "study.toml", folder / "study.toml")
             told = {**asdict(wanted), "typed": wanted.typed, "began": time.time()}
-            write(folder / "asked.json", told)
+            kept_json.write(folder / "asked.json", told)
             (folder / "going").touch()
             _spawned(folder, root, lock.fileno())
         except OSError:
@@ -114,7 +113,9 @@ def _spawned(folder: Path, root: Path, lock: int) -> None:
             start_new_session=True,
             pass_fds=(lock,),
         )
-    write(folder / "process.json", {"pid": run.pid, "since": since(run.pid), "host": host()})
+    kept_json.write(
+        folder / "process.json", {"pid": run.pid, "since": since(run.pid), "host": host()}
+    )
     _children.append(run)
 
 

@@ -9,6 +9,8 @@ import time
 import pytest
 
 from mines import written_study
+from pitplan.base import kept_json
+from pitplan.base.files import host
 from pitplan.desk import runs
 from pitplan.desk.runs import Wanted
 from pitplan.study import turns
@@ -176,16 +178,16 @@ def test_a_number_that_another_process_has_now_is_not_the_run(study, tmp_path, s
     run = runs.of(study)[0]
     os.killpg(run["pid"], signal.SIGKILL)
     waited_for(study, "killed")
-    mine = {"pid": os.getpid(), "host": runs.host()}
-    runs.write(run["folder"] / "process.json", {**mine, "since": run["since"]})
+    mine = {"pid": os.getpid(), "host": host()}
+    kept_json.write(run["folder"] / "process.json", {**mine, "since": run["since"]})
     assert runs.of(study)[0]["state"] == "killed"
     assert not runs.stop(runs.of(study)[0])
-    runs.write(run["folder"] / "process.json", {**mine, "since": runs.since(os.getpid())})
+    kept_json.write(run["folder"] / "process.json", {**mine, "since": runs.since(os.getpid())})
     assert runs.of(study)[0]["state"] == "running"
-    runs.write(run["folder"] / "process.json", {**mine, "host": "other", "since": "x"})
+    kept_json.write(run["folder"] / "process.json", {**mine, "host": "other", "since": "x"})
     assert runs.of(study)[0]["state"] == "runs on other"
     assert not runs.stop(runs.of(study)[0])
-    runs.write(run["folder"] / "process.json", {**mine, "since": run["since"]})
+    kept_json.write(run["folder"] / "process.json", {**mine, "since": run["since"]})
 
 
 def test_a_design_that_breaks_the_slopes_is_no_failure():

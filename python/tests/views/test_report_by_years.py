@@ -1,6 +1,4 @@
 """A report of a study with a plan by years; its figures are added up from the planner's own table."""
-import re
-
 import openpyxl
 import pytest
 
@@ -22,11 +20,8 @@ def planned(tmp_path_factory):
 def test_a_report_has_the_plan_by_years(planned):
     folder, rows = planned
     book = openpyxl.load_workbook(folder / "out" / "report.xlsx")
-    heads, *lines = book["Plan by years"].iter_rows(min_row=2, values_only=True)
-    while heads[0] != "Period":
-        heads, *lines = lines
+    heads, *lines = book["Plan by years"].iter_rows(values_only=True)
     at = {str(head).partition(" (")[0]: i for i, head in enumerate(heads)}
-    lines = [line for line in lines if isinstance(line[0], (int, float))]
     dug = rows[rows.year > 0]
     assert [line[at["Period"]] for line in lines] == sorted(dug.year.unique())
     npv = 0.0
@@ -38,7 +33,7 @@ def test_a_report_has_the_plan_by_years(planned):
         assert line[at["Cash flow"]] == pytest.approx(here.worth.sum(), abs=2)
         assert line[at["Discounted so far"]] == pytest.approx(npv, rel=1e-6)
     cover = " ".join(str(cell.value) for row in book.worksheets[0] for cell in row)
-    assert re.search(rf"worth \\S+ {int(npv):,}".replace("\\\\", "\\")[:12], cover)
+    assert f"worth $ {int(npv):,} today, at most" in cover
 
 
 def test_a_plan_of_other_terms_is_not_shown_and_told(planned):
