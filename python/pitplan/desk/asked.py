@@ -60,11 +60,9 @@ class Commands:
                 page = self._page(self._latest("phases"), self._latest("compare"))
                 return [page + _flag("schedule", asked)]
             case "phases":
-                cut = [
-                    "phases",
-                    _shares(asked["factors"]),
-                    *_option("--mining-width", asked, "width"),
-                ]
+                width = asked.get("width")
+                more = ["--mining-width", _number(width)] if width else []
+                cut = ["phases", _shares(asked["factors"]), *more]
                 return [cut, self._page(asked, self._latest("compare"))]
             case "compare":
                 kind = "--ids" if asked.get("as") == "ids" else "--surface"
@@ -136,11 +134,6 @@ def _kinds(asked: _Asked) -> _Words:
 def _flag(key: str, asked: _Asked, option: str = "") -> _Words:
     """An option without a value, where it is asked for."""
     return [option or f"--{key}"] if asked.get(key) is True else []
-
-
-def _option(option: str, asked: _Asked, key: str) -> _Words:
-    """An option with a number, where there is one."""
-    return [option, _number(asked[key])] if asked.get(key) else []
 
 
 def _factor(asked: _Asked) -> _Words:

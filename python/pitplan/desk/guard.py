@@ -39,19 +39,9 @@ _OURS = ("same-origin", "none")  # where a browser says that a request comes fro
 
 
 class Guard:
-    """Refuses what doesn't come from the desk's own pages.
-
-    Parameters
-    ----------
-    app : _App
-        What answers the others.
-    token : str
-        In the address that the desk prints; then in a cookie that no script reads and no other site's page sends.
-    names : mapping
-        The names by which browsers call the desk, as the header Host has them, and of each the origin of its pages. So a name that
-        was bent to this address (DNS rebinding) is none.
-    cookie : str
-        Its name.
+    """Refuses what doesn't come from the desk's own pages, and hands all else on to `app`. The `token` is in the address that the
+    desk prints; then in a `cookie` that no script reads and no other site's page sends. Browsers call the desk by `names`, as the
+    header Host has them, each with the origin of its pages: one that was bent to this address (DNS rebinding) is none.
     """
 
     def __init__(self, app: _App, token: str, names: Mapping[str, str], cookie: str) -> None:

@@ -44,18 +44,8 @@ _children: list[subprocess.Popen[bytes]] = []  # those that this desk has to bur
 
 @dataclass(frozen=True)
 class Wanted:
-    """What a run is to do.
-
-    Attributes
-    ----------
-    what : str
-        As the desk calls it, which its folder's name has.
-    steps : sequence of list of str
-        The words of each command behind `pitplan`, one after the other, each only where those before it were done.
-    who : str
-    asked : mapping
-        As it was asked for, so that it can be asked for again.
-    """
+    """What a run is to do: `what` is in its folder's name; `steps` are the words of each command behind `pitplan`, each only where
+    those before it were done; `asked` is kept, so that the same can be asked for again."""
 
     what: str
     steps: Sequence[Sequence[str]]
