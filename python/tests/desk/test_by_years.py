@@ -46,7 +46,7 @@ def test_a_plan_by_years_is_shown_and_saved(planned):
         browser.sees("pitplan export planned --to dxf,vtu,csv --schedule")
         browser.click("#write")
         for name in ("years.dxf", "years.csv", "schedule.csv", "pits.html"):
-            browser.sees(f"out/{name}", "#main")
+            browser.there(f"a[download][href*='out/{name}']")
             assert browser.saved(f"out/{name}") == (planned / "out" / name).stat().st_size
         browser.click("[id='to.vary']")
         browser.click("[id='if.sink']")
