@@ -3,6 +3,7 @@ from __future__ import annotations
 
 import errno
 import itertools
+import json
 import os
 import secrets
 import shutil
@@ -10,6 +11,7 @@ import tempfile
 from collections.abc import Iterator
 from contextlib import contextmanager, suppress
 from pathlib import Path
+from typing import Any
 
 from .errors import MachineError
 from .within import refuse_outside
@@ -48,6 +50,12 @@ def whole_file(target: str | os.PathLike[str]) -> Iterator[Path]:
         if error.filename is None or str(error.filename).startswith(str(path.with_name(place))):
             error.filename = str(path)
         raise
+
+
+def write_json(path: Path, told: Any) -> None:
+    """Writes a JSON file, there whole or not at all. Raises OSError where that can't be done."""
+    with whole_file(path) as part:
+        part.write_text(json.dumps(told, indent=1, ensure_ascii=False) + "\n", "utf-8")
 
 
 def put_aside(path: Path) -> Path:

@@ -16,7 +16,6 @@ from typing import Any, NoReturn
 
 from .amounts import LARGEST_FACTOR
 from .errors import PlanError
-from .files import whole_file
 
 Holds = Callable[[Any], bool]
 _MOST = 1 << 53  # a count that a float holds too
@@ -60,12 +59,6 @@ def read(path: Path, kinds: Mapping[str, Holds], try_this: str) -> dict[str, Any
         if not holds(found[key]):
             raise refused(f": {key} is {shown(found[key])}")
     return found
-
-
-def write(path: Path, told: Any) -> None:
-    """Writes a JSON file, there whole or not at all. Raises OSError where that can't be done."""
-    with whole_file(path) as part:
-        part.write_text(json.dumps(told, indent=1, ensure_ascii=False) + "\n", "utf-8")
 
 
 def _no_constant(word: str) -> NoReturn:

@@ -72,7 +72,7 @@ def compare(
 
 def _write_comparison(study: Study, found: Comparison, elevations: list[float]) -> Path:
     """Writes all that was found into a folder of its own."""
-    from ..base import kept_json
+    from ..base.files import write_json
     from ..plans.compare import by_way
     from ..table.spreadsheets import write_table
     from ..views.compare_plan import plan, widest_bench
@@ -95,7 +95,7 @@ def _write_comparison(study: Study, found: Comparison, elevations: list[float]) 
         (target / stale).unlink(missing_ok=True)
     for name, frame in tables.items():
         write_table(frame, target / name)
-    kept_json.write(target / "summary.json", summary(study, found))
+    write_json(target / "summary.json", summary(study, found))
     for elevation in elevations or ([widest_bench(found)] if len(found.benches) else []):
         save(plan(study.model, found, elevation), target / f"plan-{length_text(elevation, '')}.png")
     return target

@@ -20,9 +20,8 @@ from starlette.requests import ClientDisconnect, Request
 from starlette.responses import FileResponse, JSONResponse, Response
 from starlette.routing import Route
 
-from ..base import kept_json
 from ..base.errors import PlanError
-from ..base.files import put_aside, whole_file
+from ..base.files import put_aside, whole_file, write_json
 from ..study import turns
 from ..table.study_keys import KEYS, METALS
 from . import runs, toml_text
@@ -214,7 +213,7 @@ class Desk:
                 new = _changed(before, asked["changes"], study)
             _write(path, new)
             with suppress(OSError):  # who it was may be lost on a full disk, and no more
-                kept_json.write(study / HOME / _CHANGED, {"etag": etag(new), "who": _who(asked)})
+                write_json(study / HOME / _CHANGED, {"etag": etag(new), "who": _who(asked)})
         return {**await self.told(study), "kept": kept}
 
     async def wanted(self, request: Request) -> runs.Wanted:

@@ -26,8 +26,8 @@ from dataclasses import asdict, dataclass, field
 from pathlib import Path
 from typing import Any
 
-from ..base import events, kept_json
-from ..base.files import host
+from ..base import events
+from ..base.files import host, write_json
 from ..base.within import NAME as WITHIN
 from ..study import turns
 from .folder import HOME
@@ -79,7 +79,7 @@ def start(root: Path, study: Path, wanted: Wanted) -> int:
         try:
             shutil.copyfile(study / "study.toml", folder / "study.toml")
             told = {**asdict(wanted), "typed": wanted.typed, "began": time.time()}
-            kept_json.write(folder / "asked.json", told)
+            write_json(folder / "asked.json", told)
             (folder / "going").touch()
             _spawned(folder, root, lock.fileno())
         except OSError:
@@ -103,9 +103,7 @@ def _spawned(folder: Path, root: Path, lock: int) -> None:
             start_new_session=True,
             pass_fds=(lock,),
         )
-    kept_json.write(
-        folder / "process.json", {"pid": run.pid, "since": since(run.pid), "host": host()}
-    )
+    write_json(folder / "process.json", {"pid": run.pid, "since": since(run.pid), "host": host()})
     _children.append(run)
 
 

@@ -7,6 +7,7 @@ from typing import TYPE_CHECKING, Any
 
 from ..base import kept_json
 from ..base.errors import PlanError
+from ..base.files import write_json
 from ..base.next_command import command
 from ..base.units_shown import share_text
 from .phases import Phases
@@ -35,7 +36,7 @@ def keep(found: Phases, folder: Path) -> None:
         "widen": None if found.mines is None else found.mining_width,
         "blocks": _digest_of(found),
     }
-    kept_json.write(folder / _NAME, kept)
+    write_json(folder / _NAME, kept)
 
 
 def kept_in(folder: Path) -> dict[str, Any] | None:

@@ -355,8 +355,8 @@ def of_table(path: Path, model: Model | None, keys: TableKeys | None) -> Singles
                 row=error.row,
                 column=error.column,
                 try_this=(
-                    f"{columns_with(model.columns if model else {}, id=error.column)} and pitplan"
-                    " build, if these are the blocks' ids, or a file without this column"
+                    f"{columns_with(model.columns if model else {}, id=str(error.column))} and"
+                    " pitplan build, if these are the blocks' ids, or a file without this column"
                 ),
             ) from None
         raise

@@ -19,6 +19,7 @@ import pandas as pd
 from ..base import kept_json
 from ..base.amounts import THOUSAND
 from ..base.errors import PlanError, meant
+from ..base.files import write_json
 from ..base.next_command import command
 from ..base.units_shown import share_text
 from ..model.economics import Amount, Economics
@@ -220,7 +221,7 @@ def prepare(
             for each in error.each():
                 each.what = f"{change}: {each.what}"
             raise
-    kept_json.write(study.folder / "vary" / "vary.json", asdict(asked))
+    write_json(study.folder / "vary" / "vary.json", asdict(asked))
     return asked
 
 

@@ -9,8 +9,7 @@ import time
 import pytest
 
 from mines import written_study
-from pitplan.base import kept_json
-from pitplan.base.files import host
+from pitplan.base.files import host, write_json
 from pitplan.desk import runs
 from pitplan.desk.runs import Wanted
 from pitplan.study import turns
@@ -179,15 +178,15 @@ def test_a_number_that_another_process_has_now_is_not_the_run(study, tmp_path, s
     os.killpg(run["pid"], signal.SIGKILL)
     waited_for(study, "killed")
     mine = {"pid": os.getpid(), "host": host()}
-    kept_json.write(run["folder"] / "process.json", {**mine, "since": run["since"]})
+    write_json(run["folder"] / "process.json", {**mine, "since": run["since"]})
     assert runs.of(study)[0]["state"] == "killed"
     assert not runs.stop(runs.of(study)[0])
-    kept_json.write(run["folder"] / "process.json", {**mine, "since": runs.since(os.getpid())})
+    write_json(run["folder"] / "process.json", {**mine, "since": runs.since(os.getpid())})
     assert runs.of(study)[0]["state"] == "running"
-    kept_json.write(run["folder"] / "process.json", {**mine, "host": "other", "since": "x"})
+    write_json(run["folder"] / "process.json", {**mine, "host": "other", "since": "x"})
     assert runs.of(study)[0]["state"] == "runs on other"
     assert not runs.stop(runs.of(study)[0])
-    kept_json.write(run["folder"] / "process.json", {**mine, "since": run["since"]})
+    write_json(run["folder"] / "process.json", {**mine, "since": run["since"]})
 
 
 def test_a_design_that_breaks_the_slopes_is_no_failure():

@@ -1,6 +1,8 @@
 """Who may talk to the desk, and what they may reach: a test for each row of docs/DESK.md's table of dangers."""
 import inspect
 import re
+import subprocess
+import sys
 from pathlib import Path
 
 import pytest
@@ -337,6 +339,18 @@ def test_what_a_button_runs(root):
 def test_no_shell_reads_anything():
     for path in Path(routes.__file__).parent.glob("*.py"):
         assert not re.search(r"shell=True|os\.system|os\.popen|getoutput", path.read_text()), path
+
+
+LIGHT = """import sys; sys.path.insert(0, {python!r})
+import pitplan.desk.serve
+print([name for name in ("numpy", "pandas", "matplotlib") if name in sys.modules])
+"""
+
+
+def test_the_server_and_the_runs_load_no_tables():
+    code = LIGHT.format(python=str(TOP / "python"))
+    ran = subprocess.run([sys.executable, "-c", code], capture_output=True, text=True)
+    assert ran.stdout == "[]\n", ran.stdout + ran.stderr
 
 
 def test_it_listens_to_this_machine_alone_unless_told():

@@ -493,7 +493,10 @@ def test_ids_that_the_study_doesnt_know_are_named(tmp_path):
     given.to_csv(tmp_path / "sims.csv", index=False)
     with pytest.raises(pp.PlanError, match="column BLK") as error:
         risk.of_table(tmp_path / "sims.csv", model, None)
-    assert 'try: columns = { id = "BLK" }' in str(error.value)
+    known = (
+        'columns = { x = "XC", y = "YC", z = "ZC", tonnes = "TONNES", rock = "ROCK", id = "BLK" }'
+    )
+    assert f"try: {known} in [model]" in str(error.value)
     assert "row 2, column BLK" in str(error.value)
     given.assign(BLK=1.0, ONE=["x", *given.ONE[1:].astype(str)]).to_csv(
         tmp_path / "sims.csv", index=False
