@@ -31,13 +31,7 @@ class Commands:
         self.name = study.name
 
     def steps(self, asked: _Asked) -> list[_Words]:
-        """The words of each command behind `pitplan`.
-
-        Raises
-        ------
-        PlanError
-            Where something of it is none that pitplan takes.
-        """
+        """The words of each command behind `pitplan`. Raises PlanError where something of it is none that pitplan takes."""
         what = asked.get("what")
         try:
             return [[word, self.name, *words] for word, *words in self._asked(what, asked)]

@@ -39,13 +39,7 @@ class Folder:
         self.root = root.resolve()
 
     def within(self, path: Path) -> Path:
-        """The path, followed to its end.
-
-        Raises
-        ------
-        Refused
-            Where it lies outside.
-        """
+        """The path, followed to its end. Raises Refused where it lies outside."""
         found = path.resolve()
         if not found.is_relative_to(self.root):
             raise Refused(403, f"{path.name} lies outside the folder that the desk was started for")
@@ -99,13 +93,7 @@ class Folder:
         return [_told_of(path, path.name) for path in tables]
 
     def table_of(self, study: Path) -> Path | None:
-        """The study's table; None where study.toml doesn't say it.
-
-        Raises
-        ------
-        Refused
-            Where it lies outside.
-        """
+        """The study's table; None where study.toml doesn't say it. Raises Refused where it lies outside."""
         try:
             said = tomllib.loads((study / "study.toml").read_text("utf-8-sig"))["model"]["table"]
             return self.within(study / Path(said).expanduser())

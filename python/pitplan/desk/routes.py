@@ -20,6 +20,7 @@ from starlette.requests import ClientDisconnect, Request
 from starlette.responses import FileResponse, JSONResponse, Response
 from starlette.routing import Route
 
+from ..base import events
 from ..base.errors import PlanError
 from ..base.files import put_aside, whole_file, write_json
 from ..study import turns
@@ -346,8 +347,9 @@ def _shown(run: _Told) -> _Told:
 
 def _run_from(run: _Told, request: Request) -> _Told:
     """A run, and what it has done since a place."""
-    events, upto = runs.told_since(run, int(request.query_params.get("from", 0)))
-    return {**_shown(run), "events": events, "upto": upto}
+    place = int(request.query_params.get("from", 0))
+    found, upto = events.read_on(run["folder"] / "events.jsonl", place, _MOST)
+    return {**_shown(run), "events": found, "upto": upto}
 
 
 async def _told_in(request: Request) -> _Told:

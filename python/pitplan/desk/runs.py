@@ -36,7 +36,6 @@ _PACKAGE = str(Path(__file__).resolve().parents[2])  # the folder that has pitpl
 _START = f"import sys; sys.path.insert(0, {_PACKAGE!r}); "
 _COMMAND = _START + "from pitplan.cli.main import main; main()"
 _RUNNER = _START + "from pitplan.desk.runs import _do_all; _do_all(sys.argv[1])"
-_LONGEST = 1_000_000  # bytes of events that are told at a time
 _STOPPED = 130
 _BOOT = Path("/proc/sys/kernel/random/boot_id")  # another one after each start of the machine
 _children: list[subprocess.Popen[bytes]] = []  # those that this desk has to bury
@@ -61,12 +60,7 @@ class Wanted:
 def start(root: Path, study: Path, wanted: Wanted) -> int:
     """Starts a run in the folder `root`, outside of which it reads nothing, and gives its number.
 
-    Raises
-    ------
-    turns.Held
-        Where another command has the study.
-    OSError
-        Where its folder can't be written.
+    Raises turns.Held where another command has the study, and OSError where its folder can't be written.
     """
     lock = turns.open_lock(study)
     if lock is None:
@@ -178,11 +172,6 @@ def stop(run: Mapping[str, Any]) -> bool:
         return False
     os.killpg(run["pid"], signal.SIGINT)
     return True
-
-
-def told_since(run: Mapping[str, Any], place: int) -> tuple[list[dict[str, Any]], int]:
-    """The events of a run from a byte on, and the byte behind them."""
-    return events.read_on(run["folder"] / "events.jsonl", place, _LONGEST)
 
 
 def since(pid: int) -> str | None:

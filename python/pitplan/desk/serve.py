@@ -47,22 +47,10 @@ def serve(
     addresses: Sequence[str] = (),
     upload_limit: int = 2_000_000_000,
 ) -> None:
-    """Serves until ctrl-C.
+    """Serves a folder at a host and a port until ctrl-C. Browsers may call it by further addresses, as "https://desk.mine.example";
+    what is dropped has at most `upload_limit` bytes.
 
-    Parameters
-    ----------
-    folder : Path
-    host, port : str, int
-        Where it listens.
-    addresses : sequence of str
-        Further ones by which browsers call it, as "https://desk.mine.example".
-    upload_limit : int
-        Bytes.
-
-    Raises
-    ------
-    PlanError
-        Where the folder or an address is none, or another program listens there.
+    Raises PlanError where the folder or an address is none, and MachineError where another program listens there.
     """
     if not folder.is_dir():
         raise PlanError(f"{folder} is no folder", try_this="one with tables and studies")
@@ -87,13 +75,8 @@ def serve(
 
 
 def names_of(port: int, addresses: Sequence[str]) -> dict[str, str]:
-    """What browsers call the desk, as the header Host has it, and of each the origin of its pages.
-
-    Raises
-    ------
-    PlanError
-        Where a further address is none.
-    """
+    """What browsers call the desk, as the header Host has it, and of each the origin of its pages. Raises PlanError where a further
+    address is none."""
     found = {f"{name}:{port}": f"http://{name}:{port}" for name in _HERE}
     for address in addresses:
         parts = urlsplit(address)

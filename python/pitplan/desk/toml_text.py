@@ -28,20 +28,11 @@ class Conflict(Exception):
 
 
 def changed(text: str, changes: Sequence[dict[str, Any]]) -> str:
-    """The text with some keys set, or taken out where ``value`` is None.
+    """The text with some keys set, or taken out. Each change has ``path``, ``value`` (None takes it out), and ``was``: what stood
+    there for whoever asks.
 
-    Parameters
-    ----------
-    text : str
-    changes : sequence of dict
-        Each with ``path``, ``value``, and ``was``: what stood there for whoever asks.
-
-    Raises
-    ------
-    Conflict
-        Where something else stands there now.
-    ValueError
-        Where the text is no TOML, a path leads nowhere, or the outcome isn't exactly what was asked for.
+    Raises Conflict where something else stands there now, and ValueError where the text is no TOML, a path leads nowhere, or the
+    outcome isn't exactly what was asked for.
     """
     first = tomllib.loads(text)
     for change in changes:
@@ -76,13 +67,7 @@ def at(tree: Any, path: _Path) -> Any:
 
 
 def _put(tree: Any, path: _Path, value: Any) -> None:
-    """Sets a value in nested tables and lists; None takes it out.
-
-    Raises
-    ------
-    ValueError
-        Where the path leads nowhere.
-    """
+    """Sets a value in nested tables and lists; None takes it out. Raises ValueError where the path leads nowhere."""
     try:
         for step in path[:-1]:
             step = step_of(tree, step)

@@ -49,10 +49,6 @@ _KEPT = {"schedule": "runs/schedule/schedule.npz", "risk": "risk/risk.json"}
 _Told = dict[str, Any]
 
 
-def warm() -> None:
-    """Loads what the first question would wait for: all of this module."""
-
-
 def _stamp(path: Path) -> tuple[str, int, int]:
     """What changes when a file does."""
     there = path.stat()
@@ -186,17 +182,14 @@ def check(study: Path) -> _Told:
     }
     if model is not None:
         told |= {"blocks": len(model), "size": model.grid.size, "shape": model.grid.shape}
-        told |= {"notes": model.notes, "benches": _benches_of(model.grid)}
+        bottom, height, count = model.grid.origin[2], model.grid.size[2], model.grid.shape[2]
+        middles = [float(bottom + level * height) for level in reversed(range(count))]
+        told |= {"notes": model.notes, "benches": middles}
     if tonnage is not None and found.parts and found.priced is not None:
         told["tonnage"] = dict(zip(("title", "names", "rows"), (TITLE, *texts_of(tonnage))))
         if found.parts.economics and found.parts.economics.forbid:
             told["forbidden"] = int(found.priced.forbidden.sum())
     return {**told, "seconds": round(time.monotonic() - began, 2)}
-
-
-def _benches_of(grid: Any) -> list[float]:
-    """The elevations of the middles of a model's benches, from the top."""
-    return [float(grid.origin[2] + level * grid.size[2]) for level in range(grid.shape[2])][::-1]
 
 
 def overview(study: Path) -> _Told:

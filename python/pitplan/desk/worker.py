@@ -8,6 +8,7 @@ import threading
 from collections.abc import Callable
 from concurrent.futures import ProcessPoolExecutor
 from concurrent.futures.process import BrokenProcessPool
+from importlib import import_module
 from pathlib import Path
 from typing import Any, Union
 
@@ -36,7 +37,7 @@ class Worker:
         if self.pool is None:
             context = multiprocessing.get_context("spawn")
             self.pool = ProcessPoolExecutor(1, context, settle, (self.root,))
-            self.pool.submit(answered, "warm")
+            self.pool.submit(import_module, f"{__package__}.work")  # the first question waits less
         return self.pool
 
     async def __call__(self, do: _Do, *words: Any) -> Any:
@@ -93,11 +94,9 @@ def _end_with_the_desk() -> None:
 def answered(do: _Do, *words: Any) -> Any:
     """What a function gives, or its error as a planner is told it."""
     try:
-        if isinstance(do, str):
-            from . import work
-
-            do = getattr(work, do)
-        return do(*words)
+        work = f"{__package__}.work"
+        found = getattr(import_module(work), do) if isinstance(do, str) else do
+        return found(*words)
     except PlanError as error:
         return {"errors": errors_told(error)}
     except OSError as error:

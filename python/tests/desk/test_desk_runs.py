@@ -9,6 +9,7 @@ import time
 import pytest
 
 from mines import written_study
+from pitplan.base import events
 from pitplan.base.files import host, write_json
 from pitplan.desk import runs
 from pitplan.desk.runs import Wanted
@@ -67,7 +68,7 @@ def free(study, seconds=300):
 
 
 def events_of(run):
-    return runs.told_since(run, 0)[0]
+    return events.read_on(run["folder"] / "events.jsonl")[0]
 
 
 def test_a_run_does_its_commands_and_leaves_what_they_said(study, tmp_path):
@@ -97,7 +98,7 @@ def test_events_are_told_on_from_where_they_were_read(study, tmp_path):
     whole = path.read_bytes()
     for end in (10, len(whole) // 2, len(whole)):  # cut off within a line, as one is written
         path.write_bytes(whole[:end])
-        new, place = runs.told_since(run, place)
+        new, place = events.read_on(path, place)
         found += new
     assert found == [json.loads(line) for line in whole.splitlines()]
 

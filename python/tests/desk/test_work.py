@@ -324,7 +324,7 @@ def test_what_takes_too_long_is_ended_and_the_next_question_is_answered(tmp_path
     ask = Worker(tmp_path)
 
     async def both():
-        await asyncio.wrap_future(ask.begin().submit(work.warm))
+        await asyncio.wrap_future(ask.begin().submit(len, "it is there"))
         began, pids = time.monotonic(), list(ask.pool._processes)
         late = await ask(time.sleep, 900)
         took = time.monotonic() - began
@@ -414,7 +414,7 @@ def test_a_question_behind_one_that_takes_too_long_is_answered(tmp_path, monkeyp
     ask = Worker(tmp_path)
 
     async def both():
-        await asyncio.wrap_future(ask.begin().submit(work.warm))
+        await asyncio.wrap_future(ask.begin().submit(len, "it is there"))
         slow = asyncio.create_task(ask(time.sleep, 60))
         await asyncio.sleep(2)
         monkeypatch.setattr(worker, "PATIENCE", 120)
