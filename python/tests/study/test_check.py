@@ -426,7 +426,7 @@ LOOKS = [
         "x and y swapped in a model that isn't turned",
         ("rotation = 0", 'columns = { x = "YC", y = "XC" }'),
         None,
-        'YC is a usual name of y.*\n  try: columns = { .*x = "XC", y = "YC", z = "ZC", .* } in',
+        'YC is a usual name of y.*\n  try: columns = { x = "XC", y = "YC", .*z = "ZC", .* } in',
         ("model", "columns", "x"),
     ),
     (
