@@ -25,7 +25,7 @@ tables/              schedule.csv by year and schedule_benches.csv by year and b
 
 
 def write_schedule(
-    shells: Shells, work: Path, told: Mapping[str, Any], rates: Mapping[str, float]
+    shells: Shells, work: Path, values: Mapping[str, Any], rates: Mapping[str, float]
 ) -> bool:
     """Writes the files of the schedule that was found by the terms as they stand; says whether
     there is one.
@@ -35,7 +35,7 @@ def write_schedule(
     shells : Shells
     work : Path
         The bundle's folder.
-    told, rates : mapping
+    values, rates : mapping
         As of `Schedule.of`.
     """
     study = shells.study
@@ -47,7 +47,7 @@ def write_schedule(
     from ..schedule.plan import Schedule
     from ..schedule.tables import Tables
 
-    found = Schedule.last(shells, told, rates)
+    found = Schedule.last(shells, values, rates)
     if found is None:
         return False
     made = found.production

@@ -17,7 +17,7 @@ _STOPPED = 130
 _WORDS: Any = typer.Argument(
     ...,
     help=(
-        "run SCENARIO FACTOR, realisation NUMBER FACTORS, schedule SCENARIO 1000 or realised NUMBER 1000; factors in thousandths. - reads such"
+        "run SCENARIO FACTOR, realisation NUMBER FACTORS, schedule SCENARIO 1000 or realisation-schedule NUMBER 1000; factors in thousandths. - reads such"
         " lines from the standard input."
     ),
 )

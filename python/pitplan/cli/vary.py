@@ -120,7 +120,7 @@ def _schedules_asked(
             asked = Asked(study.key, each, terms, rates, *limits)
             prepare(study, plan.economics, plan.slopes, wanted, asked)
     asked = must_be_asked(study)
-    if (asked.told, asked.rates) != (terms, rates):
+    if (asked.values, asked.rates) != (terms, rates):
         raise PlanError(
             "the rates or [schedule] of study.toml aren't those that these schedules were asked for"
             " with",

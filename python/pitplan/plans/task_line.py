@@ -10,7 +10,7 @@ from ..study.shells import thousandths
 
 BASE = "base"
 SCHEDULE = "schedule"
-REALISED = "realised"
+REALISED = "realisation-schedule"
 _KINDS = ("run", "realisation", SCHEDULE, REALISED)
 NUMBERED = ("realisation", REALISED)
 

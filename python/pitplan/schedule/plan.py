@@ -95,7 +95,7 @@ class Schedule:
     def of(
         cls,
         shells: Shells,
-        told: Mapping[str, Any],
+        values: Mapping[str, Any],
         rates: Mapping[str, float],
         limits: tuple[float, float],
         listener: Told | None = None,
@@ -107,7 +107,7 @@ class Schedule:
         ----------
         shells : Shells
             A series that has the full price.
-        told : mapping
+        values : mapping
             The values of [schedule].
         rates : mapping
             Those that [shells] gives.
@@ -123,7 +123,7 @@ class Schedule:
         PlanError
             Where the terms are wrong, or no pit at the full price was found.
         """
-        made = production_for(shells, told, rates)
+        made = production_for(shells, values, rates)
         place = folder or shells.study.folder
         search = Search(place, made, shells.study.program, listener)
         search.run(*limits)
@@ -136,7 +136,7 @@ class Schedule:
     def last(
         cls,
         shells: Shells,
-        told: Mapping[str, Any],
+        values: Mapping[str, Any],
         rates: Mapping[str, float],
         folder: Path | None = None,
     ) -> Schedule | None:
@@ -145,7 +145,7 @@ class Schedule:
 
         Parameters
         ----------
-        shells, told, rates, folder
+        shells, values, rates, folder
             As of `of`.
 
         Raises
@@ -157,7 +157,7 @@ class Schedule:
         if not (place / "runs" / "schedule").is_dir():
             return None
         try:
-            made = production_for(shells, told, rates)
+            made = production_for(shells, values, rates)
         except PlanError:  # of other terms than those that a schedule was found by
             return None
         return cls.found_by(Search(place, made, shells.study.program), shells)
@@ -239,7 +239,7 @@ def _sent_of(study: Study, production: Production, plan: Timetable) -> Bools:
 
 
 def production_for(
-    shells: Shells, told: Mapping[str, Any], rates: Mapping[str, float]
+    shells: Shells, values: Mapping[str, Any], rates: Mapping[str, float]
 ) -> Production:
     """What the schedule of a study is made of.
 
@@ -258,5 +258,5 @@ def production_for(
     at = shells.factors.index(THOUSAND)
     held = shells.holds(at)
     tonnes = study.model.blocks.tonnes.to_numpy(float)
-    terms = terms_of(told, rates, float(tonnes[held].sum()), float(feed_of(study)[held].sum()))
+    terms = terms_of(values, rates, float(tonnes[held].sum()), float(feed_of(study)[held].sum()))
     return production_of(shells, terms, at)

@@ -46,7 +46,7 @@ _FOUND: dict[str, kept_json.Holds] = {
 }
 _ASKED: dict[str, kept_json.Holds] = {
     "study": kept_json.is_word,
-    "told": kept_json.is_table(is_term),
+    "values": kept_json.is_table(is_term),
     "rates": kept_json.is_table(kept_json.is_number),
     "gap": kept_json.is_number,
     "minutes": kept_json.is_number,
@@ -62,7 +62,7 @@ class _Asked:
     ----------
     period : int array of shape (blocks,)
         The schedule: when each block is dug, from 0; -1 where it isn't.
-    told, rates : dict
+    values, rates : dict
         The values of [schedule], with as many years as the schedule's terms have, without panels
         and pushbacks, and those that [shells] gives.
     gap, minutes : float
@@ -72,22 +72,22 @@ class _Asked:
     """
 
     period: Indices
-    told: dict[str, Any]
+    values: dict[str, Any]
     rates: dict[str, float]
     gap: float
     minutes: float
     key: str
 
 
-def _digest_of(*told: Any) -> str:
+def _digest_of(*values: Any) -> str:
     """The digest of what JSON has of some values."""
-    return hashlib.sha256(json.dumps(told, sort_keys=True).encode()).hexdigest()
+    return hashlib.sha256(json.dumps(values, sort_keys=True).encode()).hexdigest()
 
 
 def prepare(
     base: Study,
     found: Schedule,
-    told: dict[str, Any],
+    values: dict[str, Any],
     rates: dict[str, float],
     gap: float,
     minutes: float,
@@ -104,7 +104,7 @@ def prepare(
         )
     asked = {
         "study": base.key,
-        "told": {**told, "years": terms.periods // terms.per_year, "panel": 1, "pushbacks": None},
+        "values": {**values, "years": terms.periods // terms.per_year, "panel": 1, "pushbacks": None},
         "rates": rates,
         "gap": gap,
         "minutes": minutes,
@@ -133,7 +133,7 @@ def _asked_of(base: Study) -> _Asked | None:
     if found["study"] != base.key or not is_same:
         return None
     limits = (found["gap"], found["minutes"])
-    return _Asked(period, found["told"], found["rates"], *limits, _digest_of(found))
+    return _Asked(period, found["values"], found["rates"], *limits, _digest_of(found))
 
 
 def tasks(base: Study) -> list[Task]:
@@ -207,7 +207,7 @@ def production_under(study: Realisation, asked: _Asked) -> tuple[Production, flo
     from .judged import block_uses
     from .plan import production_for
 
-    made = production_for(Shells(study, [THOUSAND]), asked.told, asked.rates)
+    made = production_for(Shells(study, [THOUSAND]), asked.values, asked.rates)
     dug = np.flatnonzero(asked.period >= 0)
     used = np.zeros(made.capacities.shape, np.int64)
     for row, uses in enumerate(block_uses(study, dug)):

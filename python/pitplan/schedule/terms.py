@@ -67,13 +67,13 @@ class Terms:
 
 
 def terms_of(
-    told: Mapping[str, Any], rates: Mapping[str, float], rock: float, feed: float
+    values: Mapping[str, Any], rates: Mapping[str, float], rock: float, feed: float
 ) -> Terms:
     """The terms of a schedule.
 
     Parameters
     ----------
-    told : mapping
+    values : mapping
         The values of [schedule], None where it says nothing.
     rates : mapping
         Those that [shells] gives of ``mining_rate``, ``mill_rate`` and ``discount``.
@@ -86,15 +86,15 @@ def terms_of(
         Where neither rate is given, a list has other years than `years`, or a number is out of
         range.
     """
-    yearly = [_by_year(told.get(name) or rates.get(name)) for name in ("mining_rate", "mill_rate")]
+    yearly = [_by_year(values.get(name) or rates.get(name)) for name in ("mining_rate", "mill_rate")]
     if not any(yearly):
         raise PlanError(
             "[schedule] has neither mining_rate nor mill_rate, and [shells] hasn't either",
             try_this="mining_rate = 20e6 in [schedule]: tonnes of rock a year",
             key=("schedule",),
         )
-    per_year = int(told.get("per_year") or 1)
-    years = told.get("years")
+    per_year = int(values.get("per_year") or 1)
+    years = values.get("years")
     years = int(years) if years is not None else _years_for(yearly, (rock, feed))
     _refuse_lists(yearly, years)
     if years * per_year > _MOST_PERIODS:
@@ -104,28 +104,28 @@ def terms_of(
             try_this=f"years = {_MOST_PERIODS // per_year}, or higher rates in tonnes a year",
             key=("schedule",),
         )
-    if told.get("lead") and not told.get("pushbacks"):
+    if values.get("lead") and not values.get("pushbacks"):
         raise PlanError(
             "[schedule] lead says how far pushbacks are ahead, and there are none",
             try_this="pushbacks = [0.5, 0.75], of the factors in [shells]; or take lead out",
             key=("schedule", "lead"),
         )
-    discount = told.get("discount")
+    discount = values.get("discount")
     return Terms(
         _weights(
             years * per_year,
             Decimal(str(rates.get("discount", 0.1) if discount is None else discount)),
-            _WHEN[str(told.get("when") or "mid")],
+            _WHEN[str(values.get("when") or "mid")],
             per_year,
         ),
         tuple(_capacities(name, rate, years, per_year) for name, rate in zip(RESOURCES, yearly)),
         per_year,
-        told.get("sink"),
-        int(told.get("panel") or 1),
-        told.get("cutoff") == _CUTOFFS[1],
-        pushbacks_of(told.get("pushbacks") or ()),
-        int(told.get("lead") or 0),
-        _fixed_cost_of(told.get("fixed_cost") or 0, per_year),
+        values.get("sink"),
+        int(values.get("panel") or 1),
+        values.get("cutoff") == _CUTOFFS[1],
+        pushbacks_of(values.get("pushbacks") or ()),
+        int(values.get("lead") or 0),
+        _fixed_cost_of(values.get("fixed_cost") or 0, per_year),
     )
 
 

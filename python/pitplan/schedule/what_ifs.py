@@ -48,7 +48,7 @@ class Asked:
     study : str
         The key of the model.
     changes : list of (what, by)
-    told, rates : dict
+    values, rates : dict
         The values of [schedule], and those that [shells] gives, as of `Schedule.of`.
     gap, minutes : float
         At which each search ends: a gap in percent, and a time.
@@ -56,7 +56,7 @@ class Asked:
 
     study: str
     changes: list[tuple[str, float]]
-    told: dict[str, Any]
+    values: dict[str, Any]
     rates: dict[str, float]
     gap: float
     minutes: float
@@ -86,7 +86,7 @@ def is_term(value: Any) -> bool:
 _ASKED: dict[str, kept_json.Holds] = {
     "study": kept_json.is_word,
     "changes": kept_json.is_list(vary.is_change),
-    "told": kept_json.is_table(is_term),
+    "values": kept_json.is_table(is_term),
     "rates": kept_json.is_table(kept_json.is_number),
     "gap": kept_json.is_number,
     "minutes": kept_json.is_number,
@@ -111,7 +111,7 @@ def prepare(
     for change in changes:
         try:
             if change.keeps_pit:
-                _changed_terms(asked.told, asked.rates, change)
+                _changed_terms(asked.values, asked.rates, change)
             else:
                 e, s = vary.changed(economics, slopes, change, study.model)
                 Study.create(vary.place(study, change.name), study.model, e, s, study.program)
@@ -133,8 +133,8 @@ def asked_of(study: Study) -> Asked | None:
         found = kept_json.read(path, _ASKED, again)
     except (FileNotFoundError, NotADirectoryError):
         return None
-    told = Asked(**{name: found[name] for name in _ASKED})
-    return told if told.study == study.key else None
+    asked = Asked(**{name: found[name] for name in _ASKED})
+    return asked if asked.study == study.key else None
 
 
 def must_be_asked(study: Study) -> Asked:
@@ -149,7 +149,7 @@ def must_be_asked(study: Study) -> Asked:
 
 
 def _changed_terms(
-    told: Mapping[str, Any], rates: Mapping[str, float], change: Change | None
+    values: Mapping[str, Any], rates: Mapping[str, float], change: Change | None
 ) -> dict[str, Any]:
     """The values of [schedule] with a change.
 
@@ -158,16 +158,16 @@ def _changed_terms(
     PlanError
         Where the discount or the sink rate can't be so, or study.toml has no such rate.
     """
-    found = dict(told)
+    found = dict(values)
     if change is None or not change.keeps_pit:
         return found
     if change.kind == DISCOUNT:
-        planned = rates.get("discount", 0.1) if told.get("discount") is None else told["discount"]
+        planned = rates.get("discount", 0.1) if values.get("discount") is None else values["discount"]
         found["discount"] = round(float(planned) + change.by / PERCENT, 12)
         if not 0 <= found["discount"] < 1:
             raise PlanError(f"a discount of {found['discount']:g} isn't from 0 to below 1")
     elif change.kind in RATES:
-        rate = told.get(change.kind) or rates.get(change.kind)
+        rate = values.get(change.kind) or rates.get(change.kind)
         if rate is None:
             raise PlanError(f"study.toml has no {change.kind}")
         share = 1 + change.by / PERCENT
@@ -175,7 +175,7 @@ def _changed_terms(
             [each * share for each in rate] if isinstance(rate, list) else rate * share
         )
     else:
-        sink = told.get(SINK)
+        sink = values.get(SINK)
         if sink is None or change.by != int(change.by) or sink + change.by < 1:
             raise PlanError(
                 "the sink rate is whole benches a year, at least 1"
@@ -210,9 +210,9 @@ def place(base: Study, name: str) -> Path:
 
 def ended(base: Study, asked: Asked, name: str) -> tuple[Path, str]:
     """The file that says that a search has ended, and what stands in it then."""
-    terms = _changed_terms(asked.told, asked.rates, asked.named(name))
-    told = [study_named(base, name).key, terms, asked.rates, asked.gap, asked.minutes]
-    digest = hashlib.sha256(json.dumps(told, sort_keys=True).encode()).hexdigest()
+    terms = _changed_terms(asked.values, asked.rates, asked.named(name))
+    rests_on = [study_named(base, name).key, terms, asked.rates, asked.gap, asked.minutes]
+    digest = hashlib.sha256(json.dumps(rests_on, sort_keys=True).encode()).hexdigest()
     return place(base, name) / "runs" / "schedule" / "ended", digest
 
 
@@ -243,7 +243,7 @@ def find(base: Study, name: str) -> None:
     from .plan import Schedule
 
     asked = must_be_asked(base)
-    terms = _changed_terms(asked.told, asked.rates, asked.named(name))
+    terms = _changed_terms(asked.values, asked.rates, asked.named(name))
     path, digest = ended(base, asked, name)
     limits = (asked.gap / PERCENT, asked.minutes * MINUTE)
     shells = _shells_of(study_named(base, name), terms)
@@ -256,7 +256,7 @@ def found_last(base: Study, asked: Asked, name: str) -> Schedule:
     """The schedule of a what-if, judged again. Raises PlanError where none was found."""
     from .plan import Schedule
 
-    terms = _changed_terms(asked.told, asked.rates, asked.named(name))
+    terms = _changed_terms(asked.values, asked.rates, asked.named(name))
     shells = _shells_of(study_named(base, name), terms)
     found = Schedule.last(shells, terms, asked.rates, place(base, name))
     if found is None:

@@ -4,7 +4,7 @@
     run price+20 1000              the pit of a what-if
     realisation 17 800,1000        the pits of a realisation of the grades
     schedule price+20 1000         the schedule of a what-if, and its bound
-    realised 17 1000               the study's schedule under a realisation, and a bound there
+    realisation-schedule 17 1000   the study's schedule under a realisation, and a bound there
 
 A task does nothing where a verdict over this very model stands. Else it works in a folder beside
 the result, and renames. So whatever starts such lines needs no state of its own, and to go on is to

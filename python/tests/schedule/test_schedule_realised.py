@@ -109,14 +109,14 @@ def test_tasks_are_done_once(risky):
     folder, *_ = risky
     base = Study(folder)
     each = realised.tasks(base)
-    assert [str(task) for task in each] == [f"realised {r} 1000" for r in range(COUNT)]
+    assert [str(task) for task in each] == [f"realisation-schedule {r} 1000" for r in range(COUNT)]
     assert set(each) <= set(wanted(base, [1000]))
     assert not Tasks(folder).left(each)
-    assert "done before" in run("task", folder, "realised", "1", "1000")
+    assert "done before" in run("task", folder, "realisation-schedule", "1", "1000")
     path = folder / "runs" / "r0001" / "schedule.json"
     kept = path.read_text()
     path.unlink()
-    assert [str(task) for task in Tasks(folder).left(each)] == ["realised 1 1000"]
+    assert [str(task) for task in Tasks(folder).left(each)] == ["realisation-schedule 1 1000"]
     path.write_text(kept.replace('"own": "', '"own": "-x'))
     said = run("risk", folder, "--schedule", status=3)
     assert "schedule.json is damaged: own" in said
@@ -133,8 +133,8 @@ def test_a_bound_below_the_schedule_is_never_kept(risky, monkeypatch):
         from pitplan.study.shells import Shells
 
         made, over = right(study, asked)
-        told = {**asked.told, "mill_rate": 100e3}
-        return production_for(Shells(study, [1000]), told, asked.rates), over
+        values = {**asked.values, "mill_rate": 100e3}
+        return production_for(Shells(study, [1000]), values, asked.rates), over
 
     monkeypatch.setattr(realised, "production_under", narrow)
     monkeypatch.setattr(realised, "judged", lambda *words: Decimal(10**9))
