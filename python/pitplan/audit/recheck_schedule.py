@@ -260,6 +260,14 @@ def npv_of(mine: Mine, periods: Periods, when: dict[int, int]) -> int:
 def check_pushbacks(mine: Mine, periods: Periods, when: dict[int, int]) -> None:
     """A block waits for all blocks of the pushbacks before its own, down to so many benches below
     it."""
+    ahead = ahead_of(mine, periods, when)
+    for block, period in when.items():
+        need(ahead[block] <= period, f"block {block} is dug before the pushbacks ahead of it")
+
+
+def ahead_of(mine: Mine, periods: Periods, when: dict[int, int]) -> dict[int, int]:
+    """Of each block that is dug the last period of what lies ahead of it by pushbacks; -1 where
+    nothing does."""
     latest, never = dict[tuple[int, int], int](), len(periods.weights)
     benches = [mine.blocks.places[block][2] for block in periods.unit]
     low, high = min(benches), max(benches)
@@ -273,12 +281,32 @@ def check_pushbacks(mine: Mine, periods: Periods, when: dict[int, int]) -> None:
                 latest.get((pushback, bench + 1), -1),
                 latest.get((pushback - 1, bench), -1),
             )
-    for block, period in when.items():
+    found = dict[int, int]()
+    for block in when:
         bench = max(mine.blocks.places[block][2] - periods.lead, low)
-        need(
-            latest.get((periods.pushback[block] - 1, bench), -1) <= period,
-            f"block {block} is dug before the pushbacks ahead of it",
-        )
+        found[block] = latest.get((periods.pushback[block] - 1, bench), -1)
+    return found
+
+
+def kept_by_sink(
+    mine: Mine, periods: Periods, lagged: Rows, when: dict[int, int]
+) -> dict[int, list[tuple[int, int, int]]]:
+    """By period the places of the blocks of rock that the sink rate alone keeps out of it: all else
+    that they or their panel rest on is dug by then, and they are dug in the period after it."""
+    above, sunk = dict[int, int](), dict[int, int]()
+    ahead, never = ahead_of(mine, periods, when), len(periods.weights)
+    for block in when:
+        unit = periods.unit[block]
+        over = [when.get(b, never) for b in mine.above[block] if periods.unit[b] != unit]
+        above[unit] = max(above.get(unit, -1), ahead[block], *over)
+        lags = [when.get(b, never) + periods.lag for b in lagged[block]]
+        sunk[unit] = max([sunk.get(unit, -1), *lags])
+    found = dict[int, list[tuple[int, int, int]]]()
+    for block, period in when.items():
+        unit = periods.unit[block]
+        if mine.is_rock[block] and above[unit] < period == sunk[unit]:
+            found.setdefault(period - 1, []).append(mine.blocks.places[block])
+    return found
 
 
 def of_units(rows: Rows, unit: dict[int, int], is_apart: bool) -> list[set[int]]:
@@ -649,6 +677,7 @@ def check_tables(
     economics, facts = recheck.economics_of(), recheck.facts_of()
     metals, feed = [metal["name"] for metal in economics["metals"]], feed_of(economics)
     sums, npv = Sums.of(mine, periods, when, worked, facts["grid"]), 0.0
+    kept = kept_by_sink(mine, periods, sinking(mine, periods), when)
     lines = recheck.read_table("schedule.csv")
     need(len(lines) == max(when.values()) + 1, "tables/schedule.csv hasn't a line for each period")
     for t, line in enumerate(lines):
@@ -661,7 +690,10 @@ def check_tables(
         npv += flow * weight
         for name, ours in (("weight", weight), ("discounted", flow * weight), ("npv", npv)):
             need(recheck.is_close(line.number(name), ours, 1e-3), f"{what}: {name}")
-        check_binding(line, what, asked, t, (found.rock, found.ore * feed))
+        is_sunk = periods.sink is not None and check_sink(
+            line, what, kept.get(t, []), facts["grid"]
+        )
+        check_binding(line, what, asked, t, (found.rock, found.ore * feed), is_sunk)
         dug = [bench for period, bench, _ in sums.benches if period == t]
         toe = min(dug) - facts["grid"]["size"][2] / 2 if dug else None
         need(is_bottom(line.word("bottom"), toe), f"{what}: bottom")
@@ -683,10 +715,46 @@ def is_bottom(word: str, toe: float | None) -> bool:
     return recheck.is_close(float(word), toe, 1e-3)
 
 
+def check_sink(line: recheck.Line, what: str, kept: list[tuple[int, int, int]], grid: Any) -> bool:
+    """Whether the sink rate keeps blocks out of a period, as a line says: in so many columns, and the
+    lowest of the blocks."""
+    columns = len({place[:2] for place in kept})
+    need(line.whole("sink_columns") == columns, f"{what}: sink_columns")
+    cells = ("sink_x", "sink_y", "sink_bench")
+    if not kept:
+        need(not any(map(line.word, cells)), f"{what}: sink_bench")
+        return False
+    low = min(z for _, _, z in kept)
+    told = [line.number(cell) for cell in cells]
+    need(
+        any(math.dist(told, world(place, grid)) < 1e-3 for place in kept if place[2] == low),
+        f"{what}: sink_bench",
+    )
+    return True
+
+
+def world(place: tuple[int, int, int], grid: Any) -> tuple[float, float, float]:
+    """East, north and elevation of a block's centre."""
+    turn = math.radians(grid["rotation"])
+    u, v, w = (at * size for at, size in zip(place, grid["size"]))
+    east, north, up = grid["origin"]
+    return (
+        east + u * math.cos(turn) + v * math.sin(turn),
+        north - u * math.sin(turn) + v * math.cos(turn),
+        up + w,
+    )
+
+
 def check_binding(
-    line: recheck.Line, what: str, asked: Asked, period: int, used: tuple[float, float]
+    line: recheck.Line,
+    what: str,
+    asked: Asked,
+    period: int,
+    used: tuple[float, float],
+    is_sunk: bool,
 ) -> None:
-    """The shares of the rates that a line says a period uses, and which rates it says bind."""
+    """The shares of the rates that a line says a period uses, and which rates it says bind, the sink
+    rate among them."""
     binds = []
     for resource, (name, tonnes) in enumerate(zip(RESOURCES, used)):
         cell = f"{name}_used"
@@ -697,6 +765,7 @@ def check_binding(
         share = tonnes * THOUSAND / room
         need(recheck.is_close(line.number(cell), share, 1e-6 * (1 + share)), f"{what}: {cell}")
         binds += [name] if line.number(cell) >= FULL else []
+    binds += ["sink"] if is_sunk else []
     need(line.word("binds") == " ".join(binds), f"{what}: binds")
 
 

@@ -13,7 +13,7 @@ import typer
 from ..base import events
 from ..base.errors import PlanError
 from ..base.next_command import command
-from ..base.units_shown import printed_scale
+from ..base.units_shown import counted, printed_scale
 from .build import print_rock_of_classes
 from .console import (
     STUDY,
@@ -92,7 +92,7 @@ def risk(
         return
     if later:
         say(
-            f"{len(setup.digests)} realisations at"
+            f"{counted(len(setup.digests), 'realisation')} at"
             f" {len(setup.factors)} factor{'s' * (len(setup.factors) > 1)}; then:"
             f" {command('submit', folder)}, and {command('risk', folder)} for the tables"
         )
@@ -154,7 +154,9 @@ def _risk_of_schedule(
     tasks = realised.tasks(study)
     if later:
         again = command("risk", folder, "--schedule")
-        say(f"{len(tasks)} schedules; then: {command('submit', folder)}, and {again} for the table")
+        say(
+            f"{counted(len(tasks), 'schedule')}; then: {command('submit', folder)}, and {again} for the table"
+        )
         return
     tell_slurm(study, tasks)
     do_all(study, tasks, workers)
@@ -184,7 +186,7 @@ def _write_risk_of_schedule(study: Study, schedule: Schedule) -> None:
         )
     ]
     print_columns(
-        f"npv under {len(found)} realisations, in {money.unit}",
+        f"npv under {counted(len(found), 'realisation')}, in {money.unit}",
         ("of each realisation", *shares, "mean"),
         lines,
         words=1,

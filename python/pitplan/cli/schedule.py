@@ -1,18 +1,20 @@
 """`pitplan schedule`."""
 from __future__ import annotations
 
+import json
 import math
 import sys
 import time
-from collections.abc import Iterator
+from collections.abc import Callable, Iterator, Mapping
 from contextlib import contextmanager
 from pathlib import Path
-from typing import TYPE_CHECKING, Optional
+from typing import TYPE_CHECKING, Any, Optional
 
 import typer
 
 from ..base import events
 from ..base.errors import PlanError
+from ..base.files import whole_file
 from ..base.next_command import command
 from ..base.units_shown import counted, printed_scale
 from .console import (
@@ -33,6 +35,7 @@ if TYPE_CHECKING:
     from ..schedule.plan import Schedule
     from ..schedule.search import Found, Told
     from ..schedule.tables import Tables
+    from ..study.shells import Shells
 
 _PERCENT, _MINUTE = 100.0, 60.0
 _WIDE = 1.0  # percent of a gap, from which on a reason is told
@@ -61,12 +64,12 @@ def schedule(
 
     plan = described(folder)
     shells, rates = shells_of(folder)
-    with _shown(gap / _PERCENT) as listener:
-        found = Schedule.of(
-            shells, plan.values["schedule"], rates, (gap / _PERCENT, minutes * _MINUTE), listener
-        )
+    values, limits = plan.values["schedule"], (gap / _PERCENT, minutes * _MINUTE)
+    with _shown(gap / _PERCENT) as listener, _stopped(shells, limits) as heard:
+        found = Schedule.of(shells, values, rates, limits, heard(listener))
     tables = Tables(found, mining_width)
     years = tables.years()
+    _write_facts(found.shells, found.facts)
     _write_tables(found, tables, years)
     _draw(found, years)
     _write_page(found, years)
@@ -92,15 +95,47 @@ def last_of(folder: Path) -> Schedule:
     return found
 
 
+def _words(found: Found) -> str:
+    """How far a search is."""
+    gap = f"{found.gap:.3%} below the bound" if found.gap < 1e9 else "no bound yet"
+    pits = f"{counted(found.closures, 'pit')} of the mine of blocks and periods"
+    return f"{gap}, {counted(found.filled, 'period')} filled, {pits}"
+
+
+@contextmanager
+def _stopped(shells: Shells, limits: tuple[float, float]) -> Iterator[Callable[[Told], Told]]:
+    """Hears how far a search is, and after ctrl-C says so in words and in schedule.json."""
+    from ..schedule.ends import STOPPED, End
+    from ..schedule.search import Found
+
+    last = [Found()]
+
+    def heard(listener: Told) -> Told:
+        def both(found: Found, what: str) -> None:
+            last[0] = found
+            listener(found, what)
+
+        return both
+
+    try:
+        yield heard
+    except KeyboardInterrupt:
+        end = End(STOPPED, *limits)
+        _write_facts(shells, last[0].facts | end.facts)
+        warn(f"{end.words}: {_words(last[0])}")
+        raise
+
+
+def _write_facts(shells: Shells, facts: Mapping[str, Any]) -> None:
+    """What was found, how far it is below the bound, and why the search ended."""
+    with whole_file(results(shells.study) / "schedule.json") as part:
+        part.write_text(json.dumps(facts, indent=1) + "\n", "utf-8")
+
+
 @contextmanager
 def _shown(wanted: float) -> Iterator[Told]:
     """Shows how far a search is: on a terminal a line that changes, else a line for each step."""
     began, before = time.time(), [""]
-
-    def words(found: Found) -> str:
-        gap = f"{found.gap:.3%} below the bound" if found.gap < 1e9 else "no bound yet"
-        pits = counted(found.closures, "pit")
-        return f"{gap}, {found.filled} periods filled, {pits} of the mine of blocks and periods"
 
     if not err.is_terminal:
 
@@ -109,7 +144,7 @@ def _shown(wanted: float) -> Iterator[Told]:
                 before[0] = what
                 events.event("step", what=what)
                 print(
-                    f"{what}: {words(found)} after {time.time() - began:.0f} s",
+                    f"{what}: {_words(found)} after {time.time() - began:.0f} s",
                     file=sys.stderr,
                     flush=True,
                 )
@@ -131,7 +166,7 @@ def _shown(wanted: float) -> Iterator[Told]:
         def drawn(found: Found, what: str) -> None:
             events.event("step", what=what)
             share = min(wanted / found.gap, 1.0) if 0 < found.gap < 1e9 else 0.0
-            bars.update(bar, completed=share, description=what, text=words(found))
+            bars.update(bar, completed=share, description=what, text=_words(found))
 
         yield drawn
 
@@ -153,7 +188,8 @@ def _write_tables(found: Schedule, tables: Tables, years: pd.DataFrame) -> None:
         name, numbers = ("period", found.periods) if has_parts else ("year", found.years)
         rows = table_back.write_columns(study, {name: numbers, "sent": found.ways}, path)
         say(
-            f"{path}: the table with two columns more, {name} and sent, that {rows:,} of its rows have"
+            f"{path}: the table with two columns more, {name} and sent, that"
+            f" {rows:,} of its rows {'has' if rows == 1 else 'have'}"
         )
     except PlanError as error:
         warn(str(error))
@@ -191,8 +227,10 @@ def _write_page(found: Schedule, years: pd.DataFrame) -> None:
 
 def _print_years(found: Schedule, years: pd.DataFrame) -> None:
     """The schedule on the screen; all of its columns are in the file."""
+    from ..schedule.tables import binds_text
+
     study = found.shells.study
-    metals = study.manifest["metals"]
+    metals, has_width = study.manifest["metals"], "narrow_share" in years
     rock = printed_scale(years["rock_t"], study.model.units.weight)
     money = printed_scale(years[["cash_flow", "npv"]], study.currency)
     names = (
@@ -206,12 +244,15 @@ def _print_years(found: Schedule, years: pd.DataFrame) -> None:
         "discounted",
         "npv so far",
         f"bottom {study.model.units.length}",
-        *(("narrow",) if "narrow_share" in years else ()),
+        *(("narrow",) if has_width else ()),
         "binds",
     )
 
     def text(value: float, places: int = 2) -> str:
         return "" if value != value else f"{value:,.{places}f}"
+
+    def share(value: float) -> str:
+        return "" if value != value else f"{value:.0%}"
 
     lines = [
         (
@@ -221,12 +262,10 @@ def _print_years(found: Schedule, years: pd.DataFrame) -> None:
             text(row["strip"]),
             rock.text(row["feed_t"]),
             *(text(row[f"grade_{name}"], 3) for name in metals),
-            money.text(row["cash_flow"]),
-            money.text(row["discounted"]),
-            money.text(row["npv"]),
-            f"{row['bottom']:,.10g}",
-            *((f"{row['narrow_share']:.0%}",) if "narrow_share" in years else ()),
-            row["binds"],
+            *(money.text(row[name]) for name in ("cash_flow", "discounted", "npv")),
+            "" if row["bottom"] != row["bottom"] else f"{row['bottom']:,.10g}",
+            *((share(row["narrow_share"]),) if has_width else ()),
+            binds_text(row),
         )
         for row in years.to_dict("records")
     ]
@@ -234,18 +273,18 @@ def _print_years(found: Schedule, years: pd.DataFrame) -> None:
 
 
 def _tell(found: Schedule, years: pd.DataFrame) -> None:
-    """What the schedule is worth, how far it is below the bound, and what to look at."""
-    study, terms = found.shells.study, found.production.terms
-    currency = study.currency
+    """What the schedule is worth, how far it is below the bound, why the search ended, and what to
+    look at."""
+    terms, currency = found.production.terms, found.shells.study.currency
+    word = "period" if terms.per_year > 1 else "year"
     say(
-        f"pit schedule says: feasible, {found.count:,} blocks, net present value {currency}"
+        f"pit schedule says: feasible, {counted(found.count, 'block')}, net present value {currency}"
         f" {math.floor(found.npv + found.fixed):,}"
     )
     if terms.fixed_cost:
         say(
-            f"less the fixed costs of the {(years['fixed_cost'] > 0).sum()}"
-            f" {'periods' if terms.per_year > 1 else 'years'} in which rock is dug: {currency}"
-            f" {math.floor(found.npv):,}"
+            f"less the fixed costs of the {counted((years['fixed_cost'] > 0).sum(), word)} in which"
+            f" rock is dug: {currency} {math.floor(found.npv):,}"
         )
     say(
         f"by these rates and slopes no schedule brings more than {currency}"
@@ -253,39 +292,52 @@ def _tell(found: Schedule, years: pd.DataFrame) -> None:
         " has accepted: this one is at most"
         f" {found.gap_text} below the best"
     )
+    if found.end:
+        say(found.end.words)
     each = found.units_a_period
     if found.gap > _WIDE and each < _FEW:
         say(
-            f"a {'period' if terms.per_year > 1 else 'year'} digs {each:,.1f}"
-            f" {'panels' if terms.panel > 1 else 'blocks'} on the mean: the bound may dig them in"
-            " parts, which no schedule does, so that more minutes may not narrow this gap"
+            f"a {word} digs {each:,.1f} {'panels' if terms.panel > 1 else 'blocks'} on the mean: the"
+            " bound may dig them in parts, which no schedule does, so that more minutes may not"
+            " narrow this gap"
         )
+    for line in _counted_here(found):
+        say(line)
+    _warn_of_rest(found, years)
+
+
+def _counted_here(found: Schedule) -> Iterator[str]:
+    """What `pit` doesn't count, and what it counts otherwise."""
+    terms = found.production.terms
     if terms.is_by_year:
-        say(
-            f"{found.said.count - found.count:,} of the blocks go to the mill, each in the year in"
-            " which it is dug; pit schedule counts these twice, as dug and as milled"
+        milled = found.said.count - found.count
+        yield (
+            f"{milled:,} of the blocks {'goes' if milled == 1 else 'go'} to the mill, each in the"
+            " year in which it is dug; pit schedule counts these twice, as dug and as milled"
         )
     if terms.sink is not None:
-        say(f"the sink rate of {terms.sink} benches a year is counted by pitplan, not by pit")
+        benches = f"{terms.sink:,} {'bench' if terms.sink == 1 else 'benches'}"
+        yield f"the sink rate of {benches} a year is counted by pitplan, not by pit"
     if terms.pushbacks:
-        say(
+        yield (
             f"the order of the {len(terms.pushbacks) + 1} pushbacks is counted by pitplan, not by pit"
         )
     if terms.fixed_cost:
-        say(
+        yield (
             "the bound has of a year's fixed cost the share of the rates that the year uses; the gap"
             " has the rest of it"
         )
-    left = found.left()
-    if left[0]:
-        rock = printed_scale(years["rock_t"], study.model.units.weight)
-        warn(
-            f"{left[0]:,} {'block of the pit stays' if left[0] == 1 else 'blocks of the pit stay'}"
-            f" in the ground, {rock.said(left[1])} worth {currency}"
-            f" {left[2]:,.0f} undiscounted"
-            + (
-                "\n  try: more years in [schedule]"
-                if (years["rock_t"] > 0).sum() == terms.periods
-                else ""
-            )
-        )
+
+
+def _warn_of_rest(found: Schedule, years: pd.DataFrame) -> None:
+    """Says what of the pit stays in the ground."""
+    study, (blocks, tonnes, worth) = found.shells.study, found.left()
+    if not blocks:
+        return
+    rock = printed_scale(years["rock_t"], study.model.units.weight)
+    is_full = (years["rock_t"] > 0).sum() == found.production.terms.periods
+    warn(
+        f"{blocks:,} {'block of the pit stays' if blocks == 1 else 'blocks of the pit stay'}"
+        f" in the ground, {rock.said(tonnes)} worth {study.currency} {worth:,.0f} undiscounted"
+        + ("\n  try: more years in [schedule]" if is_full else "")
+    )

@@ -10,7 +10,7 @@ import typer
 
 from ..base.errors import PlanError
 from ..base.next_command import command
-from ..base.units_shown import printed_scale
+from ..base.units_shown import counted, printed_scale
 from .build import print_rock_of_classes
 from .console import app, described, err, open_study, print_columns, results, say, warn
 
@@ -23,6 +23,7 @@ if TYPE_CHECKING:
     from ..study.study import Study
     from ..study.study_file import StudyFile
 
+_APART = {True: "larger than the gaps", False: "within the gaps: can't be told apart"}
 _WORDS: Any = typer.Argument(
     None,
     metavar="[STUDY] [CHANGES]...",
@@ -65,8 +66,8 @@ def vary(
         tasks = _pits_asked(study, folder, changes, factor)
     if later:
         again = command("vary", folder, *(["--schedule"] if is_schedule else []))
-        what = "schedules" if is_schedule else "pits"
-        say(f"{len(tasks)} {what}; then: {command('submit', folder)}, and {again} for the table")
+        what = counted(len(tasks), "schedule" if is_schedule else "pit")
+        say(f"{what}; then: {command('submit', folder)}, and {again} for the table")
         return
     tell_slurm(study, tasks)
     do_all(study, tasks, workers)
@@ -145,7 +146,8 @@ def _write_schedules(study: Study) -> None:
     print_columns(
         f"a schedule for each, in {money.unit}; no schedule of its row brings more than its bound",
         ("what", "by", "blocks", f"rock {rock.unit}", "years")
-        + ("npv", "npv difference", "bound", "bound difference", "below it"),
+        + ("npv", "npv difference", "both gaps", "bound", "bound difference", "below it")
+        + ("the difference is",),
         [
             (
                 called(row["what"]) if change else "as planned",
@@ -155,14 +157,23 @@ def _write_schedules(study: Study) -> None:
                 f"{row['years']}",
                 money.text(row["npv"]),
                 money.text(row["npv_difference"], "+") if change else "",
+                money.text(row["gaps"]) if change else "",
                 money.text(row["bound"]),
                 money.text(row["bound_difference"], "+") if change else "",
                 f"{math.ceil(row['gap'] * 100) / 100:.2f} %",  # never less than it is
+                _APART[bool(row["is_apart"])] if change else "",
             )
             for row, change in zip(found.to_dict("records"), _changes_in(found))
         ],
         words=1,
     )
+    alike = [change for change, is_apart in zip(_changes_in(found), found.is_apart) if not is_apart]
+    if len(alike) > 1:  # the study itself is one of them
+        say(
+            f"of {counted(len(alike) - 1, 'change')} the npv differs by less than both gaps together:"
+            " whether it brings more or less than the plan can't be told\n  try: a smaller --gap and"
+            " more --minutes"
+        )
     say(f"{folder}: vary_schedule.csv, tornado-schedule.png")
 
 

@@ -4,6 +4,7 @@ from __future__ import annotations
 
 import gzip
 import hashlib
+import math
 import os
 import re
 import shutil
@@ -11,6 +12,7 @@ import signal
 import subprocess
 import sys
 import threading
+import time
 from collections.abc import Callable, Iterable, Iterator, Mapping, Sequence
 from contextlib import contextmanager, nullcontext
 from dataclasses import InitVar, dataclass
@@ -337,16 +339,19 @@ class Pit:
         certificate: Path,
         lines: PitLines,
         kept: gzip.GzipFile | None = None,
+        seconds: float | None = None,
     ) -> tuple[int, str]:
         """What `pit check` says of a certificate: how many blocks its pit has, and what it is
-        worth. `lines` takes in the same bytes.
+        worth. `lines` takes in the same bytes. After some seconds it is ended, where they are given.
 
         Raises
         ------
         NotAccepted
             Where it doesn't answer ACCEPTED.
+        _OutOfTime
+            Where it was ended.
         """
-        line = self.told_of(["check", *files.words()], certificate, lines, kept)
+        line = self.told_of(["check", *files.words()], certificate, lines, kept, seconds)
         found = re.fullmatch(r"ACCEPTED (\d+) (-?[\d.]+)" + files.after, line)
         if not found:
             raise NotAccepted(f"pit check: {line}", try_this=_hint_of(line))
@@ -358,8 +363,11 @@ class Pit:
         certificate: Path,
         lines: PitLines,
         kept: gzip.GzipFile | None = None,
+        seconds: float | None = None,
     ) -> str:
-        """What `pit` says of a certificate, which it gets on its standard input."""
+        """What `pit` says of a certificate, which it gets on its standard input. Raises _OutOfTime
+        where that takes longer than some seconds."""
+        ends = math.inf if seconds is None else time.monotonic() + seconds
 
         def pieces() -> Iterator[bytes]:
             with (
@@ -368,12 +376,14 @@ class Pit:
                 else open(certificate, "rb")
             ) as file:
                 while data := file.read(_PIECE):
+                    if time.monotonic() >= ends:
+                        raise _OutOfTime
                     lines.take(data)
                     if kept:
                         kept.write(data)
                     yield data
 
-        return self.run([*words, "--verbose", "/dev/stdin"], fed=pieces()).strip()
+        return self.run([*words, "--verbose", "/dev/stdin"], fed=pieces(), seconds=seconds).strip()
 
     def richest(
         self, texts: Texts, certificate: Path, seconds: float | None = None
@@ -387,18 +397,23 @@ class Pit:
         certificate : Path
             The file to write; when it is done, it lies packed at the same name with ``.gz`` added.
         seconds : float, optional
-            That finding it may take: then None is what it gives. Default: as long as it takes.
+            That finding and judging it may take: then None is what it gives. Default: as long as
+            they take.
 
         Raises
         ------
         NotAccepted
             Where there was no certificate, or the check refuses it.
         """
+        ends = None if seconds is None else time.monotonic() + seconds
         if not self.solved([*texts.words(), "--group", "worth"], certificate, seconds):
             return None
         lines = PitLines()
-        with packed(certificate) as kept:
-            count, worth = self.judged(texts, certificate, lines, kept)
+        try:
+            with packed(certificate) as kept:
+                count, worth = self.judged(texts, certificate, lines, kept, _left_until(ends))
+        except _OutOfTime:
+            return None
         certificate.unlink()
         blocks = lines.numbers()
         _refuse_other_count(count, blocks)
@@ -421,11 +436,16 @@ class Pit:
         NotAccepted
             As `richest`.
         """
+        ends = None if seconds is None else time.monotonic() + seconds
         if not self.solved(mine.words(), certificate, seconds):
             return None
         lines = PitLines()
-        with packed(certificate) as kept:
-            line = self.told_of(["bound", *mine.words()], certificate, lines, kept)
+        words: list[_Word] = ["bound", *mine.words()]
+        try:
+            with packed(certificate) as kept:
+                line = self.told_of(words, certificate, lines, kept, _left_until(ends))
+        except _OutOfTime:
+            return None
         found = re.fullmatch(r"BOUND (-?[\d.]+)", line)
         if not found:
             raise NotAccepted(f"pit bound: {line}", try_this=_hint_of(line))
@@ -727,6 +747,11 @@ def _ending(run: subprocess.Popen[bytes], seconds: float | None) -> Iterator[thr
         yield late
     finally:
         timer.cancel()
+
+
+def _left_until(ends: float | None) -> float | None:
+    """The seconds until then; None where nothing ends."""
+    return None if ends is None else ends - time.monotonic()
 
 
 def _hint_of(said: str) -> str | None:

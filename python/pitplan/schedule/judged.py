@@ -13,6 +13,7 @@ from ..base.amounts import THOUSAND
 from ..base.arrays import Indices, Ints
 from ..base.errors import Disagreement
 from ..base.files import whole_file
+from ..base.units_shown import counted
 from ..pit.program import Texts
 from ..pit.scheduled import Scheduled
 from ..study.building import write_numbers
@@ -85,8 +86,10 @@ def judged(study: Study, production: Production, plan: Timetable, folder: Path) 
     count = int((of_blocks >= 0).sum()) + len(sent)
     if not said.is_feasible or said.count != count or Decimal(said.npv) != npv:
         raise Disagreement(
-            f"pit schedule says {said.count:,} blocks, {said.npv}, {said.broken} broken pairs and"
-            f" {len(said.over)} overused periods; this package counts {count:,} and {npv:f}",
+            f"pit schedule says {counted(said.count, 'block')}, {said.npv},"
+            f" {counted(said.broken, 'broken pair')} and"
+            f" {counted(len(said.over), 'overused period')}; this package counts {count:,} and"
+            f" {npv:f}",
             try_this="keep the folder, and tell the maintainers",
         )
     return said

@@ -18,6 +18,7 @@ import numpy as np
 from ..base import kept_json
 from ..base.arrays import Array
 from ..base.files import made_whole, sweep, whole_file
+from .ends import KINDS, End
 from .production import Production
 from .sending import Timetable
 
@@ -85,17 +86,32 @@ class Kept:
         except (FileNotFoundError, NotADirectoryError):
             return None
         shape = self.production.capacities.shape
-        told = Bound(**{name: found[name] for name in _BOUND})
-        is_whole = len(told.multipliers) == shape[0] and all(
-            len(row) == shape[1] for row in told.multipliers
+        bound = Bound(**{name: found[name] for name in _BOUND})
+        is_whole = len(bound.multipliers) == shape[0] and all(
+            len(row) == shape[1] for row in bound.multipliers
         )
-        return told if told.production == self.production.key and is_whole else None
+        return bound if bound.production == self.production.key and is_whole else None
 
     def keep_bound(self, bound: Bound, certificate: Path) -> None:
         """Keeps a bound and its certificate, in place of the one before."""
         with made_whole(self.folder / "bound") as work:
             (work / "bound.json").write_text(json.dumps(asdict(bound), indent=1))
             shutil.copyfile(certificate, work / "bound.cert.gz")
+
+    def end(self) -> End | None:
+        """Why the last search ended, where it was of this production."""
+        kinds = {"production": kept_json.is_digest, **KINDS}
+        try:
+            found = kept_json.read(self.folder / "end.json", kinds, f"rm -r {self.folder}")
+        except (FileNotFoundError, NotADirectoryError):
+            return None
+        is_own = found["production"] == self.production.key
+        return End(**{name: found[name] for name in KINDS}) if is_own else None
+
+    def keep_end(self, end: End) -> None:
+        """Keeps why a search ended, in place of what ended the one before."""
+        with whole_file(self.folder / "end.json") as part:
+            part.write_text(json.dumps({"production": self.production.key} | asdict(end)))
 
     def arrays(self, name: str) -> dict[str, Array]:
         """The arrays that were kept under a name, none where they aren't of this production."""

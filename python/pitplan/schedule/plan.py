@@ -16,6 +16,7 @@ from ..base.arrays import Array, Bools, Indices
 from ..base.errors import NotAccepted, PlanError
 from ..base.next_command import command
 from ..pit.scheduled import Scheduled
+from .ends import End
 from .judged import judged
 from .production import Production, feed_of, production_of
 from .search import Search, Told
@@ -49,6 +50,8 @@ class Schedule:
         What no schedule of these terms is worth more than, in units of currency.
     closures : int
         Pits of the mine of blocks and periods that were found for it.
+    end : End or None
+        Why the search for it ended; None where that wasn't kept.
     """
 
     shells: Shells
@@ -59,6 +62,7 @@ class Schedule:
     fixed: Decimal
     bound: Decimal
     closures: int
+    end: End | None = None
 
     @property
     def npv(self) -> Decimal:
@@ -122,6 +126,8 @@ class Schedule:
         ------
         PlanError
             Where the terms are wrong, or no pit at the full price was found.
+        KeyboardInterrupt
+            After ctrl-C, with what was found kept.
         """
         made = production_for(shells, values, rates)
         place = folder or shells.study.folder
@@ -187,7 +193,24 @@ class Schedule:
             Decimal(made.fixed(plan)) / MILLION,
             Decimal(search.found.bound) / MILLION,
             search.found.closures,
+            search.end,
         )
+
+    @property
+    def facts(self) -> dict[str, Any]:
+        """What ``schedule.json`` says: amounts in units of currency, each as `pit` says it."""
+        terms, dug = self.production.terms, self.period >= 0
+        return {
+            "is_judged": True,
+            "currency": self.shells.study.currency,
+            "npv": f"{self.npv:f}",
+            "bound": f"{self.bound:f}",
+            "gap_percent": float(self.gap),
+            "blocks": self.count,
+            "periods": len(np.unique(self.period[dug])),
+            "periods_a_year": terms.per_year,
+            "closures": self.closures,
+        } | (self.end.facts if self.end else {})
 
     @property
     def periods(self) -> Indices:

@@ -18,6 +18,7 @@ from ..base.amounts import THOUSAND, exact_sum
 from ..base.arrays import Array, Floats, Indices, Ints
 from ..base.errors import PlanError
 from ..base.next_command import command
+from ..base.units_shown import counted
 from .pairs import Pairs
 from .sending import Millable, Timetable
 from .terms import GRAIN, RESOURCES, Terms, refuse_missing
@@ -182,6 +183,21 @@ class Production:
         np.add.at(found[1], sent[sent < self.periods], self.millable.feeds[sent < self.periods])
         return found
 
+    def kept_by_sink(self, period: Ints) -> Ints:
+        """The units that the sink rate alone keeps from being dug a period earlier: all else that
+        they rest on is dug before, and straight above them a year's benches are dug in the year
+        that ends with that period. Ascending.
+
+        Parameters
+        ----------
+        period : int array of shape (units,)
+            When each is dug, from 0; that behind all where it stays.
+        """
+        above, sunk = np.full(self.units, -1), np.full(self.units, -1)
+        np.maximum.at(above, self.above.blocks, period[self.above.other])
+        np.maximum.at(sunk, self.sinking.blocks, period[self.sinking.other] + self.terms.per_year)
+        return np.flatnonzero((period < self.periods) & (sunk == period) & (above < period))
+
     def wrong(self, plan: Timetable) -> list[str]:
         """What keeps a schedule from being feasible, in words."""
         never, found = self.periods, []
@@ -190,7 +206,8 @@ class Production:
             (self.sinking, self.terms.per_year, "sink rate"),
         ):
             count = int(pairs.broken(plan.period, lag, never).sum())
-            found += [f"{count:,} pairs break the {what}"] if count else []
+            if count:
+                found.append(f"{counted(count, 'pair')} break{'s' * (count == 1)} the {what}")
         over = self.used(plan) > self.capacities
         found += [f"{RESOURCES[r]} in period {t + 1} is exceeded" for r, t in np.argwhere(over)]
         return found
@@ -233,7 +250,7 @@ def production_of(shells: Shells, terms: Terms, at: int) -> Production:
     units, *gate_pairs = gated(parted, terms.lead)
     if units.size * terms.periods > _MOST_NODES:
         raise PlanError(
-            f"[schedule] {units.size:,} blocks and {terms.periods} periods are more than"
+            f"[schedule] {counted(units.size, 'block')} and {counted(terms.periods, 'period')} are more than"
             f" {_MOST_NODES:,} together",
             try_this="panel = 2 in [schedule], or fewer years",
             key=("schedule",),

@@ -26,6 +26,7 @@ from ..base.arrays import Indices, Ints
 from ..base.errors import Disagreement, PlanError
 from ..base.files import whole_file
 from ..base.next_command import command
+from ..base.units_shown import counted
 from ..plans.risk import Realisation, realisation, setup_of
 from ..plans.task_line import REALISED, Task
 from ..study.shells import Shells
@@ -104,7 +105,12 @@ def prepare(
         )
     asked = {
         "study": base.key,
-        "values": {**values, "years": terms.periods // terms.per_year, "panel": 1, "pushbacks": None},
+        "values": {
+            **values,
+            "years": terms.periods // terms.per_year,
+            "panel": 1,
+            "pushbacks": None,
+        },
         "rates": rates,
         "gap": gap,
         "minutes": minutes,
@@ -243,8 +249,9 @@ def judged(study: Realisation, made: Production, period: Indices) -> Decimal:
         said = study.program.schedule(study.files, THOUSAND, *places)
     if not said.is_feasible or Decimal(said.npv) != npv:
         raise Disagreement(
-            f"realisation {study.number}: pit schedule says {said.npv}, {said.broken} broken pairs"
-            f" and {len(said.over)} overused periods; this package counts {npv:f}"
+            f"realisation {study.number}: pit schedule says {said.npv},"
+            f" {counted(said.broken, 'broken pair')} and"
+            f" {counted(len(said.over), 'overused period')}; this package counts {npv:f}"
         )
     return npv - fixed
 

@@ -7,13 +7,17 @@ import tempfile
 import time
 from collections.abc import Callable, Iterator
 from dataclasses import dataclass, replace
+from decimal import Decimal
 from pathlib import Path
+from typing import Any
 
 import numpy as np
 
 from ..base.arrays import Floats, Ints
 from ..base.files import mark
 from ..pit.program import Pit
+from .annealing import Annealing
+from .ends import ALL, GAP, KILLED, MINUTES, ROUNDS, STOPPED, End
 from .expanded import CERTIFICATE, Closed, Expanded
 from .kept import Bound, Kept
 from .partition import MOST, Clusters, Relaxed, begun, merged, relax, shares_of, split
@@ -30,7 +34,10 @@ _NEAREST = 1e-5
 _TRIES = 2000  # swaps between each two periods in a round
 _REBUILDS = 100  # tries of a round to dig other units, at most
 _REBUILT = 10_000  # units that they go over together
-_STALE = 12  # rounds that bring next to nothing, after which swaps end
+_SWAPS = 2  # rounds of swaps that bring next to nothing, after which annealing comes
+_LEAST, _MOST = 200, 4000  # swaps between each two periods at each temperature of the first one
+_STALE = 5  # rounds that bring next to nothing, after which the search ends
+_LONGEST = 1e9  # seconds of a search
 _NOTHING = 2e-6  # of the worth: what counts as next to nothing
 
 
@@ -61,6 +68,19 @@ class Found:
             return math.inf
         return (self.bound - self.npv) / self.bound
 
+    @property
+    def facts(self) -> dict[str, Any]:
+        """What ``schedule.json`` says of a search that was ended, before `pit schedule` has judged
+        what it found: amounts in units of currency, None where there are none."""
+        return {
+            "is_judged": False,
+            "npv": None if self.npv is None else f"{Decimal(self.npv) / MILLION:f}",
+            "bound": None if self.bound is None else f"{Decimal(self.bound) / MILLION:f}",
+            "gap_percent": self.gap * 100 if math.isfinite(self.gap) else None,
+            "periods": self.filled,
+            "closures": self.closures,
+        }
+
 
 Told = Callable[[Found, str], None]  # how far it is, and what is done next
 _Shared = tuple[Floats, Ints]  # of the relaxation: its shares of units and periods, its multipliers
@@ -77,6 +97,11 @@ class Search:
     program : Pit
     told : function, optional
         Is told how far it is.
+
+    Attributes
+    ----------
+    end : End or None
+        Why the last search over this production ended; None before the first.
     """
 
     def __init__(
@@ -95,6 +120,8 @@ class Search:
         self.told, self.found = told, Found()
         self.rebuilds = min(_REBUILDS, _REBUILT // production.units)
         self.plan: Timetable | None = None
+        self.anneals = 0
+        self.end = self.kept.end()
         self.bound = self.kept.bound()
         if self.bound:
             self.found = replace(
@@ -104,7 +131,8 @@ class Search:
 
     def run(self, gap: float, seconds: float) -> None:
         """Searches until the schedule is within a gap of the bound, nothing more is found, or the
-        time is up. There is a schedule and a bound afterwards, whatever the time.
+        time is up. There is a schedule and a bound afterwards, whatever the time: a first bound is
+        waited for. Why it ended is in `end`, and kept.
 
         Parameters
         ----------
@@ -112,7 +140,25 @@ class Search:
             As a share: 0.001 is 0.1 %.
         seconds : float
         """
+        seconds = min(seconds, _LONGEST)
+        self.end = End(KILLED, gap, seconds)
+        self.kept.keep_end(self.end)  # whatever ends it before it says why
+        try:
+            self.ended(self.looked(gap, seconds))
+        except KeyboardInterrupt:
+            self.ended(STOPPED)
+            raise
+
+    def ended(self, why: str, rounds: int = 0) -> None:
+        """Notes why the search ended, after so many rounds that brought next to nothing."""
+        assert self.end is not None
+        self.end = replace(self.end, why=why, rounds=rounds or self.end.rounds)
+        self.kept.keep_end(self.end)
+
+    def looked(self, gap: float, seconds: float) -> str:
+        """Searches, and gives why it ended."""
         ends = time.monotonic() + seconds
+        self.sorting.ends = ends
         if self.plan is None:
             self.tell("a first schedule, shell by shell")
             self.take(self.sorting.by_shells())
@@ -124,9 +170,9 @@ class Search:
             self.tell("all schedules of a small mine")
             plan, is_all = by_whole_units(self.production, ends - time.monotonic())
             self.take(plan)
-            if is_all:
-                return
-        self.swap(gap, ends)
+            if is_all and self.found.gap > gap:
+                return ALL
+        return self.swap(gap, ends)
 
     def tell(self, what: str) -> None:
         """Says how far it is."""
@@ -249,14 +295,34 @@ class Search:
         if relaxed is not None:
             yield shares_of(cluster, relaxed), relaxed.multipliers
 
-    def swap(self, gap: float, ends: float) -> None:
-        """Swaps between neighbouring periods, in rounds, until they bring next to nothing."""
+    def swap(self, gap: float, ends: float) -> str:
+        """Swaps between neighbouring periods in rounds, then annealing, longer each time, until these
+        bring next to nothing. Gives why it ended."""
         stale, seed = 0, int(self.kept.arrays("swaps").get("seed", np.array(0)))
-        while self.found.gap > gap and time.monotonic() < ends and stale < _STALE:
-            assert self.plan is not None and self.found.npv is not None
-            self.tell("swaps between neighbouring periods")
+        while True:
+            if self.found.gap <= gap:
+                return GAP
+            if time.monotonic() >= ends:
+                return MINUTES
+            if stale >= _STALE:
+                assert self.end is not None
+                self.end = replace(self.end, rounds=stale)
+                return ROUNDS
+            assert self.found.npv is not None
             before, seed = self.found.npv, seed + 1
-            self.take(self.sorting.swapped(self.plan, _TRIES, seed))
-            self.take(self.sorting.rebuilt(self.plan, self.rebuilds, seed))
+            self.one_round(seed, stale >= _SWAPS)
             self.kept.keep_arrays("swaps", seed=np.array(seed))
             stale = stale + 1 if self.found.npv - before <= _NOTHING * abs(before) else 0
+
+    def one_round(self, seed: int, is_annealing: bool) -> None:
+        """One round: of swaps and rebuilding, or of annealing, each longer than the one before."""
+        assert self.plan is not None
+        if is_annealing:
+            self.tell("annealing: swaps of which some lose")
+            self.anneals += 1
+            tries = self.anneals * min(max(self.production.units // 4, _LEAST), _MOST)
+            self.take(Annealing(self.sorting, seed).annealed(self.plan, tries))
+            return
+        self.tell("swaps between neighbouring periods")
+        self.take(self.sorting.swapped(self.plan, _TRIES, seed))
+        self.take(self.sorting.rebuilt(self.plan, self.rebuilds, seed))

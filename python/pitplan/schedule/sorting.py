@@ -3,13 +3,15 @@ right after what is left of all above it (Chicoisne and others, 2012), then sing
 between neighbouring periods."""
 from __future__ import annotations
 
+import math
+import time
 from collections.abc import Iterator
 
 import numpy as np
 
 from ..base.arrays import Bools, Floats, Ints
 from . import loops
-from .loops import Mine, Plan
+from .loops import Heat, Mine, Plan
 from .production import Production
 from .sending import Timetable, send
 
@@ -18,6 +20,8 @@ _FLOORS = (None, 1e-6, 0.5)  # shares that are needed before a unit may be dug; 
 _PASSES = 50  # of single moves, at most
 _TURNS = 4  # of moves and of what is sent
 _SLACK = 1e-9
+_SEEDS = 1 << 10  # of one round of swaps between two periods
+_PIECE = 2000  # swaps between two looks at the clock
 _MOST_OUT = 4  # units that one try of a rebuilding takes out
 _MOST_LOOKS = 20  # times all units that it looks at for what comes in their place
 
@@ -28,10 +32,16 @@ class Sorting:
     Parameters
     ----------
     production : Production
+
+    Attributes
+    ----------
+    ends : float
+        When what makes a schedule better has to end, by the clock that always goes on; a schedule
+        is made whatever the time.
     """
 
     def __init__(self, production: Production) -> None:
-        self.production = production
+        self.production, self.ends = production, math.inf
         above, sinking = production.above, production.sinking
         on, sunk = above.turned(), sinking.turned()
         self.mine = Mine(
@@ -53,6 +63,11 @@ class Sorting:
         )
         self.order = production.order
         self.by_gain = production.millable.by_gain()
+
+    @property
+    def is_late(self) -> bool:
+        """Whether the time is over."""
+        return time.monotonic() >= self.ends
 
     def mine_of(self, sent: Bools) -> Mine:
         """The mine where some blocks are sent."""
@@ -132,7 +147,9 @@ class Sorting:
         for _ in range(_TURNS):
             mine, more = self.mine_of(plan.sent), self.loose(plan)
             for _ in range(_PASSES):
-                if not loops.move_units(mine, more, self.order, self.production.weights):
+                if self.is_late or not loops.move_units(
+                    mine, more, self.order, self.production.weights
+                ):
                     break
             moved = Timetable(more.period, plan.sent)
             if not len(plan.sent):
@@ -157,9 +174,22 @@ class Sorting:
             sent[poorest[keep:]] = False
             plan = Timetable(plan.period, sent)
         mine, more = self.mine_of(plan.sent), self.loose(plan)
-        for s in range(self.production.periods):
-            loops.swap_units(mine, more, s, tries, seed * self.production.periods + s)
+        steps = self.steps.tolist()
+        for s, step in enumerate(steps):
+            here = int(np.isin(more.period, (s, s + 1)).sum())
+            begin = (seed * len(steps) + s) * _SEEDS
+            for done in range(0, tries + here, _PIECE):
+                if self.is_late:
+                    break
+                most = min(_PIECE, tries + here - done)
+                loops.swap_units(mine, more, s, most, begin + done // _PIECE, Heat(step, 0.0))
         return self.moved(self.sent_in(more.period))
+
+    @property
+    def steps(self) -> Ints:
+        """The weight of each period less that of the next; behind the last comes none."""
+        weights = self.production.weights
+        return weights - np.append(weights[1:], 0)
 
     def rebuilt(self, plan: Timetable, tries: int, seed: int) -> Timetable:
         """A schedule after some tries to leave a few units in the ground, with all that rests on
@@ -168,6 +198,8 @@ class Sorting:
         made, random = self.production, np.random.default_rng(seed)
         worth = made.npv(plan)
         for _ in range(tries):
+            if self.is_late:
+                break
             mine, more = self.mine_of(plan.sent), self.loose(plan)
             dug = np.flatnonzero(more.period[: mine.gates] < made.periods)
             out = random.permutation(dug)[: random.integers(_MOST_OUT)]

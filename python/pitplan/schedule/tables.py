@@ -1,6 +1,7 @@
 """The tables of a schedule: a row for each period, and for each bench of each period."""
 from __future__ import annotations
 
+from collections.abc import Mapping
 from dataclasses import dataclass
 from functools import cached_property
 from typing import TYPE_CHECKING, Any
@@ -9,7 +10,7 @@ import numpy as np
 import pandas as pd
 
 from ..base.amounts import THOUSAND
-from ..base.arrays import Bools, Floats, Indices
+from ..base.arrays import Bools, Floats, Indices, Ints
 from ..model import outlines
 from ..plans import widths
 from .terms import MILLION, RESOURCES
@@ -18,6 +19,16 @@ if TYPE_CHECKING:
     from .plan import Schedule
 
 _FULL = 0.995  # of a capacity, from which on it is said to bind
+
+
+def binds_text(row: Mapping[Any, Any]) -> str:
+    """What binds in a period, by its row of `Tables.years`: of the sink rate a column of blocks, and
+    the bench that has to wait there."""
+    found = str(row["binds"])
+    if "sink" not in found:
+        return found
+    x, y, bench = (f"{row[f'sink_{name}']:,.10g}" for name in ("x", "y", "bench"))
+    return found.replace("sink", f"sink (x {x}, y {y}: bench {bench} waits)")
 
 
 @dataclass(frozen=True)
@@ -74,8 +85,11 @@ class Tables:
             ``metal_<metal>`` (recovered); ``fixed_cost`` where there is one, ``cash_flow``
             (undiscounted, less the fixed cost), ``weight`` (what money of
             the period is worth today), ``discounted``, ``npv`` (so far); ``mining_used`` and
-            ``mill_used`` (shares of the capacities), ``binds``, ``bottom`` (the toe of its lowest
-            bench), and with a mining width ``narrow_share`` of its rock.
+            ``mill_used`` (shares of the capacities), ``binds`` (which of ``mining``, ``mill`` and
+            ``sink`` do), with a sink rate ``sink_columns`` (of blocks in which it binds),
+            ``sink_x``, ``sink_y`` and ``sink_bench`` (centre of the lowest block that it keeps out
+            of the period), ``bottom`` (the toe of its lowest bench), and with a mining width
+            ``narrow_share`` of its rock.
         """
         made, period = self.schedule.production, self.schedule.period
         rows, npv = list[dict[str, Any]](), 0.0
@@ -96,16 +110,52 @@ class Tables:
         return pd.DataFrame(rows)
 
     def binding(self, t: int, here: Bools) -> dict[str, Any]:
-        """What share of each capacity a period uses, and which of them binds."""
+        """What share of each capacity a period uses, which of them binds, and where the sink rate
+        does."""
         terms, amounts = self.schedule.production.terms, self.amounts
         shares = {}
         for name, room, column in zip(RESOURCES, terms.capacities, ("rock_t", "feed_t")):
             used = float(amounts[column][here].sum()) * THOUSAND
             shares[name] = used / room[t] if room and room[t] else np.nan
         tight = [name for name, share in shares.items() if share >= _FULL]
-        return {f"{name}_used": share for name, share in shares.items()} | {
-            "binds": " ".join(tight)
-        }
+        sunk = self.sunk(t) if terms.sink is not None else {}
+        tight += ["sink"] if sunk.get("sink_columns") else []
+        return (
+            {f"{name}_used": share for name, share in shares.items()}
+            | {"binds": " ".join(tight)}
+            | sunk
+        )
+
+    def sunk(self, t: int) -> dict[str, Any]:
+        """In how many columns the sink rate keeps blocks out of a period, and the lowest of these
+        blocks."""
+        model, made = self.schedule.shells.study.model, self.schedule.production
+        units = self.kept_by_sink[self.unit_period[self.kept_by_sink] == t + 1]
+        kept = made.blocks[np.isin(made.unit, units)]
+        rock = model.blocks.iloc[kept[model.is_rock[kept]]]
+        row: dict[str, Any] = {"sink_columns": len(rock[["ix", "iy"]].drop_duplicates())}
+        place = (np.nan,) * 3
+        if len(rock):
+            lowest = rock.iloc[int(rock.iz.to_numpy().argmin())]
+            place = model.grid.world(*(int(lowest[name]) for name in ("ix", "iy", "iz")))
+        return row | {f"sink_{name}": float(v) for name, v in zip(("x", "y", "bench"), place)}
+
+    @cached_property
+    def unit_period(self) -> Ints:
+        """The period of each unit, that behind all where it stays; gates come as early as they may."""
+        made = self.schedule.production
+        of_blocks = self.schedule.period[made.blocks].astype(np.int64)
+        found = np.zeros(made.units, np.int64)
+        found[made.unit] = np.where(of_blocks < 0, made.periods, of_blocks)
+        for gate in made.order[made.order >= made.units - made.gates].tolist():
+            above = made.above.other[made.above.first[gate] : made.above.first[gate + 1]]
+            found[gate] = found[above].max(initial=0)
+        return found
+
+    @cached_property
+    def kept_by_sink(self) -> Ints:
+        """As `Production.kept_by_sink`."""
+        return self.schedule.production.kept_by_sink(self.unit_period)
 
     def shape(self, t: int, here: Bools) -> dict[str, Any]:
         """How deep a period comes, and how much of its rock lies where it is narrow."""

@@ -10,7 +10,7 @@ from typing import Any
 
 from ..base.amounts import THOUSAND
 from ..base.errors import PlanError, about
-from ..base.units_shown import share_text
+from ..base.units_shown import counted, share_text
 from ..study.shells import thousandths
 
 MILLION = 10**6  # weights are in millionths
@@ -86,7 +86,9 @@ def terms_of(
         Where neither rate is given, a list has other years than `years`, or a number is out of
         range.
     """
-    yearly = [_by_year(values.get(name) or rates.get(name)) for name in ("mining_rate", "mill_rate")]
+    yearly = [
+        _by_year(values.get(name) or rates.get(name)) for name in ("mining_rate", "mill_rate")
+    ]
     if not any(yearly):
         raise PlanError(
             "[schedule] has neither mining_rate nor mill_rate, and [shells] hasn't either",
@@ -99,8 +101,8 @@ def terms_of(
     _refuse_lists(yearly, years)
     if years * per_year > _MOST_PERIODS:
         raise PlanError(
-            f"[schedule] {years:,} years of {per_year} periods each come to more than"
-            f" {_MOST_PERIODS} periods",
+            f"[schedule] {counted(years, 'year')} of {counted(per_year, 'period')} each"
+            f" {'comes' if years == 1 else 'come'} to more than {_MOST_PERIODS} periods",
             try_this=f"years = {_MOST_PERIODS // per_year}, or higher rates in tonnes a year",
             key=("schedule",),
         )
@@ -140,7 +142,7 @@ def _fixed_cost_of(a_year: float, per_year: int) -> int:
     found = int((Decimal(str(a_year)) / per_year).to_integral_value())
     if found > _MOST_CAPACITY:
         raise PlanError(
-            f"[schedule] fixed_cost = {a_year:g} is more than {_MOST_CAPACITY:,} in a period",
+            f"[schedule] fixed_cost = {a_year:g} is more than {_MOST_CAPACITY:,} units of currency in a period",
             try_this="fixed_cost in units of currency a year",
             key=("schedule", "fixed_cost"),
         )
@@ -233,7 +235,7 @@ def _refuse_lists(yearly: list[list[float]], years: int) -> None:
     for name, rates in zip(("mining_rate", "mill_rate"), yearly):
         if len(rates) > years:
             raise PlanError(
-                f"[schedule] {name} has {len(rates)} years, and the schedule {years}",
+                f"[schedule] {name} has {counted(len(rates), 'year')}, and the schedule {years:,}",
                 try_this=f"years = {len(rates)}, or a shorter list: its last rate stays",
                 key=("schedule", name),
             )

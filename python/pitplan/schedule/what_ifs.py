@@ -162,7 +162,9 @@ def _changed_terms(
     if change is None or not change.keeps_pit:
         return found
     if change.kind == DISCOUNT:
-        planned = rates.get("discount", 0.1) if values.get("discount") is None else values["discount"]
+        planned = (
+            rates.get("discount", 0.1) if values.get("discount") is None else values["discount"]
+        )
         found["discount"] = round(float(planned) + change.by / PERCENT, 12)
         if not 0 <= found["discount"] < 1:
             raise PlanError(f"a discount of {found['discount']:g} isn't from 0 to below 1")
@@ -275,7 +277,10 @@ def table(base: Study) -> pd.DataFrame:
     DataFrame
         A row for the study itself and for each change: what, by, unit, blocks, rock_t, years (the
         last in which something is dug), npv, npv_difference (less that of the study itself), bound,
-        bound_difference, gap (how far the npv is below the bound, in percent of that).
+        bound_difference, gap (how far the npv is below the bound, in percent of that), gaps (how far
+        this schedule and that of the study itself may be below the best, together, in units of
+        currency), is_apart (whether npv_difference is larger than that; where it isn't, the two
+        can't be told apart).
 
     Raises
     ------
@@ -306,6 +311,9 @@ def table(base: Study) -> pd.DataFrame:
             f"{name}_difference",
             made[name] - made[name].iloc[0],
         )
+    below = made["bound"] - made["npv"]
+    made["gaps"] = below + below.iloc[0]
+    made["is_apart"] = made["npv_difference"].abs() > made["gaps"]
     return made
 
 

@@ -7,6 +7,7 @@ from typing import TYPE_CHECKING
 import pandas as pd
 
 from ..base.units_shown import lengths, scale_of
+from ..schedule.tables import binds_text
 from .levels import surfaces
 from .page_views import Table, View, by_classes, rock_and_metal, scaled
 
@@ -49,7 +50,7 @@ def schedule(found: Schedule, years: pd.DataFrame) -> View:
         scaled("Cash flow", years["cash_flow"], money),
         scaled("Discounted", years["discounted"], money),
         scaled("Net present value so far", years["npv"], money),
-        ("Rate that binds", [text or "-" for text in years["binds"]]),
+        ("Rate that binds", [binds_text(row) or "-" for row in years.to_dict("records")]),
     ]
     return View(
         f"Schedule by {word}s",
@@ -64,6 +65,7 @@ def schedule(found: Schedule, years: pd.DataFrame) -> View:
         said=[
             f"{currency} {math.floor(found.npv):,}, at most {found.gap_text} below the best: no"
             f" schedule brings more than {currency} {math.ceil(found.bound):,}",
+            *([found.end.words[0].upper() + found.end.words[1:]] if found.end else []),
             *([_NO_CLASSES] if terms.is_by_year and study.classes else []),
         ],
         more=[] if terms.is_by_year else by_classes(study, own),

@@ -1,0 +1,79 @@
+"""Why a search for a schedule ended."""
+from __future__ import annotations
+
+from dataclasses import dataclass
+from typing import Any
+
+from ..base import kept_json
+from ..base.units_shown import counted
+
+GAP, MINUTES, ROUNDS, ALL, STOPPED, KILLED = (
+    "gap reached",
+    "minutes over",
+    "no move gains",
+    "all looked through",
+    "ctrl-C",
+    "ended from outside",
+)
+_PERCENT, _MINUTE = 100.0, 60.0
+KINDS: dict[str, kept_json.Holds] = {
+    "why": lambda value: value in (GAP, MINUTES, ROUNDS, ALL, STOPPED, KILLED),
+    "gap": kept_json.is_number,
+    "seconds": kept_json.is_number,
+    "rounds": kept_json.is_count,
+}
+
+
+@dataclass(frozen=True)
+class End:
+    """Why a search ended.
+
+    Attributes
+    ----------
+    why : str
+        One of the names above.
+    gap : float
+        The gap that was asked for, as a share of the bound.
+    seconds : float
+        That it might take.
+    rounds : int
+        Of moves, swaps and annealing, the last ones, that brought next to nothing.
+    """
+
+    why: str
+    gap: float
+    seconds: float
+    rounds: int = 0
+
+    @property
+    def facts(self) -> dict[str, Any]:
+        """What ``schedule.json`` says of it."""
+        return {
+            "ended": self.why,
+            "ended_in_words": self.words,
+            "asked_gap_percent": self.gap * _PERCENT,
+            "asked_minutes": self.seconds / _MINUTE,
+        }
+
+    @property
+    def words(self) -> str:
+        """A sentence for the planner."""
+        if self.why == GAP:
+            return f"the search ended because the gap of {self.gap * _PERCENT:g} % was reached"
+        if self.why == MINUTES:
+            minutes = self.seconds / _MINUTE
+            return (
+                f"the search ended because its {minutes:g} minute{'s' * (minutes != 1)}"
+                f" {'was' if minutes == 1 else 'were'} over; the same command goes on"
+            )
+        if self.why == ROUNDS:
+            return (
+                "the search ended because no move gained any more: nothing better came after"
+                f" {counted(self.rounds, 'round')} of swaps and annealing; the same command tries"
+                " others"
+            )
+        if self.why == ALL:
+            return "the search ended because all schedules of this small mine were looked through"
+        if self.why == STOPPED:
+            return "the search was ended by ctrl-C; the same command goes on"
+        return "the search was ended from outside, as by a shutdown; the same command goes on"
