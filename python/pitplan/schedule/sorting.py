@@ -189,7 +189,8 @@ class Sorting:
     def steps(self) -> Ints:
         """The weight of each period less that of the next; behind the last comes none."""
         weights = self.production.weights
-        return weights - np.append(weights[1:], 0)
+        found: Ints = weights - np.append(weights[1:], 0)
+        return found
 
     def rebuilt(self, plan: Timetable, tries: int, seed: int) -> Timetable:
         """A schedule after some tries to leave a few units in the ground, with all that rests on

@@ -1,7 +1,7 @@
 """The tables of a schedule: a row for each period, and for each bench of each period."""
 from __future__ import annotations
 
-from collections.abc import Mapping
+from collections.abc import Mapping, Sequence
 from dataclasses import dataclass
 from functools import cached_property
 from typing import TYPE_CHECKING, Any
@@ -134,7 +134,7 @@ class Tables:
         kept = made.blocks[np.isin(made.unit, units)]
         rock = model.blocks.iloc[kept[model.is_rock[kept]]]
         row: dict[str, Any] = {"sink_columns": len(rock[["ix", "iy"]].drop_duplicates())}
-        place = (np.nan,) * 3
+        place: Sequence[Any] = (np.nan,) * 3
         if len(rock):
             lowest = rock.iloc[int(rock.iz.to_numpy().argmin())]
             place = model.grid.world(*(int(lowest[name]) for name in ("ix", "iy", "iz")))

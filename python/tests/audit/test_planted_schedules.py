@@ -5,23 +5,23 @@ import json
 import re
 import shutil
 from dataclasses import replace
-from decimal import Decimal
 from pathlib import Path
 
 import mines
 import numpy as np
 import pytest
-from pitplan import PlanError, Study
+from pitplan import Disagreement, PlanError, Study
 from pitplan.audit import recheck_schedule
 from pitplan.audit.bundle import write_bundle
-from pitplan.pit.program import Pit
+from pitplan.pit.program import Periodic, Pit, Texts
 from pitplan.schedule import Schedule
+from pitplan.schedule.judged import judged
 from pitplan.schedule.kept import Kept
 from pitplan.schedule.periods_text import periods_text
+from pitplan.schedule.production import Production
 from pitplan.schedule.search import Search
 from pitplan.schedule.sending import Timetable
 from pitplan.schedule.unit_texts import UnitTexts
-from pitplan.pit.program import Periodic, Texts
 from pitplan.study.study_file import read_study_file
 from tiny_mines import TinyMine
 
@@ -39,11 +39,14 @@ fixed_cost = 1e5
 """
 
 
+RIGHT = {name: getattr(Production, name) for name in ("blocks_sent", "of_blocks")}
+
+
 @pytest.fixture(scope="module")
 def files(tmp_path_factory):
     """What `pit schedule --best` reads of the schedule of a tiny mine, which digs in two periods or more."""
     folder = tmp_path_factory.mktemp("files")
-    made = TinyMine(2).production
+    made = TinyMine(2, panel=2).production
     search = Search(folder / "search", made, Pit())
     search.run(0.0, 1e9)
     mine = Periodic(
@@ -141,3 +144,207 @@ def test_pit_refuses(files, tmp_path, change, words):
     said = said_by_pit(folder)
     assert re.search(words, said), said
     assert "GAP" not in said
+
+
+class Planned:
+    """A study with a schedule that has ways, a sink rate, a fixed cost and dilution, and its bundle."""
+
+    def __init__(self, folder):
+        mines.written_study(folder / "s", mines.table(6, 5, 4, 5), RICH + TERMS)
+        plan = read_study_file(folder / "s")
+        economics, slopes = plan.economics, plan.slopes
+        Study.create(folder / "s", plan.read_model(), economics, slopes, None, plan.digest)
+        self.values, self.rates = plan.values["schedule"], plan.rates
+        self.shells = Study(folder / "s").shells(plan.factors)
+        self.found = Schedule.of(self.shells, self.values, self.rates, (0.05, 600))
+        dialect = plan.keys.dialect(plan.table)
+        self.bundle = folder / "bundle"
+        write_bundle(self.shells, self.bundle, plan.path, dialect, self.rates, self.values)
+        self.kept = Kept(self.shells.study.folder, self.found.production)
+
+
+@pytest.fixture(scope="module")
+def planned(tmp_path_factory):
+    return Planned(tmp_path_factory.mktemp("planned"))
+
+
+def checked(bundle, monkeypatch, capsys):
+    """What the bundle's checker says, in this process."""
+    for script in (recheck_schedule, recheck_schedule.recheck):
+        monkeypatch.setattr(script, "HERE", bundle)
+    status = recheck_schedule.main()
+    return status, capsys.readouterr().out
+
+
+def of_cell(column, change, row=1, name="tables/schedule.csv"):
+    """A cell of a table: numbers are changed as such. Row -1 is the last one."""
+
+    def made(folder):
+        path = folder / name
+        lines = [line.split(",") for line in path.read_text().splitlines()]
+        cells, at = lines[row], lines[0].index(column)
+        assert cells[at] != (told := change(dict(zip(lines[0], cells)), cells[at]))
+        cells[at] = str(told)
+        path.write_text("".join(",".join(line) + "\n" for line in lines))
+
+    return made
+
+
+def times(factor):
+    return lambda _, cell: float(cell) * factor
+
+
+def plus(amount):
+    return lambda _, cell: float(cell) + amount
+
+
+def of_sunk(column, change):
+    """A cell of the first row in which the sink rate binds."""
+
+    def made(folder):
+        lines = (folder / "tables" / "schedule.csv").read_text().splitlines()
+        at = lines[0].split(",").index("sink_columns")
+        row = next(n for n, line in enumerate(lines[1:], 1) if int(line.split(",")[at]))
+        of_cell(column, change, row)(folder)
+
+    return made
+
+
+def of_terms(**changes):
+    def changed(text):
+        terms = json.loads(text)
+        return json.dumps(terms | {name: change(terms[name]) for name, change in changes.items()})
+
+    return of_text("schedule/terms.json", changed)
+
+
+def without_dilution(text):
+    rows = [row.split() for row in text.splitlines()]
+    return "".join(" ".join([*row[:5], str(int(row[5]) * 100 // 105)]) + "\n" for row in rows)
+
+
+def from_start(weights):
+    return [round(10**6 / 1.08**t) for t in range(len(weights))]
+
+
+PERIODS = "schedule/periods.toml"
+BUNDLED = {
+    "a year's weight shifted": (of_rows(PERIODS, "weights", lambda r: [10**6, *r[:-1]]), "weighs|flows|pair"),
+    "mid-year taken as start": (of_rows(PERIODS, "weights", from_start), "weighs|flows|pair"),
+    "rates of another year": (of_rows(PERIODS, "capacities", lambda r: [[row[-1], *row[:-1]] for row in r]), "uses|has"),
+    "a multiplier's sign": (of_rows(PERIODS, "multipliers", lambda r: [[-v - 1 for v in row] for row in r]), "below 0"),
+    "feed without dilution": (of_text("schedule/uses.blocks", without_dilution), "flows|of feed"),
+    "a sink of one bench more": (of_terms(sink=lambda sink: sink + 1), "sink rate|pair|flows"),
+    "a sink of no year": (of_terms(lag=lambda lag: 0), "sink rate|pair|flows"),
+    "a block's way forgotten": (of_terms(sent=lambda sent: sent[1:]), "schedule.csv"),
+    "a way of a block that stays": (of_terms(sent=lambda sent: [*sent, 10**6]), "isn't dug"),
+    "a fixed cost of the year before": (of_terms(fixed_cost=lambda cost: cost - 1), "fixed cost|schedule.csv|flows"),
+    "cash flow discounted twice": (of_cell("discounted", lambda row, v: float(v) * float(row["weight"])), "discounted"),
+    "a year's worth for that so far": (of_cell("npv", lambda row, v: row["discounted"], 2), "npv"),
+    "a partial last year counted whole": (of_cell("rock_t", lambda row, v: 300e3, -1), "period"),
+    "the fixed cost forgotten": (of_cell("cash_flow", plus(1e5)), "line 2"),
+    "the fixed cost taken twice": (of_cell("cash_flow", plus(-1e5)), "line 2"),
+    "grade of the feed for that in place": (of_cell("grade_copper", times(1 / 1.05)), "line 2"),
+    "metal before recovery": (of_cell("metal_copper", times(1 / 0.85)), "line 2"),
+    "ore for feed": (of_cell("feed_t", lambda row, v: row["ore_t"]), "line 2"),
+    "strip the other way round": (of_cell("strip", lambda row, v: 1 / float(v)), "line 2"),
+    "the share of another rate": (of_cell("mill_used", lambda row, v: row["mining_used"]), "mill_used"),
+    "what binds left out": (of_sunk("binds", lambda row, v: v.replace("sink", "").strip()), "binds"),
+    "a column too many": (of_sunk("sink_columns", lambda row, v: int(v) + 1), "sink_columns"),
+    "another bench that waits": (of_sunk("sink_bench", plus(15.0)), "sink_bench"),
+    "a bench too deep": (of_cell("bottom", plus(-15.0)), "bottom"),
+    "years counted from 0": (of_cell("year", lambda row, v: int(v) - 1), "period 1"),
+    "prices of another day": (of_text("study.toml", lambda t: t.replace("24000", "25000")), "brings and costs"),
+    "another discount": (of_text("study.toml", lambda t: t.replace("discount = 0.08", "discount = 0.07")), "weighs"),
+}  # fmt: skip
+
+
+@pytest.mark.parametrize("mistake", BUNDLED)
+def test_the_bundles_checker_refuses(planned, tmp_path, monkeypatch, capsys, mistake):
+    change, words = BUNDLED[mistake]
+    bundle = Path(shutil.copytree(planned.bundle, tmp_path / "bundle"))
+    change(bundle)
+    status, said = checked(bundle, monkeypatch, capsys)
+    assert status == 1, said
+    assert re.search(words, said), said
+
+
+def test_the_bundles_checker_takes_what_is_as_it_was(planned, monkeypatch, capsys):
+    status, said = checked(planned.bundle, monkeypatch, capsys)
+    assert (status, said.count("ok ")) == (0, 4), said
+
+
+STALE = {
+    "prices": lambda made: {"millable": made.millable._replace(gains=made.millable.gains + 1)},
+    "costs": lambda made: {"values": made.values - 1},
+    "dilution": lambda made: {"millable": made.millable._replace(feeds=made.millable.feeds + 1)},
+    "rates": lambda made: {"terms": replace(made.terms, capacities=made.terms.capacities[::-1])},
+    "years": lambda made: {"terms": replace(made.terms, weights=made.terms.weights[:-1])},
+    "half years": lambda made: {"terms": replace(made.terms, per_year=2)},
+    "fixed cost": lambda made: {"terms": replace(made.terms, fixed_cost=1)},
+    "slopes": lambda made: {"above": made.above.turned()},
+    "sink rate": lambda made: {"sinking": made.above},
+}
+
+
+@pytest.mark.parametrize("what", STALE)
+def test_what_was_found_at_other_terms_is_never_read(planned, what):
+    """A stale bound, and a stale schedule, after one thing changed."""
+    made = replace(planned.found.production, **STALE[what](planned.found.production))
+    older = Kept(planned.shells.study.folder, made)
+    assert planned.kept.bound() is not None
+    assert (older.bound(), older.schedule(), older.end()) == (None, None, None)
+
+
+def all_at_once(plan, made):
+    return Timetable(np.zeros_like(plan.period), plan.sent)
+
+
+def one_left(plan, made):
+    """What most rests on is left in the ground."""
+    top = np.bincount(made.above.other, minlength=made.units).argmax()
+    return Timetable(np.where(np.arange(made.units) == top, made.periods, plan.period), plan.sent)
+
+
+def a_year_for_three_benches(plan, made):
+    """What waits for the sink rate comes a year earlier."""
+    waits = made.kept_by_sink(plan.period)
+    return Timetable(plan.period - np.isin(np.arange(made.units), waits), plan.sent)
+
+
+@pytest.mark.parametrize(
+    "mistake, words",
+    [
+        (all_at_once, "mining in period 1 is exceeded"),
+        (all_at_once, "mill in period 1 is exceeded"),
+        (one_left, "break.* the slopes"),
+        (a_year_for_three_benches, "break.* the sink rate"),
+    ],
+)
+def test_the_package_refuses(planned, mistake, words):
+    made, plan = planned.found.production, planned.kept.schedule()
+    assert made.wrong(plan) == []
+    assert any(re.search(words, each) for each in made.wrong(mistake(plan, made)))
+
+
+def discounted_twice(made, plan):
+    return sum(
+        int(weight) ** 2 // 10**6 * int(made.values[plan.period == t].sum())
+        for t, weight in enumerate(made.weights)
+    )
+
+
+@pytest.mark.parametrize(
+    "name, mistake",
+    [
+        ("worth", discounted_twice),
+        ("blocks_sent", lambda made, plan: RIGHT["blocks_sent"](made, plan)[1:]),
+        ("of_blocks", lambda made, plan: np.minimum(RIGHT["of_blocks"](made, plan), 0)),
+    ],
+)
+def test_pit_contradicts_what_is_counted_otherwise(planned, tmp_path, monkeypatch, name, mistake):
+    """A cash flow that is discounted twice, a block's way that is forgotten, and all blocks in the first year."""
+    made, plan = planned.found.production, planned.kept.schedule()
+    monkeypatch.setattr(Production, name, mistake)
+    with pytest.raises(Disagreement, match="pit schedule says"):
+        judged(planned.shells.study, made, plan, tmp_path)

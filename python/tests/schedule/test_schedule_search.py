@@ -1,7 +1,10 @@
 """How near a search comes to the best schedule, where that is known: on mines whose every schedule is tried. Each search ends by
 what it counts, and none by the time."""
+from types import SimpleNamespace
+
 import pytest
-from pitplan.pit.program import Pit, Texts
+from pitplan.pit import program
+from pitplan.pit.program import Periodic, Pit, Texts
 from pitplan.schedule import search as searching
 from pitplan.schedule.search import Search
 from tiny_mines import TinyMine
@@ -72,3 +75,35 @@ def test_a_pit_that_takes_too_long_is_ended(tmp_path):
     pit = Pit(never)
     assert pit.richest(Texts(tmp_path / "a", tmp_path / "b"), tmp_path / "c", 0.01) is None
     assert not pit.running
+
+
+@pytest.mark.parametrize("command", ["check", "bound"])
+def test_a_judgement_that_takes_too_long_is_ended(tmp_path, command):
+    """Of a program that finds a pit at once, and doesn't judge it in time: without a limit it would say something else, later."""
+    slow = tmp_path / "pit"
+    slow.write_text(
+        "#!/bin/sh\ncase $1 in\nsolve) echo PITCERT;;\n*) : > $0.asked; exec sleep 20;;\nesac\n"
+    )
+    slow.chmod(0o755)
+    pit, texts = Pit(slow), Texts(tmp_path / "a", tmp_path / "b")
+    if command == "check":
+        found = pit.richest(texts, tmp_path / "c", 5.0)
+    else:
+        found = pit.bound(Periodic(texts, tmp_path / "u", tmp_path / "p"), tmp_path / "c", 5.0)
+    assert found is None
+    assert not pit.running
+
+
+def test_no_more_of_a_certificate_is_handed_on_when_the_time_is_over(tmp_path, monkeypatch):
+    """One of many pieces, of which each takes a second of a clock: after three seconds comes no more, and nothing is
+    awaited."""
+    certificate, clock, taken = tmp_path / "c", iter(range(1000)), []
+    certificate.write_bytes(bytes(40 << 20))
+    eats = tmp_path / "pit"
+    eats.write_text("#!/bin/sh\nexec cat > /dev/null\n")
+    eats.chmod(0o755)
+    monkeypatch.setattr(program, "time", SimpleNamespace(monotonic=lambda: float(next(clock))))
+    lines = SimpleNamespace(take=taken.append)
+    with pytest.raises(program._OutOfTime):
+        Pit(eats).told_of(["check"], certificate, lines, seconds=3.0)
+    assert len(taken) == 2

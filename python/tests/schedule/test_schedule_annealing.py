@@ -1,0 +1,144 @@
+"""Annealing keeps what a schedule has to keep at every step, takes what loses as often as its rule says, and gives the best that it
+saw. What a schedule is worth and whether it is feasible is counted by `Production`, which shares no line with the loops."""
+import math
+from dataclasses import replace
+
+import numpy as np
+import pytest
+from pitplan.schedule import annealing, loops, sorting
+from pitplan.schedule.annealing import Annealing
+from pitplan.schedule.loops import Heat
+from pitplan.schedule.pairs import Pairs
+from pitplan.schedule.sending import Timetable
+from pitplan.schedule.sorting import Sorting
+from tiny_mines import TinyMine
+
+MINES = [
+    (2, {"panel": 2}),
+    (3, {"panel": 2}),
+    (46, {"pushbacks": True}),
+    (32, {"panel": 2, "pushbacks": True, "lead": 1}),
+    (45, {"panel": 2}),
+]
+
+
+def made_of(seed, kind, sink=False):
+    """A tiny mine, with a sink rate of one bench where that is asked for: what lies straight above comes a period before."""
+    mine = TinyMine(seed, **kind)
+    made = mine.production
+    if sink:
+        under = {place: b for b, place in enumerate(mine.places)}
+        pairs = [
+            (made.unit[b], made.unit[under[x, y, z + 1]])
+            for (x, y, z), b in under.items()
+            if (x, y, z + 1) in under
+        ]
+        low, high = np.array(pairs).T
+        made = replace(made, sinking=Pairs.of(low, high, made.units))
+    return made
+
+
+def begun(made):
+    """A first schedule, and the sorting of the mine."""
+    orders = Sorting(made)
+    return orders, orders.by_shells()
+
+
+@pytest.mark.parametrize("sink", [False, True])
+@pytest.mark.parametrize("seed, kind", MINES)
+def test_each_step_keeps_all(seed, kind, sink):
+    made = made_of(seed, kind, sink)
+    orders, plan = begun(made)
+    mine, loose, steps = orders.mine, orders.loose(plan), orders.steps
+    moved = 0
+    for turn in range(300):
+        s = turn % made.periods
+        before = made.npv(Timetable(loose.period.copy(), plan.sent))
+        gain, _, _ = loops.swap_units(mine, loose, s, 5, turn, Heat(int(steps[s]), math.inf))
+        after = Timetable(loose.period, plan.sent)
+        assert made.wrong(after) == []
+        assert (loose.left == made.capacities - made.used(after)).all()
+        assert made.npv(after) - before == pytest.approx(gain, abs=1)
+        moved += bool(gain)
+    assert moved > (0 if sink else 5)
+
+
+def test_what_loses_is_taken_as_often_as_the_rule_says():
+    """A loss of the temperature once in e tries, one of twice that once in e squared; 40,000 tries err by 1 % at most."""
+    loops_taken = loops._is_taken
+    for times in (0.5, 1.0, 2.0):
+        share = np.mean([loops_taken(-times * 7.0, 7.0) for _ in range(40_000)])
+        assert share == pytest.approx(math.exp(-times), abs=0.01)
+    assert loops_taken(1.0, 0.0)
+    assert loops_taken(1.0, 7.0)
+    assert not loops_taken(0.0, 0.0)
+    assert not loops_taken(-1.0, 0.0)
+    assert not loops_taken(1.0, -1.0)
+
+
+def test_what_is_tried_below_zero_moves_nothing_and_counts_losses():
+    made = made_of(2, {})
+    orders, plan = begun(made)
+    loose = orders.loose(plan)
+    found = Annealing(orders, 1)
+    assert found.mean_loss(orders.mine, loose) > 0
+    assert (loose.period == plan.period).all()
+
+
+@pytest.mark.parametrize("seed, kind", MINES)
+def test_the_best_that_was_seen_comes_out(monkeypatch, seed, kind):
+    """Also where it ends as hot as it begins, in disorder; and never more than the best schedule is worth."""
+    monkeypatch.setattr(annealing, "_HOT", 1e6)
+    monkeypatch.setattr(annealing, "_COLD", 1e6)
+    mine = TinyMine(seed, **kind)
+    orders, plan = begun(mine.production)
+    plan = orders.swapped(plan, 500, 1)
+    worths = [mine.production.npv(Annealing(orders, n).annealed(plan, 20)) for n in range(6)]
+    assert min(worths) >= mine.production.npv(plan)
+    assert max(worths) <= mine.best()
+
+
+def test_it_comes_out_of_what_swaps_lead_to():
+    """Of a mine where swaps that gain end below the best; the same seed gives the same schedule."""
+    mine = TinyMine(46, pushbacks=True)
+    orders, plan = begun(mine.production)
+    for seed in range(1, 6):
+        plan = orders.swapped(plan, 500, seed)
+    found = [max(mine.production.npv(Annealing(orders, n).annealed(plan, 200)) for n in range(4))]
+    again = [max(mine.production.npv(Annealing(orders, n).annealed(plan, 200)) for n in range(4))]
+    assert mine.production.npv(plan) <= found[0] <= mine.best()
+    assert found == again
+
+
+class Clock:
+    """A clock that says 0 so many times, and then that the time is over."""
+
+    def __init__(self, looks):
+        self.looks = looks
+
+    def monotonic(self):
+        self.looks -= 1
+        return 0.0 if self.looks >= 0 else 2.0
+
+
+@pytest.mark.parametrize("looks", [0, 1, 3])
+@pytest.mark.parametrize("how", ["swapped", "annealed", "rebuilt"])
+def test_a_round_ends_when_the_time_is_over(monkeypatch, looks, how):
+    made = TinyMine(2).production
+    orders, plan = begun(made)
+    steps, whole = [], {name: getattr(loops, name) for name in ("swap_units", "take_out")}
+    for name, function in whole.items():
+        monkeypatch.setattr(loops, name, lambda *words, f=function: (steps.append(1), f(*words))[1])
+    anneal = Annealing(orders, 1)
+    anneal.mean_loss = lambda *words: 1.0  # its probes don't count
+    monkeypatch.setattr(sorting, "time", Clock(looks))
+    orders.ends = 1.0
+    if how == "swapped":
+        found = orders.swapped(plan, 10_000, 1)
+    elif how == "annealed":
+        found = anneal.annealed(plan, 10_000)
+    else:
+        monkeypatch.setattr(orders, "moved", lambda plan: plan)  # that looks at the clock itself
+        found = orders.rebuilt(plan, 50, 1)
+    assert len(steps) == looks
+    assert made.wrong(found) == []
