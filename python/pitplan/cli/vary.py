@@ -151,7 +151,7 @@ def _write_schedules(study: Study) -> None:
         [
             (
                 called(row["what"]) if change else "as planned",
-                f"{change.by:+g}{change.unit}" if change else "",
+                change.amount if change else "",
                 f"{row['blocks']:,}",
                 rock.text(row["rock_t"]),
                 f"{row['years']}",
@@ -216,7 +216,7 @@ def _write_what_ifs(study: Study, rates: Rates) -> None:
         lines.append(
             (
                 called(change.what) if change else "as planned",
-                f"{change.by:+g}{change.unit}" if change else "",
+                change.amount if change else "",
                 f"{row.blocks:,}",
                 rock.text(row.rock_t),
                 money.text(row.worth),

@@ -48,6 +48,7 @@ _UNITS = {
     DISCOUNT: " points",
     SINK: " benches",
 }
+_ONE = {" degrees": " degree", " points": " point", " benches": " bench"}
 _EXAMPLES = "price=-20..20 price:gold=-10..10 recovery=-5..5 slope=-3..3 discount=-2..2"
 
 
@@ -103,8 +104,18 @@ class Change:
             word += "_" + hashlib.sha256(self.metal.encode()).hexdigest()[:8]
         return f"{self.kind}{'_' + word if word else ''}{self.by:+g}"
 
+    @property
+    def amount(self) -> str:
+        """By how much it is other, with sign and unit.
+
+        >>> Change("sink", -1).amount, Change("discount", 2).amount, Change("price", 1).amount
+        ('-1 bench', '+2 points', '+1%')
+        """
+        unit = _ONE.get(self.unit, self.unit) if abs(self.by) == 1 else self.unit
+        return f"{self.by:+g}{unit}"
+
     def __str__(self) -> str:
-        return f"{called(self.what)} {self.by:+g}{self.unit}"
+        return f"{called(self.what)} {self.amount}"
 
 
 def called(what: str) -> str:

@@ -34,9 +34,9 @@ _NEAREST = 1e-5
 _TRIES = 2000  # swaps between each two periods in a round
 _REBUILDS = 100  # tries of a round to dig other units, at most
 _REBUILT = 10_000  # units that they go over together
-_SWAPS = 2  # rounds of swaps that bring next to nothing, after which annealing comes
+_SWAPS = 3  # rounds of swaps before each annealing
 _LEAST, _MOST = 200, 4000  # swaps between each two periods at each temperature of the first one
-_STALE = 5  # rounds that bring next to nothing, after which the search ends
+_STALE = 8  # rounds in a row that bring next to nothing, after which the search ends
 _LONGEST = 1e9  # seconds of a search
 _NOTHING = 2e-6  # of the worth: what counts as next to nothing
 
@@ -120,7 +120,7 @@ class Search:
         self.told, self.found = told, Found()
         self.rebuilds = min(_REBUILDS, _REBUILT // production.units)
         self.plan: Timetable | None = None
-        self.anneals = 0
+        self.rounds = 0  # of swaps and annealing
         self.end = self.kept.end()
         self.bound = self.kept.bound()
         if self.bound:
@@ -149,10 +149,10 @@ class Search:
             self.ended(STOPPED)
             raise
 
-    def ended(self, why: str, rounds: int = 0) -> None:
-        """Notes why the search ended, after so many rounds that brought next to nothing."""
+    def ended(self, why: str) -> None:
+        """Notes why the search ended."""
         assert self.end is not None
-        self.end = replace(self.end, why=why, rounds=rounds or self.end.rounds)
+        self.end = replace(self.end, why=why)
         self.kept.keep_end(self.end)
 
     def looked(self, gap: float, seconds: float) -> str:
@@ -310,17 +310,19 @@ class Search:
                 return ROUNDS
             assert self.found.npv is not None
             before, seed = self.found.npv, seed + 1
-            self.one_round(seed, stale >= _SWAPS)
+            self.one_round(seed)
             self.kept.keep_arrays("swaps", seed=np.array(seed))
             stale = stale + 1 if self.found.npv - before <= _NOTHING * abs(before) else 0
 
-    def one_round(self, seed: int, is_annealing: bool) -> None:
-        """One round: of swaps and rebuilding, or of annealing, each longer than the one before."""
+    def one_round(self, seed: int) -> None:
+        """One round: of swaps and rebuilding, or after some of these of annealing, each longer than
+        the one before."""
         assert self.plan is not None
-        if is_annealing:
+        self.rounds += 1
+        anneals, rest = divmod(self.rounds, _SWAPS + 1)
+        if not rest:
             self.tell("annealing: swaps of which some lose")
-            self.anneals += 1
-            tries = self.anneals * min(max(self.production.units // 4, _LEAST), _MOST)
+            tries = anneals * min(max(self.production.units // 4, _LEAST), _MOST)
             self.take(Annealing(self.sorting, seed).annealed(self.plan, tries))
             return
         self.tell("swaps between neighbouring periods")

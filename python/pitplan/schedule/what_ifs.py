@@ -311,10 +311,22 @@ def table(base: Study) -> pd.DataFrame:
             f"{name}_difference",
             made[name] - made[name].iloc[0],
         )
-    below = made["bound"] - made["npv"]
-    made["gaps"] = below + below.iloc[0]
-    made["is_apart"] = made["npv_difference"].abs() > made["gaps"]
-    return made
+    return with_gaps(made)
+
+
+def with_gaps(found: pd.DataFrame) -> pd.DataFrame:
+    """A table of schedules, the planned one first, with ``gaps`` and ``is_apart`` as `table` has
+    them.
+
+    Parameters
+    ----------
+    found : DataFrame
+        With ``npv`` and ``bound`` in units of currency.
+    """
+    below = found["bound"] - found["npv"]
+    gaps = below + below.iloc[0]
+    is_apart = (found["npv"] - found["npv"].iloc[0]).abs() > gaps
+    return found.assign(gaps=gaps, is_apart=is_apart)
 
 
 def tornado(found: pd.DataFrame, currency: str = "$") -> Figure:

@@ -74,6 +74,7 @@ def test_ctrl_c(search, monkeypatch):
 def test_what_ends_it_from_outside(search, monkeypatch):
     """The end of an earlier search isn't told of one that was killed."""
     search.run(0.9, FOREVER)
+    monkeypatch.setattr(searching, "is_small", lambda _: False)
     monkeypatch.setattr(Search, "swap", stopped(OSError("as a kill, which runs nothing more")))
     with pytest.raises(OSError, match="as a kill"):
         search.run(0.0, FOREVER)

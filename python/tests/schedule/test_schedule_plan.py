@@ -1,4 +1,5 @@
 """A schedule of a small mine: added up again from the planner's own table, by pandas alone."""
+import json
 import re
 import signal
 import subprocess
@@ -67,6 +68,21 @@ def test_each_row_of_the_table_is_what_the_planners_rows_come_to(mine):
     assert years.binds.astype(object).fillna("").tolist() == [b if b == b else "" for b in binds]
     bottom = dug.groupby("year").ZC.min() - 7.5
     assert years.bottom.to_numpy() == pytest.approx(bottom.to_numpy())
+
+
+def test_why_the_search_ended_is_said_everywhere(mine):
+    """The same sentence on the screen, in the JSON file and on the page; and the amounts are those of the table."""
+    folder, said = mine
+    facts = json.loads((folder / "out" / "schedule.json").read_text())
+    assert facts["ended_in_words"] in " ".join(said.split())
+    page = (folder / "out" / "schedule.html").read_text()
+    assert facts["ended_in_words"][1:] in page
+    years = pd.read_csv(folder / "out" / "schedule.csv")
+    assert float(facts["npv"]) == pytest.approx(years.npv.iloc[-1], rel=1e-12)
+    assert facts["blocks"] == len(of_table(folder).dropna(subset=["year"]))
+    gap = 100 * (1 - float(facts["npv"]) / float(facts["bound"]))
+    assert facts["gap_percent"] == pytest.approx(gap, rel=1e-6)
+    assert (facts["asked_gap_percent"], facts["is_judged"]) == (0.05, True)
 
 
 def test_benches_add_up_to_the_years(mine):
@@ -225,11 +241,18 @@ def test_after_ctrl_c_the_same_command_goes_on(tmp_path):
         if line.startswith("schedules by the relaxation"):
             break
     begun.send_signal(signal.SIGINT)
-    begun.communicate()
+    told = begun.communicate()[1]
     assert begun.returncode == 130
+    assert "the search was ended by ctrl-C; the same command goes on: " in " ".join(told.split())
+    facts = json.loads((folder / "out" / "schedule.json").read_text())
+    assert (facts["ended"], facts["is_judged"]) == ("ctrl-C", False)
+    assert 0 < float(facts["npv"]) <= float(facts["bound"])
     ran = subprocess.run([*words, "--minutes", "0"], capture_output=True, text=True)
     assert ran.returncode == 0
     assert "at most" in ran.stdout
+    assert "its 0 minutes were over" in ran.stdout
+    facts = json.loads((folder / "out" / "schedule.json").read_text())
+    assert (facts["ended"], facts["is_judged"]) == ("minutes over", True)
     first = ran.stderr.splitlines()[0]
     assert "no bound yet" not in first
     assert " 0 pits of the mine of blocks and periods" not in first

@@ -135,7 +135,7 @@ def test_the_screen_and_the_chart_have_the_table(varied):
         assert f"{row.bound / 1e6:,.2f}" in said
     lines = [line for line in said.splitlines() if re.match(r" +(price|sink|discount)", line)]
     assert len(lines) == 4, said
-    assert any("-1 benches" in line for line in lines)
+    assert any("-1 bench " in line for line in lines)
     axes = what_ifs.tornado(table).axes[0]
     base = table.npv.iloc[0] / 1e6
     ends = sorted(bar.get_x() + bar.get_width() for bar in axes.patches)
@@ -144,6 +144,31 @@ def test_the_screen_and_the_chart_have_the_table(varied):
     bounds = sorted(line.get_xdata()[1] for line in axes.lines if line.get_color() == "#a3341f")
     assert bounds == pytest.approx(sorted(table.bound.iloc[1:] / 1e6))
     assert (folder / "out" / "tornado-schedule.png").is_file()
+
+
+def test_what_is_smaller_than_both_gaps_cannot_be_told_apart():
+    """Each row's best lies between its npv and its bound: of the second the least is above the plan's most."""
+    rows = [(100, 101), (103, 103.5), (101, 102), (98.5, 99), (98, 99)]
+    found = what_ifs.with_gaps(pd.DataFrame(rows, columns=["npv", "bound"]))
+    assert found.gaps.tolist() == [2, 1.5, 2, 1.5, 2]
+    assert found.is_apart.tolist() == [False, True, False, False, False]
+
+
+def test_it_is_said_beside_each_difference(varied):
+    _, said, table = varied
+    rows = table.iloc[1:]
+    by_hand = rows.bound - rows.npv + table.bound[0] - table.npv[0]
+    assert rows.gaps.to_numpy() == pytest.approx(by_hand.to_numpy())
+    assert rows.is_apart.tolist() == ((rows.npv - table.npv[0]).abs() > by_hand).tolist()
+    assert said.count("larger than the gaps") == rows.is_apart.sum()
+    assert said.count("within the gaps: can't be told apart") == (~rows.is_apart).sum()
+
+
+def test_one_of_a_unit_is_one():
+    assert str(changes_of(["sink=-1"], what_ifs.KNOWN)[0]) == "sink -1 bench"
+    assert str(changes_of(["discount=1"])[0]) == "discount +1 point"
+    assert str(changes_of(["slope=-1"])[0]) == "slope -1 degree"
+    assert str(changes_of(["slope=-1.5"])[0]) == "slope -1.5 degrees"
 
 
 def test_tasks_are_done_once_and_again_where_something_changed(varied, tmp_path):
@@ -178,7 +203,7 @@ def test_what_cannot_be_varied_names_the_change(varied, tmp_path):
     folder = built(tmp_path / "s", RICH + TERMS.replace("sink = 3\n", ""))
     run("shells", folder)
     for words, why in (
-        (["sink=1", "--schedule"], "sink +1 benches: .*no sink rate"),
+        (["sink=1", "--schedule"], "sink +1 bench: .*no sink rate"),
         (["discount=-9", "--schedule"], "discount -9 points: a discount of -0.01"),
         (["sink=1"], "'sink' isn't among what can be varied"),
         (["price=5", "--schedule", "--factor", "0.9"], "goes without --factor"),
