@@ -23,7 +23,7 @@ if TYPE_CHECKING:
     from ..study.study import Study
     from ..study.study_file import StudyFile
 
-_APART = {True: "larger than the gaps", False: "within the gaps: can't be told apart"}
+_APART = {True: "larger", False: "within the gaps"}
 _WORDS: Any = typer.Argument(
     None,
     metavar="[STUDY] [CHANGES]...",
@@ -147,7 +147,7 @@ def _write_schedules(study: Study) -> None:
         f"a schedule for each, in {money.unit}; no schedule of its row brings more than its bound",
         ("what", "by", "blocks", f"rock {rock.unit}", "years")
         + ("npv", "npv difference", "both gaps", "bound", "bound difference", "below it")
-        + ("the difference is",),
+        + ("difference is",),
         [
             (
                 called(row["what"]) if change else "as planned",
@@ -170,9 +170,8 @@ def _write_schedules(study: Study) -> None:
     alike = [change for change, is_apart in zip(_changes_in(found), found.is_apart) if not is_apart]
     if len(alike) > 1:  # the study itself is one of them
         say(
-            f"of {counted(len(alike) - 1, 'change')} the npv differs by less than both gaps together:"
-            " whether it brings more or less than the plan can't be told\n  try: a smaller --gap and"
-            " more --minutes"
+            f"of {counted(len(alike) - 1, 'change')} the npv difference is within the gaps of both"
+            " schedules: these can't be told apart\n  try: a smaller --gap, and more --minutes"
         )
     say(f"{folder}: vary_schedule.csv, tornado-schedule.png")
 

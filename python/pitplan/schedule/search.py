@@ -36,7 +36,7 @@ _REBUILDS = 100  # tries of a round to dig other units, at most
 _REBUILT = 10_000  # units that they go over together
 _SWAPS = 3  # rounds of swaps before each annealing
 _LEAST, _MOST = 200, 4000  # swaps between each two periods at each temperature of the first one
-_STALE = 8  # rounds in a row that bring next to nothing, after which the search ends
+_STALE = 12  # rounds in a row that bring next to nothing, after which the search ends
 _LONGEST = 1e9  # seconds of a search
 _NOTHING = 2e-6  # of the worth: what counts as next to nothing
 
@@ -315,16 +315,16 @@ class Search:
             stale = stale + 1 if self.found.npv - before <= _NOTHING * abs(before) else 0
 
     def one_round(self, seed: int) -> None:
-        """One round: of swaps and rebuilding, or after some of these of annealing, each longer than
-        the one before."""
+        """One round: of swaps, or after some of these of annealing, each longer than the one before;
+        and of rebuilding."""
         assert self.plan is not None
         self.rounds += 1
         anneals, rest = divmod(self.rounds, _SWAPS + 1)
-        if not rest:
+        if rest:
+            self.tell("swaps between neighbouring periods")
+            self.take(self.sorting.swapped(self.plan, _TRIES, seed))
+        else:
             self.tell("annealing: swaps of which some lose")
             tries = anneals * min(max(self.production.units // 4, _LEAST), _MOST)
             self.take(Annealing(self.sorting, seed).annealed(self.plan, tries))
-            return
-        self.tell("swaps between neighbouring periods")
-        self.take(self.sorting.swapped(self.plan, _TRIES, seed))
         self.take(self.sorting.rebuilt(self.plan, self.rebuilds, seed))

@@ -274,12 +274,17 @@ def test_the_bundles_checker_takes_what_is_as_it_was(planned, monkeypatch, capsy
     assert (status, said.count("ok ")) == (0, 4), said
 
 
+def a_year_less(terms):
+    rates = tuple(row[:-1] for row in terms.capacities)
+    return replace(terms, weights=terms.weights[:-1], capacities=rates)
+
+
 STALE = {
     "prices": lambda made: {"millable": made.millable._replace(gains=made.millable.gains + 1)},
     "costs": lambda made: {"values": made.values - 1},
     "dilution": lambda made: {"millable": made.millable._replace(feeds=made.millable.feeds + 1)},
     "rates": lambda made: {"terms": replace(made.terms, capacities=made.terms.capacities[::-1])},
-    "years": lambda made: {"terms": replace(made.terms, weights=made.terms.weights[:-1])},
+    "years": lambda made: {"terms": a_year_less(made.terms)},
     "half years": lambda made: {"terms": replace(made.terms, per_year=2)},
     "fixed cost": lambda made: {"terms": replace(made.terms, fixed_cost=1)},
     "slopes": lambda made: {"above": made.above.turned()},

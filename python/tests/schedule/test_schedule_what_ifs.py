@@ -160,8 +160,9 @@ def test_it_is_said_beside_each_difference(varied):
     by_hand = rows.bound - rows.npv + table.bound[0] - table.npv[0]
     assert rows.gaps.to_numpy() == pytest.approx(by_hand.to_numpy())
     assert rows.is_apart.tolist() == ((rows.npv - table.npv[0]).abs() > by_hand).tolist()
-    assert said.count("larger than the gaps") == rows.is_apart.sum()
-    assert said.count("within the gaps: can't be told apart") == (~rows.is_apart).sum()
+    ends = re.findall(r" (larger|within the gaps) *$", said, re.M)
+    assert ends == ["larger" if is_apart else "within the gaps" for is_apart in rows.is_apart]
+    assert ("can't be told apart" in said) == (not rows.is_apart.all())
 
 
 def test_one_of_a_unit_is_one():
