@@ -290,7 +290,7 @@ def ahead_of(mine: Mine, periods: Periods, when: dict[int, int]) -> dict[int, in
 
 def kept_by_sink(
     mine: Mine, periods: Periods, lagged: Rows, when: dict[int, int]
-) -> dict[int, list[tuple[int, int, int]]]:
+) -> dict[int, list[tuple[int, ...]]]:
     """By period the places of the blocks of rock that the sink rate alone keeps out of it: all else
     that they or their panel rest on is dug by then, and they are dug in the period after it."""
     above, sunk = dict[int, int](), dict[int, int]()
@@ -301,7 +301,7 @@ def kept_by_sink(
         above[unit] = max(above.get(unit, -1), ahead[block], *over)
         lags = [when.get(b, never) + periods.lag for b in lagged[block]]
         sunk[unit] = max([sunk.get(unit, -1), *lags])
-    found = dict[int, list[tuple[int, int, int]]]()
+    found = dict[int, list[tuple[int, ...]]]()
     for block, period in when.items():
         unit = periods.unit[block]
         if mine.is_rock[block] and above[unit] < period == sunk[unit]:
@@ -715,7 +715,7 @@ def is_bottom(word: str, toe: float | None) -> bool:
     return recheck.is_close(float(word), toe, 1e-3)
 
 
-def check_sink(line: recheck.Line, what: str, kept: list[tuple[int, int, int]], grid: Any) -> bool:
+def check_sink(line: recheck.Line, what: str, kept: list[tuple[int, ...]], grid: Any) -> bool:
     """Whether the sink rate keeps blocks out of a period, as a line says: in so many columns, and the
     lowest of the blocks."""
     columns = len({place[:2] for place in kept})
@@ -733,7 +733,7 @@ def check_sink(line: recheck.Line, what: str, kept: list[tuple[int, int, int]], 
     return True
 
 
-def world(place: tuple[int, int, int], grid: Any) -> tuple[float, float, float]:
+def world(place: tuple[int, ...], grid: Any) -> tuple[float, float, float]:
     """East, north and elevation of a block's centre."""
     turn = math.radians(grid["rotation"])
     u, v, w = (at * size for at, size in zip(place, grid["size"]))
