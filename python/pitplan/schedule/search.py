@@ -35,7 +35,7 @@ _TRIES = 2000  # swaps between each two periods in a round
 _REBUILDS = 100  # tries of a round to dig other units, at most
 _REBUILT = 10_000  # units that they go over together
 _SWAPS = 3  # rounds of swaps before each annealing
-_LEAST, _MOST = 50, 4000  # swaps between each two periods at each temperature of the first one
+_LEAST, _MOST = 150, 12_000  # swaps between each two periods at each temperature of the first one
 _STALE = 12  # rounds in a row that bring next to nothing, after which the search ends
 _LONGEST = 1e9  # seconds of a search
 _NOTHING = 2e-6  # of the worth: what counts as next to nothing
@@ -325,6 +325,6 @@ class Search:
             self.take(self.sorting.swapped(self.plan, _TRIES, seed))
         else:
             self.tell("annealing: swaps of which some lose")
-            tries = anneals * min(max(self.production.units // 4, _LEAST), _MOST)
+            tries = anneals * min(max(self.production.units * 3 // 4, _LEAST), _MOST)
             self.take(Annealing(self.sorting, seed).annealed(self.plan, tries))
         self.take(self.sorting.rebuilt(self.plan, self.rebuilds, seed))

@@ -219,7 +219,7 @@ def test_after_terms_change_nothing_older_is_shown(tmp_path, older, newer):
 def test_a_search_that_was_ended_goes_on(tmp_path):
     folder = built(tmp_path / "s")
     first = scheduled(folder, (0.0, 0.0))
-    second = scheduled(folder, (0.0, 3.0))
+    second = scheduled(folder, (0.0005, 600))
     assert second.closures > first.closures >= 1
     assert second.bound <= first.bound
     assert second.npv >= first.npv
