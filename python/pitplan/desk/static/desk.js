@@ -1,5 +1,5 @@
 // The desk's frame: what is asked of the server, the study that is open, its study.toml, its runs.
-import { at, button, entry, h, like, nodes, number, same, tip } from "./dom.js";
+import { at, button, chip, entry, h, like, nodes, number, same, tip } from "./dom.js";
 import { bar, nameOf } from "./runs.js";
 import { guide, home, screens } from "./screens.js";
 
@@ -16,6 +16,11 @@ export const D = { home: null, naming: null, dropped: null, ...opened(null) };
 
 /** @param {string} id @returns {any} */
 export const byId = id => document.getElementById(id);
+/** @param {number} ms @returns {Promise<void>} */
+const pause = ms => new Promise(done => { setTimeout(done, ms); });
+/** @returns {string} the name of who sits here */
+const who = () => localStorage.getItem("who") ?? "";
+const root = document.documentElement.dataset; // what is under way, for who tests the desk
 
 /** @param {string} text @param {string} kind */
 export function say(text, kind = "") {
@@ -24,39 +29,32 @@ export function say(text, kind = "") {
   setTimeout(() => line.remove(), kind === "bad" ? 5 * SHOWN : SHOWN);
 }
 
-/** Asks before something is done. @param {string} question @param {string} yes
- * @returns {Promise<boolean>} */
-export function agreed(question, yes) {
-  if (byId("asks")) return Promise.resolve(false); // one at a time
-  return new Promise(done => {
-    const end = is => {
-      dialog.remove();
-      done(is);
-    };
-    const dialog = h("dialog", { id: "asks", oncancel: () => end(false) }, h("p", {}, question),
-      h("div", { className: "amount" }, button(yes, () => end(true), { id: "yes" }),
-        button("Leave it", () => end(false), { id: "no" })));
-    document.body.append(dialog);
-    dialog.showModal();
-  });
-}
+/** Asks before it is done. @param {string} question @param {string} yes @returns {Promise<any>} */
+export const agreed = (question, yes) => new Promise(done => {
+  if (byId("asks")) return done(false); // one at a time
+  const end = is => { dialog.remove(); done(is); };
+  const dialog = h("dialog", { id: "asks", oncancel: () => end(false) }, h("p", question),
+    h("div.amount", button(yes, () => end(true), { id: "yes" }),
+      button("Leave it", () => end(false), { id: "no" })));
+  document.body.append(dialog);
+  return dialog.showModal();
+});
 
+/** Whether the desk doesn't answer, or has another token. */
+const isGone = () => document.body.matches(".away, .shut");
 /** Asks the server. What it refuses comes with `errors`, in pitplan's words.
  * @param {string} method @param {string} path @param {any} body @returns {Promise<any>} */
 export async function ask(method, path, body, { quiet = false, raw = false } = {}) {
   if (!path) return { ok: false, errors: [] }; // the study was left meanwhile
-  const headers = body === undefined || raw ? {} : { "content-type": "application/json" };
-  const sent = body === undefined || raw ? body : JSON.stringify(body);
-  const send = () => fetch(path, { method, body: sent, headers }).catch(() => null);
-  let answer = await send();
-  if (!answer && method === "GET") { // a connection may break under a desk that is there
-    await new Promise(done => { setTimeout(done, AGAIN); });
-    answer = await send();
-  }
+  const how = body === undefined || raw ? { method, body }
+    : { method, body: JSON.stringify(body), headers: { "content-type": "application/json" } };
+  const send = () => fetch(path, how).catch(() => null);
+  let answer = await send(); // a connection may break under a desk that is there
+  if (!answer && method === "GET") answer = await pause(AGAIN).then(send);
   const wasGone = isGone();
-  const isShut = answer?.status === 403 && answer.headers.get("x-desk") === "another token";
   document.body.classList.toggle("away", !answer);
-  document.body.classList.toggle("shut", isShut);
+  document.body.classList.toggle("shut", answer?.status === 403
+    && answer.headers.get("x-desk") === "another token");
   if (isGone()) return { ok: false, isGone: true, errors: [] };
   if (wasGone && D.study?.text) refresh();
   const isJson = answer.headers.get("content-type")?.startsWith("application/json");
@@ -65,17 +63,12 @@ export async function ask(method, path, body, { quiet = false, raw = false } = {
   return Object.assign(told, { ok: answer.ok, status: answer.status });
 }
 
-/** Whether the desk doesn't answer, or has another token. */
-const isGone = () => document.body.matches(".away, .shut");
-
 /** Asks for something; what is refused is shown where it belongs. @param {string} path */
 export const look = path => ask("GET", path, undefined, { quiet: true });
-
 /** @param {...any} parts @returns {string} the path of something of the open study */
 export const api = (...parts) => D.study && at("api", "studies", D.study.name, ...parts);
 /** @param {string} path @param {string} how */
 export const file = (path, how = "") => at("files", D.study.name, path) + how;
-/** @param {...any} parts */
 export const link = (...parts) => "#" + at(...parts);
 
 /** @returns {{study: string, screen: string, part: string}} what the address says */
@@ -92,12 +85,7 @@ export const stepped = (v, step) => (Array.isArray(v) && typeof step === "string
 
 // What is written goes one change after the other; how many are under way stands at the root.
 let queued = Promise.resolve();
-let pending = 0;
-function wait(more) {
-  pending += more;
-  document.documentElement.dataset.pending = String(pending);
-}
-
+const wait = more => { root.pending = Number(root.pending ?? 0) + more; };
 /** @param {{path: any[], value: any, was?: any}[]} changes of study.toml; a value of null takes a
  * key out, and what stood there when somebody began to type goes before what stands there now */
 export const change = (...changes) => queue(() => ({
@@ -108,70 +96,69 @@ export const change = (...changes) => queue(() => ({
 export function queue(body) {
   wait(1);
   // one that failed keeps no other one back
-  queued = queued.catch(() => undefined).then(async () => {
-    if (!D.study?.text) return undefined;
-    const before = new Set(D.study.text.split("\n"));
-    const [path, asked] = [api(), { ...body(), who: localStorage.getItem("who") ?? "" }];
-    let told = await ask("PATCH", path, asked);
-    while (told.isGone) { // what was typed waits for the desk
-      await new Promise(done => { setTimeout(done, PULSE); });
-      told = await ask("PATCH", path, asked);
-    }
-    if (told.stale) await reread();
-    if (!told.ok) return draw();
-    if (told.name !== D.study?.name) return undefined; // the study was left meanwhile
-    if (!same(told.values?.model, D.study.values?.model)) relook();
-    D.study = told;
-    if (told.kept) say(`what stood in study.toml is kept as ${told.kept}`, "good");
-    D.changed = new Set(told.text.split("\n").flatMap((l, n) => (before.has(l) ? [] : [n])));
-    await draw();
-    return refresh();
-  }).finally(() => wait(-1));
+  queued = queued.catch(() => undefined).then(() => write(body)).finally(() => wait(-1));
   return queued;
+}
+
+async function write(body) {
+  if (!D.study?.text) return undefined;
+  const before = new Set(D.study.text.split("\n"));
+  const send = () => ask("PATCH", path, asked);
+  const [path, asked] = [api(), { ...body(), who: who() }];
+  let told = await send();
+  for (; told.isGone; told = await send()) await pause(PULSE); // what was typed waits for the desk
+  if (told.stale) await reread();
+  if (!told.ok) return draw();
+  if (told.name !== D.study?.name) return undefined; // the study was left meanwhile
+  if (!same(told.values?.model, D.study.values?.model)) relook();
+  D.study = told;
+  if (told.kept) say(`what stood in study.toml is kept as ${told.kept}`, "good");
+  D.changed = new Set(told.text.split("\n").flatMap((l, n) => (before.has(l) ? [] : [n])));
+  await draw();
+  return refresh();
 }
 
 // What is asked anew after each change: once at a time, and once more where it changed meanwhile.
 let asking = null;
 let isStale = false;
-export async function refresh() {
+function refresh() {
   isStale = true;
-  asking ??= (async () => {
-    while (isStale && D.study) {
-      isStale = false;
-      const of = D.study.name;
-      const wants = where().screen === "slopes" ? ["check", "rose"] : ["check"];
-      const [check, rose] = await Promise.all(wants.map(it => look(api(it))));
-      if (isGone()) break; // it is asked anew once the desk is back
-      if (of === D.study?.name && !isStale) {
-        Object.assign(D, { check, rose: rose ?? null, typed: {} });
-        await draw();
-      } else isStale = Boolean(D.study);
-    }
-  })().finally(() => { asking = null; });
+  asking ??= recheck().finally(() => { asking = null; });
   return asking;
+}
+
+async function recheck() {
+  while (isStale && D.study) {
+    isStale = false;
+    const of = D.study.name;
+    const wants = where().screen === "slopes" ? ["check", "rose"] : ["check"];
+    const [check, rose = null] = await Promise.all(wants.map(it => look(api(it))));
+    if (isGone()) return; // it is asked anew once the desk is back
+    if (of === D.study?.name && !isStale) {
+      Object.assign(D, { check, rose, typed: {} });
+      await draw();
+    } else isStale = Boolean(D.study);
+  }
 }
 
 /** @param {string} name */
 async function open(name) {
   Object.assign(D, opened({ name }));
   await draw(); // nothing of another study is left to be pressed
-  const told = await reread();
+  const [told] = await Promise.all([reread(), reresults()]);
   if (D.study?.name !== name) return;
-  if (!told.ok) {
+  if (told.ok) {
+    await draw();
+    followOn();
+    await Promise.all([refresh(), relook()]);
+  } else {
     say(told.errors[0]?.said ?? "", "bad");
     location.hash = "#/";
-    return;
   }
-  await reresults();
-  if (D.study?.name !== name) return;
-  await draw();
-  if (D.runs[0]?.state === "running") follow(D.runs[0].number);
-  await Promise.all([refresh(), relook()]);
 }
 
 const unread = new Set(); // what the desk couldn't tell, and is asked again
-/** Asks for something of the open study, and keeps it. @param {string} key of D
- * @param {string[]} path @returns {Promise<any>} */
+/** Asks, and keeps it. @param {string} key of D @param {string[]} path @returns {Promise<any>} */
 async function kept(key, ...path) {
   const of = D.study?.name;
   const found = await look(api(...path));
@@ -182,88 +169,78 @@ async function kept(key, ...path) {
 }
 const reread = () => kept("study");
 const reruns = () => kept("runs", "runs");
-const reresults = () => Promise.all([reruns(), kept("files", "files")]);
+const refiles = () => kept("files", "files");
+const reresults = () => Promise.all([reruns(), refiles()]);
 const relook = () => kept("look", "look").then(draw); // by the keys of [model]
 
 /** @param {number} which @returns {Promise<any>} a run with all that it has told */
 export async function eventsOf(which) {
-  const had = D.events[which] ?? { list: [], upto: 0 };
-  const told = await look(`${api("runs", which)}?from=${had.upto}`);
+  const { list, upto } = D.events[which] ?? { list: [], upto: 0 };
+  const told = await look(`${api("runs", which)}?from=${upto}`);
   if (!told.ok) return null;
-  had.list.push(...told.events);
-  had.upto = told.upto;
-  D.events[which] = had;
+  D.events[which] = { list: [...list, ...told.events], upto: told.upto };
   D.runs = D.runs.map(run => (run.number === which ? told : run));
   return told;
 }
 
 let following = 0;
+const followOn = () => D.runs[0]?.state === "running" && follow(D.runs[0].number);
 /** @param {number} which is told as it goes on */
-export async function follow(which) {
+async function follow(which) {
   if (following === which) return;
   following = which;
   const of = D.study.name;
-  for (;;) {
-    const run = await eventsOf(which);
+  let run = null;
+  for (;; await pause(POLL)) {
+    run = await eventsOf(which);
     if (following !== which || D.study?.name !== of) return;
     await draw();
     if (run && run.state !== "running") break;
-    await new Promise(done => { setTimeout(done, POLL); });
   }
   following = 0;
-  const ended = D.runs.find(run => run.number === which);
-  say(`${nameOf(ended)}: ${ended.state}`, ended.state === "done" ? "good" : "bad");
-  await Promise.all([reread(), kept("files", "files")]);
+  say(`${nameOf(run)}: ${run.state}`, run.state === "done" ? "good" : "bad");
+  await Promise.all([reread(), refiles()]);
   await draw();
 }
 
 /** @param {any} asked as asked.py has it */
 export async function start(asked) {
-  const who = localStorage.getItem("who") ?? "";
-  const told = await ask("POST", api("runs"), { ...asked, who });
-  if (!told.ok) return;
-  await reruns();
-  await follow(told.number);
+  const told = await ask("POST", api("runs"), { ...asked, who: who() });
+  if (told.ok) await reruns().then(() => follow(told.number));
 }
 
 /** @returns {any} the run that goes on, if one does */
 export const going = () => D.runs.find(run => run.state === "running");
-
 /** @param {any} asked @returns {any} the commands that a button stands for, as they are typed */
 export function typed(asked) {
   const key = JSON.stringify(asked);
   if (!D.typed[key]) {
-    D.typed[key] = { typed: ["…"], errors: [] };
-    ask("POST", api("commands"), asked, { quiet: true }).then(told => {
-      D.typed[key] = { typed: told.typed ?? [], errors: told.errors ?? [] };
-      draw();
-    });
+    D.typed[key] = { typed: ["…"] };
+    ask("POST", api("commands"), asked, { quiet: true }).then(keep(D.typed, key));
   }
-  const found = D.typed[key];
-  const words = found.errors.map(e => e.said + (e.try ? `; try: ${e.try}` : ""));
-  return h("code", { className: "typed", title: "the same, typed in a terminal" },
-    [...found.typed, ...words].map(each => h("span", {}, each)));
+  const { typed: lines = [], errors = [] } = D.typed[key];
+  const words = errors.map(e => e.said + (e.try ? `; try: ${e.try}` : ""));
+  return h("code.typed", { title: "the same, typed in a terminal" },
+    [...lines, ...words].map(each => h("span", each)));
 }
 
 setInterval(async () => { // what others do: in other windows, in an editor, in a terminal
   if (!D.study?.text || following || document.hidden || D.edits !== null) return;
-  const told = await look(api("pulse"));
-  const { ok, status, errors, ...beat } = told;
+  const { ok, status, errors, ...beat } = await look(api("pulse"));
   if (!ok || !D.study?.text || (same(beat, D.study.pulse) && !unread.size)) return;
   const isOther = beat.etag !== D.study.pulse.etag;
   if (isOther) say("study.toml was changed, and is read again");
   await Promise.all([reread(), reresults()]);
   await draw();
   if (isOther) await refresh();
-  if (D.runs[0]?.state === "running") follow(D.runs[0].number);
+  followOn();
 }, PULSE);
 
 /** @returns {any[]} all that is wrong, each once, in pitplan's words */
 export function faults() {
   const all = [...(D.study?.outside ?? []), ...(D.check?.errors ?? []), ...(D.rose?.errors ?? []),
     ...(D.check?.errors?.length ? [] : D.look?.errors ?? [])];
-  const seen = new Set();
-  return all.filter(f => !seen.has(f.said) && seen.add(f.said));
+  return all.filter((f, i) => all.findIndex(other => other.said === f.said) === i);
 }
 
 const HOMES = { model: "table", economics: "money", slopes: "slopes", shells: "pits" };
@@ -272,13 +249,11 @@ export const screenOf = key => HOMES[key?.[0]] ?? "table";
 
 /** @param {any} s of a study, as `work.overview` tells it */
 export function state(s) {
-  if (!s.built) return h("span", { className: "chip" }, "not built yet");
-  const old = { className: "chip warn", title: s.old };
-  if (s.old) return h("span", old, "changed since it was built");
-  if (!s.there) return h("span", { className: "chip" }, `built, ${number(s.blocks)} blocks`);
+  if (!s.built) return chip("", "not built yet");
+  if (s.old) return chip("warn", "changed since it was built", s.old);
+  if (!s.there) return chip("", `built, ${number(s.blocks)} blocks`);
   const more = s.certified ? `, ${s.certified} with certificates` : "";
-  return h("span", { className: `chip ${s.there === s.of ? "good" : "warn"}` },
-    `${s.there} of ${s.of} pits proved${more}`);
+  return chip(s.there === s.of ? "good" : "warn", `${s.there} of ${s.of} pits proved${more}`);
 }
 
 /** @param {string[]} words @returns {string} a command as it is typed */
@@ -290,107 +265,105 @@ export function far(run) {
   const list = D.events[run.number]?.list ?? [];
   const begun = list.findLastIndex(e => e.event === "begin");
   const now = list.slice(Math.max(begun, 0));
-  const step = now.findLast(e => e.event === "step")?.what ?? "begins";
-  const pits = now.filter(e => e.event === "pit");
-  const tasks = now.findLast(e => e.event === "task");
+  const latest = kind => now.findLast(e => e.event === kind);
+  const pits = now.filter(e => e.event === "pit" && ["proved", "done"].includes(e.state));
   const command = line(list[begun]?.command) || run.typed[0];
-  if (tasks) return { command, what: `${tasks.done} of ${tasks.of}`, at: tasks.done, of: tasks.of };
-  if (!pits.length) return { command, what: step, at: 0, of: 0 };
-  const there = new Set(pits.filter(e => ["proved", "done"].includes(e.state)).map(e => e.factor));
-  const { of } = pits[0];
-  return { command, what: `${there.size} of ${of} pits proved`, at: there.size, of };
+  const tasks = latest("task");
+  const count = tasks?.done ?? new Set(pits.map(e => e.factor)).size;
+  const { of = 0 } = tasks ?? latest("pit") ?? {};
+  const what = of ? `${count} of ${of}` : latest("step")?.what ?? "begins";
+  return { command, what: what + (of && !tasks ? " pits proved" : ""), at: count, of };
 }
 
 function top() {
   const run = D.study && going();
   const how = run && far(run);
-  const who = entry("who", localStorage.getItem("who") ?? "",
-    name => localStorage.setItem("who", name), { size: 10, placeholder: "name" });
+  const name = entry("who", who(), text => localStorage.setItem("who", text),
+    { size: 10, placeholder: "name" });
   like(byId("top"), nodes([
-    h("a", { href: "#/", className: "brand" }, h("b", {}, "pitplan"), " desk"),
+    h("a.brand", { href: "#/" }, h("b", "pitplan"), " desk"),
     h("h1", { className: D.study ? "" : "quiet" }, D.study?.name ?? D.home?.folder ?? ""),
     D.study?.state && h("span", { id: "state" }, state(D.study.state)),
-    run && h("div", { id: "running" }, h("code", {}, how.command),
-      h("span", {}, `${how.what}, ${number(run.seconds)} s`), bar(how),
+    run && h("div", { id: "running" }, h("code", how.command),
+      h("span", `${how.what}, ${number(run.seconds)} s`), bar(how),
       button("Stop", () => ask("DELETE", api("runs", run.number)),
         { className: "stop", id: "stop" })),
-    !run && D.study?.pulse?.held && h("span", { className: "chip warn" }, D.study.pulse.held),
-    h("span", { className: "who" }, h("label", { htmlFor: "who" }, "your name "), who)]));
+    !run && D.study?.pulse?.held && chip("warn", D.study.pulse.held),
+    h("span.who", h("label", { htmlFor: "who" }, "your name "), name)]));
 }
 
-function nav() {
-  const here = where().screen;
-  const wrong = new Set(faults().map(f => screenOf(f.key)));
-  like(byId("nav"), Object.entries(screens).map(([name, s]) => h("a", {
-    href: link(D.study.name, name), id: `to.${name}`,
-    className: (here === name ? "here " : "") + (wrong.has(name) ? "wrong" : ""),
-    "aria-current": here === name ? "page" : undefined }, s.label)));
-}
+/** A link to a screen, or to a part of one. @param {string} id @param {string[]} to
+ * @param {string} label @param {boolean} isHere @param {string} mark */
+export const tab = (id, to, label, isHere, mark = "") => h("a", { href: link(D.study.name, ...to),
+  id, className: (isHere ? "here " : "") + mark, "aria-current": isHere ? "page" : null }, label);
 
-// what stands before a comment: no mark within quotes begins one
-const BEFORE = /^(?:[^"'#]|"(?:\\.|[^"\\])*"|'[^']*')*/;
+function nav(isStudy) {
+  const wrong = faults().map(f => screenOf(f.key));
+  const tabs = Object.entries(screens).map(([name, s]) => isStudy && tab(`to.${name}`, [name],
+    s.label, where().screen === name, wrong.includes(name) ? "wrong" : ""));
+  like(byId("nav"), nodes(tabs));
+}
 
 /** Shows the field of a key. @param {string} section @param {string} key */
-function toField(section, key) {
+async function toField(section, key) {
   const id = `f.${section}.${key}`;
-  if (!byId(id)) location.hash = link(D.study.name, HOMES[section] ?? "table");
-  setTimeout(() => {
-    byId(id)?.scrollIntoView({ block: "center" });
-    byId(id)?.querySelector("input,select")?.focus();
-  }, 60);
+  if (!byId(id)) location.hash = link(D.study.name, screenOf([section]));
+  await pause(60);
+  byId(id)?.scrollIntoView({ block: "center" });
+  byId(id)?.querySelector("input,select")?.focus();
 }
 
+/** The pane of study.toml. @param {any} press @param {any} list */
+const pane = (press, list) => [h("div.bar", h("b", "study.toml"), press), list];
 function editor() {
-  const area = h("textarea", { id: "edits", spellcheck: false, value: D.edits.text,
-    "aria-label": "the text of study.toml", oninput: e => { D.edits.text = e.target.value; } });
   const save = async () => {
     const { text, etag } = D.edits;
     D.edits = null;
     await queue(() => ({ text, etag }));
   };
-  const leave = () => { D.edits = null; draw(); };
-  return [h("div", { className: "bar" }, h("b", {}, "study.toml"),
-    button("Save", save, { className: "main", id: "save" }), button("Leave it", leave)), area];
+  return pane([button("Save", save, { className: "main", id: "save" }),
+    button("Leave it", () => keep(D, "edits")(null))],
+  h("textarea", { id: "edits", spellcheck: false, value: D.edits.text,
+    "aria-label": "the text of study.toml", oninput: e => { D.edits.text = e.target.value; } }));
 }
 
-function text() {
-  const pane = byId("text");
-  if (D.edits) {
-    if (!byId("edits")) pane.replaceChildren(...nodes(editor()));
-    return;
-  }
+// what stands before a comment: no mark within quotes begins one
+const BEFORE = /^(?:[^"'#]|"(?:\\.|[^"\\])*"|'[^']*')*/;
+/** @returns {any[]} the lines of study.toml, each that has a key with a way to its field */
+function lines() {
   const bad = new Set(faults().map(f => f.line));
   let section = "";
-  const lines = D.study.text.replace(/\n$/, "").split("\n").map((row, n) => {
+  return D.study.text.replace(/\n$/, "").split("\n").map((row, n) => {
     section = /^\s*\[(\w+)\]/.exec(row)?.[1] ?? section;
     const key = /^(\w+)\s*=/.exec(row)?.[1];
     const own = section;
     const cut = BEFORE.exec(row)[0].length;
-    const classes = [cut < row.length && "clip", D.changed.has(n) && "new",
-      bad.has(n + 1) && "wrong", /^\s*\[/.test(row) && "head", key && "key"];
-    return h("li", { className: classes.filter(Boolean).join(" "),
-      id: key ? `line.${own}.${key}` : undefined,
-      title: cut < row.length ? row.trim() : undefined,
-      onclick: key ? () => toField(own, key) : undefined },
-    row.slice(0, cut), h("i", {}, row.slice(cut)));
+    const isCut = cut < row.length;
+    const classes = [isCut && "clip", D.changed.has(n) && "new", bad.has(n + 1) && "wrong",
+      /^\s*\[/.test(row) && "head", key && "key"];
+    return h("li", { className: classes.filter(Boolean).join(" "), title: isCut && row.trim(),
+      id: key && `line.${own}.${key}`, onclick: key && (() => toField(own, key)) },
+    row.slice(0, cut), h("i", row.slice(cut)));
   });
-  const edit = () => {
-    D.edits = { text: D.study.text, etag: D.study.pulse.etag };
-    draw();
-  };
-  like(pane, nodes([h("div", { className: "bar" }, h("b", {}, "study.toml"),
-    button("Edit as text", edit, { id: "edit" })), h("ol", { tabIndex: 0 }, lines)]));
-  const list = pane.querySelector("ol");
-  const first = pane.querySelector("li.new");
-  if (first && D.scrolled !== D.study.pulse.etag) {
-    D.scrolled = D.study.pulse.etag;
-    const y = first.offsetTop - list.offsetTop;
-    if (y < list.scrollTop || y > list.scrollTop + list.clientHeight - 20) list.scrollTop = y - 60;
+}
+
+function text(isStudy) {
+  if (isStudy && D.edits && byId("edits")) return; // what is being typed stays
+  const { text: now, pulse: { etag } = {} } = D.study ?? {};
+  const edit = () => keep(D, "edits")({ text: now, etag });
+  const list = () => pane(button("Edit as text", edit, { id: "edit" }),
+    h("ol", { tabIndex: 0 }, lines()));
+  like(byId("text"), nodes(!isStudy ? [] : D.edits ? editor() : list()));
+  const shown = byId("text").querySelector("ol");
+  const first = shown?.querySelector("li.new");
+  if (first && D.scrolled !== etag) {
+    D.scrolled = etag;
+    const y = first.offsetTop - shown.offsetTop - shown.scrollTop;
+    if (y < 0 || y > shown.clientHeight - 20) shown.scrollTop += y - 60;
   }
 }
 
-/** What keeps a choice of this page's own, and draws it. @param {any} choices @param {string} key
- * @param {(v: any) => any} read */
+/** Keeps what is chosen, and draws. @param {any} choices @param {string} key @param {Take} read */
 export const keep = (choices, key, read = v => v) => v => {
   choices[key] = read(v);
   draw();
@@ -402,29 +375,25 @@ function refocus(before) {
   if (before?.id && (!before.isConnected || before.disabled)) lost = before.id;
   const next = lost && byId(lost);
   if (!next || next.disabled) return;
-  const isFree = [document.body, null].includes(document.activeElement);
-  if (isFree) next.focus({ preventScroll: true });
+  if ([document.body, null].includes(document.activeElement)) next.focus({ preventScroll: true });
   lost = "";
 }
 
 let drawn = null;
 export async function draw() {
   if (isGone()) return; // what was typed stays as it is
-  const here = where();
+  const { screen, part } = where();
   const before = document.activeElement;
   const isStudy = Boolean(D.study?.text);
   const isOpening = D.study && !isStudy;
-  const isFull = isStudy && ((here.screen === "pits" && here.part === "page")
-    || here.screen === "history");
+  const isFull = isStudy && ((screen === "pits" && part === "page") || screen === "history");
   document.body.className = (D.study ? "study" : "home") + (isFull ? " full" : "");
   document.title = isStudy ? `${D.study.name} - pitplan desk` : "pitplan desk";
   top();
-  if (isStudy) {
-    nav();
-    text();
-  } else [byId("nav"), byId("text")].forEach(e => e.replaceChildren());
+  nav(isStudy);
+  text(isStudy);
   const main = byId("main");
-  const fresh = nodes(isStudy ? [guide(here.screen), screens[here.screen].draw(here.part)]
+  const fresh = nodes(isStudy ? [guide(screen), screens[screen].draw(part)]
     : [isOpening ? tip("is read ...") : D.home ? home() : ""]);
   if (drawn === location.hash) like(main, fresh);
   else {
@@ -434,31 +403,25 @@ export async function draw() {
   }
   refocus(before);
   drawn = isOpening ? drawn && "" : location.hash;
-  document.documentElement.dataset.drawn = drawn ?? ""; // for who tests the desk
+  root.drawn = drawn ?? "";
 }
 
 export async function go() {
-  const here = where();
-  if (!here.study) {
+  const { study, screen } = where();
+  if (!study) {
     D.study = null;
     await draw();
     const told = await ask("GET", "/api/folder");
     if (told.ok) D.home = told;
-    await draw();
-    return;
+  } else {
+    D.home ??= await ask("GET", "/api/folder");
+    if (D.study?.name !== study) return open(study);
   }
-  D.home ??= await ask("GET", "/api/folder");
-  if (D.study?.name !== here.study) await open(here.study);
-  else {
-    await draw();
-    if (here.screen === "slopes" && !D.rose) await refresh();
-  }
+  await draw();
+  return study && screen === "slopes" && !D.rose && refresh();
 }
 
-byId("skip").onclick = e => {
-  e.preventDefault();
-  byId("main").focus();
-};
+byId("skip").onclick = e => { e.preventDefault(); byId("main").focus(); };
 addEventListener("hashchange", go);
 for (const [event, way] of [["focusin", "add"], ["focusout", "remove"]]) {
   addEventListener(event, e => {
@@ -468,7 +431,7 @@ for (const [event, way] of [["focusin", "add"], ["focusout", "remove"]]) {
 }
 // beside a place for files nothing is opened
 for (const event of ["dragover", "drop"]) addEventListener(event, e => e.preventDefault());
-addEventListener("securitypolicyviolation", e => { // for who tests the desk
-  document.documentElement.dataset.complaint = `${e.violatedDirective} ${e.blockedURI}`;
+addEventListener("securitypolicyviolation", e => {
+  root.complaint = `${e.violatedDirective} ${e.blockedURI}`;
 });
 go();

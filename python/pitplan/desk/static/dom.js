@@ -1,15 +1,18 @@
 // Elements, and how numbers, sizes and times are written. No text becomes markup here: all of it
 // comes to stand in the page as text.
 
-/** An element. A key that begins with "on" is a listener; false, null and undefined are left out.
- * @param {string} name
- * @param {Object<string, any>} attributes
- * @param {...any} children texts, elements, and lists of them
- * @returns {any} */
-export function h(name, attributes = {}, ...children) {
+/** @typedef {(v: any) => any} Take @typedef {Object<string, any>} Told */
+const isSome = v => v !== undefined && v !== null && v !== false;
+
+/** An element. A key that begins with "on" is a listener; what is none is left out.
+ * @param {string} what its name, with its classes after dots
+ * @param {...any} parts attributes, if any; texts, elements, and lists of them @returns {any} */
+export function h(what, ...parts) {
+  const [name, ...classes] = what.split(".");
   const e = document.createElement(name);
-  for (const [key, value] of Object.entries(attributes ?? {})) {
-    if (value === undefined || value === null || value === false) continue;
+  if (classes.length) e.className = classes.join(" ");
+  const attributes = parts[0]?.constructor === Object ? parts.shift() : {};
+  for (const [key, value] of Object.entries(attributes).filter(([, v]) => isSome(v))) {
     if (key.startsWith("on")) {
       e[key] = value;
       (e.listens ??= []).push(key);
@@ -17,42 +20,30 @@ export function h(name, attributes = {}, ...children) {
     else if (key in e && key !== "list") e[key] = value;
     else e.setAttribute(key, value === true ? "" : value);
   }
-  e.append(...flat(children));
+  e.append(...parts.flat(9).filter(isSome));
   return e;
 }
 
-/** @param {any[]} list @returns {any[]} its texts and elements, at one level */
-const flat = list => list.flat(9).filter(c => c !== null && c !== undefined && c !== false);
-
-/** @param {any[]} list @returns {ChildNode[]} */
-export function nodes(list) {
-  const all = document.createElement("div");
-  all.append(...flat(list));
-  return [...all.childNodes];
-}
+/** @param {any[]} list @returns {ChildNode[]} its texts and elements, at one level */
+export const nodes = list => [...h("div", list).childNodes];
 
 /** Makes what is there like what was drawn anew, in place: so a field keeps what is being typed in
- * it, and a page in a frame isn't loaded again.
- * @param {any} old @param {any} fresh */
+ * it, and a page in a frame isn't loaded again. @param {any} old @param {any} fresh */
 function morph(old, fresh) {
-  if (old.nodeName !== fresh.nodeName || old.id !== fresh.id) return old.replaceWith(fresh);
-  if (old.nodeType === Node.TEXT_NODE) {
-    if (old.data !== fresh.data) old.data = fresh.data;
-    return undefined;
-  }
+  const isOther = ["nodeName", "id", "data"].some(key => old[key] !== fresh[key]);
+  if (isOther) return old.replaceWith(fresh);
+  if (old.nodeType === Node.TEXT_NODE) return undefined;
   const isTyping = old === document.activeElement && old.defaultValue !== undefined
     && old.value !== old.defaultValue;
   for (const { name } of [...old.attributes]) {
-    if (!fresh.hasAttribute(name) && !(name === "open")) old.removeAttribute(name);
+    if (!fresh.hasAttribute(name) && name !== "open") old.removeAttribute(name);
   }
   for (const { name, value } of fresh.attributes) {
-    if (old.getAttribute(name) === value || (isTyping && name === "value")) continue;
-    if (name === "open" && old.nodeName === "DETAILS") continue; // who opened it decides
-    old.setAttribute(name, value);
+    const isKept = (isTyping && name === "value")
+      || (name === "open" && old.nodeName === "DETAILS"); // who opened it decides
+    if (!isKept && old.getAttribute(name) !== value) old.setAttribute(name, value);
   }
-  for (const key of new Set([...(old.listens ?? []), ...(fresh.listens ?? [])])) {
-    old[key] = fresh[key] ?? null;
-  }
+  for (const key of [...old.listens ?? [], ...fresh.listens ?? []]) old[key] = fresh[key] ?? null;
   old.listens = fresh.listens;
   if ("seen" in fresh && !isTyping) old.seen = fresh.seen;
   const { value } = fresh;
@@ -71,97 +62,73 @@ export function like(parent, now) {
 }
 
 /** @param {any} v @param {number} digits @returns {string} */
-export function number(v, digits = 0) {
-  if (v === null || v === undefined || v === "" || Number.isNaN(+v)) return "";
-  const how = { minimumFractionDigits: digits, maximumFractionDigits: digits };
-  return (+v).toLocaleString("en", how);
-}
-
+export const number = (v, digits = 0) => (!isSome(v) || v === "" || Number.isNaN(+v) ? ""
+  : (+v).toLocaleString("en", { minimumFractionDigits: digits, maximumFractionDigits: digits }));
 /** @param {number} n @param {string} what */
 export const counted = (n, what) => `${number(n)} ${what}${n === 1 ? "" : "s"}`;
-
 /** @param {any} v @returns {string} a number with the digits that count */
-export const short = v => (v === null || v === undefined ? ""
-  : Math.abs(v) >= 1000 ? number(v, Number.isInteger(v) ? 0 : 1) : String(+v.toPrecision(4)));
-
+export const short = v => (!isSome(v) ? "" : Math.abs(v) >= 1000
+  ? number(v, Number.isInteger(v) ? 0 : 1) : String(+v.toPrecision(4)));
 /** @param {number|null} bytes */
 export const size = bytes => (bytes === null ? "" : bytes < 1e3 ? counted(bytes, "byte")
   : bytes < 1e5 ? `${number(bytes / 1e3, 1)} kB` : `${number(bytes / 1e6, 1)} MB`);
-
 /** @param {number} seconds since 1970 */
 export const when = seconds => new Date(seconds * 1000)
   .toLocaleString("en-GB", { dateStyle: "medium", timeStyle: "short" });
-
 /** @param {...any} parts @returns {string} a path */
 export const at = (...parts) => "/" + parts.flatMap(p => String(p).split("/"))
   .map(encodeURIComponent).join("/");
-
-/** @param {any} a @param {any} b */
 export const same = (a, b) => JSON.stringify(a) === JSON.stringify(b);
-
-/** @param {any} text @param {any} onclick @param {Object<string, any>} more */
-export const button = (text, onclick, more = {}) => h("button",
-  { type: "button", onclick, ...more }, text);
-
-/** @param {any} title @param {...any} children */
-export const card = (title, ...children) => h("section", { className: "card" },
-  title && h("h2", {}, title), children);
-
-/** @param {...any} text */
-export const tip = (...text) => h("p", { className: "quiet" }, text);
-
-/** A table; its first `words` columns stand left.
- * @param {any[]} names @param {any[][]} rows
- * @param {{words?: number, className?: string, rows?: (n: number) => Object<string, any>}} how */
-export function table(names, rows, { words = 1, className = "", rows: row } = {}) {
-  const cell = (tag, c, i) => h(tag, { className: i < words ? "word" : "" }, c);
-  return h("div", { className: "scroll", tabIndex: rows.length > 30 ? 0 : undefined },
-    h("table", { className: `data ${className}` },
-      h("thead", {}, h("tr", {}, names.map((n, i) => cell("th", n, i)))),
-      h("tbody", {}, rows.map((cells, r) => h("tr", row?.(r) ?? {},
-        cells.map((c, i) => cell("td", c, i)))))));
-}
-
-/** A box to tick. @param {string} id @param {string} label @param {boolean} checked
- * @param {(is: boolean) => any} pick */
-export const tick = (id, label, checked, pick) => h("label", {}, h("input", { type: "checkbox", id,
-  checked, onchange: e => pick(e.target.checked) }), ` ${label} `);
-
-/** A box for a text of this page's own. @param {string} id @param {any} now
- * @param {(text: string) => any} pick @param {Object<string, any>} more */
-export const entry = (id, now, pick, more = {}) => h("input", { id, value: now, ...more,
-  onchange: e => pick(e.target.value.trim()) });
-
-/** @param {any[]} list @param {any} value @param {boolean} is @returns {any[]} the list with it or
- * without it */
+/** @param {any[]} list @param {any} value @param {boolean} is @returns {any[]} with it, or not */
 export const having = (list, value, is) => [...list.filter(each => each !== value),
   ...(is ? [value] : [])];
-
-/** The first of some names that isn't there yet. @param {(n: number) => string} named
- * @param {string[]} there @param {number} n @returns {string} */
+/** The first free name. @param {Take} named @param {string[]} there @param {number} n */
 export const free = (named, there, n = 1) => (there.includes(named(n))
   ? free(named, there, n + 1) : named(n));
 
+/** @param {any} text @param {any} onclick @param {Told} more */
+export const button = (text, onclick, more = {}) => h("button",
+  { type: "button", onclick, ...more }, text);
+export const card = (title, ...children) => h("section.card", title && h("h2", title), children);
+export const tip = (...text) => h("p.quiet", text);
+export const look = (...text) => h("p.look", text);
+/** @param {any[]} list of what should be looked at, if there is some */
+export const looks = list => list.length > 0 && h("ul.looks", list);
+/** @param {string} kind @param {string} text @param {string} title */
+export const chip = (kind, text, title) => h("span", { className: `chip ${kind}`, title }, text);
+/** @param {...any} parts boxes and words in a line */
+export const amounts = (...parts) => h("div.amount", parts);
+
+/** A table; its first `words` columns stand left. @param {any[]} names @param {any[][]} rows
+ * @param {{words?: number, className?: string, rows?: (n: number) => Told}} how */
+export function table(names, rows, { words = 1, className = "", rows: row } = {}) {
+  const cells = (tag, list) => list.map((c, i) => h(i < words ? `${tag}.word` : tag, c));
+  return h("div.scroll", { tabIndex: rows.length > 30 ? 0 : undefined },
+    h("table", { className: `data ${className}` }, h("thead", h("tr", cells("th", names))),
+      h("tbody", rows.map((list, r) => h("tr", row?.(r) ?? {}, cells("td", list))))));
+}
+
+/** A box to tick. @param {string} id @param {any} label @param {boolean} is @param {Take} pick */
+export const tick = (id, label, is, pick) => h("label", h("input", { type: "checkbox", id,
+  checked: is, onchange: e => pick(e.target.checked) }), ` ${label} `);
+/** A box for a text. @param {string} id @param {any} now @param {Take} pick @param {Told} more */
+export const entry = (id, now, pick, more = {}) => h("input", { id, value: now, ...more,
+  onchange: e => pick(e.target.value.trim()) });
+/** A list to choose from. @param {string} id @param {any[]} options values, or [value, words]
+ * @param {any} now @param {Take} pick @param {string} label */
+export const choice = (id, options, now, pick, label) => h("select", { id, "aria-label": label,
+  onchange: e => pick(e.target.value) }, options.map(o => (Array.isArray(o) ? o : [o, o]))
+  .map(([value, told]) => h("option", { value, selected: value === now }, told)));
+/** @param {string} id @param {string} label @param {any} box */
+export const labelled = (id, label, box) => h("span.pair", h("label", { htmlFor: id }, label), box);
+
 /** A box for a value that others may change meanwhile. What stood there when typing began goes with
- * what was typed, so that the later of two changes is known.
- * @param {any} seen @param {Object<string, any>} attributes
- * @param {(text: string, seen: any) => any} take */
+ * what was typed, so that the later of two changes is known. @param {any} seen
+ * @param {Object<string, any>} attributes @param {(text: string, seen: any) => any} take */
 export function box(seen, attributes, take) {
   const onchange = ({ target }) => {
-    const was = target.seen;
     target.defaultValue = target.value; // nothing is being typed any more
-    return take(target.value, was);
+    return take(target.value, target.seen);
   };
   return Object.assign(h("input", { ...attributes, onchange }), { seen });
 }
-
-/** A list to choose from. @param {string} id @param {any[]} options values, or [value, words]
- * @param {any} now @param {(value: string) => any} pick @param {string} label */
-export const choice = (id, options, now, pick, label = "") => h("select", { id,
-  "aria-label": label || undefined, onchange: e => pick(e.target.value) },
-options.map(o => (Array.isArray(o) ? o : [o, o])).map(([value, told]) => h("option",
-  { value, selected: value === now }, told)));
-
-/** @param {string} id @param {string} label @param {any} box */
-export const labelled = (id, label, box) => h("span", { className: "pair" },
-  h("label", { htmlFor: id }, label), box);
