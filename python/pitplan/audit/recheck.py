@@ -1499,7 +1499,7 @@ def check_facts(report: Report, blocks: Blocks, facts: dict[str, Any]) -> None:
     regions = ["default", *study_of("slopes", "regions").get("regions", {})]
     report.check(
         len(blocks.slopes) == len(regions) and list(manifest["regions"]) == regions,
-        f"the lists of offsets are those of the {len(regions):,} slopes of study.toml",
+        f"there are as many lists of offsets as slopes in study.toml, {len(regions):,}, by the same names",
     )
     count = Counter(map(blocks.region, range(len(blocks.places))))
     report.check(

@@ -53,17 +53,7 @@ def init(
     look = look_at(table, dict(map(_named, column)), encoding)
     folder = folder or Path(table.name.removesuffix(".gz").removesuffix(".csv"))
     path = folder / "study.toml"
-    if path.exists() and not is_forced:
-        raise PlanError(
-            f"{path} is there already",
-            try_this="--force writes over it, --study names another folder",
-        )
-    if folder.exists() and not folder.is_dir():
-        raise PlanError(
-            f"{folder} is a file, and a study is a folder", try_this="--study names another folder"
-        )
-    refuse_outside(folder, "written")
-    folder.mkdir(parents=True, exist_ok=True)
+    _make_folder(folder, path.exists() and not is_forced)
     if path.exists():
         say(f"what stood in {path} is kept as {put_aside(path).name}")
     with whole_file(path) as part:
@@ -85,6 +75,21 @@ def init(
         f"{path} is written: put your own prices, costs and slopes there, then:"
         f" {command('build', folder)}"
     )
+
+
+def _make_folder(folder: Path, is_taken: bool) -> None:
+    """Makes the folder of a new study where there is none, unless it is taken by another study."""
+    if is_taken:
+        raise PlanError(
+            f"{folder / 'study.toml'} is there already",
+            try_this="--force writes over it, --study names another folder",
+        )
+    if folder.exists() and not folder.is_dir():
+        raise PlanError(
+            f"{folder} is a file, and a study is a folder", try_this="--study names another folder"
+        )
+    refuse_outside(folder, "written")
+    folder.mkdir(parents=True, exist_ok=True)
 
 
 def _named(said: str) -> tuple[str, str]:

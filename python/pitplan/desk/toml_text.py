@@ -1,7 +1,6 @@
 """Changes of a study.toml that leave all else in it as it is: comments, order, spelling, ends of lines."""
 from __future__ import annotations
 
-import copy
 import re
 import tomllib
 from collections.abc import Sequence

@@ -14,7 +14,7 @@ import numpy as np
 
 from ..base.amounts import THOUSAND, Priced
 from ..base.arrays import Bools, Ints
-from ..base.errors import KeyPath, Remedy, spelled
+from ..base.errors import KeyPath, Remedy
 from ..base.strange import Strange, rounded
 from ..base.units import PRICES
 from ..base.units_shown import length_text

@@ -1,5 +1,6 @@
 """Where the sink rate binds: by hand on a column of blocks, and on a mine against what each of its rows says."""
 import math
+import tomllib
 
 import numpy as np
 import pandas as pd
@@ -65,7 +66,7 @@ def sunk(tmp_path_factory):
 
 
 def waiting(folder):
-    """By year the places of the rows that could be dug in it but for one bench a year: the file of predecessors says what each
+    """By year the places of the rows that could be dug in it but for one bench a year: the slopes of the settings say what each
     rests on, all of that is dug by then, and the row straight above in that very year."""
     rows = of_table(folder)
     lines = map(str.split, open(folder / "model" / "mine.blocks"))
@@ -78,8 +79,9 @@ def waiting(folder):
     place = dict(zip(rows["at"], zip(rows.XC, rows.YC, rows.ZC)))
     straight = {place[b]: b for b in place}
     found = {}
-    for words in map(str.split, open(folder / "model" / "mine.prec")):
-        b, above = int(words[0]), [int(word) for word in words[2:]]
+    (slopes,) = tomllib.loads((folder / "model" / "settings.toml").read_text())["slopes"]
+    for (i, j, k), b in number.items():
+        above = [number[at] for x, y, z in slopes if (at := (i + x, j + y, k + z)) in number]
         if b not in year or year[b] == 99:
             continue
         x, y, z = place[b]

@@ -4,7 +4,7 @@ import pytest
 
 pytest.importorskip("numba")
 
-from planned import TERMS, WEIGHTS, built, of_table, run
+from planned import WEIGHTS, built, of_table, run
 from processes import command
 
 
