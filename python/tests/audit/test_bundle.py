@@ -574,7 +574,7 @@ CHANGES = {
     ),
     "a list of offsets more": (
         lambda f: replaced(f / "model" / "settings.toml", "\n]\n", "\n    [[0, 0, 1]],\n]\n"),
-        "the lists of offsets",
+        "as many lists of offsets as slopes in study.toml",
     ),
     "how many blocks a region has": (
         told_otherwise("model/manifest.json", "regions", "default", value=7),
