@@ -5,7 +5,8 @@
 
 The page is made from the sources alone. It begins at a clause of a public function, resolves each name of it by the imports
 of its file, and goes on with the definitions that these names have. A word of the language's library, an operator and a type
-of the code are named on the page, and not followed.
+of the code are named on the page, and not followed. A definition without words of its own is refused: those above it in its
+file are of another one.
 """
 import re
 import sys
@@ -62,8 +63,12 @@ def imports(text, module):
 
 
 def blocks(text):
-    """The definitions of a file: the comment above each, its text, its first line. An equation stands with what it defines."""
+    """The definitions of a file: the comment above each, its text, its first line. An equation stands with what it defines.
+
+    The comment at the file's top is of the file, and of no definition.
+    """
     words, held, found, begun = [], [], [], 0
+    text = re.sub(r"\A(?:--.*\n)+", lambda top: "\n" * top[0].count("\n"), text)
     for number, line in enumerate(text.split("\n") + [""], 1):
         if (
             held
@@ -225,28 +230,24 @@ def clause_of(path, function, name):
     return found[1] or found[2], module
 
 
-def sentence(definition, above):
-    """The words of a definition: the comment above it, or that of the one before it in its file, of which it is a part."""
-    words = definition.words or above
-    return words[:1].upper() + words[1:] if words else ""
+def wordless(sources, definitions):
+    """The definitions that have no words of their own, each with its file and line."""
+    return [
+        "%s:%d: %s has no words of its own above it"
+        % (sources.modules[it.module].path.relative_to(sources.top), it.line, it.name)
+        for it in sorted(definitions, key=lambda it: (it.module, it.line))
+        if not it.words
+    ]
 
 
 def section(sources, name, definitions):
     """The part of the page for one file."""
-    module = sources.modules[name]
     crate, file = name.split(".specs.")
     lines = ["## `%s`, `%s.antt`" % (crate, file), ""]
-    above = ""
-    for definition in module.definitions.values():
-        above = definition.words or above
-        if definition.name in definitions:
-            words = sentence(definition, above)
-            lines += ([words.rstrip(".") + ":", ""] if words else []) + [
-                "```",
-                definition.text,
-                "```",
-                "",
-            ]
+    for it in sources.modules[name].definitions.values():
+        if it.name in definitions:
+            words = it.words[:1].upper() + it.words[1:].rstrip(".")
+            lines += [words + ":", "", "```", it.text, "```", ""]
     return lines
 
 
@@ -301,6 +302,9 @@ def page(sources):
     bounding, module = clause_of(sources.top / BOUNDS, "bound_engine", "answer")
     bound = cone_of(sources, bounding, module)
     own = {key: bound.definitions[key] for key in bound.definitions if key not in every.definitions}
+    unsaid = wordless(sources, [*every.definitions.values(), *own.values()])
+    if unsaid:
+        raise SystemExit("\n".join(unsaid))
     files = {name for name, _ in accepted}
     lines = [
         "# What you have to believe, in %d definitions; of a bound, in %d"

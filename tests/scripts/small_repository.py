@@ -382,7 +382,6 @@ def the_statement_is_of_the_sources(top):
 
 def a_statement_has_what_it_rests_on(top, tree):
     """Whether a definition is reached through a file that hands names on, by an alias and by a constructor, and no other is."""
-    (tree / "crates" / "small" / "specs").mkdir(parents=True)
     write(tree, "small/specs/Lib.antt", "pub mod Low\npub mod High\npub mod Prelude\n")
     write(
         tree,
@@ -413,6 +412,58 @@ def a_statement_has_what_it_rests_on(top, tree):
         "Kind",
         "◌>>=◌",
     } and through.library == {"List"}, str(through)
+
+
+def a_statement_wants_words_of_each(top, tree):
+    """Whether a definition is told that has no comment of its own: be it behind another's, or right below that of the file."""
+    write(tree, "small/specs/Lib.antt", "pub mod Low\npub mod High\n")
+    write(
+        tree,
+        "small/specs/Low.antt",
+        "-- what the file is about\nabbrev pub low : List\nlow = 1\n\n-- two of a kind\npub record Two : Type 0 where\n"
+        "  pub one : List\n\npub record Bare : Type 0 where\n  pub one : List\n",
+    )
+    write(
+        tree,
+        "small/specs/High.antt",
+        "-- what the file is about\n\n-- a kind\npub data Kind : Type 0 where\n  plain : Kind\n\n"
+        "pub data Other : Type 0 where\n  other : Other\n\n-- far above\n\nunfoldable pub high : List\nhigh = 2\n",
+    )
+    (tree / "crates.txt").write_text("small:\n")
+    sources = statement.Sources(tree)
+    told = statement.wordless(
+        sources, [it for one in sources.modules.values() for it in one.definitions.values()]
+    )
+    return told == [
+        "crates/small/specs/%s: %s has no words of its own above it" % one
+        for one in (
+            ("High.antt:7", "Other"),
+            ("High.antt:12", "high"),
+            ("Low.antt:2", "low"),
+            ("Low.antt:9", "Bare"),
+        )
+    ], "\n".join(told)
+
+
+def a_page_without_words_is_refused(top, tree):
+    """Whether no page is made where a definition that it shows has lost its words."""
+    unread = shutil.ignore_patterns("out", "proofs", "must-fail", "tests", "data")
+    shutil.copytree(top / "crates", tree / "crates", ignore=unread)
+    shutil.copy(top / "crates.txt", tree)
+    file = tree / "crates/upit_file/specs/Body.antt"
+    lines = file.read_text().split("\n")
+    place = next(at for at, line in enumerate(lines) if line.startswith("abbrev pub has_record :"))
+    file.write_text("\n".join(lines[: place - 1] + lines[place:]))
+    try:
+        said = statement.page(statement.Sources(tree))[:1000]
+    except SystemExit as refusal:
+        said = str(refusal)
+    return (
+        said
+        == "crates/upit_file/specs/Body.antt:%d: has_record has no words of its own above it"
+        % place,
+        said,
+    )
 
 
 def imports_are_right(top):
@@ -746,6 +797,8 @@ def test(top):
         wrong_drawings_are_refused,
         installs_where_the_caller_stands,
         a_statement_has_what_it_rests_on,
+        a_statement_wants_words_of_each,
+        a_page_without_words_is_refused,
     ):
         with tempfile.TemporaryDirectory(prefix="pit-scripts-") as room:
             well, said = case(top, Path(room))

@@ -15,7 +15,7 @@ ghost use Rattle.async_step.specs.declared.saw.Saw.TheVariants.{Moved, Raised};
 
 use crate::changing::Change;
 use crate::operations::push_amount;
-use crate::refusals::StepRefusal;
+use crate::refusals::{Made, Seen, StepRefusal};
 use crate::saw::Saw;
 use crate::state::State;
 use closure_net::{Net, Port, PortKind};
@@ -24,13 +24,7 @@ use ordered_group::OrderedGroup;
 
 impl<G: OrderedGroup> State<G> {
     // Over the port to the sink.
-    fn move_to_sink(
-        &mut self,
-        net: &Net<G>,
-        block: u32,
-        amount: G,
-        port: Port,
-    ) -> Result<(), StepRefusal>
+    fn move_to_sink(&mut self, net: &Net<G>, block: u32, amount: G, port: Port) -> Made
         requires over { IsStateOf net.now self.old }
         requires block { block < length net.now.worths }
         ensures { let s = state_of self.old in Leads net.now self.old
@@ -49,13 +43,7 @@ impl<G: OrderedGroup> State<G> {
     }
 
     // Over a forward port: the flow of its pair rises.
-    fn move_forward(
-        &mut self,
-        net: &Net<G>,
-        block: u32,
-        amount: G,
-        port: Port,
-    ) -> Result<(), StepRefusal>
+    fn move_forward(&mut self, net: &Net<G>, block: u32, amount: G, port: Port) -> Made
         requires over { IsStateOf net.now self.old }
         requires block { block < length net.now.worths }
         requires slot { port.slot < length net.now.pairs }
@@ -71,13 +59,7 @@ impl<G: OrderedGroup> State<G> {
     }
 
     // Over a backward port: the flow of its pair falls.
-    fn move_back(
-        &mut self,
-        net: &Net<G>,
-        block: u32,
-        amount: G,
-        port: Port,
-    ) -> Result<(), StepRefusal>
+    fn move_back(&mut self, net: &Net<G>, block: u32, amount: G, port: Port) -> Made
         requires over { IsStateOf net.now self.old }
         requires block { block < length net.now.worths }
         requires slot { port.slot < length net.now.pairs }
@@ -93,13 +75,7 @@ impl<G: OrderedGroup> State<G> {
     }
 
     // Back to the source.
-    fn move_to_source(
-        &mut self,
-        net: &Net<G>,
-        block: u32,
-        amount: G,
-        port: Port,
-    ) -> Result<(), StepRefusal>
+    fn move_to_source(&mut self, net: &Net<G>, block: u32, amount: G, port: Port) -> Made
         requires over { IsStateOf net.now self.old }
         requires block { block < length net.now.worths }
         ensures { let s = state_of self.old in Leads net.now self.old
@@ -114,7 +90,7 @@ impl<G: OrderedGroup> State<G> {
     }
 
     // The capacity step of a push of an amount over a port.
-    fn push(&mut self, net: &Net<G>, block: u32, amount: G, port: Port) -> Result<(), StepRefusal>
+    fn push(&mut self, net: &Net<G>, block: u32, amount: G, port: Port) -> Made
         requires over { IsStateOf net.now self.old }
         requires block { block < length net.now.worths }
         requires port { IsPortOf net.now block port }
@@ -136,7 +112,7 @@ impl<G: OrderedGroup> State<G> {
         block: u32,
         have: G,
         best: Best<G>,
-    ) -> Result<Saw<G>, StepRefusal>
+    ) -> Seen<G>
         requires over { IsStateOf net.now self.old }
         requires block { block < length net.now.worths }
         requires port { IsPortOf net.now block best.port }
@@ -151,13 +127,7 @@ impl<G: OrderedGroup> State<G> {
     }
 
     /// A push takes its amount from its own block's excess.
-    pub(crate) fn take_excess(
-        &mut self,
-        net: &Net<G>,
-        block: u32,
-        amount: G,
-        port: Port,
-    ) -> Result<Saw<G>, StepRefusal>
+    pub(crate) fn take_excess(&mut self, net: &Net<G>, block: u32, amount: G, port: Port) -> Seen<G>
         requires over { IsStateOf net.now self.old }
         requires block { block < length net.now.worths }
         ensures { let s = state_of self.old in LeadsTelling G.parts_of net.now self.old
@@ -174,7 +144,7 @@ impl<G: OrderedGroup> State<G> {
     }
 
     // At the sink.
-    fn arrive_at_sink(&mut self, net: &Net<G>, block: u32, amount: G) -> Result<(), StepRefusal>
+    fn arrive_at_sink(&mut self, net: &Net<G>, block: u32, amount: G) -> Made
         requires over { IsStateOf net.now self.old }
         requires block { block < length net.now.worths }
         ensures { let s = state_of self.old in Leads net.now self.old
@@ -186,7 +156,7 @@ impl<G: OrderedGroup> State<G> {
     }
 
     // At the source.
-    fn arrive_at_source(&mut self, net: &Net<G>, block: u32, amount: G) -> Result<(), StepRefusal>
+    fn arrive_at_source(&mut self, net: &Net<G>, block: u32, amount: G) -> Made
         requires over { IsStateOf net.now self.old }
         requires block { block < length net.now.worths }
         ensures { let s = state_of self.old in Leads net.now self.old
@@ -201,13 +171,7 @@ impl<G: OrderedGroup> State<G> {
     }
 
     // At another block.
-    fn arrive_at_block(
-        &mut self,
-        net: &Net<G>,
-        block: u32,
-        amount: G,
-        other: u32,
-    ) -> Result<(), StepRefusal>
+    fn arrive_at_block(&mut self, net: &Net<G>, block: u32, amount: G, other: u32) -> Made
         requires over { IsStateOf net.now self.old }
         requires block { block < length net.now.worths }
         requires other { other < length net.now.worths }
@@ -222,7 +186,7 @@ impl<G: OrderedGroup> State<G> {
     }
 
     // The last step of a push of an amount over a port.
-    fn give(&mut self, net: &Net<G>, block: u32, amount: G, port: Port) -> Result<(), StepRefusal>
+    fn give(&mut self, net: &Net<G>, block: u32, amount: G, port: Port) -> Made
         requires over { IsStateOf net.now self.old }
         requires block { block < length net.now.worths }
         requires port { IsPortOf net.now block port }
@@ -241,13 +205,7 @@ impl<G: OrderedGroup> State<G> {
     }
 
     /// A push gives its amount to the other end.
-    pub(crate) fn give_excess(
-        &mut self,
-        net: &Net<G>,
-        block: u32,
-        amount: G,
-        port: Port,
-    ) -> Result<Saw<G>, StepRefusal>
+    pub(crate) fn give_excess(&mut self, net: &Net<G>, block: u32, amount: G, port: Port) -> Seen<G>
         requires over { IsStateOf net.now self.old }
         requires block { block < length net.now.worths }
         requires port { IsPortOf net.now block port }
@@ -260,12 +218,7 @@ impl<G: OrderedGroup> State<G> {
     }
 
     /// A block raises its label above the best port's.
-    pub(crate) fn raise_label(
-        &mut self,
-        net: &Net<G>,
-        block: u32,
-        best: Best<G>,
-    ) -> Result<Saw<G>, StepRefusal>
+    pub(crate) fn raise_label(&mut self, net: &Net<G>, block: u32, best: Best<G>) -> Seen<G>
         requires over { IsStateOf net.now self.old }
         requires block { block < length net.now.worths }
         ensures { let s = state_of self.old in LeadsTelling G.parts_of net.now self.old

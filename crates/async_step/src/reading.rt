@@ -13,7 +13,7 @@ ghost use Rattle.async_step.specs.declared.saw.Saw.TheVariants.{Excess, Capacity
 
 use crate::changing::Change;
 use crate::operations::operation_begun_with;
-use crate::refusals::StepRefusal;
+use crate::refusals::{Seen, StepRefusal};
 use crate::saw::Saw;
 use crate::state::State;
 use closure_net::{Net, Port, PortKind};
@@ -21,7 +21,7 @@ use ordered_group::OrderedGroup;
 
 impl<G: OrderedGroup> State<G> {
     /// A block reads its own excess.
-    pub(crate) fn read_excess(&mut self, net: &Net<G>, block: u32) -> Result<Saw<G>, StepRefusal>
+    pub(crate) fn read_excess(&mut self, net: &Net<G>, block: u32) -> Seen<G>
         requires over { IsStateOf net.now self.old }
         requires block { block < length net.now.worths }
         ensures { let s = state_of self.old in LeadsTelling G.parts_of net.now self.old
@@ -52,12 +52,7 @@ impl<G: OrderedGroup> State<G> {
     }
 
     /// A block reads the capacity of the port that it looks at.
-    pub(crate) fn read_capacity(
-        &mut self,
-        net: &Net<G>,
-        block: u32,
-        port: Port,
-    ) -> Result<Saw<G>, StepRefusal>
+    pub(crate) fn read_capacity(&mut self, net: &Net<G>, block: u32, port: Port) -> Seen<G>
         requires over { IsStateOf net.now self.old }
         requires block { block < length net.now.worths }
         requires port { IsPortOf net.now block port }
@@ -97,12 +92,7 @@ impl<G: OrderedGroup> State<G> {
     }
 
     /// A block reads the label at the other end of the port that it looks at.
-    pub(crate) fn read_label(
-        &mut self,
-        net: &Net<G>,
-        block: u32,
-        port: Port,
-    ) -> Result<Saw<G>, StepRefusal>
+    pub(crate) fn read_label(&mut self, net: &Net<G>, block: u32, port: Port) -> Seen<G>
         requires over { IsStateOf net.now self.old }
         requires block { block < length net.now.worths }
         requires port { IsPortOf net.now block port }
@@ -125,7 +115,7 @@ impl<G: OrderedGroup> State<G> {
     }
 
     // At a port whose capacity isn't read: its capacity, or the label beyond a forward one.
-    fn look(&mut self, net: &Net<G>, block: u32, port: Port) -> Result<Saw<G>, StepRefusal>
+    fn look(&mut self, net: &Net<G>, block: u32, port: Port) -> Seen<G>
         requires over { IsStateOf net.now self.old }
         requires block { block < length net.now.worths }
         requires port { IsPortOf net.now block port }
@@ -145,13 +135,7 @@ impl<G: OrderedGroup> State<G> {
     }
 
     /// The step of a block that looks at the port at this place, whose capacity is read or not.
-    pub(crate) fn scan(
-        &mut self,
-        net: &Net<G>,
-        block: u32,
-        place: u32,
-        is_read: bool,
-    ) -> Result<Saw<G>, StepRefusal>
+    pub(crate) fn scan(&mut self, net: &Net<G>, block: u32, place: u32, is_read: bool) -> Seen<G>
         requires over { IsStateOf net.now self.old }
         requires block { block < length net.now.worths }
         requires scan { IsScanAt place is_read ((state_of self.old).operation block) }

@@ -4,6 +4,7 @@
 ghost use Rattle.std.specs.Prelude.{Some};
 ghost use Rattle.async_step.specs.FaultText.{step_refusal_text, replay_fault_text};
 
+use crate::saw::Saw;
 use machine_law::Kind;
 use std::fmt;
 
@@ -32,6 +33,12 @@ impl fmt::Display for StepRefusal {
         }
     }
 }
+
+/// That a step was made, or why it is refused.
+pub(crate) type Made = Result<(), StepRefusal>;
+
+/// What a step saw, moved or raised, or why it is refused.
+pub(crate) type Seen<N> = Result<Saw<N>, StepRefusal>;
 
 /// Why a list of steps can't be made.
 #[derive(Clone, Copy, Debug, PartialEq, Eq)]

@@ -1,5 +1,5 @@
 -- What a text of blocks denotes.
-use Rattle.std.specs.Prelude.{◌≡◌, ℕ, ℤ, pos, ◌+◌, ◌*◌, ◌^◌, ◌<◌, ◌≤◌, unsigned_abs, true, List, [], length, map, slice_index_or}
+use Rattle.std.specs.Prelude.{◌≡◌, ℕ, ℤ, pos, ◌+◌, ◌*◌, ◌^◌, ◌<◌, ◌≤◌, unsigned_abs, true, List, [], ◌∷◌, length, map, slice_index_or, Option, None, Some}
 use Rattle.std.specs.List.{range_with_len}
 use Rattle.fixed_worth.specs.declared.limits.TheConstants.{MOST_BLOCKS}
 use Rattle.blocks_file.specs.declared.limits.TheConstants.{MOST_COLUMNS}
@@ -20,6 +20,11 @@ origin = record { x = pos 0; y = pos 0; z = pos 0 }
 -- The columns of values that stand block after block.
 abbrev pub columns_from : ℕ → ℕ → List ℤ → List (List ℤ)
 columns_from width n values = map (λ i. map (λ b. slice_index_or values (b * width + i) (pos 0)) (range_with_len 0 n)) (range_with_len 0 width)
+
+-- The same blocks with one of their columns alone, or with none.
+abbrev pub narrowed : Option ℕ → BlocksView → BlocksView
+narrowed None m = record { blocks = m.blocks; places = m.places; columns = [] }
+narrowed (Some i) m = record { blocks = m.blocks; places = m.places; columns = slice_index_or m.columns i [] ∷ [] }
 
 -- no value of the column that was chosen as the i-th is above 10^18 millionths either way
 abbrev pub IsSmall : BlocksView → ℕ → Type 0

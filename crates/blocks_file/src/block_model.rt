@@ -1,12 +1,13 @@
 //! A model as a `.blocks` text gives it: how many blocks there are, where each is, and its values of the chosen
 //! columns.
 
-ghost use Rattle.std.specs.Prelude.{◌≡◌, ◌<◌, ◌≤◌, ℕ, [], pos, length, slice_index_or};
+ghost use Rattle.std.specs.Prelude.{◌≡◌, ◌<◌, ◌≤◌, ℕ, [], pos, length, slice_index_or, IfOk, IfSome};
 ghost use Rattle.blocks_file.specs.Denotes as spec;
 
 use crate::Place;
 use crate::limits::MOST_COLUMNS;
 use fixed_worth::{MOST_BLOCKS, Micros};
+use std::alloc::{AllocError, Global};
 use std::marker::Model;
 
 /// Blocks from 0 on, each with its place and its values of the columns that were chosen.
@@ -73,5 +74,38 @@ impl BlockModel {
         ensures { result ≡ slice_index_or (slice_index_or self.now.columns i []) block (pos 0) }
     {
         self.values[block as usize * self.width as usize + i as usize]
+    }
+
+    // The values of a column, block by block.
+    fn values_of(&self, alloc: Global, i: u32) -> Result<Vec<Micros>, AllocError>
+        requires { i < length self.now.columns }
+        ensures values { IfOk result (λ v. v.items ≡ slice_index_or self.now.columns i []) }
+        ensures size { IfOk result (λ v. length v.items ≡ self.now.blocks) }
+    {
+        let mut values: Vec<Micros> = Vec::new(alloc);
+        for block in 0..self.blocks {
+            values.push(self.column(i, block))?;
+        }
+        Ok(values)
+    }
+
+    /// The same blocks with one of their columns alone, or with none: a copy.
+    ///
+    /// # Errors
+    /// Memory was refused.
+    pub fn narrowed(&self, alloc: Global, column: Option<u32>) -> Result<BlockModel, AllocError>
+        requires { IfSome column (λ i. i < length self.now.columns) }
+        ensures { IfOk result (λ m. m ≡ spec.narrowed column self.now) }
+    {
+        // proof: no value is above 10^18 millionths either way
+        let _columns = self.columns();
+        let places = Vec::from_slice(alloc, &self.places)?;
+        match column {
+            None => Ok(BlockModel::of(self.blocks, 0, places, Vec::new(alloc))),
+            Some(i) => {
+                let values = self.values_of(alloc, i)?;
+                Ok(BlockModel::of(self.blocks, 1, places, values))
+            }
+        }
     }
 }

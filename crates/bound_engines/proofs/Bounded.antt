@@ -2,7 +2,6 @@
 use Rattle.fixed_worth.proofs.Common.{◌≡◌, ℕ, ◌+◌, ◌*◌, ◌/◌, ◌%◌, ◌<◌, ℤ, pos, ◌+ℤ◌, ◌-ℤ◌, ◌*ℤ◌, ◌≤ℤ◌, Bool, cond, ◌&&◌, ◌||◌, ◌==◌, nat_lt, List, length, map, slice_index, slice_index_or, Option, Some, None, Result, Ok, Err, IfOk, IfSome, refl, sym, ap, ap₂, subst, ◌∙◌, arith, IsTrue, length-map, get_or-map}
 use Rattle.std.proofs.lemmas.Nat.{mod_below, div_below}
 use Rattle.ordered_group.specs.Prelude.{Amount, zero_amount, worth_block, worth_told}
-use Rattle.prec_file.specs.Records as prec
 use Rattle.prec_file.specs.Rests.{RestsView, has_pair}
 use Rattle.closure_net.specs.Prelude.{NetView, holds_of, IsGreatest, IsNet, IsNetOf, IsRichest, group_worth, net_view, worth_of}
 use Rattle.closure_net.proofs.NetSums.{greatest_is_richest, sum_of_set}
@@ -10,7 +9,7 @@ use Rattle.certificate_file.specs.declared.header.Header.{Header}
 use Rattle.certificate_file.specs.Prelude.{header_of, pieces_of}
 use Rattle.check_pit.specs.Prelude.{LineView}
 use Rattle.engines.specs.Prelude.{StandsBehind, factor_in, factor_named}
-use Rattle.mine_inputs.specs.Prelude.{AreRead, MineTexts, factor_at, precedence_of, rests_by}
+use Rattle.mine_inputs.specs.Prelude.{AreRead, MineTexts, factor_at, rests_of}
 use Rattle.periods_file.specs.Periods.{PeriodsView}
 use Rattle.schedules.specs.Prelude.{Production, charge, expanded, npv_of, price_of_capacities, reduced, rests_by_period}
 use Rattle.schedules.proofs.Sums.{sum-same}
@@ -65,7 +64,7 @@ module _ (texts : MineTexts) (periods uses : List ℕ) (nanos : List ℤ) (rests
   pair_same : (i j : ℕ) → rests_by_period rests.blocks (length said.weights) (has_pair rests.pairs) i j ≡ (expanded by_texts price).rests i j
   pair_same i j =
       let n = rests.blocks in
-      ap (λ (x : Bool). nat_lt j (length said.weights * n) && ((i / n == j / n && x) || j == i + n)) (sym (rests_same (prec.pairs_of_text (precedence_of texts)) rests.pairs a.pairs (i % n) (j % n)))
+      ap (λ (x : Bool). nat_lt j (length said.weights * n) && ((i / n == j / n && x) || j == i + n)) (sym (rests_same (rests_of texts) rests.pairs a.pairs (i % n) (j % n)))
 
   -- the net of the nodes is that of the expanded mine of the texts
   net_same : (pairs : RestsView) (worths : List ℤ) (m : ℕ) → AreNodePairs rests.blocks (length said.weights) rests.pairs pairs.pairs → AreNodeWorths figures prices worths

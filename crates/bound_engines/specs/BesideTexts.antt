@@ -5,7 +5,7 @@ use Rattle.schedule_engines.specs.Prelude.{ReadsPeriodsText, ReadsUses}
 use Rattle.bound_engines.specs.declared.bound_inputs.BoundInputs.{BoundInputs}
 use Rattle.bound_engines.specs.declared.bound_inputs.BesideRead.{BesideRead}
 
--- P holds of their texts, where both tell their bytes
+-- P holds of the text of periods and of that of what blocks use, where both devices tell their bytes
 abbrev pub ForBeside : {D : Type 0} → BoundInputs D → (D → Option (List ℕ)) → (List ℕ → List ℕ → Type 0) → Type 0
 ForBeside beside remaining P = IfSome (remaining beside.periods) (λ p. IfSome (remaining beside.uses) (λ u. P p u))
 

@@ -31,7 +31,8 @@ pub record DenotePlan (texts : MineTexts) (periods uses : List ℕ) : Type 0 whe
   pub uses_read : blocks.fault_of said.resources uses ≡ None
   pub uses_count : blocks.record_count_of uses ≡ count
 
--- The richest pit of their expanded mine, and all capacities at these multipliers, come to this; and no feasible schedule is worth more.
+-- The richest pit of the texts' expanded mine, and all capacities at their multipliers, come to this bound; and no feasible
+-- schedule is worth more.
 pub record IsBounded (texts : MineTexts) (periods uses : List ℕ) (bound : ℤ) : Type 0 where
   pub denotes : DenotePlan texts periods uses
   pub best : ℕ → Bool

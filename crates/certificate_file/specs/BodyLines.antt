@@ -43,22 +43,22 @@ abbrev pub numbered_line : LineKind → Option ℕ → Option ℕ → Option (�
 numbered_line kind (Some block) (Some other) (Some amount) = Ok (record { kind = kind; block = block; other = other; worth = amount.0; count = amount.1 })
 numbered_line kind _ _ _ = Err Number
 
--- what stands behind PIT: a block
+-- the line PIT, by the words behind its key: a block
 abbrev pub pit_line : ℕ → List (List ℕ) → Result BodyLine LineFault
 pit_line n (b ∷ []) = numbered_line Pit (number_below n b) (Some 0) (Some (pos 0, pos 0))
 pit_line n _ = Err Text
 
--- behind SOURCE and SINK: a block and an amount
+-- a line SOURCE or SINK, by the words behind its key: a block and an amount
 abbrev pub block_line : Bool → ℕ → LineKind → List (List ℕ) → Result BodyLine LineFault
 block_line counts n kind (b ∷ w ∷ c ∷ []) = numbered_line kind (number_below n b) (Some 0) (amount_in counts w c)
 block_line counts n kind _ = Err Text
 
--- behind REST: a block, the predecessor that it rests on, and an amount
+-- a line REST, by the words behind its key: a block, the predecessor that it rests on, and an amount
 abbrev pub rest_line : Bool → ℕ → List (List ℕ) → Result BodyLine LineFault
 rest_line counts n (b ∷ p ∷ w ∷ c ∷ []) = numbered_line Rest (number_below n b) (number_below n p) (amount_in counts w c)
 rest_line counts n _ = Err Text
 
--- behind END: nothing
+-- the line END, behind whose key there is nothing
 abbrev pub end_line : List (List ℕ) → Result BodyLine LineFault
 end_line [] = numbered_line End (Some 0) (Some 0) (Some (pos 0, pos 0))
 end_line (w ∷ ws) = Err Text
@@ -89,7 +89,7 @@ rank Rest = 2
 rank Sink = 3
 rank End = 4
 
--- the last line of a certificate
+-- the kind of the last line of a certificate
 abbrev pub is_end : LineKind → Bool
 is_end End = true
 is_end _ = false

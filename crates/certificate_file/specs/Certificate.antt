@@ -35,11 +35,11 @@ fault_behind counts n pairs body (Ok header) = body_fault counts n (has_pair pai
 abbrev pub fault_of : Bool → Group → ℕ → List (ℕ × ℕ) → List ℕ → Option CertFault
 fault_of counts name n pairs text = fault_behind counts n pairs (body_of text) (header_for (wanted_for n name) (pieces_of text))
 
--- the two numbers of a line
+-- the amount of a line: its worth and its count
 abbrev pub amount_of : BodyLine → Amount
 amount_of line = record { w = line.worth; c = line.count }
 
--- blocks behind the block of a line, where that is a PIT line
+-- the blocks of lines with that of one more before them, where its kind is PIT
 abbrev pub block_if_pit : LineKind → ℕ → List ℕ → List ℕ
 block_if_pit Pit b bs = b ∷ bs
 block_if_pit _ b bs = bs
@@ -49,17 +49,17 @@ abbrev pub pit_of : List BodyLine → List ℕ
 pit_of [] = []
 pit_of (l ∷ ls) = block_if_pit l.kind l.block (pit_of ls)
 
--- a SOURCE line
+-- the kind of the lines SOURCE
 abbrev pub is_source : LineKind → Bool
 is_source Source = true
 is_source _ = false
 
--- a REST line
+-- the kind of the lines REST
 abbrev pub is_rest : LineKind → Bool
 is_rest Rest = true
 is_rest _ = false
 
--- a SINK line
+-- the kind of the lines SINK
 abbrev pub is_sink : LineKind → Bool
 is_sink Sink = true
 is_sink _ = false

@@ -31,7 +31,7 @@ abbrev pub or_number : {A : Type 0} → Option A → Result A LineFault
 or_number (Some a) = Ok a
 or_number None = Err Number
 
--- PITCERT 1 or PITCERT 2
+-- the version that a line names: PITCERT 1 or PITCERT 2
 abbrev pub version_in : List ℕ → Result Version LineFault
 version_in text = cond (bytes_eq text (codes "PITCERT 1")) (Ok One) (cond (bytes_eq text (codes "PITCERT 2")) (Ok Two) (Err Text))
 
@@ -46,7 +46,7 @@ abbrev pub blocks_said : Option Wanted → Option (List ℕ) → Result ℕ Line
 blocks_said wanted None = Err Text
 blocks_said wanted (Some word) = or_number (wanted_blocks wanted (number_below (MOST_BLOCKS + 1) word))
 
--- BLOCKS n, of at most `MOST_BLOCKS` blocks
+-- the number of blocks of a line BLOCKS n: at most `MOST_BLOCKS`, which is 2^24
 abbrev pub blocks_in : Option Wanted → List ℕ → Result ℕ LineFault
 blocks_in wanted text = blocks_said wanted (value_behind (codes "BLOCKS") (words_of text))
 
@@ -65,23 +65,21 @@ abbrev pub mill_of : Option ℕ → Option Price
 mill_of (Some k) = Some (Mill k)
 mill_of None = None
 
+-- the price at a factor that a word says, from 0 to 10,000, where there is a mill
 abbrev pub mill_said : Option (List ℕ) → Result Price LineFault
 mill_said None = Err Text
 mill_said (Some word) = or_number (mill_of (number_below (MOST_FACTOR + 1) word))
 
--- PRICE OBJECTIVE, or PRICE k with a factor from 0 to 10,000; in a text of the second version PRICE MILL k and nothing else
+-- the price of a line: PRICE OBJECTIVE, or PRICE k with a factor from 0 to 10,000; in a text of the second version PRICE MILL k and
+-- nothing else
 abbrev pub price_in : Version → List ℕ → Result Price LineFault
 price_in One text = price_said (value_behind (codes "PRICE") (words_of text))
 price_in Two text = mill_said (value_behind_both (codes "PRICE") (codes "MILL") (words_of text))
 
--- two names of one group
-abbrev pub is_same_group : Group → Group → Bool
-is_same_group a b = bytes_eq (group_name a) (group_name b)
-
--- the group, where it is the one that is wanted
+-- the group, where its name is that of the one that is wanted
 abbrev pub wanted_group : Option Wanted → Group → Result Group LineFault
 wanted_group None group = Ok group
-wanted_group (Some wanted) group = cond (is_same_group wanted.group group) (Ok group) (Err Text)
+wanted_group (Some wanted) group = cond (bytes_eq (group_name wanted.group) (group_name group)) (Ok group) (Err Text)
 
 -- the group that is read of a word, if it names one
 abbrev pub group_named : Option Wanted → Option Group → Result Group LineFault
@@ -93,7 +91,7 @@ abbrev pub group_said : Option Wanted → Option (List ℕ) → Result Group Lin
 group_said wanted None = Err Text
 group_said wanted (Some word) = group_named wanted (group_of word)
 
--- GROUP and the word of a kind of amount
+-- the group of a line: GROUP and the word of a kind of amount
 abbrev pub group_in : Option Wanted → List ℕ → Result Group LineFault
 group_in wanted text = group_said wanted (value_behind (codes "GROUP") (words_of text))
 

@@ -8,7 +8,7 @@ use Rattle.certificate_file.specs.declared.cert_fault.CertFault.TheVariants as f
 use Rattle.certificate_file.specs.declared.cert_fault.LineFault.{LineFault}
 use Rattle.certificate_file.specs.declared.cert_fault.LineFault.TheVariants.{Text, Number}
 
--- what stands before a line feed or behind the last one, and whether a line feed ends it
+-- a piece of a text: what stands before a line feed or behind the last one, and whether a line feed ends it
 pub record Piece : Type 0 where
   pub text : List ℕ
   pub ended : Bool
@@ -60,7 +60,7 @@ abbrev pub within : ℕ → Result ℤ NumberFault → Option ℕ
 within limit (Ok (pos k)) = cond (nat_lt k limit) (Some k) None
 within limit _ = None
 
--- the word is such a number in its one spelling
+-- the number that a word is in its one spelling, where it is at least 0 and below the limit
 abbrev pub number_below : ℕ → List ℕ → Option ℕ
 number_below limit word = within limit (plain_of word)
 

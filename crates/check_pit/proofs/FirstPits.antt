@@ -4,7 +4,7 @@ use Rattle.certificate_file.specs.declared.body_lines.LineKind.{LineKind}
 use Rattle.certificate_file.specs.declared.body_lines.LineKind.TheVariants.{Pit}
 use Rattle.certificate_file.specs.declared.body_lines.BodyLine.{BodyLine}
 use Rattle.certificate_file.specs.BodyLines.{may_follow}
-use Rattle.check_pit.specs.StreamChecks.{is_pit, is_behind_pits, first_pits}
+use Rattle.check_pit.specs.StreamChecks.{is_pit, is_after_pits, first_pits}
 use Rattle.certificate_file.proofs.Order.{InOrder}
 use Rattle.check_pit.proofs.Beginnings.{last_line}
 use Rattle.fixed_worth.proofs.Bits.{not_false}
@@ -30,11 +30,11 @@ kind_is : (kind : LineKind) → is_pit kind ≡ true → kind ≡ Pit
 kind_is kind h = grind (arith, common_steps)
 
 -- Where PIT lines are not left for others, the lines so far are PIT lines alone.
-module _ (P : BodyLine → Type 0) (pit_behind : (previous : Option BodyLine) (line : BodyLine) → may_follow previous line ≡ true → line.kind ≡ Pit → is_behind_pits previous ≡ false) where
-  stays : (l : BodyLine) (ls : List BodyLine) → InOrder P (Some l) ls → is_behind_pits (last_line (Some l) ls) ≡ false → is_pit l.kind ≡ true
+module _ (P : BodyLine → Type 0) (pit_behind : (previous : Option BodyLine) (line : BodyLine) → may_follow previous line ≡ true → line.kind ≡ Pit → is_after_pits previous ≡ false) where
+  stays : (l : BodyLine) (ls : List BodyLine) → InOrder P (Some l) ls → is_after_pits (last_line (Some l) ls) ≡ false → is_pit l.kind ≡ true
   stays l [] o h = not_false (is_pit l.kind) h
   stays l (m ∷ ms) o h = not_false (is_pit l.kind) (pit_behind (Some l) m o.0 (kind_is m.kind (stays m ms o.2 h)))
 
-  pub all_pits : (previous : Option BodyLine) (ls : List BodyLine) → InOrder P previous ls → is_behind_pits (last_line previous ls) ≡ false → AllPits ls
+  pub all_pits : (previous : Option BodyLine) (ls : List BodyLine) → InOrder P previous ls → is_after_pits (last_line previous ls) ≡ false → AllPits ls
   all_pits previous [] o h = tt
   all_pits previous (l ∷ ls) o h = (stays l ls o.2 h, all_pits (Some l) ls o.2 h)

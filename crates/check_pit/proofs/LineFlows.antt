@@ -11,7 +11,7 @@ use Rattle.certificate_file.specs.declared.body_lines.LineKind.{LineKind}
 use Rattle.certificate_file.specs.declared.body_lines.LineKind.TheVariants.{Source, Rest, Sink}
 use Rattle.certificate_file.specs.declared.body_lines.BodyLine.{BodyLine}
 use Rattle.certificate_file.specs.Prelude.{lines_of_pieces, is_of_model, Denotes, pit_of, amount_of, given_amount, gives_source, gives_rest, gives_sink}
-use Rattle.check_pit.specs.Prelude.{NoneBelowZero, AllWithin, balance_of, residual_behind, worth_of_blocks, flow_of, keeps_by, KeepLimits, LineSumsTell}
+use Rattle.check_pit.specs.Prelude.{NoneBelowZero, AllWithin, balance_of, residual_after, worth_of_blocks, flow_of, keeps_by, KeepLimits, LineSumsTell}
 use Rattle.certificate_file.proofs.Order.{InOrder, Good, in_order_weaker, stands_in_order, ascending, known}
 use Rattle.certificate_file.proofs.LineOrder.{Has, has_good, Proper, good_is_proper, found}
 use Rattle.certificate_file.proofs.SameLines.{tells_source, tells_sink, tells_rest, source_so, sink_so, rest_so}
@@ -104,7 +104,7 @@ module _ (net : NetView) (ls : List BodyLine) (rests : IsRests (record { blocks 
   balanced b h =
       balance_tells (balance_of ls b) (sum_giving (gives_source b) ls) (end_sum (λ l. l.other) b ls) (sum_giving (gives_sink b) ls) (end_sum (λ l. l.block) b ls) _ _ _ _ (balance_is ls b) (from_source b h) (in_over b) (to_sink b h) (out_over b)
 
-  pub still_left : source_residual net (flow_of (length net.worths) net.pairs ls) ≡ residual_behind net.worths ls
+  pub still_left : source_residual net (flow_of (length net.worths) net.pairs ls) ≡ residual_after net.worths ls
   still_left =
       total-minus (λ b. positive (amount_at net.worths b)) (amount_at (flow_of (length net.worths) net.pairs ls).source) (length net.worths)
       ∙ ap (minus (total (λ b. positive (amount_at net.worths b)) (length net.worths)))

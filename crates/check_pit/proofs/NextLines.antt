@@ -12,7 +12,7 @@ use Rattle.check_pit.specs.declared.stream_fault.StreamFault.{StreamFault}
 use Rattle.check_pit.specs.declared.stream_fault.StreamFault.TheVariants.{Cert}
 use Rattle.certificate_file.specs.Prelude.{Piece, pieces_of, piece_at, piece_fault, in_line, unless_fault, read_line, is_of_model, next_line}
 use Rattle.prec_file.specs.Rests.{has_pair}
-use Rattle.check_pit.specs.Prelude.{LineView, ReadsSome, IsLine, held_piece, PassesLine, GoesBehind, TakesLine, LacksLine, FaultIs, NoNextLine}
+use Rattle.check_pit.specs.Prelude.{LineView, ReadsSome, IsLine, held_piece, PassesLine, LinePassed, TakesLine, LacksLine, FaultIs, NoNextLine}
 use Rattle.certificate_file.proofs.Additions.{absent, present}
 use Rattle.check_pit.proofs.Beginnings.{no_line_next}
 use Rattle.check_pit.proofs.HeldLines.{line_held}
@@ -76,7 +76,7 @@ pub fault_as : (left : Option (List ℕ)) (taken : ℕ) (has had : List ℕ → 
 fault_as left taken has had p q e f g h = grind (arith, common_steps)
 
 -- A line that was passed, or not.
-pub passes : {R : Type 0} (remaining : R → Option (List ℕ)) (before mid later : LineView R) (count : ℕ) (m : ReadsSome remaining before mid) → IsLine mid.held count → GoesBehind count mid later → PassesLine remaining before later m.0 count
+pub passes : {R : Type 0} (remaining : R → Option (List ℕ)) (before mid later : LineView R) (count : ℕ) (m : ReadsSome remaining before mid) → IsLine mid.held count → LinePassed count mid later → PassesLine remaining before later m.0 count
 passes {R = R} remaining before mid later count m h b = grind (arith, common_steps)
 
 -- What a line gives, as the line of its text.
@@ -84,7 +84,7 @@ gives : {A : Type 0} (f : List ℕ → Result A LineFault) (held text : List ℕ
 gives f held text count k h e = grind (arith, common_steps)
 
 abbrev pub PassedWhere : {R A : Type 0} → LineView R → LineView R → ℕ → Result A StreamFault → Result A CertFault → Type 0
-PassedWhere before later count result read = MatchResult read (λ x. (result ≡ Ok x) × GoesBehind count before later) (λ e. (result ≡ Err (Cert e)) × (later ≡ before))
+PassedWhere before later count result read = MatchResult read (λ x. (result ≡ Ok x) × LinePassed count before later) (λ e. (result ≡ Err (Cert e)) × (later ≡ before))
 
 given_by : {R A : Type 0} (remaining : R → Option (List ℕ)) (f : List ℕ → Result A LineFault) (before mid later : LineView R) (count : ℕ) (result : Result A StreamFault) (read : Result A CertFault) (m : ReadsSome remaining before mid) → IsLine mid.held count
     → read_line f (mid.number + 1) (held_piece count mid.held) ≡ read → PassedWhere mid later count result read → MatchResult result (λ x. TakesLine remaining (read_line f) before later x) (λ e. LacksLine remaining (read_line f) before later e)

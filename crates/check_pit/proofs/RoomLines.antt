@@ -10,7 +10,7 @@ use Rattle.check_pit.specs.declared.pit_fault.PitFault.TheVariants.{TooLarge}
 use Rattle.certificate_file.specs.declared.body_lines.LineKind.TheVariants.{Pit, Source, Rest, Sink}
 use Rattle.certificate_file.specs.declared.body_lines.BodyLine.{BodyLine}
 use Rattle.certificate_file.specs.Certificate.{amount_of}
-use Rattle.check_pit.specs.Prelude.{keeps_by, RoomView, MayPut, WithLine, SumOverflowsWith, RefusedWhere, PutsLine, RefusesLine, with_balance, with_left}
+use Rattle.check_pit.specs.Prelude.{keeps_by, RoomView, MayPut, WithLine, SumOverflowsWith, RefusedWhere, Puts, PutsLine, RefusesLine, with_balance, with_left}
 use Rattle.check_pit.proofs.RoomSums.{puts_line, refuses_line, with_sink}
 
 -- ---- space for a block that stands behind those before it
@@ -38,12 +38,12 @@ to_over net l room mid x is d h e k m n = grind (arith, common_steps, get_or-set
 pub source_put : {U : Type 0} (net : NetView) (l : BodyLine) (before mid later : RoomView) (x : Amount) (r : Result U PitFault) → l.kind ≡ Source → l.block < length before.balances → x ≡ amount_of l → keeps_by Source net.worths l
     → mid ≡ with_balance l.block (plus (amount_at before.balances l.block) x) before
     → MatchResult r (λ _. later ≡ with_left (minus mid.left x) mid) (λ e. (e ≡ TooLarge) × (later ≡ mid) × ¬ (FitsPair (minus mid.left x)))
-    → MatchResult r (λ _. WithLine net l before later × keeps_by Source net.worths l) (λ e. RefusedWhere net l (SumOverflowsWith net before l) e)
+    → Puts Source net l before later r
 source_put net l before mid later x r is h e k m w = grind (arith, common_steps)
 
 pub sink_put : {U : Type 0} (net : NetView) (l : BodyLine) (before later : RoomView) (x : Amount) (r : Result U PitFault) → l.kind ≡ Sink → l.block < length net.worths → length before.balances ≡ length net.worths → x ≡ amount_of l → keeps_by Sink net.worths l
     → MatchResult r (λ _. later ≡ with_balance l.block (minus (amount_at before.balances l.block) x) before) (λ e. (e ≡ TooLarge) × (later ≡ before) × ¬ (FitsPair (minus (amount_at before.balances l.block) x)))
-    → MatchResult r (λ _. WithLine net l before later × keeps_by Sink net.worths l) (λ e. RefusedWhere net l (SumOverflowsWith net before l) e)
+    → Puts Sink net l before later r
 sink_put net l before later x (Ok u) is h s e k w = (with_sink net l before later x is (omega (arith, h, s)) e w, k)
 sink_put net l before later x (Err d) is h s e k w = subst (λ (f : PitFault). RefusedWhere net l (SumOverflowsWith net before l) f) (sym w.0) (grind (arith, common_steps, fits_same, sink_here))
 

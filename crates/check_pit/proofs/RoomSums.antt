@@ -8,7 +8,7 @@ use Rattle.check_pit.specs.declared.pit_fault.PitFault.{PitFault}
 use Rattle.certificate_file.specs.declared.body_lines.LineKind.TheVariants.{Rest, Sink, End}
 use Rattle.certificate_file.specs.declared.body_lines.BodyLine.{BodyLine}
 use Rattle.certificate_file.specs.Certificate.{block_if_pit, pit_of, amount_of}
-use Rattle.check_pit.specs.Prelude.{brings_by, balance_of, source_by, source_sum, worth_of_blocks, residual_behind, SomeLineSumOverflows, blocks_of_pit, RoomView, AreSumsOf, WithLine, SumOverflowsWith, RefusedWhere, PutsLine, RefusesLine, with_balance}
+use Rattle.check_pit.specs.Prelude.{brings_by, balance_of, source_by, source_sum, worth_of_blocks, residual_after, SomeLineSumOverflows, blocks_of_pit, RoomView, AreSumsOf, WithLine, SumOverflowsWith, RefusedWhere, PutsLine, RefusesLine, with_balance}
 use Rattle.certificate_file.proofs.ValueLines.{joins}
 
 -- ---- the sums over some lines, and over one more
@@ -24,7 +24,7 @@ sources_more (m ∷ ms) l = ap (plus (source_by m.kind (amount_of m))) (sources_
 taken_twice : (t x y : Amount) → minus t (plus x y) ≡ minus (minus t x) y
 taken_twice t x y = Amount_eq _ _ (omega (arith, ints)) (omega (arith, ints))
 
-pub left_more : (ws : List Amount) (ls : List BodyLine) (l : BodyLine) → residual_behind ws (ls ++ l ∷ []) ≡ minus (residual_behind ws ls) (source_by l.kind (amount_of l))
+pub left_more : (ws : List Amount) (ls : List BodyLine) (l : BodyLine) → residual_after ws (ls ++ l ∷ []) ≡ minus (residual_after ws ls) (source_by l.kind (amount_of l))
 left_more ws ls l = grind (arith, common_steps, sources_more, taken_twice)
 
 pub pit_more : (ls : List BodyLine) (l : BodyLine) → pit_of (ls ++ l ∷ []) ≡ pit_of ls ++ block_if_pit l.kind l.block []

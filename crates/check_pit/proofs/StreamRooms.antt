@@ -11,7 +11,7 @@ use Rattle.certificate_file.specs.declared.body_lines.LineKind.{LineKind}
 use Rattle.certificate_file.specs.declared.body_lines.LineKind.TheVariants.{Pit, Rest}
 use Rattle.certificate_file.specs.declared.body_lines.BodyLine.{BodyLine}
 use Rattle.certificate_file.specs.Prelude.{pieces_of, line_of, is_end, is_of_model, may_follow, body_fault, lines_of_pieces, pit_of, block_if_pit}
-use Rattle.check_pit.specs.Prelude.{ProvesPit, worth_of_blocks, keeps_by, KeepLimits, LinesTell, RoomView, AreSumsOf, TakesBlock, MayPut, LineRefused, PutsLine, RefusesLine, LineView, ReadsSome, TakesLine, is_pit, is_behind_pits, ReadsOn, fault_of_body, lines_of_body, flow_by, first_pits, LinesBegin, IsWholeBody, HasPit, BodyRefused, BodyFails, BodyProves, ClosesPit, IsOpenPit, SumsSettle, SumsFail, IsDone, EndFails}
+use Rattle.check_pit.specs.Prelude.{ProvesPit, worth_of_blocks, keeps_by, KeepLimits, LinesTell, RoomView, AreSumsOf, TakesBlock, MayPut, LineRefused, PutsLine, RefusesLine, LineView, ReadsSome, TakesLine, is_pit, is_after_pits, ReadsOn, fault_of_body, lines_of_body, flow_by, first_pits, LinesBegin, IsWholeBody, HasPit, BodyRefused, BodyFails, BodyProves, ClosesPit, IsOpenPit, SumsSettle, SumsFail, IsDone, EndFails}
 use Rattle.certificate_file.proofs.Going.{Sound, sound, text_read}
 use Rattle.certificate_file.proofs.Order.{InOrder, Good, stands_in_order, later_pits, ascending, known}
 use Rattle.check_pit.proofs.LineFlows.{worth_is, sums_tell}
@@ -27,8 +27,8 @@ use Rattle.certificate_file.proofs.SameLines.{pair_place}
 pub record Summed (net : NetView) (previous : Option BodyLine) (room : RoomView) (ls : List BodyLine) : Type 0 where
   pub sums : AreSumsOf net ls room
   pub limits : KeepLimits net.worths ls
-  pub made : room.is_pit ≡ is_behind_pits previous
-  pub closed : is_behind_pits previous ≡ true → IsClosed net.pairs (holds_of (pit_of ls))
+  pub made : room.is_pit ≡ is_after_pits previous
+  pub closed : is_after_pits previous ≡ true → IsClosed net.pairs (holds_of (pit_of ls))
 
 pub summed_begins : (net : NetView) (room : RoomView) → AreSumsOf net [] room → room.is_pit ≡ false → Summed net None room []
 summed_begins net room s o = record { sums = s; limits = λ k d h. absurd (omega arith); made = o; closed = λ h. absurd (let z : false ≡ true = h in cc) }
@@ -37,7 +37,7 @@ summed_begins net room s o = record { sums = s; limits = λ k d h. absurd (omega
 pub met_sound : (counts : Bool) (net : NetView) (previous : Option BodyLine) (line : BodyLine) → MetNext counts net previous line → Sound counts (length net.worths) line
 met_sound counts net previous line m = sound counts (length net.worths) m.1.text line (text_read (line_of counts (length net.worths)) m.0 m.1 line m.2.read)
 
-pit_behind : (previous : Option BodyLine) (line : BodyLine) → may_follow previous line ≡ true → line.kind ≡ Pit → is_behind_pits previous ≡ false
+pit_behind : (previous : Option BodyLine) (line : BodyLine) → may_follow previous line ≡ true → line.kind ≡ Pit → is_after_pits previous ≡ false
 pit_behind previous line h e = grind (arith, common_steps)
 
 -- Behind a line of this kind the blocks of the room are a pit or not.
@@ -132,11 +132,11 @@ pit_on remaining counts net start later bytes ls line q s f a =
 pit_at_end : {R : Type 0} (remaining : R → Option (List ℕ)) (counts : Bool) (net : NetView) (start later : LineView R) (bytes : List ℕ) (ls : List BodyLine) → Ended remaining counts net start later bytes ls → AllPits ls → HasPit counts net (start.held ++ bytes) (pit_of ls)
 pit_at_end remaining counts net start later bytes ls q a = grind (arith, common_steps, first_all)
 
-open_as : (left : Option (List ℕ)) (taken : ℕ) (counts : Bool) (net : NetView) (body pit : List ℕ) (previous : Option BodyLine) (kind : LineKind) (e : PitFault) → (is_behind_pits previous ≡ false → is_pit kind ≡ false → HasPit counts net body pit) → IsOpenPit net previous kind pit e → BodyRefused left taken counts net body e
+open_as : (left : Option (List ℕ)) (taken : ℕ) (counts : Bool) (net : NetView) (body pit : List ℕ) (previous : Option BodyLine) (kind : LineKind) (e : PitFault) → (is_after_pits previous ≡ false → is_pit kind ≡ false → HasPit counts net body pit) → IsOpenPit net previous kind pit e → BodyRefused left taken counts net body e
 open_as left taken counts net body pit previous kind e p h = grind (arith, common_steps)
 
 -- Up to the first line of another kind they are PIT lines alone.
-pits_so_far : {R : Type 0} (remaining : R → Option (List ℕ)) (counts : Bool) (net : NetView) (start now : LineView R) (previous : Option BodyLine) (bytes : List ℕ) (ls : List BodyLine) → Reading remaining counts net start now previous bytes ls → is_behind_pits previous ≡ false → AllPits ls
+pits_so_far : {R : Type 0} (remaining : R → Option (List ℕ)) (counts : Bool) (net : NetView) (start now : LineView R) (previous : Option BodyLine) (bytes : List ℕ) (ls : List BodyLine) → Reading remaining counts net start now previous bytes ls → is_after_pits previous ≡ false → AllPits ls
 pits_so_far remaining counts net start now previous bytes ls r h = grind (arith, common_steps, all_pits, pit_behind)
 
 open_at : {R : Type 0} (remaining : R → Option (List ℕ)) (counts : Bool) (net : NetView) (start now later : LineView R) (previous : Option BodyLine) (bytes : List ℕ) (ls : List BodyLine) (line : BodyLine) (e : PitFault) (t : Bool) → is_end line.kind ≡ t → Reading remaining counts net start now previous bytes ls

@@ -31,8 +31,8 @@ source_sum [] = zero_amount
 source_sum (l ∷ ls) = plus (source_by l.kind (amount_of l)) (source_sum ls)
 
 -- the residual capacity of the source after the lines: what it could still give
-abbrev pub residual_behind : List Amount → List BodyLine → Amount
-residual_behind ws ls = minus (total (λ b. positive (amount_at ws b)) (length ws)) (source_sum ls)
+abbrev pub residual_after : List Amount → List BodyLine → Amount
+residual_after ws ls = minus (total (λ b. positive (amount_at ws b)) (length ws)) (source_sum ls)
 
 -- what the blocks of a list are worth
 abbrev pub worth_of_blocks : List Amount → List ℕ → Amount
@@ -46,11 +46,11 @@ keeps_by Rest ws l = AtMost zero_amount (amount_of l)
 keeps_by Sink ws l = AtMost zero_amount (amount_of l) × AtMost (amount_of l) (negative (amount_at ws l.block))
 keeps_by _ ws l = Unit {0}
 
--- each of the lines does
+-- no line's amount is negative, or more than the worth of its block lets the source give or the sink take
 abbrev pub KeepLimits : List Amount → List BodyLine → Type 0
 KeepLimits ws ls = All (λ l. keeps_by l.kind ws l) ls
 
--- the flow that lines say: an amount without a line is zero
+-- the flow that lines say, over n blocks and these pairs: an amount without a line is zero
 abbrev pub flow_of : ℕ → List (ℕ × ℕ) → List BodyLine → FlowView
 flow_of n pairs ls =
     flow_view (map (λ b. given_amount (gives_source b) zero_amount ls) (range_with_len 0 n))
@@ -61,4 +61,4 @@ flow_of n pairs ls =
 abbrev pub SomeLineSumOverflows : NetView → List BodyLine → Type 0
 SomeLineSumOverflows net ls =
     ((b : ℕ) × (b < length net.worths) × ¬ (FitsPair (balance_of ls b)))
-    ⊎ (¬ (FitsPair (worth_of_blocks net.worths (pit_of ls))) ⊎ ¬ (FitsPair (residual_behind net.worths ls)))
+    ⊎ (¬ (FitsPair (worth_of_blocks net.worths (pit_of ls))) ⊎ ¬ (FitsPair (residual_after net.worths ls)))

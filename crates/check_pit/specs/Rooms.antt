@@ -1,5 +1,5 @@
 -- The sums that a check makes while it reads lines.
-use Rattle.std.specs.Prelude.{◌≡◌, ◌↔◌, ℕ, ◌<◌, ◌≤◌, Bool, false, IsTrue, ◌⊎◌, List, [], ◌∷◌, ◌++◌, length, slice_set}
+use Rattle.std.specs.Prelude.{◌≡◌, ◌↔◌, ℕ, ◌<◌, ◌≤◌, Bool, false, IsTrue, ◌⊎◌, List, [], ◌∷◌, ◌++◌, length, slice_set, Result, MatchResult}
 use Rattle.ordered_group.specs.Prelude.{Amount, zero_amount, plus, minus, AtMost, FitsPair, positive, negative, amount_at}
 use Rattle.prec_file.specs.Rests.{IsFirstNot}
 use Rattle.closure_net.specs.Prelude.{NetView, IsAscending, holds_of, IsBalancedAt, IsTight}
@@ -9,7 +9,7 @@ use Rattle.certificate_file.specs.declared.body_lines.LineKind.{LineKind}
 use Rattle.certificate_file.specs.declared.body_lines.LineKind.TheVariants.{Pit, Source, Rest, Sink, End}
 use Rattle.certificate_file.specs.declared.body_lines.BodyLine.{BodyLine}
 use Rattle.certificate_file.specs.Certificate.{block_if_pit, pit_of, amount_of}
-use Rattle.check_pit.specs.LineSums.{brings_by, balance_of, source_by, worth_of_blocks, residual_behind, flow_of, keeps_by, SomeLineSumOverflows}
+use Rattle.check_pit.specs.LineSums.{brings_by, balance_of, source_by, worth_of_blocks, residual_after, flow_of, keeps_by, SomeLineSumOverflows}
 use Rattle.check_pit.specs.LineLaws.{LinesTell}
 
 -- a balance for each block; the blocks of the pit so far, how many there is space for, and whether they are a pit already,
@@ -41,7 +41,7 @@ pub record AreSumsOf (net : NetView) (ls : List BodyLine) (room : RoomView) : Ty
   pub balances : (b : ℕ) → b < length net.worths → amount_at room.balances b ≡ balance_of ls b
   pub blocks : room.blocks ≡ pit_of ls
   pub worth : room.worth ≡ worth_of_blocks net.worths (pit_of ls)
-  pub left : room.left ≡ residual_behind net.worths ls
+  pub left : room.left ≡ residual_after net.worths ls
 
 -- a block of a PIT line is above those that the room holds, of which it has made no pit yet
 abbrev pub TakesBlock : LineKind → RoomView → ℕ → Type 0
@@ -91,6 +91,13 @@ RefusedWhere net l overflows Negative = IsNegative l.kind (amount_of l)
 RefusedWhere net l overflows (OverCapacity b) = (b ≡ l.block) × IsOverLimit l.kind (amount_at net.worths l.block) (amount_of l)
 RefusedWhere net l overflows TooLarge = keeps_by l.kind net.worths l × overflows
 RefusedWhere net l overflows _ = ⊥
+
+-- a line of this kind is put, within its limits, or is refused
+abbrev pub Puts : {U : Type 0} → LineKind → NetView → BodyLine → RoomView → RoomView → Result U PitFault → Type 0
+Puts kind net l before later r =
+    MatchResult r
+    (λ _. WithLine net l before later × keeps_by kind net.worths l)
+    (λ e. RefusedWhere net l (SumOverflowsWith net before l) e)
 
 -- a line is refused after these lines, by their sums and its own amount
 abbrev pub LineRefused : NetView → List BodyLine → BodyLine → PitFault → Type 0

@@ -23,15 +23,15 @@ use Rattle.check_pit.specs.Rooms.{RoomView, AreSumsOf, LineRefused}
 use Rattle.check_pit.specs.StreamView.{LineView}
 use Rattle.check_pit.specs.TakenLines.{FaultIs}
 
--- a PIT line
+-- the kind of the lines PIT
 abbrev pub is_pit : LineKind → Bool
 is_pit Pit = true
 is_pit _ = false
 
 -- a line other than PIT was read last
-abbrev pub is_behind_pits : Option BodyLine → Bool
-is_behind_pits None = false
-is_behind_pits (Some line) = not (is_pit line.kind)
+abbrev pub is_after_pits : Option BodyLine → Bool
+is_after_pits None = false
+is_after_pits (Some line) = not (is_pit line.kind)
 
 -- the PIT lines with which some lines begin
 abbrev pub first_pits : List BodyLine → List BodyLine
@@ -101,12 +101,12 @@ pub record BodyProves (left : Option (List ℕ)) (taken : ℕ) (counts : Bool) (
 pub record ClosesPit (net : NetView) (previous : Option BodyLine) (kind : LineKind) (before later : RoomView) : Type 0 where
   pub sums : (ls : List BodyLine) → AreSumsOf net ls before → AreSumsOf net ls later
   pub blocks : later.blocks ≡ before.blocks
-  pub made : later.is_pit ≡ cond (is_behind_pits previous) true (not (is_pit kind))
-  pub closed : is_behind_pits previous ≡ false → is_pit kind ≡ false → IsClosed net.pairs (holds_of later.blocks)
+  pub made : later.is_pit ≡ cond (is_after_pits previous) true (not (is_pit kind))
+  pub closed : is_after_pits previous ≡ false → is_pit kind ≡ false → IsClosed net.pairs (holds_of later.blocks)
 
 -- the pit isn't closed, and after PIT lines alone a line of this kind, other than PIT, was read
 abbrev pub IsOpenPit : NetView → Option BodyLine → LineKind → List ℕ → PitFault → Type 0
-IsOpenPit net previous kind pit (NotClosed b p) = (is_behind_pits previous ≡ false) × (is_pit kind ≡ false) × IsFirstOpen net.pairs (holds_of pit) (b, p)
+IsOpenPit net previous kind pit (NotClosed b p) = (is_after_pits previous ≡ false) × (is_pit kind ≡ false) × IsFirstOpen net.pairs (holds_of pit) (b, p)
 IsOpenPit net previous kind pit _ = ⊥
 
 -- each balance is zero

@@ -49,7 +49,7 @@ abbrev pub NoNextLine : {R A : Type 0} → Option (List ℕ) → (ℕ → Piece 
 NoNextLine left f s e = FaultIs left s.taken (λ future x. f (s.number + 1) (piece_at (pieces_of (s.held ++ future)) 0) ≡ Err x) NoPitFault e
 
 -- a line of this length was passed, and nothing read
-pub record GoesBehind {R : Type 0} (count : ℕ) (before later : LineView R) : Type 0 where
+pub record LinePassed {R : Type 0} (count : ℕ) (before later : LineView R) : Type 0 where
   pub from : later.from ≡ before.from
   pub held : later.held ≡ drop (count + 1) before.held
   pub taken : later.taken ≡ before.taken

@@ -12,7 +12,7 @@ ghost use Rattle.certificate_file.specs.declared.body_lines.BodyLine.{BodyLine a
 ghost use Rattle.certificate_file.specs.Certificate.{amount_of};
 ghost use Rattle.check_pit.specs.Closing.{IsFirstOpen};
 ghost use Rattle.check_pit.specs.LineSums.{keeps_by};
-ghost use Rattle.check_pit.specs.Rooms.{AreSumsOf, MayPut, WithLine, SumOverflowsWith, RefusedWhere, PutsLine, RefusesLine, with_balance, with_left, IsFirstUnbalanced, TellsTight};
+ghost use Rattle.check_pit.specs.Rooms.{AreSumsOf, MayPut, Puts, PutsLine, RefusesLine, with_balance, with_left, IsFirstUnbalanced, TellsTight};
 
 use crate::marks::{first_open, mark};
 use crate::pit_fault::PitFault;
@@ -183,10 +183,7 @@ impl<G: OrderedGroup> Room<G> {
         requires kind { line.now.kind ≡ kind.Pit }
         requires may { MayPut net.now self.old line.now }
         ensures size { length self.new.balances ≡ length self.old.balances }
-        ensures puts { MatchResult result
-            (λ _. WithLine net.now line.now self.old self.new
-            × keeps_by kind.Pit net.now.worths line.now)
-            (λ e. RefusedWhere net.now line.now (SumOverflowsWith net.now self.old line.now) e) }
+        ensures puts { Puts kind.Pit net.now line.now self.old self.new result }
     {
         let worth = net.worth(line.block);
         self.worth = self.worth.try_add(worth).ok_or(PitFault::TooLarge)?;
@@ -199,10 +196,7 @@ impl<G: OrderedGroup> Room<G> {
         requires may { MayPut net.now self.old line.now }
         requires counted { (G.counts ≡ true) ⊎ (line.now.count ≡ pos 0) }
         ensures size { length self.new.balances ≡ length self.old.balances }
-        ensures puts { MatchResult result
-            (λ _. WithLine net.now line.now self.old self.new
-            × keeps_by kind.Source net.now.worths line.now)
-            (λ e. RefusedWhere net.now line.now (SumOverflowsWith net.now self.old line.now) e) }
+        ensures puts { Puts kind.Source net.now line.now self.old self.new result }
     {
         let amount: G = not_negative(line)?;
         if !at_most(amount, net.positive(line.block)) {
@@ -217,10 +211,7 @@ impl<G: OrderedGroup> Room<G> {
         requires may { MayPut net.now self.old line.now }
         requires counted { (G.counts ≡ true) ⊎ (line.now.count ≡ pos 0) }
         ensures size { length self.new.balances ≡ length self.old.balances }
-        ensures puts { MatchResult result
-            (λ _. WithLine net.now line.now self.old self.new
-            × keeps_by kind.Rest net.now.worths line.now)
-            (λ e. RefusedWhere net.now line.now (SumOverflowsWith net.now self.old line.now) e) }
+        ensures puts { Puts kind.Rest net.now line.now self.old self.new result }
     {
         let amount: G = not_negative(line)?;
         if line.block != line.other {
@@ -235,10 +226,7 @@ impl<G: OrderedGroup> Room<G> {
         requires may { MayPut net.now self.old line.now }
         requires counted { (G.counts ≡ true) ⊎ (line.now.count ≡ pos 0) }
         ensures size { length self.new.balances ≡ length self.old.balances }
-        ensures puts { MatchResult result
-            (λ _. WithLine net.now line.now self.old self.new
-            × keeps_by kind.Sink net.now.worths line.now)
-            (λ e. RefusedWhere net.now line.now (SumOverflowsWith net.now self.old line.now) e) }
+        ensures puts { Puts kind.Sink net.now line.now self.old self.new result }
     {
         let amount: G = not_negative(line)?;
         if !at_most(amount, net.negative(line.block)) {

@@ -3,7 +3,7 @@
 ghost use Rattle.std.specs.Prelude.{◌≡◌, ◌+◌, ◌-◌, ◌^◌, ◌<◌, ◌≤◌, [], length, take, drop, slice_range, IfOk, IfSome, IfNone};
 ghost use Rattle.std.specs.Io.KnownBytes.{Consumes, Keeps, IsAtEnd};
 ghost use Rattle.fixed_worth.specs.declared.limits.TheConstants.{LINE_BYTES};
-ghost use Rattle.check_pit.specs.StreamBytes.{ReadBehind};
+ghost use Rattle.check_pit.specs.StreamBytes.{AppendsRead};
 
 use fixed_worth::{CountedRead, LINE_BYTES};
 use std::alloc::{AllocError, Global};
@@ -104,7 +104,7 @@ impl StreamBytes {
         requires room { length self.old < LINE_BYTES + 1 }
         requires count { R.failed from.old < 2 ^ 64 - 1 }
         ensures read { IfSome result
-            (λ n. ReadBehind (R.remaining from.old) (R.remaining from.new) self.old self.new n) }
+            (λ n. AppendsRead (R.remaining from.old) (R.remaining from.new) self.old self.new n) }
         ensures few { IfSome result (λ n. length self.old + n ≤ LINE_BYTES + 1) }
         ensures end { IfSome result (λ n. n ≡ 0 → IsAtEnd (R.remaining from.new)) }
         ensures kept { IfSome result (λ _. R.failed from.new ≡ R.failed from.old) }

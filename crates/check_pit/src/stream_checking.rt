@@ -26,8 +26,8 @@ fn is_pit(kind: LineKind) -> bool
 }
 
 // Whether a line other than PIT was read last.
-fn is_behind_pits(previous: Option<BodyLine>) -> bool
-    ensures { result ≡ spec.is_behind_pits previous }
+fn is_after_pits(previous: Option<BodyLine>) -> bool
+    ensures { result ≡ spec.is_after_pits previous }
 {
     match previous {
         Some(line) => !is_pit(line.kind),
@@ -42,7 +42,7 @@ fn close_pit<G: OrderedGroup>(
     previous: Option<BodyLine>,
     kind: LineKind,
 ) -> Result<(), PitFault>
-    requires open { room.old.is_pit ≡ spec.is_behind_pits previous }
+    requires open { room.old.is_pit ≡ spec.is_after_pits previous }
     requires ascending { IsAscending room.old.blocks }
     requires size { length room.old.balances ≡ length net.now.worths }
     ensures size { length room.new.balances ≡ length room.old.balances }
@@ -50,7 +50,7 @@ fn close_pit<G: OrderedGroup>(
         (λ _. ClosesPit net.now previous kind room.old room.new)
         (λ e. IsOpenPit net.now previous kind room.old.blocks e) }
 {
-    if is_behind_pits(previous) || is_pit(kind) {
+    if is_after_pits(previous) || is_pit(kind) {
         return Ok(());
     }
     room.make_pit();

@@ -6,7 +6,7 @@ ghost use Rattle.std.specs.Fn.{FnOnceReturnsAt};
 ghost use Rattle.check_pit.specs.declared.stream_fault.StreamFault.TheVariants as fault;
 ghost use Rattle.certificate_file.specs.declared.cert_fault.LineFault.{LineFault};
 ghost use Rattle.certificate_file.specs.Pieces.{read_line};
-ghost use Rattle.check_pit.specs.TakenLines.{GoesBehind, AlwaysGives, TakesLine, LacksLine};
+ghost use Rattle.check_pit.specs.TakenLines.{LinePassed, AlwaysGives, TakesLine, LacksLine};
 ghost use Rattle.check_pit.specs.StreamHeaders.{GivesHeader, LacksHeader};
 
 use crate::stream_fault::StreamFault;
@@ -24,7 +24,7 @@ fn pass_read<R, T>(
 ) -> Result<T, StreamFault>
     requires { count < length lines.old.held }
     ensures { MatchResult read
-        (λ x. (result ≡ Ok x) × GoesBehind count lines.old lines.new)
+        (λ x. (result ≡ Ok x) × LinePassed count lines.old lines.new)
         (λ e. (result ≡ Err (fault.Cert e)) × (lines.new ≡ lines.old)) }
 {
     match read {

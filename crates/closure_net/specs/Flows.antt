@@ -17,7 +17,7 @@ outflow ps fs m b = at_end (from_at ps) (amount_at fs) m b
 abbrev pub IsBalancedAt : NetView → FlowView → ℕ → Type 0
 IsBalancedAt net flow b = plus (amount_at flow.source b) (inflow net.pairs flow.rest (length net.pairs) b) ≡ plus (amount_at flow.sink b) (outflow net.pairs flow.rest (length net.pairs) b)
 
--- the source gives a block at most its positive part, and it gives the sink at most its negative part
+-- the source gives at most the positive part of a worth, and the sink takes at most its negative part
 abbrev pub Within : Amount → Amount → Amount → Type 0
 Within worth source sink = AtMost source (positive worth) × AtMost sink (negative worth)
 

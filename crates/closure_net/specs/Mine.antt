@@ -17,10 +17,11 @@ pub record RestsWithin (mine : Mine) : Type 0 where
 abbrev pub IsPit : Mine → (ℕ → Bool) → Type 0
 IsPit mine pit = (b p : ℕ) → IsTrue (mine.rests b p) → IsTrue (pit b) → IsTrue (pit p)
 
--- the sum of the worths of the set's blocks, and their number
+-- the sum of the worths of the set's blocks, in billionths
 abbrev pub worth_of : Mine → (ℕ → Bool) → ℤ
 worth_of mine pit = worth_in mine.worth pit mine.blocks
 
+-- the number of the set's blocks
 abbrev pub block_count_of : Mine → (ℕ → Bool) → ℕ
 block_count_of mine pit = count_in pit mine.blocks
 

@@ -10,7 +10,7 @@ use std::alloc::{AllocError, Global};
 const ABOUT: &str = "Bounds the worth of every schedule, by a certificate of blocks and periods";
 
 const USAGE: &str =
-    "pit bound --prec <FILE> (--upit <FILE> --uses <FILE> | --blocks <FILE> --settings <FILE>) --periods <FILE> [OPTIONS] <CERT>";
+    "pit bound (--prec <FILE> --upit <FILE> --uses <FILE> | [--prec <FILE>] --blocks <FILE> --settings <FILE>) --periods <FILE> [OPTIONS] <CERT>";
 
 const DETAILS: &str = "Bounds the worth of every schedule, by a certificate of blocks and periods.
 

@@ -9,7 +9,7 @@ use std::alloc::{AllocError, Global};
 const ABOUT: &str = "Checks a certificate: does its flow prove that its pit is the best?";
 
 const USAGE: &str =
-    "pit check --prec <FILE> (--upit <FILE> | --blocks <FILE> --settings <FILE>) [OPTIONS] <CERT>";
+    "pit check (--prec <FILE> --upit <FILE> | [--prec <FILE>] --blocks <FILE> --settings <FILE>) [OPTIONS] <CERT>";
 
 const DETAILS: &str = "Checks a certificate: does its flow prove that its pit is the best?
 

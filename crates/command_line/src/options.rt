@@ -13,8 +13,9 @@ pub const STATUSES: &str = "Exit status:
 
 `pit` alone checks a small example that it carries, and prints the answer.";
 
-/// The help of `--prec`.
-pub const PREC_HELP: &str = "The predecessors of each block: MineLib's .prec";
+/// The help of `--prec`, in whose place slopes of the settings may stand.
+pub const PREC_HELP: &str =
+    "The predecessors of each block: MineLib's .prec; needed unless the settings list slopes";
 
 /// The help of `--upit`.
 pub const UPIT_HELP: &str =
@@ -90,34 +91,37 @@ pub enum ModelArgs<'a> {
         /// MineLib's `.blocks`.
         blocks: &'a str,
     },
+    /// The same with no file of the predecessors: the settings list slopes.
+    Sloped {
+        /// The settings.
+        settings: &'a str,
+        /// MineLib's `.blocks`.
+        blocks: &'a str,
+    },
 }
 
 /// The options that name the files of a mine: its precedence, and its values or its settings and blocks.
 pub fn model_options<'a>(alloc: Global) -> Result<Vec<Arg<'a>>, AllocError> {
+    let prec = prec_option(alloc)?;
     let values = values_option(alloc)?;
     let blocks = blocks_option(alloc)?;
     let settings = settings_option(alloc)?;
-    Ok(vec![in alloc;
-        file_option(alloc, "prec", PREC_HELP),
-        values,
-        blocks,
-        settings,
-    ]?)
+    Ok(vec![in alloc; prec, values, blocks, settings]?)
 }
 
 /// The options that name a model, of values or priced, where the option of the factor is beside them.
 pub fn model_at_factor_options<'a>(alloc: Global) -> Result<Vec<Arg<'a>>, AllocError> {
+    let prec = prec_option(alloc)?;
     let values = values_option(alloc)?.required_unless_present("factor")?;
     let blocks = blocks_at_factor(alloc)?;
     let settings = settings_option(alloc)?;
     let factor = factor_option(alloc)?;
-    Ok(vec![in alloc;
-        file_option(alloc, "prec", PREC_HELP),
-        values,
-        blocks,
-        settings,
-        factor,
-    ]?)
+    Ok(vec![in alloc; prec, values, blocks, settings, factor]?)
+}
+
+// The predecessors, in whose place settings may list slopes.
+fn prec_option<'a>(alloc: Global) -> Result<Arg<'a>, AllocError> {
+    named_option(alloc, "prec", "FILE", PREC_HELP).required_unless_present("settings")
 }
 
 // The values of blocks, where neither of the files of a priced model is given.
@@ -156,8 +160,10 @@ fn priced_option<'a>(
 
 /// The files that were given.
 pub fn model_args<'a>(matches: &ArgMatches<'a>) -> ModelArgs<'a> {
+    let prec = matches.get_str("prec");
     match (matches.get_str("settings"), matches.get_str("blocks")) {
-        (Some(settings), Some(blocks)) => ModelArgs::Prices { settings, blocks },
+        (Some(settings), Some(blocks)) if prec.is_some() => ModelArgs::Prices { settings, blocks },
+        (Some(settings), Some(blocks)) => ModelArgs::Sloped { settings, blocks },
         _ => ModelArgs::Values {
             upit: text_of(matches, "upit"),
         },

@@ -11,7 +11,7 @@ use std::alloc::{AllocError, Global};
 const ABOUT: &str = "Judges a schedule: what is it worth in its periods, and can it be dug?";
 
 const USAGE: &str =
-    "pit schedule --prec <FILE> (--upit <FILE> --uses <FILE> | --blocks <FILE> --settings <FILE>) --periods <FILE> [OPTIONS] <SCHEDULE>";
+    "pit schedule (--prec <FILE> --upit <FILE> --uses <FILE> | [--prec <FILE>] --blocks <FILE> --settings <FILE>) --periods <FILE> [OPTIONS] <SCHEDULE>";
 
 const DETAILS: &str =
     "Judges a schedule: in which period each block is dug. It is feasible where BROKEN has 0 and no line OVER comes; otherwise the status is 1.

@@ -17,12 +17,12 @@ pub enum SeriesCommand {
     Report,
 }
 
-/// The arguments of such a command: the files, and where they were given the method, the steps, the workers and the file of the
+/// The arguments of such a command: the files, of which that of the predecessors may be left out, and where they were given the method, the steps, the workers and the file of the
 /// table of blocks, and whether progress is shown and it is told why a file failed.
 #[derive(Clone, Copy)]
 pub struct SeriesArgs<'a> {
     pub command: SeriesCommand,
-    pub prec: &'a str,
+    pub prec: Option<&'a str>,
     pub blocks: &'a str,
     pub settings: &'a str,
     pub method: Option<&'a str>,
@@ -36,7 +36,11 @@ pub struct SeriesArgs<'a> {
 impl SeriesArgs<'_> {
     /// Whether a name is that of a file which is read.
     pub fn reads(self, name: &str) -> bool {
-        name == self.prec || name == self.blocks || name == self.settings
+        let is_prec = match self.prec {
+            Some(prec) => name == prec,
+            None => false,
+        };
+        is_prec || name == self.blocks || name == self.settings
     }
 }
 
@@ -73,7 +77,7 @@ pub fn with_series<'a>(
 fn series_options<'a>(alloc: Global, settings_help: &'a str) -> Result<Vec<Arg<'a>>, AllocError> {
     let methods = method_option(alloc, METHOD_HELP);
     Ok(vec![in alloc;
-        file_option(alloc, "prec", PREC_HELP),
+        named_option(alloc, "prec", "FILE", PREC_HELP),
         file_option(alloc, "blocks", PRICED_BLOCKS_HELP),
         file_option(alloc, "settings", settings_help),
         methods.long_help(METHODS),
@@ -89,7 +93,7 @@ fn series_options<'a>(alloc: Global, settings_help: &'a str) -> Result<Vec<Arg<'
 pub fn series_args<'a>(command: SeriesCommand, matches: &ArgMatches<'a>) -> SeriesArgs<'a> {
     SeriesArgs {
         command,
-        prec: text_of(matches, "prec"),
+        prec: matches.get_str("prec"),
         blocks: text_of(matches, "blocks"),
         settings: text_of(matches, "settings"),
         method: matches.get_str("method"),

@@ -12,7 +12,7 @@ use std::alloc::{AllocError, Global};
 const ABOUT: &str = "Finds the best pit and writes its certificate";
 
 const USAGE: &str =
-    "pit solve --prec <FILE> (--upit <FILE> | --blocks <FILE> --settings <FILE> --factor <FACTOR>) [OPTIONS]";
+    "pit solve (--prec <FILE> --upit <FILE> | [--prec <FILE>] --blocks <FILE> --settings <FILE> --factor <FACTOR>) [OPTIONS]";
 
 const DETAILS: &str = "Finds the best pit and writes its certificate.
 
@@ -76,6 +76,7 @@ impl SolveArgs<'_> {
         let of_model = match self.model {
             ModelArgs::Values { upit } => name == upit,
             ModelArgs::Prices { settings, blocks } => name == settings || name == blocks,
+            ModelArgs::Sloped { settings, blocks } => name == settings || name == blocks,
         };
         of_model || name == self.prec
     }

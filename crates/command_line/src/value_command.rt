@@ -11,7 +11,7 @@ use std::alloc::{AllocError, Global};
 const ABOUT: &str = "Judges a design: what are its blocks worth, and do they need others?";
 
 const USAGE: &str =
-    "pit value --prec <FILE> (--upit <FILE> | --blocks <FILE> --settings <FILE>) [OPTIONS] <DESIGN>";
+    "pit value (--prec <FILE> --upit <FILE> | [--prec <FILE>] --blocks <FILE> --settings <FILE>) [OPTIONS] <DESIGN>";
 
 const DETAILS: &str = "Judges a design: a set of blocks that somebody drew. OPEN has the status 1.
 

@@ -1,11 +1,8 @@
 -- No pair leads out exactly where the set is a pit.
 use Rattle.fixed_worth.proofs.Common.{◌≡◌, ◌↔◌, ℕ, Bool, true, false, cond, not, ◌&&◌, List, [], ◌∷◌, length, get_or, refl, ap, ◌∙◌, arith, All, filter, All-nil, All-cons, All-head, All-tail, All-contains, Contains-get_or}
-use Rattle.prec_file.specs.Rests.{ArePairsOf}
 use Rattle.closure_net.specs.Mine.{IsPit}
 use Rattle.design_value.specs.OpenPairs.{leads_out, open_pairs}
-use Rattle.mine_inputs.specs.Mines.{MineTexts, precedence_of, mine_of}
-use Rattle.engines.proofs.Listed.{listed_rests}
-use Rattle.prec_file.specs.Records as prec
+use Rattle.mine_inputs.specs.Prelude.{ArePairsBy, MineTexts, rests_of, mine_of}
 
 -- ---- a list of which no element passes a test
 
@@ -31,18 +28,17 @@ follows : (a b : Bool) → (a && not b) ≡ false → a ≡ true → b ≡ true
 follows true true h e = refl
 follows a b h e = cc
 
-pub closed_where : (texts : MineTexts) (n : ℕ) (pairs : List (ℕ × ℕ)) (e : ℕ → Bool) (leading : ℕ) → ArePairsOf (prec.pairs_of_text (precedence_of texts)) pairs → leading ≡ length (open_pairs e pairs) → (leading ≡ 0) ↔ IsPit (mine_of n texts) e
-closed_where texts n pairs e leading are is =
-    let listed = prec.pairs_of_text (precedence_of texts) in (
-      λ none b p rests held.
-          let c = (listed_rests listed pairs are b p).1 rests in
-          let l : length (open_pairs e pairs) ≡ 0 = omega (arith, is, none) in
-          follows (e b) (e p) (All-contains (λ q. leads_out e q ≡ false) pairs (b, p) (none_pass (leads_out e) pairs l) c) held,
-      λ pit.
-          let fail : All (λ q. leads_out e q ≡ false) pairs =
-          λ k d l.
-          let q = get_or pairs k d in
-          leads_not (e q.0) (e q.1) (λ held. pit q.0 q.1 ((listed_rests listed pairs are q.0 q.1).0 (Contains-get_or pairs k d l)) held)
-          in
-          is ∙ ap length (all_fail (leads_out e) pairs fail),
-    )
+pub closed_where : (texts : MineTexts) (n : ℕ) (pairs : List (ℕ × ℕ)) (e : ℕ → Bool) (leading : ℕ) → ArePairsBy (rests_of texts) pairs → leading ≡ length (open_pairs e pairs) → (leading ≡ 0) ↔ IsPit (mine_of n texts) e
+closed_where texts n pairs e leading are is = (
+  λ none b p rests held.
+      let c = (are.same b p).1 rests in
+      let l : length (open_pairs e pairs) ≡ 0 = omega (arith, is, none) in
+      follows (e b) (e p) (All-contains (λ q. leads_out e q ≡ false) pairs (b, p) (none_pass (leads_out e) pairs l) c) held,
+  λ pit.
+      let fail : All (λ q. leads_out e q ≡ false) pairs =
+      λ k d l.
+      let q = get_or pairs k d in
+      leads_not (e q.0) (e q.1) (λ held. pit q.0 q.1 ((are.same q.0 q.1).0 (Contains-get_or pairs k d l)) held)
+      in
+      is ∙ ap length (all_fail (leads_out e) pairs fail),
+)

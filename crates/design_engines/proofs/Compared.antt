@@ -7,18 +7,14 @@ use Rattle.design_file.specs.Records.{design_of}
 use Rattle.mine_inputs.specs.declared.engine_fault.EngineFault.{EngineFault}
 use Rattle.mine_inputs.specs.declared.engine_fault.EngineFault.TheVariants as engine
 use Rattle.engines.specs.Prelude.{LineFails, CertificateAccepted, IsProvedPit}
-use Rattle.mine_inputs.specs.Mines.{MineTexts, mine_texts, priced_texts, mine_of, WorthsRead}
+use Rattle.mine_inputs.specs.Mines.{MineTexts, mine_of}
 use Rattle.engines.proofs.Answered.{keeps_self}
+use Rattle.engines.proofs.Unread.{one_size}
 use Rattle.design_engines.specs.declared.value_fault.DesignProblem.TheVariants as problem
 use Rattle.design_engines.specs.declared.value_fault.ValueFault.TheVariants as value
 use Rattle.design_engines.specs.Prelude.{IsDrawn, IsCompared, ComparedView, IsComparison, compared_text, Compares, DesignView, IsValued}
 
 -- ---- the gap
-
--- texts are of one number of blocks
-one_size : (texts : MineTexts) (n m : ℕ) → WorthsRead texts n → WorthsRead texts m → n ≡ m
-one_size (mine_texts values precedence) n m a b = let e = sym a.declared ∙ b.declared in cc
-one_size (priced_texts settings blocks precedence factor) n m a b = sym a.count ∙ b.count
 
 -- no pit is worth more than one that is proved
 richest : (name : Group) (mine : Mine) (e : ℕ → Bool) → IsProvedPit name mine e → (other : ℕ → Bool) → IsPit mine other → worth_of mine other ≤ℤ worth_of mine e

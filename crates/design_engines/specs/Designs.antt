@@ -2,14 +2,12 @@
 use Rattle.std.specs.Prelude.{◌≡◌, ◌↔◌, ℕ, zero, suc, ℤ, List, [], ◌∷◌, ◌++◌, codes, decimal}
 use Rattle.std.specs.List.{flat_map}
 use Rattle.fixed_worth.specs.Printed.{amount_text}
-use Rattle.prec_file.specs.Records as prec
-use Rattle.prec_file.specs.Rests.{ArePairsOf}
 use Rattle.closure_net.specs.Mine.{IsPit, worth_of, block_count_of}
 use Rattle.design_file.specs.Records.{design_of}
 use Rattle.design_value.specs.OpenPairs.{AreOpen}
 use Rattle.engines.specs.declared.judgement.Verdict.{Verdict}
 use Rattle.engines.specs.declared.judgement.Verdict.TheVariants.{Done, No}
-use Rattle.mine_inputs.specs.Mines.{MineTexts, DenoteMine, mine_of, precedence_of}
+use Rattle.mine_inputs.specs.Prelude.{ArePairsBy, MineTexts, DenoteMine, mine_of, rests_of}
 use Rattle.design_engines.specs.DesignTexts.{IsDesign}
 
 -- What is told of a design: how many blocks it has, what they are worth in billionths, how many pairs lead from a block of it
@@ -29,7 +27,7 @@ pub record IsValued (texts : MineTexts) (design : List ℕ) (v : DesignView) : T
   pub count : v.count ≡ block_count_of (mine_of blocks texts) (design_of design)
   pub worth : v.worth ≡ worth_of (mine_of blocks texts) (design_of design)
   pub pairs : List (ℕ × ℕ)
-  pub are : ArePairsOf (prec.pairs_of_text (precedence_of texts)) pairs
+  pub are : ArePairsBy (rests_of texts) pairs
   pub leads : AreOpen (design_of design) pairs v.leading v.needs
   pub closed : (v.leading ≡ 0) ↔ IsPit (mine_of blocks texts) (design_of design)
 

@@ -1,13 +1,11 @@
 -- The texts denote one net, and the lines of a certificate one flow.
 use Rattle.std.proofs.Common.{◌≡◌, ℕ, ◌<◌, ℤ, Bool, List, length, sym, ◌∙◌, arith, Result, Ok}
 use Rattle.ordered_group.specs.Prelude.{Amount, zero_amount, amount_at}
-use Rattle.prec_file.specs.Records as prec
-use Rattle.prec_file.proofs.OneListing.{one_listing}
 use Rattle.closure_net.specs.Prelude.{NetView, FlowView, IsNet, IsNetOf}
 use Rattle.closure_net.proofs.Views.{same_at_default}
 use Rattle.certificate_file.specs.Certificate.{lines_of_text, Denotes}
-use Rattle.mine_inputs.specs.Mines.{MineTexts, precedence_of, mine_of}
-use Rattle.engines.proofs.Listed.{listed_pairs}
+use Rattle.mine_inputs.specs.Mines.{MineTexts, rests_of, mine_of}
+use Rattle.mine_inputs.proofs.Listed.{pairs_same}
 
 pub ok_same : {E : Type 0} {A : Type 0} (r : Result A E) (a b : A) → r ≡ Ok a → r ≡ Ok b → a ≡ b
 ok_same r a b e f = let g : Ok a ≡ Ok b = sym e ∙ f in cc
@@ -15,7 +13,7 @@ ok_same r a b e f = let g : Ok a ≡ Ok b = sym e ∙ f in cc
 -- two nets of one mine are one
 pub nets_same : (block : ℤ → ℕ → Amount) (n : ℕ) (texts : MineTexts) (x y : NetView) → IsNet x → IsNet y → IsNetOf block (mine_of n texts) x → IsNetOf block (mine_of n texts) y → x ≡ y
 nets_same block n texts x y a b p q =
-    let pairs = one_listing (prec.pairs_of_text (precedence_of texts)) x.pairs y.pairs (listed_pairs (prec.pairs_of_text (precedence_of texts)) x.pairs a.rests.rising p.pairs) (listed_pairs (prec.pairs_of_text (precedence_of texts)) y.pairs b.rests.rising q.pairs) in
+    let pairs = pairs_same (rests_of texts) x.pairs y.pairs a.rests.apart (record { rising = a.rests.rising; same = p.pairs }) (record { rising = b.rests.rising; same = q.pairs }) in
     let sizes = p.blocks ∙ sym q.blocks in
     let worths = same_at_default zero_amount x.worths y.worths sizes (λ k l. let m : k < n = omega (arith, l, p.blocks) in p.worths k m ∙ sym (q.worths k m)) in
     λ i. record { pairs = pairs i; worths = worths i }

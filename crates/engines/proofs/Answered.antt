@@ -41,7 +41,6 @@ pub fails : (texts : MineTexts) (c : List ℕ) (e : EngineFault) → MineFails t
 fails texts c (engine.Model q) h = absurd h
 fails texts c (engine.Certificate q) h = absurd h
 fails texts c (engine.Trace q) h = absurd h
-fails texts c (engine.Slope q) h = absurd h
 fails texts c engine.Thread h = absurd h
 fails texts c engine.Stranger h = absurd h
 fails texts c e h = h
@@ -91,7 +90,6 @@ unsolved_at texts name method limit w engine.Device h = (h, inl (keeps_self w))
 unsolved_at texts name method limit w (engine.Model q) h = absurd h
 unsolved_at texts name method limit w (engine.Certificate q) h = absurd h
 unsolved_at texts name method limit w (engine.Trace q) h = absurd h
-unsolved_at texts name method limit w (engine.Slope q) h = absurd h
 unsolved_at texts name method limit w engine.Thread h = absurd h
 unsolved_at texts name method limit w engine.Stranger h = absurd h
 unsolved_at texts name method limit w e h = (h, keeps_self w)

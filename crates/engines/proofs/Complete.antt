@@ -8,13 +8,14 @@ use Rattle.engines.specs.Checking.{Checks, SoundIsAccepted}
 use Rattle.mine_inputs.specs.Mines.{MineTexts}
 use Rattle.engines.proofs.SoundLines.{refused_leaves}
 use Rattle.mine_inputs.specs.declared.engine_fault.CertificateProblem.TheVariants as problem
-use Rattle.engines.proofs.Unread.{upit_read, settings_read, blocks_read, prices_read, prec_read, model_read, price_read, header_read, body_read}
+use Rattle.engines.proofs.Unread.{upit_read, settings_read, blocks_read, prices_read, prec_read, slopes_read, model_read, price_read, header_read, body_read}
 
 pub complete_at : (texts : MineTexts) (c : List ℕ) (old new : Option (List ℕ)) (answer : Result Verdict EngineFault) → Checks texts c old new answer → SoundIsAccepted texts c answer
 complete_at texts c old new (Ok Done) h read s = tt
 complete_at texts c old new (Ok No) h read s = refused_leaves texts c h.fault read s h.refused
 complete_at texts c old new (Err (engine.Upit q)) h read s = upit_read texts c q read h.0
 complete_at texts c old new (Err (engine.Prec q)) h read s = prec_read texts c h.0.0 q read h.0.1 h.0.2
+complete_at texts c old new (Err (engine.Slope q)) h read s = slopes_read texts c q read h.0.2
 complete_at texts c old new (Err (engine.Model f)) h read s = model_read texts c h.0.0 h.0.2 f read h.0.3 h.0.4
 complete_at texts c old new (Err (engine.Certificate problem.InputTooLong)) h read s = h.0.2
 complete_at texts c old new (Err (engine.Certificate problem.WrongPrice)) h read s = price_read texts c h.0.0 read h.0.2

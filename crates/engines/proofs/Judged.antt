@@ -1,6 +1,6 @@
 -- From what was read to the judgement.
 use Rattle.fixed_worth.proofs.Common.{◌≡◌, ℕ, ℤ, pos, Bool, List, length, map, refl, sym, ap, ◌∙◌, subst, arith, None, Some, inr, length-map, get_or-map, common_steps}
-use Rattle.ordered_group.specs.Prelude.{Amount, SumsTellWorth}
+use Rattle.ordered_group.specs.Prelude.{Amount, SumsTellWorth, zero_amount}
 use Rattle.ordered_group.specs.declared.groups.Group.{Group}
 use Rattle.prec_file.specs.Rests.{RestsView}
 use Rattle.closure_net.specs.Prelude.{NetView, FlowView, net_view, IsNet, holds_of, IsGreatest, group_worth, IsNetOf, WorthsFaultStands}
@@ -14,11 +14,17 @@ use Rattle.closure_net.specs.declared.net.NetFault.TheVariants as net
 use Rattle.certificate_file.specs.declared.cert_fault.CertFault.{CertFault}
 use Rattle.certificate_file.specs.declared.cert_fault.CertFault.TheVariants as cert
 use Rattle.engines.proofs.Told.{size_told, worth_told}
-use Rattle.engines.proofs.Listed.{listed_rests}
 
 -- the net that is made of the worths that were read
 pub net_made : (block : ℤ → ℕ → Amount) (texts : MineTexts) (rests : RestsView) (worths : List ℤ) → AreRead texts worths rests → IsNetOf block (mine_of rests.blocks texts) (net_view rests.pairs (map (λ v. block v rests.blocks) worths))
-net_made block texts rests worths a = grind (arith, common_steps, length-map, get_or-map, pos, listed_rests)
+net_made block texts rests worths a =
+    let each = a.worths.each in
+    let size = a.worths.size in
+    record {
+      blocks = length-map worths (λ v. block v rests.blocks) ∙ size;
+      worths = λ b l. get_or-map (λ v. block v rests.blocks) worths b (pos 0) zero_amount (omega (arith, l, size)) ∙ ap (λ (v : ℤ). block v rests.blocks) (each b l);
+      pairs = a.pairs.same;
+    }
 
 -- What is known once the net is made and the certificate is read without a fault.
 pub record HasRead (name : Group) (block : ℤ → ℕ → Amount) (counts : Bool) (texts : MineTexts) (certificate : List ℕ) (net : NetView) (pit : List ℕ) (flow : FlowView) : Type 0 where

@@ -1,6 +1,5 @@
 pub mod Counted
 pub mod Told
-pub mod Listed
 pub mod Judged
 pub mod Nested
 pub mod Answered
@@ -20,3 +19,4 @@ pub mod SoundLines
 pub mod StreamAnswers
 pub mod Reduced
 pub mod RefusedRuns
+pub mod SlopePairs

@@ -1,7 +1,12 @@
 -- Where the texts are read, no fault of a text stands.
-use Rattle.fixed_worth.proofs.Common.{◌≡◌, ℕ, ◌≤◌, List, length, get_or, refl, arith, sym, ap, ◌∙◌, subst, Bool, true, false, cond, Option, Some, None, unwrap_or, Result, Ok, Err, inl, inr, nat_lt, option_or, nat_tests, ints, length-map-range_with_len, common_steps}
+use Rattle.fixed_worth.proofs.Common.{◌≡◌, ℕ, ◌≤◌, pos, List, [], length, get_or, refl, arith, sym, ap, ◌∙◌, subst, Bool, true, false, cond, Option, Some, None, unwrap_or, Result, Ok, Err, inl, inr, nat_lt, option_or, nat_tests, ints, length-map-range_with_len, common_steps}
 use Rattle.fixed_worth.specs.declared.limits.TheConstants.{MOST_BLOCKS}
-use Rattle.settings_file.specs.Settings.{settings_of}
+use Rattle.settings_file.specs.Settings.{SettingsView, settings_of}
+use Rattle.settings_file.specs.declared.keys.Key.{Key}
+use Rattle.slope.specs.declared.region_fault.RegionFault.TheVariants as region
+use Rattle.mine_inputs.specs.declared.engine_fault.SlopeProblem.{SlopeProblem}
+use Rattle.mine_inputs.specs.declared.engine_fault.SlopeProblem.TheVariants as of
+use Rattle.blocks_file.specs.Denotes.{BlocksView}
 use Rattle.blocks_file.specs.Records as blocks
 use Rattle.blocks_file.specs.declared.blocks_fault.BlocksFault.TheVariants as blocks_fault
 use Rattle.ordered_group.specs.declared.groups.Group.{Group}
@@ -25,7 +30,7 @@ use Rattle.shells.specs.declared.prices_fault.PricesFault.{PricesFault}
 use Rattle.mine_inputs.specs.declared.priced_inputs.ChargeColumns.{ChargeColumns}
 use Rattle.mine_inputs.specs.declared.priced_inputs.ChargeColumns.TheVariants.{Plain, Mill}
 use Rattle.shells.specs.declared.prices_fault.PricesFault.TheVariants as prices_fault
-use Rattle.mine_inputs.specs.Prelude.{price_keys, slope_keys, columns_said, price_columns, cell, costs_at, table_of, ColumnsKnown, PricesRead, SettingsFails, PricesFail, MineTexts, mine_texts, priced_texts, precedence_of, ValuesRead, WorthsRead, mine_of, DenoteMine, PrecFails, ValuesFail, SettingsFail, BlocksFail, TableFails}
+use Rattle.mine_inputs.specs.Prelude.{price_keys, slope_keys, sloped_keys, columns_said, cell, costs_at, placed_in, prices_alone, prices_and_slopes, table_of, KeysSaid, Wanted, PricesReadBy, PricesFailBy, SettingsFails, SlopesFail, SlopesRead, MineTexts, mine_texts, priced_texts, sloped_texts, ValuesRead, WorthsRead, RestsRead, PrecedenceRead, mine_of, DenoteMine, MineSlopesFail, PrecFails, PrecedenceFails, ValuesFail, SettingsFail, BlocksFail, TableFails}
 use Rattle.engines.specs.Prelude.{block_by, counts_by, IsHeader, Reads, ModelFails, HeaderFails, BodyTextFails, PriceDiffers}
 use Rattle.engines.proofs.Alone.{ok_same, nets_same}
 use Rattle.engines.proofs.Fitting.{no_model_fails}
@@ -43,20 +48,22 @@ values_stand : (texts : MineTexts) (n : ℕ) (q : Problem UpitFault) → WorthsR
 values_stand (mine_texts u p) n problem.InputTooLong r h = let within = r.within in omega (arith, within, h)
 values_stand (mine_texts u p) n (problem.Fault f) r h = values_fault u n f r h.1
 values_stand (priced_texts s b p k) n q r h = h
+values_stand (sloped_texts s b k) n q r h = h
 
 -- what the settings name is one thing
-columns_stand : (settings : List ℕ) (q : Problem SettingsFault) → ColumnsKnown settings → SettingsFails price_keys slope_keys settings q → ⊥
-columns_stand settings problem.InputTooLong c h = let within = c.within in omega (arith, within, h)
-columns_stand settings (problem.Fault settings_fault.NotToml) c h = no_settings_fault settings _ settings_fault.NotToml c.read (λ e. let z : settings_fault.NotToml ≡ settings_fault.NoMemory = e in cc) h.1
-columns_stand settings (problem.Fault settings_fault.UnknownKey) c h = no_settings_fault settings _ settings_fault.UnknownKey c.read (λ e. let z : settings_fault.UnknownKey ≡ settings_fault.NoMemory = e in cc) h.1
-columns_stand settings (problem.Fault (settings_fault.BadValue key)) c h = no_settings_fault settings _ (settings_fault.BadValue key) c.read (λ e. let z : (settings_fault.BadValue key) ≡ settings_fault.NoMemory = e in cc) h.1
-columns_stand settings (problem.Fault (settings_fault.Unused key)) c h = never _ _ c.used h.1.1
-columns_stand settings (problem.Fault (settings_fault.Missing key)) c h = never _ _ c.said h.1.1
-columns_stand settings (problem.Fault settings_fault.NoMemory) c h = h.1
+columns_stand : (needed : SettingsView → List Key) (unused : List Key) (settings : List ℕ) (q : Problem SettingsFault) → KeysSaid needed unused settings → SettingsFails needed unused settings q → ⊥
+columns_stand needed unused settings problem.InputTooLong c h = let within = c.within in omega (arith, within, h)
+columns_stand needed unused settings (problem.Fault settings_fault.NotToml) c h = no_settings_fault settings _ settings_fault.NotToml c.read (λ e. let z : settings_fault.NotToml ≡ settings_fault.NoMemory = e in cc) h.1
+columns_stand needed unused settings (problem.Fault settings_fault.UnknownKey) c h = no_settings_fault settings _ settings_fault.UnknownKey c.read (λ e. let z : settings_fault.UnknownKey ≡ settings_fault.NoMemory = e in cc) h.1
+columns_stand needed unused settings (problem.Fault (settings_fault.BadValue key)) c h = no_settings_fault settings _ (settings_fault.BadValue key) c.read (λ e. let z : (settings_fault.BadValue key) ≡ settings_fault.NoMemory = e in cc) h.1
+columns_stand needed unused settings (problem.Fault (settings_fault.Unused key)) c h = never _ _ c.used h.1.1
+columns_stand needed unused settings (problem.Fault (settings_fault.Missing key)) c h = never _ _ c.said h.1.1
+columns_stand needed unused settings (problem.Fault settings_fault.NoMemory) c h = h.1
 
 settings_stand : (texts : MineTexts) (n : ℕ) (q : Problem SettingsFault) → WorthsRead texts n → SettingsFail texts q → ⊥
 settings_stand (mine_texts u p) n q r h = h
-settings_stand (priced_texts s b p k) n q r h = columns_stand s q r.columns h
+settings_stand (priced_texts s b p k) n q r h = columns_stand price_keys slope_keys s q r.columns h
+settings_stand (sloped_texts s b k) n q r h = columns_stand sloped_keys [] s q r.columns h
 
 pub settings_read : (texts : MineTexts) (certificate : List ℕ) (q : Problem SettingsFault) → Reads texts certificate → SettingsFail texts q → ⊥
 settings_read texts certificate q r h = settings_stand texts r.blocks q r.mine.worths_read h
@@ -65,6 +72,8 @@ blocks_stand : (texts : MineTexts) (n : ℕ) (q : Problem BlocksFault) → Worth
 blocks_stand (mine_texts u p) n q r h = h
 blocks_stand (priced_texts s b p k) n problem.InputTooLong r h = let within = r.within in omega (arith, within, h.1)
 blocks_stand (priced_texts s b p k) n (problem.Fault f) r h = never _ _ r.read h.1.1
+blocks_stand (sloped_texts s b k) n problem.InputTooLong r h = let within = r.within in omega (arith, within, h.1)
+blocks_stand (sloped_texts s b k) n (problem.Fault f) r h = never _ _ r.read h.1.1
 
 pub blocks_read : (texts : MineTexts) (certificate : List ℕ) (q : Problem BlocksFault) → Reads texts certificate → BlocksFail texts q → ⊥
 blocks_read texts certificate q r h = blocks_stand texts r.blocks q r.mine.worths_read h
@@ -88,18 +97,19 @@ are_charged : (charges : ChargeColumns) (text : List ℕ) (n : ℕ) → n ≡ bl
 are_charged (Plain cost) text n e = length-map-range_with_len (cell text cost) 0 (blocks.record_count_of text) ∙ sym e
 are_charged (Mill processing mining) text n e = (length-map-range_with_len (cell text processing) 0 (blocks.record_count_of text) ∙ sym e, length-map-range_with_len (cell text mining) 0 (blocks.record_count_of text) ∙ sym e)
 
-table_stands : (settings text : List ℕ) (n : ℕ) (fault : PricesFault) → PricesRead settings text n → PricesFail settings text fault → ⊥
-table_stands settings text n prices_fault.WrongLength r h =
+table_stands : (w : Wanted) (settings text : List ℕ) (n : ℕ) (fault : PricesFault) → PricesReadBy w settings text n → PricesFailBy w settings text fault → ⊥
+table_stands w settings text n prices_fault.WrongLength r h =
     let said = settings_of settings in
     let revenues = length-map-range_with_len (cell text (unwrap_or said.revenue 0)) 0 (blocks.record_count_of text) in
-    elim h.stands [ inl uncharged ↦ uncharged (are_charged (columns_said said).charges text (length (table_of settings text).revenue) revenues) | inr many ↦ omega (arith, many, revenues, few_blocks text (price_columns said) r.read) ]
-table_stands settings text n (prices_fault.NegativeRevenue b) r h =
+    elim h.stands [ inl uncharged ↦ uncharged (are_charged (columns_said said).charges text (length (table_of settings text).revenue) revenues) | inr many ↦ omega (arith, many, revenues, few_blocks text (w.chosen said) r.read) ]
+table_stands w settings text n (prices_fault.NegativeRevenue b) r h =
     let first = h.stands.2 in
     omega (arith, ints, first.negative, r.revenues b first.block)
 
 prices_stand : (texts : MineTexts) (n : ℕ) (fault : PricesFault) → WorthsRead texts n → TableFails texts fault → ⊥
 prices_stand (mine_texts u p) n fault r h = h
-prices_stand (priced_texts s b p k) n fault r h = table_stands s b n fault r h
+prices_stand (priced_texts s b p k) n fault r h = table_stands prices_alone s b n fault r h
+prices_stand (sloped_texts s b k) n fault r h = table_stands prices_and_slopes s b n fault r h
 
 pub prices_read : (texts : MineTexts) (certificate : List ℕ) (fault : PricesFault) → Reads texts certificate → TableFails texts fault → ⊥
 prices_read texts certificate fault r h = prices_stand texts r.blocks fault r.mine.worths_read h
@@ -107,9 +117,42 @@ prices_read texts certificate fault r h = prices_stand texts r.blocks fault r.mi
 pub upit_read : (texts : MineTexts) (certificate : List ℕ) (q : Problem UpitFault) → Reads texts certificate → ValuesFail texts q → ⊥
 upit_read texts certificate q r h = values_stand texts r.blocks q r.mine.worths_read h
 
-pub prec_read : (texts : MineTexts) (certificate : List ℕ) (n : ℕ) (q : Problem PrecFault) → Reads texts certificate → WorthsRead texts n → PrecFails n (precedence_of texts) q → ⊥
-prec_read texts certificate n problem.InputTooLong r v h = let within = r.mine.precedence_within in omega (arith, within, h)
-prec_read texts certificate n (problem.Fault f) r v h = grind (arith, common_steps)
+-- the texts say it of one number of blocks
+pub one_size : (texts : MineTexts) (n m : ℕ) → WorthsRead texts n → WorthsRead texts m → n ≡ m
+one_size (mine_texts u p) n m a b = let e = sym a.declared ∙ b.declared in cc
+one_size (priced_texts s b p k) n m a b' = sym a.count ∙ b'.count
+one_size (sloped_texts s b k) n m a b' = sym a.count ∙ b'.count
+
+precedence_stands : (text : List ℕ) (n : ℕ) (q : Problem PrecFault) → PrecedenceRead text n → PrecFails n text q → ⊥
+precedence_stands text n problem.InputTooLong r h = let within = r.within in omega (arith, within, h)
+precedence_stands text n (problem.Fault f) r h = never _ _ r.read h.1
+
+rests_stand : (texts : MineTexts) (n : ℕ) (q : Problem PrecFault) → RestsRead texts n → PrecedenceFails texts n q → ⊥
+rests_stand (mine_texts u p) n q r h = precedence_stands p n q r h
+rests_stand (priced_texts s b p k) n q r h = precedence_stands p n q r h
+rests_stand (sloped_texts s b k) n q r h = h
+
+pub prec_read : (texts : MineTexts) (certificate : List ℕ) (n : ℕ) (q : Problem PrecFault) → Reads texts certificate → WorthsRead texts n → PrecedenceFails texts n q → ⊥
+prec_read texts certificate n q r v h = rests_stand texts n q (subst (RestsRead texts) (one_size texts r.blocks n r.mine.worths_read v) r.mine.rests_read) h
+
+slopes_right : (said : SettingsView) (m : BlocksView) (q : SlopeProblem) → SlopesRead said m → SlopesFail said m q → ⊥
+slopes_right said m (of.Pattern f) r h = h
+slopes_right said m (of.Pairs f) r h = h
+slopes_right said m (of.Regions (region.SamePlace b c)) r h = r.placed.apart b c h.earlier h.known h.same
+slopes_right said m (of.Regions (region.UnknownRegion b)) r h = let first = h.1 in first.outside (r.placed.regions b first.known)
+slopes_right said m (of.Regions (region.NotUpward q i)) r h = let first = h.1 in first.first.2 (r.upward q first.known i (pos 0, pos 0, pos 0) first.first.0)
+slopes_right said m (of.Regions (region.TooManyOffsets q)) r h = let wide = h.2 in let many = wide.many in omega (arith, many, r.few_offsets q wide.known)
+slopes_right said m (of.Regions region.TooManyRegions) r h = let few = r.few_regions in omega (arith, few, h.3)
+slopes_right said m (of.Regions region.TooMany) r h = r.few_pairs h.4
+slopes_right said m (of.Regions region.NoMemory) r h = h
+
+slopes_stand : (texts : MineTexts) (n : ℕ) (q : SlopeProblem) → RestsRead texts n → MineSlopesFail texts q → ⊥
+slopes_stand (mine_texts u p) n q r h = h
+slopes_stand (priced_texts s b p k) n q r h = h
+slopes_stand (sloped_texts s b k) n q r h = slopes_right (settings_of s) (placed_in (settings_of s) b) q r h
+
+pub slopes_read : (texts : MineTexts) (certificate : List ℕ) (q : SlopeProblem) → Reads texts certificate → MineSlopesFail texts q → ⊥
+slopes_read texts certificate q r h = slopes_stand texts r.blocks q r.mine.rests_read h
 
 pub price_read : (texts : MineTexts) (certificate : List ℕ) (n : ℕ) → Reads texts certificate → PriceDiffers texts certificate n → ⊥
 price_read texts certificate n r h = let e = ok_same _ _ _ h.1 r.header in h.3 (ap (λ (z : Header). z.price) e)

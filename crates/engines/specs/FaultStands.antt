@@ -15,7 +15,7 @@ use Rattle.mine_inputs.specs.declared.engine_fault.EngineFault.TheVariants as en
 use Rattle.mine_inputs.specs.Prelude.{AreWorths, MineFails, IsTooLong, MineTexts, price_wanted, DenoteMine, mine_of}
 use Rattle.engines.specs.Readings.{block_by, counts_by, IsHeader}
 
--- no net of these worths: an amount doesn't fit
+-- the worths of the mine's blocks make no net, for this reason
 pub record NetFails (texts : MineTexts) (n : ℕ) (group : Group) (fault : NetFault) : Type 0 where
   pub worths : List ℤ
   pub are : AreWorths texts n worths

@@ -31,6 +31,7 @@ pub record CertificateRefused (texts : MineTexts) (certificate : List ℕ) (faul
   pub of_mine : IsNetOf (block_by group) (mine_of blocks texts) net
   pub stands : TextRefused (counts_by group) group net certificate fault
 
+-- The judgement is true of the texts: the certificate is accepted with these numbers, or refused for this reason.
 abbrev pub IsJudged : MineTexts → List ℕ → Judgement → Type 0
 IsJudged texts certificate (Accepted group count worth) = CertificateAccepted texts certificate group count worth
 IsJudged texts certificate (Refused fault) = CertificateRefused texts certificate fault

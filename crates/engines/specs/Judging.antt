@@ -15,11 +15,12 @@ use Rattle.mine_inputs.specs.Prelude.{of_certificate, MineTexts, factor_at}
 use Rattle.engines.specs.Judgements.{IsJudged}
 use Rattle.engines.specs.FaultStands.{Fails}
 
--- the factor that a certificate names: 0 where it names none
+-- the factor that a header names, in thousandths: 0 where it names none or isn't read
 abbrev pub factor_named : Result Header CertFault → ℕ
 factor_named (Ok header) = factor_at header.price
 factor_named (Err fault) = 0
 
+-- the factor that the header of a certificate names, in thousandths: 0 where it names none or isn't read
 abbrev pub factor_in : List ℕ → ℕ
 factor_in certificate = factor_named (header_of (pieces_of certificate))
 

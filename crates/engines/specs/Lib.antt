@@ -14,6 +14,8 @@ pub mod Solving
 -- `slopes`, and what reduced pairs decide
 pub mod Slopes
 pub mod Reduced
+-- a mine by slopes, and by their pairs
+pub mod SlopePairs
 -- two certificates over one table of prices
 pub mod Nested
 -- when there is a fault; lines and exit statuses

@@ -7,12 +7,13 @@ use Rattle.closure_net.specs.Prelude.{NetView, FlowView, IsNet, IsAscending, IsG
 use Rattle.certificate_file.specs.Prelude.{pieces_of, header_of, fault_of, lines_of_text, Denotes}
 use Rattle.mine_inputs.specs.Mines.{MineTexts, price_wanted, mine_of, DenoteMine}
 
--- what one block counts as, and whether an amount has a count
+-- what one block counts as in a group
 abbrev pub block_by : Group → ℤ → ℕ → Amount
 block_by Worth = worth_block
 block_by Pair = counted_block
 block_by Scaled = scaled_block
 
+-- an amount of this group has a count beside its worth
 abbrev pub counts_by : Group → Bool
 counts_by Pair = true
 counts_by _ = false

@@ -69,7 +69,7 @@ pub fn stored_check<R: Threads + Sync, W: CountedWrite>(
     let upit = StoredText { left: VALUES };
     let prec = StoredText { left: PRECEDENCE };
     let worths = WorthInputs::Values { upit };
-    let mut inputs = MineInputs { worths, prec };
+    let mut inputs = MineInputs::Listed { worths, prec };
     let mut certificate = StoredText { left: CERTIFICATE };
     check_engine(rt, alloc, &mut inputs, &mut certificate, out)
 }

@@ -4,6 +4,7 @@ use Rattle.std.specs.List.{list_all}
 use Rattle.fixed_worth.specs.declared.numerals.NumberFault.{NumberFault}
 use Rattle.fixed_worth.specs.declared.numerals.NumberFault.TheVariants.{NotANumber, TooLong, TooLarge}
 
+-- one of the digits 0 to 9, which are the bytes 48 to 57
 abbrev pub is_digit : ℕ → Bool
 is_digit b = nat_le 48 b && nat_le b 57
 
@@ -20,23 +21,26 @@ is_number text = nat_lt 0 (length text) && list_all is_digit text
 abbrev pub digits_of : List ℕ → Result ℕ NumberFault
 digits_of text = cond (not (is_number text)) (Err NotANumber) (cond (nat_lt 39 (length text)) (Err TooLong) (Ok (value_of text)))
 
--- a number below the limit
+-- the number where it is below the limit, and else TooLarge; a fault stays as it is
 abbrev pub below : ℕ → Result ℕ NumberFault → Result ℕ NumberFault
 below limit (Ok n) = cond (nat_lt n limit) (Ok n) (Err TooLarge)
 below limit (Err e) = Err e
 
+-- the whole number below 2 ^ 64 that digits alone are, or what is wrong with them
 unfoldable pub whole_of : List ℕ → Result ℕ NumberFault
 whole_of text = below (2 ^ 64) (digits_of text)
 
--- plus is 43, minus 45
+-- the text begins with a minus, which is byte 45
 abbrev pub is_minus : List ℕ → Bool
 is_minus [] = false
 is_minus (b ∷ bs) = b == 45
 
+-- the text without the plus (43) or the minus (45) that it may begin with
 abbrev pub unsigned_of : List ℕ → List ℕ
 unsigned_of [] = []
 unsigned_of (b ∷ bs) = cond ((b == 43) || (b == 45)) bs (b ∷ bs)
 
+-- the number, or its opposite where there is a minus; a fault stays as it is
 abbrev pub with_sign : Bool → Result ℕ NumberFault → Result ℤ NumberFault
 with_sign minus (Ok n) = Ok (cond minus (neg_ℤ (pos n)) (pos n))
 with_sign minus (Err e) = Err e

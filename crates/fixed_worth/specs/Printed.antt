@@ -12,6 +12,7 @@ abbrev pub digit_before : ℕ → List ℕ → List ℕ
 digit_before d [] = cond (d == 48) [] (d ∷ [])
 digit_before d (e ∷ es) = d ∷ e ∷ es
 
+-- digits without the zeros (48) at their end
 abbrev pub without_trailing_zeros : List ℕ → List ℕ
 without_trailing_zeros [] = []
 without_trailing_zeros (d ∷ ds) = digit_before d (without_trailing_zeros ds)

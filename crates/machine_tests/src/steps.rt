@@ -31,277 +31,62 @@ const GE: Kind = Kind::GiveExcess;
 
 const RA: Kind = Kind::RaiseLabel;
 
-// A state in whole values.
-#[derive(Clone, Copy)]
-struct After {
-    labels: [u64; 3],
-    excess: [i128; 3],
-    flow: [i128; 2],
-    source: [i128; 3],
-    sink: i128,
-}
+// A state in whole values: the labels and the excess of the blocks, the flows of the pairs, what the blocks have of the source,
+// and what block 1 gave the sink.
+type After = ([u64; 3], [i128; 3], [i128; 2], [i128; 3], i128);
 
-// Steps of one block, and the state after them.
-struct Row {
-    block: u32,
-    kinds: &'static [Kind],
-    after: After,
-}
+// A block, and the kinds of steps that it makes one after another.
+const STEPS: [(u32, &'static [Kind]); 23] = [
+    (0, &[RE, RL, RC, RL, RA]),
+    (0, &[RE, RL, RC, RL]),
+    (2, &[RE, RL, RC, RL, RA]),
+    (2, &[RE, RL, RC, RL, GC, TE, GE]),
+    (1, &[RE, RC, RL, RC, RC, RL, RA]),
+    (1, &[RE, RC, RL, RC, RC, RL, TC, TE, GE]),
+    (1, &[RE, RC, RC, RC, RL, RA]),
+    (1, &[RE, RC, RC, RC, RL, TC, TE, GE]),
+    (2, &[RE, RL, RC, RL, RA]),
+    (2, &[RE, RL, RC, RL, GC, TE, GE]),
+    (1, &[RE, RC, RC, RC, RL, RA]),
+    (0, &[GC]),
+    (0, &[TE, GE]),
+    (1, &[RE, RC, RC, RL, RC, RL, TC, TE, GE]),
+    (0, &[RE, RL, RC, RL, RA]),
+    (0, &[RE, RL, RC, RL, GC, TE, GE]),
+    (1, &[RE, RC, RC, RL, RC, RL, TC, TE, GE]),
+    (1, &[RE, RC, RC, RL, RC, RA]),
+    (1, &[RE, RC, RC, RL, RC, TC, TE, GE]),
+    (0, &[RE, RL, RC, RL, RA]),
+    (0, &[RE, RL, RC, RL, TC, TE, GE]),
+    (2, &[RE, RL, RC, RL, RA]),
+    (2, &[RE, RL, RC, RL, TC, TE, GE]),
+];
 
-const ROWS: [Row; 23] = [
-    Row {
-        block: 0,
-        kinds: &[RE, RL, RC, RL, RA],
-        after: After {
-            labels: [1, 0, 0],
-            excess: [4, 0, 4],
-            flow: [0, 0],
-            source: [4, 0, 4],
-            sink: 0,
-        },
-    },
-    Row {
-        block: 0,
-        kinds: &[RE, RL, RC, RL],
-        after: After {
-            labels: [1, 0, 0],
-            excess: [4, 0, 4],
-            flow: [0, 0],
-            source: [4, 0, 4],
-            sink: 0,
-        },
-    },
-    Row {
-        block: 2,
-        kinds: &[RE, RL, RC, RL, RA],
-        after: After {
-            labels: [1, 0, 1],
-            excess: [4, 0, 4],
-            flow: [0, 0],
-            source: [4, 0, 4],
-            sink: 0,
-        },
-    },
-    Row {
-        block: 2,
-        kinds: &[RE, RL, RC, RL, GC, TE, GE],
-        after: After {
-            labels: [1, 0, 1],
-            excess: [4, 4, 0],
-            flow: [0, 4],
-            source: [4, 0, 4],
-            sink: 0,
-        },
-    },
-    Row {
-        block: 1,
-        kinds: &[RE, RC, RL, RC, RC, RL, RA],
-        after: After {
-            labels: [1, 1, 1],
-            excess: [4, 4, 0],
-            flow: [0, 4],
-            source: [4, 0, 4],
-            sink: 0,
-        },
-    },
-    Row {
-        block: 1,
-        kinds: &[RE, RC, RL, RC, RC, RL, TC, TE, GE],
-        after: After {
-            labels: [1, 1, 1],
-            excess: [4, 3, 0],
-            flow: [0, 4],
-            source: [4, 0, 4],
-            sink: 1,
-        },
-    },
-    Row {
-        block: 1,
-        kinds: &[RE, RC, RC, RC, RL, RA],
-        after: After {
-            labels: [1, 2, 1],
-            excess: [4, 3, 0],
-            flow: [0, 4],
-            source: [4, 0, 4],
-            sink: 1,
-        },
-    },
-    Row {
-        block: 1,
-        kinds: &[RE, RC, RC, RC, RL, TC, TE, GE],
-        after: After {
-            labels: [1, 2, 1],
-            excess: [4, 0, 3],
-            flow: [0, 1],
-            source: [4, 0, 4],
-            sink: 1,
-        },
-    },
-    Row {
-        block: 2,
-        kinds: &[RE, RL, RC, RL, RA],
-        after: After {
-            labels: [1, 2, 3],
-            excess: [4, 0, 3],
-            flow: [0, 1],
-            source: [4, 0, 4],
-            sink: 1,
-        },
-    },
-    Row {
-        block: 2,
-        kinds: &[RE, RL, RC, RL, GC, TE, GE],
-        after: After {
-            labels: [1, 2, 3],
-            excess: [4, 3, 0],
-            flow: [0, 4],
-            source: [4, 0, 4],
-            sink: 1,
-        },
-    },
-    Row {
-        block: 1,
-        kinds: &[RE, RC, RC, RC, RL, RA],
-        after: After {
-            labels: [1, 4, 3],
-            excess: [4, 3, 0],
-            flow: [0, 4],
-            source: [4, 0, 4],
-            sink: 1,
-        },
-    },
-    Row {
-        block: 0,
-        kinds: &[GC],
-        after: After {
-            labels: [1, 4, 3],
-            excess: [4, 3, 0],
-            flow: [4, 4],
-            source: [4, 0, 4],
-            sink: 1,
-        },
-    },
-    Row {
-        block: 0,
-        kinds: &[TE, GE],
-        after: After {
-            labels: [1, 4, 3],
-            excess: [0, 7, 0],
-            flow: [4, 4],
-            source: [4, 0, 4],
-            sink: 1,
-        },
-    },
-    Row {
-        block: 1,
-        kinds: &[RE, RC, RC, RL, RC, RL, TC, TE, GE],
-        after: After {
-            labels: [1, 4, 3],
-            excess: [4, 3, 0],
-            flow: [0, 4],
-            source: [4, 0, 4],
-            sink: 1,
-        },
-    },
-    Row {
-        block: 0,
-        kinds: &[RE, RL, RC, RL, RA],
-        after: After {
-            labels: [5, 4, 3],
-            excess: [4, 3, 0],
-            flow: [0, 4],
-            source: [4, 0, 4],
-            sink: 1,
-        },
-    },
-    Row {
-        block: 0,
-        kinds: &[RE, RL, RC, RL, GC, TE, GE],
-        after: After {
-            labels: [5, 4, 3],
-            excess: [0, 7, 0],
-            flow: [4, 4],
-            source: [4, 0, 4],
-            sink: 1,
-        },
-    },
-    Row {
-        block: 1,
-        kinds: &[RE, RC, RC, RL, RC, RL, TC, TE, GE],
-        after: After {
-            labels: [5, 4, 3],
-            excess: [0, 3, 4],
-            flow: [4, 0],
-            source: [4, 0, 4],
-            sink: 1,
-        },
-    },
-    Row {
-        block: 1,
-        kinds: &[RE, RC, RC, RL, RC, RA],
-        after: After {
-            labels: [5, 6, 3],
-            excess: [0, 3, 4],
-            flow: [4, 0],
-            source: [4, 0, 4],
-            sink: 1,
-        },
-    },
-    Row {
-        block: 1,
-        kinds: &[RE, RC, RC, RL, RC, TC, TE, GE],
-        after: After {
-            labels: [5, 6, 3],
-            excess: [3, 0, 4],
-            flow: [1, 0],
-            source: [4, 0, 4],
-            sink: 1,
-        },
-    },
-    Row {
-        block: 0,
-        kinds: &[RE, RL, RC, RL, RA],
-        after: After {
-            labels: [6, 6, 3],
-            excess: [3, 0, 4],
-            flow: [1, 0],
-            source: [4, 0, 4],
-            sink: 1,
-        },
-    },
-    Row {
-        block: 0,
-        kinds: &[RE, RL, RC, RL, TC, TE, GE],
-        after: After {
-            labels: [6, 6, 3],
-            excess: [0, 0, 4],
-            flow: [1, 0],
-            source: [1, 0, 4],
-            sink: 1,
-        },
-    },
-    Row {
-        block: 2,
-        kinds: &[RE, RL, RC, RL, RA],
-        after: After {
-            labels: [6, 6, 6],
-            excess: [0, 0, 4],
-            flow: [1, 0],
-            source: [1, 0, 4],
-            sink: 1,
-        },
-    },
-    Row {
-        block: 2,
-        kinds: &[RE, RL, RC, RL, TC, TE, GE],
-        after: After {
-            labels: [6, 6, 6],
-            excess: [0, 0, 0],
-            flow: [1, 0],
-            source: [1, 0, 0],
-            sink: 1,
-        },
-    },
+// The state after each of these.
+const AFTER: [After; 23] = [
+    ([1, 0, 0], [4, 0, 4], [0, 0], [4, 0, 4], 0),
+    ([1, 0, 0], [4, 0, 4], [0, 0], [4, 0, 4], 0),
+    ([1, 0, 1], [4, 0, 4], [0, 0], [4, 0, 4], 0),
+    ([1, 0, 1], [4, 4, 0], [0, 4], [4, 0, 4], 0),
+    ([1, 1, 1], [4, 4, 0], [0, 4], [4, 0, 4], 0),
+    ([1, 1, 1], [4, 3, 0], [0, 4], [4, 0, 4], 1),
+    ([1, 2, 1], [4, 3, 0], [0, 4], [4, 0, 4], 1),
+    ([1, 2, 1], [4, 0, 3], [0, 1], [4, 0, 4], 1),
+    ([1, 2, 3], [4, 0, 3], [0, 1], [4, 0, 4], 1),
+    ([1, 2, 3], [4, 3, 0], [0, 4], [4, 0, 4], 1),
+    ([1, 4, 3], [4, 3, 0], [0, 4], [4, 0, 4], 1),
+    ([1, 4, 3], [4, 3, 0], [4, 4], [4, 0, 4], 1),
+    ([1, 4, 3], [0, 7, 0], [4, 4], [4, 0, 4], 1),
+    ([1, 4, 3], [4, 3, 0], [0, 4], [4, 0, 4], 1),
+    ([5, 4, 3], [4, 3, 0], [0, 4], [4, 0, 4], 1),
+    ([5, 4, 3], [0, 7, 0], [4, 4], [4, 0, 4], 1),
+    ([5, 4, 3], [0, 3, 4], [4, 0], [4, 0, 4], 1),
+    ([5, 6, 3], [0, 3, 4], [4, 0], [4, 0, 4], 1),
+    ([5, 6, 3], [3, 0, 4], [1, 0], [4, 0, 4], 1),
+    ([6, 6, 3], [3, 0, 4], [1, 0], [4, 0, 4], 1),
+    ([6, 6, 3], [0, 0, 4], [1, 0], [1, 0, 4], 1),
+    ([6, 6, 6], [0, 0, 4], [1, 0], [1, 0, 4], 1),
+    ([6, 6, 6], [0, 0, 0], [1, 0], [1, 0, 0], 1),
 ];
 
 fn worth(value: i128) -> Worth {
@@ -331,31 +116,34 @@ fn push_steps(rt: &impl Abort, events: &mut Vec<Event>, block: u32, kinds: &[Kin
 }
 
 fn push_rows(rt: &impl Abort, events: &mut Vec<Event>) {
-    for row in &ROWS {
-        push_steps(rt, events, row.block, row.kinds);
+    for row in &STEPS {
+        let (block, kinds) = *row;
+        push_steps(rt, events, block, kinds);
     }
 }
 
 // The state after a row, in whole values.
-fn is_state(rt: &impl Abort, state: &State<Worth>, row: &After) {
+fn is_state(rt: &impl Abort, state: &State<Worth>, after: After) {
+    let (labels, excess, _, source, _) = after;
     assert!(rt; state.len() == 3);
     for b in 0..3u32 {
         let i = b as usize;
-        same(rt, state.label(b), row.labels[i]);
-        same(rt, state.excess(b), worth(row.excess[i]));
-        same(rt, state.source(b), worth(row.source[i]));
+        same(rt, state.label(b), labels[i]);
+        same(rt, state.excess(b), worth(excess[i]));
+        same(rt, state.source(b), worth(source[i]));
     }
 }
 
 // What pairs carry after it, and what block 1 gave the sink.
-fn is_flow(rt: &impl Abort, state: &State<Worth>, net: &Net<Worth>, row: &After)
+fn is_flow(rt: &impl Abort, state: &State<Worth>, net: &Net<Worth>, after: After)
     requires { IsStateOf net.now state.now }
 {
+    let (_, _, flow, _, sink) = after;
     assert!(rt; net.rests().pairs() == 2);
-    same(rt, state.flow(0), worth(row.flow[0]));
-    same(rt, state.flow(1), worth(row.flow[1]));
+    same(rt, state.flow(0), worth(flow[0]));
+    same(rt, state.flow(1), worth(flow[1]));
     assert!(rt; state.len() == 3);
-    same(rt, state.sink(1), worth(row.sink));
+    same(rt, state.sink(1), worth(sink));
 }
 
 // What two of the steps saw.
@@ -392,12 +180,11 @@ fn make_rows(rt: &impl Abort, state: &mut State<Worth>, net: &Net<Worth>)
     requires { IsStateOf net.now state.old }
     ensures { IsStateOf net.now state.new }
 {
-    for row in &ROWS {
-        let kinds: &[Kind] = row.kinds;
-        make_row(rt, state, net, row.block, kinds);
-        let after = row.after;
-        is_state(rt, state, &after);
-        is_flow(rt, state, net, &after);
+    for row in 0..23usize {
+        let (block, kinds) = STEPS[row];
+        make_row(rt, state, net, block, kinds);
+        is_state(rt, state, AFTER[row]);
+        is_flow(rt, state, net, AFTER[row]);
     }
 }
 

@@ -15,6 +15,7 @@ use std::thread;
 use std::thread::Threads;
 use std::time::{Clock, Duration};
 use word_runner::solve_words;
+use workers::SolveFault::{BadWorkers, TooLarge, Unsettled};
 use workers::{Gate, OpenGate, SolveFault};
 
 // A net of these pairs and these worths in units.
@@ -94,43 +95,25 @@ fn runs_leave_the_best_pits(rt: HostRuntime) -> Result<(), Fail> {
 #[test]
 fn faults_of_runs(rt: HostRuntime) -> Result<(), Fail> {
     let cases: [(&[(u32, u32)], &[i128], u32, u64, SolveFault); 8] = [
-        (
-            &[(0, 2), (1, 2)],
-            &DEAR_WASTE,
-            0,
-            1_000,
-            SolveFault::BadWorkers,
-        ),
-        (
-            &[(0, 2), (1, 2)],
-            &DEAR_WASTE,
-            3,
-            1_000,
-            SolveFault::BadWorkers,
-        ),
-        (&[(0, 2), (1, 2)], &DEAR_WASTE, 1, 3, SolveFault::Unsettled),
-        (&[], &[9_999_999_999], 1, 9, SolveFault::Unsettled),
-        (&[], &[9_999_999_999], 2, 8, SolveFault::Unsettled),
-        (
-            &[],
-            &[9_223_372_036_854_775_808],
-            1,
-            1_000,
-            SolveFault::TooLarge,
-        ),
+        (&[(0, 2), (1, 2)], &DEAR_WASTE, 0, 1_000, BadWorkers),
+        (&[(0, 2), (1, 2)], &DEAR_WASTE, 3, 1_000, BadWorkers),
+        (&[(0, 2), (1, 2)], &DEAR_WASTE, 1, 3, Unsettled),
+        (&[], &[9_999_999_999], 1, 9, Unsettled),
+        (&[], &[9_999_999_999], 2, 8, Unsettled),
+        (&[], &[9_223_372_036_854_775_808], 1, 1_000, TooLarge),
         (
             &[(0, 1), (1, 0)],
             &[4_611_686_018_427_387_905, -1],
             1,
             1_000,
-            SolveFault::TooLarge,
+            TooLarge,
         ),
         (
             &[(0, 1), (1, 0)],
             &[4_611_686_018_427_387_905, -1],
             2,
             MANY_TURNS,
-            SolveFault::TooLarge,
+            TooLarge,
         ),
     ];
     for (pairs, units, workers, steps, fault) in cases {

@@ -1,9 +1,10 @@
 -- What holds of the texts that the devices of a mine tell, and the counts of their failures.
-use Rattle.std.proofs.Common.{◌≡◌, ℕ, ◌+◌, List, refl, arith, Option, Some, None, IfSome}
+use Rattle.std.proofs.Common.{◌≡◌, ℕ, ◌+◌, List, refl, ap, arith, Option, Some, None, IfSome}
 use Rattle.mine_inputs.specs.declared.mines.WorthInputs.{WorthInputs}
 use Rattle.mine_inputs.specs.declared.mines.WorthInputs.TheVariants.{Values, Prices}
 use Rattle.mine_inputs.specs.declared.mines.MineInputs.{MineInputs}
-use Rattle.mine_inputs.specs.Prelude.{ForWorths, ForTexts, worths_failures, is_priced, NoWorthsFailed, NoneFailed, OneFailed, MineTexts, mine_texts, priced_texts, precedence_of}
+use Rattle.mine_inputs.specs.declared.mines.MineInputs.TheVariants.{Listed, Sloped}
+use Rattle.mine_inputs.specs.Prelude.{ForWorths, ForTexts, worths_failures, mine_failures, is_priced, kind_of, listed_kind, NoWorthsFailed, NoneFailed, OneFailed, MineTexts, mine_texts, priced_texts, sloped_texts}
 
 -- ---- texts
 
@@ -26,15 +27,24 @@ all_worths (Prices settings blocks) remaining factor precedence Q f =
     always (remaining settings) (λ s. IfSome (remaining blocks) (λ b. Q (priced_texts s b precedence factor))) (λ s. always (remaining blocks) (λ b. Q (priced_texts s b precedence factor)) (λ b. f (priced_texts s b precedence factor)))
 
 pub all_texts : {D : Type 0} (mine : MineInputs D) (remaining : D → Option (List ℕ)) (factor : ℕ) (Q : MineTexts → Type 0) → ((texts : MineTexts) → Q texts) → ForTexts mine remaining factor Q
-all_texts mine remaining factor Q f = always (remaining mine.prec) (λ p. ForWorths mine.worths remaining factor p Q) (λ p. all_worths mine.worths remaining factor p Q f)
+all_texts (Listed worths prec) remaining factor Q f = always (remaining prec) (λ p. ForWorths worths remaining factor p Q) (λ p. all_worths worths remaining factor p Q f)
+all_texts (Sloped settings blocks) remaining factor Q f =
+    always (remaining settings) (λ s. IfSome (remaining blocks) (λ b. Q (sloped_texts s b factor))) (λ s. always (remaining blocks) (λ b. Q (sloped_texts s b factor)) (λ b. f (sloped_texts s b factor)))
+
+-- the texts have this precedence
+abbrev pub HasPrecedence : MineTexts → List ℕ → Type 0
+HasPrecedence (mine_texts values precedence) p = precedence ≡ p
+HasPrecedence (priced_texts settings blocks precedence factor) p = precedence ≡ p
+HasPrecedence (sloped_texts settings blocks factor) p = ⊥
 
 -- what follows from what holds of them
-pub for_worths : {D : Type 0} (inputs : WorthInputs D) (remaining : D → Option (List ℕ)) (factor : ℕ) (precedence : List ℕ) (P Q : MineTexts → Type 0) → ForWorths inputs remaining factor precedence P → ((texts : MineTexts) → precedence_of texts ≡ precedence → P texts → Q texts) → ForWorths inputs remaining factor precedence Q
+pub for_worths : {D : Type 0} (inputs : WorthInputs D) (remaining : D → Option (List ℕ)) (factor : ℕ) (precedence : List ℕ) (P Q : MineTexts → Type 0) → ForWorths inputs remaining factor precedence P → ((texts : MineTexts) → HasPrecedence texts precedence → P texts → Q texts) → ForWorths inputs remaining factor precedence Q
 for_worths (Values upit) remaining factor precedence P Q h f = under (remaining upit) (λ u. P (mine_texts u precedence)) (λ u. Q (mine_texts u precedence)) h (λ u a. f (mine_texts u precedence) refl a)
 for_worths (Prices settings blocks) remaining factor precedence P Q h f = under2 (remaining settings) (remaining blocks) (λ s b. P (priced_texts s b precedence factor)) (λ s b. Q (priced_texts s b precedence factor)) h (λ s b a. f (priced_texts s b precedence factor) refl a)
 
 pub for_texts : {D : Type 0} (mine : MineInputs D) (remaining : D → Option (List ℕ)) (factor : ℕ) (P Q : MineTexts → Type 0) → ForTexts mine remaining factor P → ((texts : MineTexts) → P texts → Q texts) → ForTexts mine remaining factor Q
-for_texts mine remaining factor P Q h f = under (remaining mine.prec) (λ p. ForWorths mine.worths remaining factor p P) (λ p. ForWorths mine.worths remaining factor p Q) h (λ p a. for_worths mine.worths remaining factor p P Q a (λ texts same x. f texts x))
+for_texts (Listed worths prec) remaining factor P Q h f = under (remaining prec) (λ p. ForWorths worths remaining factor p P) (λ p. ForWorths worths remaining factor p Q) h (λ p a. for_worths worths remaining factor p P Q a (λ texts same x. f texts x))
+for_texts (Sloped settings blocks) remaining factor P Q h f = under2 (remaining settings) (remaining blocks) (λ s b. P (sloped_texts s b factor)) (λ s b. Q (sloped_texts s b factor)) h (λ s b a. f (sloped_texts s b factor) a)
 
 -- ---- failures
 
@@ -48,10 +58,20 @@ kind_kept (Values upit) (Values upit') failed h = refl
 kind_kept (Prices settings blocks) (Prices settings' blocks') failed h = refl
 kind_kept _ _ failed h = absurd h
 
+none_kept : {D : Type 0} (old new : MineInputs D) (failed : D → ℕ) → NoneFailed old new failed → mine_failures new failed ≡ mine_failures old failed
+none_kept (Listed worths prec) (Listed worths' prec') failed h = let kept = worths_kept worths worths' failed h.0 in let same = h.1 in omega (arith, kept, same)
+none_kept (Sloped settings blocks) (Sloped settings' blocks') failed h = omega (arith, h.0, h.1)
+none_kept _ _ failed h = absurd h
+
+kinds_kept : {D : Type 0} (old new : MineInputs D) (failed : D → ℕ) → NoneFailed old new failed → kind_of new ≡ kind_of old
+kinds_kept (Listed worths prec) (Listed worths' prec') failed h = ap listed_kind (kind_kept worths worths' failed h.0)
+kinds_kept (Sloped settings blocks) (Sloped settings' blocks') failed h = refl
+kinds_kept _ _ failed h = absurd h
+
 -- one of the mine's failed, and none of those beside them
 pub mine_once : {D : Type 0} (old new : MineInputs D) (failed : D → ℕ) (others others' : ℕ) → OneFailed old new failed 0 0 → others' ≡ others → OneFailed old new failed others others'
 mine_once old new failed others others' h k = let one = h.one in record { kind = h.kind; one = omega (arith, one, k) }
 
 -- one of those beside them failed, and none of the mine's
 pub other_once : {D : Type 0} (old new : MineInputs D) (failed : D → ℕ) (others others' : ℕ) → NoneFailed old new failed → others' ≡ others + 1 → OneFailed old new failed others others'
-other_once old new failed others others' h k = let kept = worths_kept old.worths new.worths failed h.0 in let prec = h.1 in record { kind = kind_kept old.worths new.worths failed h.0; one = omega (arith, kept, prec, k) }
+other_once old new failed others others' h k = let kept = none_kept old new failed h in record { kind = kinds_kept old new failed h; one = omega (arith, kept, k) }

@@ -1,6 +1,10 @@
 -- From what is read of the inputs of a mine to the mine of its texts.
 use Rattle.fixed_worth.proofs.Common.{◌≡◌, ℕ, ℤ, pos, List, refl, sym, ap, ◌∙◌, subst, arith, Option, Some, None, IfSome, length-map-range_with_len, get_or-map-range_with_len, common_steps}
-use Rattle.prec_file.specs.Rests.{RestsView}
+use Rattle.prec_file.specs.Rests.{RestsView, ArePairsOf}
+use Rattle.prec_file.specs.declared.prec_fault.PrecFault.{PrecFault}
+use Rattle.mine_inputs.specs.declared.engine_fault.Problem.{Problem}
+use Rattle.mine_inputs.specs.declared.mines.WorthInputs.{WorthInputs}
+use Rattle.mine_inputs.proofs.Listed.{by_listed}
 use Rattle.prec_file.specs.Records as prec
 use Rattle.upit_file.specs.Records as upit
 use Rattle.settings_file.specs.Settings.{SettingsView, first_missing}
@@ -12,9 +16,9 @@ use Rattle.mine_inputs.specs.declared.mines.MineInputs.{MineInputs}
 use Rattle.mine_inputs.specs.declared.priced_inputs.PriceColumns.{PriceColumns}
 use Rattle.mine_inputs.specs.declared.worths.Worths.{Worths}
 use Rattle.mine_inputs.specs.declared.worths.Worths.TheVariants.{Values, Prices}
-use Rattle.mine_inputs.specs.Prelude.{MineFails, PrecFails, ReadsUpit, ReadsSettingsText, SettingsReadFails, IsMissing, ReadsPrices, PricesReadFail, ReadsPrec, PrecReadFails, PricedMineFails, ForWorths, ForTexts, MineTexts, mine_texts, priced_texts, precedence_of, price_wanted, WorthsRead, price_keys, slope_keys, columns_said, table_by, table_of, AreRead, AreWorthsOf, IsMineRead, blocks_valued, nanos_at, price_at}
+use Rattle.mine_inputs.specs.Prelude.{MineFails, PrecFails, ReadsUpit, ReadsSettingsText, SettingsReadFails, IsMissing, ReadsPrices, PricesReadFail, ReadsPrec, PrecReadFails, PricedMineFails, ForWorths, ForTexts, MineTexts, mine_texts, priced_texts, sloped_texts, rests_of, price_wanted, WorthsRead, RestsRead, PrecedenceRead, PrecedenceFails, AreWorths, ArePairsBy, price_keys, slope_keys, columns_said, table_by, table_of, AreRead, AreWorthsOf, IsMineRead, blocks_valued, nanos_at, price_at}
 use Rattle.settings_file.proofs.Known.{settings_are}
-use Rattle.mine_inputs.proofs.MineDevices.{always, under, under2, all_texts, for_worths, for_texts}
+use Rattle.mine_inputs.proofs.MineDevices.{HasPrecedence, always, under, under2, all_texts, for_worths, for_texts}
 use Rattle.mine_inputs.proofs.PricedAnswers.{settings_answer, missing_answer, prices_unsaid, prices_answer, prices_said, priced}
 
 -- ---- values
@@ -70,8 +74,13 @@ module _ (o q : Option (List ℕ)) (p : List ℕ) (k : ℕ) where
 
 -- ---- either kind, and the precedence
 
-prec_fails : (texts : MineTexts) (n : ℕ) (p : List ℕ) (e : EngineFault) → precedence_of texts ≡ p → WorthsRead texts n → PrecReadFails n p e → MineFails texts e
-prec_fails texts n p (engine.Prec q) same v h = (n, v, subst (λ (x : List ℕ). PrecFails n x q) (sym same) h)
+precedence_fails : (texts : MineTexts) (n : ℕ) (p : List ℕ) (q : Problem PrecFault) → HasPrecedence texts p → PrecFails n p q → PrecedenceFails texts n q
+precedence_fails (mine_texts values precedence) n p q same h = subst (λ (x : List ℕ). PrecFails n x q) (sym same) h
+precedence_fails (priced_texts settings blocks precedence factor) n p q same h = subst (λ (x : List ℕ). PrecFails n x q) (sym same) h
+precedence_fails (sloped_texts settings blocks factor) n p q same h = absurd same
+
+prec_fails : (texts : MineTexts) (n : ℕ) (p : List ℕ) (e : EngineFault) → HasPrecedence texts p → WorthsRead texts n → PrecReadFails n p e → MineFails texts e
+prec_fails texts n p (engine.Prec q) same v h = (n, v, precedence_fails texts n p q same h)
 prec_fails texts n p engine.Memory same v h = h
 prec_fails texts n p engine.Device same v h = h
 prec_fails texts n p _ same v h = absurd h
@@ -80,14 +89,33 @@ prec_fails texts n p _ same v h = absurd h
 pub read_as : (texts : MineTexts) (worths shown : List ℤ) (rests : RestsView) → shown ≡ worths → AreRead texts worths rests → AreRead texts shown rests
 read_as texts worths shown rests e a = subst (λ (ws : List ℤ). AreRead texts ws rests) (sym e) a
 
-mine_known : (texts : MineTexts) (p : List ℕ) (factor n : ℕ) (worths : Worths) (rests : RestsView) → precedence_of texts ≡ p → n ≡ blocks_valued worths → AreWorthsOf texts factor worths → ReadsPrec n p rests → IsMineRead texts factor worths rests
-mine_known texts p factor n worths rests same e a b = grind (arith, common_steps)
+precedence_read : (texts : MineTexts) (p : List ℕ) (n : ℕ) → HasPrecedence texts p → PrecedenceRead p n → RestsRead texts n
+precedence_read (mine_texts values precedence) p n same h = subst (λ (x : List ℕ). PrecedenceRead x n) (sym same) h
+precedence_read (priced_texts settings blocks precedence factor) p n same h = subst (λ (x : List ℕ). PrecedenceRead x n) (sym same) h
+precedence_read (sloped_texts settings blocks factor) p n same h = absurd same
+
+pairs_read : (texts : MineTexts) (p : List ℕ) (pairs : List (ℕ × ℕ)) → HasPrecedence texts p → ArePairsOf (prec.pairs_of_text p) pairs → ArePairsBy (rests_of texts) pairs
+pairs_read (mine_texts values precedence) p pairs same h = by_listed (prec.pairs_of_text precedence) pairs (subst (λ (x : List ℕ). ArePairsOf (prec.pairs_of_text x) pairs) (sym same) h)
+pairs_read (priced_texts settings blocks precedence factor) p pairs same h = by_listed (prec.pairs_of_text precedence) pairs (subst (λ (x : List ℕ). ArePairsOf (prec.pairs_of_text x) pairs) (sym same) h)
+pairs_read (sloped_texts settings blocks factor) p pairs same h = absurd same
+
+-- what is said of the worths that were read and of the pairs, where these are of as many blocks
+pub mine_of_parts : (texts : MineTexts) (factor : ℕ) (worths : Worths) (rests : RestsView) → blocks_valued worths ≡ rests.blocks → AreWorthsOf texts factor worths → RestsRead texts rests.blocks → ArePairsBy (rests_of texts) rests.pairs → IsMineRead texts factor worths rests
+mine_of_parts texts factor worths rests size a read pairs = (
+  record {
+    mine = record { worths_read = subst (WorthsRead texts) size a.read; rests_read = read };
+    worths = subst (λ (n : ℕ). AreWorths texts n (nanos_at worths factor)) size a.are;
+    pairs = pairs;
+  },
+  a.price,
+)
+
+mine_known : (texts : MineTexts) (p : List ℕ) (factor n : ℕ) (worths : Worths) (rests : RestsView) → HasPrecedence texts p → n ≡ blocks_valued worths → AreWorthsOf texts factor worths → ReadsPrec n p rests → IsMineRead texts factor worths rests
+mine_known texts p factor n worths rests same e a b =
+    let known : PrecedenceRead p rests.blocks = record { within = b.0; read = subst (λ (m : ℕ). prec.fault_of m p ≡ None) (sym b.2) b.1 } in
+    mine_of_parts texts factor worths rests (sym e ∙ sym b.2) a (precedence_read texts p rests.blocks same known) (pairs_read texts p rests.pairs same b.3)
 
 module _ {D : Type 0} (mine : MineInputs D) (remaining : D → Option (List ℕ)) (factor : ℕ) where
-  -- what the blocks are worth wasn't read
-  pub worths_unread : (e : EngineFault) → ((p : List ℕ) → ForWorths mine.worths remaining factor p (λ texts. MineFails texts e)) → ForTexts mine remaining factor (λ texts. MineFails texts e)
-  worths_unread e h = always (remaining mine.prec) (λ p. ForWorths mine.worths remaining factor p (λ texts. MineFails texts e)) h
-
   pub memory_refused : ForTexts mine remaining factor (λ texts. MineFails texts engine.Memory)
   memory_refused = all_texts mine remaining factor (λ texts. MineFails texts engine.Memory) (λ texts. tt)
 
@@ -97,11 +125,20 @@ module _ {D : Type 0} (mine : MineInputs D) (remaining : D → Option (List ℕ)
   mine_priced worths rests nanos price h e f = for_texts mine remaining factor (λ texts. IsMineRead texts factor worths rests) (λ texts. AreRead texts nanos rests × (price ≡ price_wanted texts)) h (λ texts r.
       (read_as texts (nanos_at worths factor) nanos rests e r.0, f ∙ r.1))
 
-  module _ (worths : Worths) (n : ℕ) (size : n ≡ blocks_valued worths) (known : (p : List ℕ) → ForWorths mine.worths remaining factor p (λ texts. AreWorthsOf texts factor worths)) where
-    pub prec_unread : (e : EngineFault) → IfSome (remaining mine.prec) (λ p. PrecReadFails n p e) → ForTexts mine remaining factor (λ texts. MineFails texts e)
-    prec_unread e h = under (remaining mine.prec) (λ p. PrecReadFails n p e) (λ p. ForWorths mine.worths remaining factor p (λ texts. MineFails texts e)) h (λ p f.
-        for_worths mine.worths remaining factor p (λ texts. AreWorthsOf texts factor worths) (λ texts. MineFails texts e) (known p) (λ texts same a. prec_fails texts n p e same (subst (WorthsRead texts) (sym size) a.read) f))
+-- a mine whose precedence is a text of its own
+module _ {D : Type 0} (inputs : WorthInputs D) (from : D) (remaining : D → Option (List ℕ)) (factor : ℕ) where
+  abbrev pub ForListed : (MineTexts → Type 0) → Type 0
+  ForListed P = IfSome (remaining from) (λ p. ForWorths inputs remaining factor p P)
 
-    pub mine_read : (rests : RestsView) → IfSome (remaining mine.prec) (λ p. ReadsPrec n p rests) → ForTexts mine remaining factor (λ texts. IsMineRead texts factor worths rests)
-    mine_read rests h = under (remaining mine.prec) (λ p. ReadsPrec n p rests) (λ p. ForWorths mine.worths remaining factor p (λ texts. IsMineRead texts factor worths rests)) h (λ p b.
-        for_worths mine.worths remaining factor p (λ texts. AreWorthsOf texts factor worths) (λ texts. IsMineRead texts factor worths rests) (known p) (λ texts same a. mine_known texts p factor n worths rests same size a b))
+  -- what the blocks are worth wasn't read
+  pub worths_unread : (e : EngineFault) → ((p : List ℕ) → ForWorths inputs remaining factor p (λ texts. MineFails texts e)) → ForListed (λ texts. MineFails texts e)
+  worths_unread e h = always (remaining from) (λ p. ForWorths inputs remaining factor p (λ texts. MineFails texts e)) h
+
+  module _ (worths : Worths) (n : ℕ) (size : n ≡ blocks_valued worths) (known : (p : List ℕ) → ForWorths inputs remaining factor p (λ texts. AreWorthsOf texts factor worths)) where
+    pub prec_unread : (e : EngineFault) → IfSome (remaining from) (λ p. PrecReadFails n p e) → ForListed (λ texts. MineFails texts e)
+    prec_unread e h = under (remaining from) (λ p. PrecReadFails n p e) (λ p. ForWorths inputs remaining factor p (λ texts. MineFails texts e)) h (λ p f.
+        for_worths inputs remaining factor p (λ texts. AreWorthsOf texts factor worths) (λ texts. MineFails texts e) (known p) (λ texts same a. prec_fails texts n p e same (subst (WorthsRead texts) (sym size) a.read) f))
+
+    pub mine_read : (rests : RestsView) → IfSome (remaining from) (λ p. ReadsPrec n p rests) → ForListed (λ texts. IsMineRead texts factor worths rests)
+    mine_read rests h = under (remaining from) (λ p. ReadsPrec n p rests) (λ p. ForWorths inputs remaining factor p (λ texts. IsMineRead texts factor worths rests)) h (λ p b.
+        for_worths inputs remaining factor p (λ texts. AreWorthsOf texts factor worths) (λ texts. IsMineRead texts factor worths rests) (known p) (λ texts same a. mine_known texts p factor n worths rests same size a b))

@@ -11,7 +11,8 @@ use Rattle.settings_file.specs.Settings.{SettingsView, ReadsSettings, first_miss
 use Rattle.settings_file.proofs.Known.{settings_are, settings_read}
 use Rattle.prec_file.specs.Records as prec
 use Rattle.shells.specs.Prices.{PricesView, plain_costs, mill_costs, NoRevenueNegative, PricesFaultStands, priced_count, worth_at, worths_at}
-use Rattle.mine_inputs.specs.Prelude.{priced_texts, ReadsBlocks, ReadsSettingsText, SettingsReadFails, ReadsPrices, ReadsPrec, PricesReadFail, ModelPricesFail, cell, cells, values_of, charge_list, column_list, columns_said, costs_at, first_charges, first_columns, table_at, table_by, table_of, price_keys, slope_keys, price_columns, ColumnsKnown, IsWithinLimit, AreRead, ArePricesRead, of_settings}
+use Rattle.mine_inputs.specs.Prelude.{PrecedenceBy, by_slopes, by_text, texts_by, worth_by, ReadsBlocks, ReadsSettingsText, SettingsReadFails, ReadsPrices, ReadsPrec, PricesReadFail, ModelPricesFail, cell, cells, values_of, charge_list, column_list, columns_said, costs_at, first_charges, first_columns, table_at, table_by, table_of, price_keys, slope_keys, price_columns, ColumnsKnown, IsWithinLimit, AreRead, ArePricesRead, of_settings}
+use Rattle.mine_inputs.proofs.Listed.{by_listed}
 use Rattle.mine_inputs.specs.declared.engine_fault.EngineFault.{EngineFault}
 use Rattle.mine_inputs.specs.declared.engine_fault.EngineFault.TheVariants as engine
 use Rattle.mine_inputs.specs.declared.engine_fault.Problem.TheVariants as problem
@@ -19,17 +20,22 @@ use Rattle.mine_inputs.specs.declared.priced_inputs.ChargeColumns.{ChargeColumns
 use Rattle.mine_inputs.specs.declared.priced_inputs.ChargeColumns.TheVariants.{Plain, Mill}
 use Rattle.mine_inputs.specs.declared.priced_inputs.PriceColumns.{PriceColumns}
 
+-- what a block is worth is said by the prices, whatever says who rests on whom
+pub worth_by_prices : (settings text : List ℕ) (precedence : PrecedenceBy) (k b : ℕ) → worth_by (texts_by settings text precedence k) b ≡ worth_at (table_of settings text) k b
+worth_by_prices settings text (by_text precedence) k b = refl
+worth_by_prices settings text by_slopes k b = refl
+
 -- the worths at a factor are those of the mine
-pub worths_priced : (settings text precedence : List ℕ) (table : PricesView) (rests : RestsView) (k : ℕ) → ArePricesRead settings text precedence table rests → AreRead (priced_texts settings text precedence k) (worths_at table k) rests
+pub worths_priced : (settings text : List ℕ) (precedence : PrecedenceBy) (table : PricesView) (rests : RestsView) (k : ℕ) → ArePricesRead settings text precedence table rests → AreRead (texts_by settings text precedence k) (worths_at table k) rests
 worths_priced settings text precedence table rests k a = record {
   mine = a.mine k;
   worths = record {
     size = length-map-range_with_len (worth_at table k) 0 (priced_count table) ∙ a.size;
     each = λ b h.
         let l : b < priced_count table = omega (arith, h, a.size) in
-        get_or-map-range_with_len (worth_at table k) 0 (priced_count table) b b (pos 0) l (omega arith) ∙ ap (λ (t : PricesView). worth_at t k b) a.table;
+        get_or-map-range_with_len (worth_at table k) 0 (priced_count table) b b (pos 0) l (omega arith) ∙ ap (λ (t : PricesView). worth_at t k b) a.table ∙ sym (worth_by_prices settings text precedence k b);
   };
-  pairs = a.pairs;
+  pairs = a.pairs k;
 }
 
 -- a chosen column of a model is that of its text
@@ -102,7 +108,7 @@ prices_told (Some text) columns m (Err fault) h f = prices_fail text columns m f
 
 -- the texts that price blocks, and the precedence, were read
 pub all_read : (settings text precedence : List ℕ) (said : SettingsView) (table : PricesView) (rests : RestsView) (n : ℕ) → n ≡ priced_count table → NoRevenueNegative table → first_missing (price_keys said) said ≡ None → ReadsSettingsText slope_keys settings said → ReadsPrices (columns_said said) text table → ReadsPrec n precedence rests
-    → ArePricesRead settings text precedence table rests
+    → ArePricesRead settings text (by_text precedence) table rests
 all_read settings text precedence said table rests n e positive whole s t p =
     let known = settings_are settings said s.1 in
     let is : table ≡ table_of settings text = t.is ∙ ap (λ (v : SettingsView). table_by v text) (sym known) in
@@ -116,10 +122,9 @@ all_read settings text precedence said table rests n e positive whole s t p =
     record {
       mine = λ factor. record {
         worths_read = record { columns = columns; within = t.within; read = subst C (sym known) t.read; count = count; revenues = subst NoRevenueNegative is positive };
-        precedence_within = p.0;
-        precedence_read = subst F (sym p.2) p.1;
+        rests_read = record { within = p.0; read = subst F (sym p.2) p.1 };
       };
       table = is;
       size = size;
-      pairs = p.3;
+      pairs = λ factor. by_listed (prec.pairs_of_text precedence) rests.pairs p.3;
     }

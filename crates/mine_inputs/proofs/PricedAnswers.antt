@@ -9,14 +9,16 @@ use Rattle.settings_file.proofs.Known.{settings_are, settings_read}
 use Rattle.shells.specs.Prices.{PricesView, PricesFaultStands, NoRevenueNegative, priced_count}
 use Rattle.mine_inputs.specs.declared.engine_fault.EngineFault.{EngineFault}
 use Rattle.mine_inputs.specs.declared.engine_fault.EngineFault.TheVariants as engine
+use Rattle.mine_inputs.specs.declared.engine_fault.Problem.{Problem}
 use Rattle.mine_inputs.specs.declared.engine_fault.Problem.TheVariants as problem
+use Rattle.settings_file.specs.declared.settings_fault.SettingsFault.{SettingsFault}
 use Rattle.mine_inputs.specs.declared.priced_inputs.PriceColumns.{PriceColumns}
-use Rattle.mine_inputs.specs.Prelude.{BlocksFails, price_keys, slope_keys, columns_said, price_columns, cell, table_by, table_of, KeysSaid, ColumnsKnown, PricesRead, SettingsFails, ReadsSettingsText, SettingsReadFails, IsMissing, ReadsPrices, PricesReadFail, ReadsPrec, PrecReadFails, PricedMineFails, ArePricesRead}
+use Rattle.mine_inputs.specs.Prelude.{BlocksFails, price_keys, slope_keys, columns_said, price_columns, cell, table_by, table_of, KeysSaid, ColumnsKnown, PricesRead, SettingsFails, ReadsSettingsText, SettingsReadFails, IsMissing, ReadsPrices, PricesReadFail, ReadsPrec, PrecReadFails, PricedMineFails, ArePricesRead, by_text}
 use Rattle.mine_inputs.proofs.Priced.{all_read}
 
 -- ---- readers that tell their bytes
 
-pub under3 : (o q r : Option (List ℕ)) (P Q : List ℕ → List ℕ → List ℕ → Type 0) → IfSome o (λ s. IfSome q (λ b. IfSome r (λ p. P s b p))) → ((s b p : List ℕ) → P s b p → Q s b p) → IfSome o (λ s. IfSome q (λ b. IfSome r (λ p. Q s b p)))
+pub under3 : {X : Type 0} (o q : Option (List ℕ)) (r : Option X) (P Q : List ℕ → List ℕ → X → Type 0) → IfSome o (λ s. IfSome q (λ b. IfSome r (λ p. P s b p))) → ((s b : List ℕ) (p : X) → P s b p → Q s b p) → IfSome o (λ s. IfSome q (λ b. IfSome r (λ p. Q s b p)))
 under3 (Some s) (Some b) (Some p) P Q h f = f s b p h
 under3 _ _ _ P Q h f = tt
 
@@ -26,14 +28,18 @@ anything (Some c) = tt
 
 -- ---- the texts of a mine of prices
 
+-- what reading settings tells is a fault of settings that need some of the keys
+pub settings_refused : (needed : SettingsView → List Key) (unused : List Key) (s : List ℕ) (q : Problem SettingsFault) → SettingsReadFails unused s (engine.Settings q) → SettingsFails needed unused s q
+settings_refused needed unused s problem.InputTooLong h = h
+settings_refused needed unused s (problem.Fault settings_fault.NotToml) h = h
+settings_refused needed unused s (problem.Fault settings_fault.UnknownKey) h = h
+settings_refused needed unused s (problem.Fault (settings_fault.BadValue key)) h = h
+settings_refused needed unused s (problem.Fault (settings_fault.Unused key)) h = h
+settings_refused needed unused s (problem.Fault (settings_fault.Missing key)) h = absurd (let z : None ≡ Some key = h.1.1 in cc)
+settings_refused needed unused s (problem.Fault settings_fault.NoMemory) h = h
+
 settings_fail : (s b p : List ℕ) (e : EngineFault) → SettingsReadFails slope_keys s e → PricedMineFails s b p e
-settings_fail s b p (engine.Settings problem.InputTooLong) h = h
-settings_fail s b p (engine.Settings (problem.Fault settings_fault.NotToml)) h = h
-settings_fail s b p (engine.Settings (problem.Fault settings_fault.UnknownKey)) h = h
-settings_fail s b p (engine.Settings (problem.Fault (settings_fault.BadValue key))) h = h
-settings_fail s b p (engine.Settings (problem.Fault (settings_fault.Unused key))) h = h
-settings_fail s b p (engine.Settings (problem.Fault (settings_fault.Missing key))) h = absurd (let z : None ≡ Some key = h.1.1 in cc)
-settings_fail s b p (engine.Settings (problem.Fault settings_fault.NoMemory)) h = h
+settings_fail s b p (engine.Settings q) h = settings_refused price_keys slope_keys s q h
 settings_fail s b p engine.Memory h = tt
 settings_fail s b p engine.Device h = tt
 settings_fail s b p _ h = absurd h
@@ -110,6 +116,6 @@ prec_answer (Some s) (Some b) (Some p) said table n e size positive whole a t h 
 prec_answer _ _ _ said table n e size positive whole a t h = tt
 
 pub mine_answer : (o q r : Option (List ℕ)) (said : SettingsView) (table : PricesView) (rests : RestsView) (n : ℕ) → n ≡ priced_count table → NoRevenueNegative table → first_missing (price_keys said) said ≡ None → IfSome o (λ s. ReadsSettingsText slope_keys s said) → IfSome q (λ b. ReadsPrices (columns_said said) b table) → IfSome r (λ p. ReadsPrec n p rests)
-    → IfSome o (λ s. IfSome q (λ b. IfSome r (λ p. ArePricesRead s b p table rests)))
+    → IfSome o (λ s. IfSome q (λ b. IfSome r (λ p. ArePricesRead s b (by_text p) table rests)))
 mine_answer (Some s) (Some b) (Some p) said table rests n size positive whole a t h = all_read s b p said table rests n size positive whole a t h
 mine_answer _ _ _ said table rests n size positive whole a t h = tt

@@ -17,8 +17,9 @@ use Rattle.fixed_worth.specs.declared.whole_input.InputFault.TheVariants as inpu
 use Rattle.mine_inputs.specs.declared.priced_inputs.ChargeColumns.{ChargeColumns}
 use Rattle.mine_inputs.specs.declared.priced_inputs.PriceColumns.{PriceColumns}
 use Rattle.mine_inputs.specs.Limits.{IsTooLong, IsWithinLimit}
-use Rattle.mine_inputs.specs.PricedTexts.{price_keys, slope_keys, column_list, first_columns, table_at, PricesRead, SettingsFaultStands, SettingsFails, PricedBlocksFail, PricesFail}
-use Rattle.mine_inputs.specs.BlockTexts.{BlocksFails}
+use Rattle.mine_inputs.specs.PricedTexts.{price_keys, slope_keys, column_list, first_columns, table_at, PricesRead, columns_beside, columns_said, SettingsFaultStands, SettingsFails, PricedBlocksFail, PricesFail}
+use Rattle.mine_inputs.specs.BlockTexts.{BlocksFails, ReadsBlocks}
+use Rattle.mine_inputs.specs.SlopedTexts.{SlopesFail, region_columns, sloped_keys}
 use Rattle.mine_inputs.specs.Mines.{ValuesRead}
 use Rattle.mine_inputs.specs.FaultStands.{PrecFails}
 
@@ -86,3 +87,17 @@ PricedMineFails settings text precedence (engine.Prec p) = (n : ℕ) × PricesRe
 PricedMineFails settings text precedence engine.Memory = Unit {0}
 PricedMineFails settings text precedence engine.Device = Unit {0}
 PricedMineFails settings text precedence _ = ⊥
+
+-- What was read of the texts of a mine whose settings list slopes: the settings, which have all keys that they need, and the blocks
+-- with the columns of prices and of regions.
+pub record AreSlopedTexts (settings text : List ℕ) (said : SettingsView) (columns : PriceColumns) (m : BlocksView) : Type 0 where
+  pub settings_read : ReadsSettingsText [] settings said
+  pub whole : first_missing (sloped_keys said) said ≡ None
+  pub are : columns ≡ columns_said said
+  pub blocks_read : ReadsBlocks (columns_beside columns (region_columns said)) text m
+
+-- why slopes give no pairs of blocks: want of memory, or a fault of theirs
+abbrev pub PairsSaidFail : SettingsView → BlocksView → EngineFault → Type 0
+PairsSaidFail said m (engine.Slope p) = SlopesFail said m p
+PairsSaidFail said m engine.Memory = Unit {0}
+PairsSaidFail said m _ = ⊥

@@ -3,7 +3,8 @@ use Rattle.std.specs.Prelude.{◌≡◌, ℕ, ◌+◌, ◌-◌, ◌^◌, ◌<◌
 use Rattle.mine_inputs.specs.declared.mines.WorthInputs.{WorthInputs}
 use Rattle.mine_inputs.specs.declared.mines.WorthInputs.TheVariants.{Values, Prices}
 use Rattle.mine_inputs.specs.declared.mines.MineInputs.{MineInputs}
-use Rattle.mine_inputs.specs.Mines.{MineTexts, mine_texts, priced_texts}
+use Rattle.mine_inputs.specs.declared.mines.MineInputs.TheVariants.{Listed, Sloped}
+use Rattle.mine_inputs.specs.Mines.{MineTexts, mine_texts, priced_texts, sloped_texts}
 
 -- ---- texts
 
@@ -15,7 +16,8 @@ ForWorths (Prices settings blocks) remaining factor precedence P = IfSome (remai
 
 -- P holds of the texts of the mine at this factor, where all its devices tell their bytes
 abbrev pub ForTexts : {D : Type 0} → MineInputs D → (D → Option (List ℕ)) → ℕ → (MineTexts → Type 0) → Type 0
-ForTexts mine remaining factor P = IfSome (remaining mine.prec) (λ p. ForWorths mine.worths remaining factor p P)
+ForTexts (Listed worths prec) remaining factor P = IfSome (remaining prec) (λ p. ForWorths worths remaining factor p P)
+ForTexts (Sloped settings blocks) remaining factor P = IfSome (remaining settings) (λ s. IfSome (remaining blocks) (λ b. P (sloped_texts s b factor)))
 
 -- ---- failures
 
@@ -25,7 +27,8 @@ WorthsCanCount (Values upit) failed = failed upit < 2 ^ 64 - 1
 WorthsCanCount (Prices settings blocks) failed = (failed settings < 2 ^ 64 - 1) × (failed blocks < 2 ^ 64 - 1)
 
 abbrev pub CanCount : {D : Type 0} → MineInputs D → (D → ℕ) → Type 0
-CanCount mine failed = WorthsCanCount mine.worths failed × (failed mine.prec < 2 ^ 64 - 1)
+CanCount (Listed worths prec) failed = WorthsCanCount worths failed × (failed prec < 2 ^ 64 - 1)
+CanCount (Sloped settings blocks) failed = (failed settings < 2 ^ 64 - 1) × (failed blocks < 2 ^ 64 - 1)
 
 -- the failures that the devices have counted together
 abbrev pub worths_failures : {D : Type 0} → WorthInputs D → (D → ℕ) → ℕ
@@ -33,12 +36,22 @@ worths_failures (Values upit) failed = failed upit
 worths_failures (Prices settings blocks) failed = failed settings + failed blocks
 
 abbrev pub mine_failures : {D : Type 0} → MineInputs D → (D → ℕ) → ℕ
-mine_failures mine failed = worths_failures mine.worths failed + failed mine.prec
+mine_failures (Listed worths prec) failed = worths_failures worths failed + failed prec
+mine_failures (Sloped settings blocks) failed = failed settings + failed blocks
 
 -- whether they are devices of prices
 abbrev pub is_priced : {D : Type 0} → WorthInputs D → Bool
 is_priced (Values upit) = false
 is_priced (Prices settings blocks) = true
+
+-- of which kind the devices of a mine are
+pub data MineKind : Type 0 where
+  listed_kind : (priced : Bool) → MineKind
+  sloped_kind : MineKind
+
+abbrev pub kind_of : {D : Type 0} → MineInputs D → MineKind
+kind_of (Listed worths prec) = listed_kind (is_priced worths)
+kind_of (Sloped settings blocks) = sloped_kind
 
 -- each device counts the failures that it had counted, and so none failed
 abbrev pub NoWorthsFailed : {D : Type 0} → WorthInputs D → WorthInputs D → (D → ℕ) → Type 0
@@ -47,9 +60,11 @@ NoWorthsFailed (Prices settings blocks) (Prices settings' blocks') failed = (fai
 NoWorthsFailed _ _ failed = ⊥
 
 abbrev pub NoneFailed : {D : Type 0} → MineInputs D → MineInputs D → (D → ℕ) → Type 0
-NoneFailed old new failed = NoWorthsFailed old.worths new.worths failed × (failed new.prec ≡ failed old.prec)
+NoneFailed (Listed worths prec) (Listed worths' prec') failed = NoWorthsFailed worths worths' failed × (failed prec' ≡ failed prec)
+NoneFailed (Sloped settings blocks) (Sloped settings' blocks') failed = (failed settings' ≡ failed settings) × (failed blocks' ≡ failed blocks)
+NoneFailed _ _ failed = ⊥
 
 -- the devices of a mine and those beside them, which had counted so many, have counted one failure more together
 pub record OneFailed {D : Type 0} (old new : MineInputs D) (failed : D → ℕ) (others others' : ℕ) : Type 0 where
-  pub kind : is_priced new.worths ≡ is_priced old.worths
+  pub kind : kind_of new ≡ kind_of old
   pub one : mine_failures new failed + others' ≡ mine_failures old failed + others + 1

@@ -1,5 +1,5 @@
 -- What a text of settings and a text of blocks say together of prices.
-use Rattle.std.specs.Prelude.{◌≡◌, ℕ, ℤ, pos, Bool, true, false, List, [], ◌∷◌, ◌++◌, map, slice_index_or, Option, Some, None, unwrap_or, Err}
+use Rattle.std.specs.Prelude.{◌≡◌, ℕ, ℤ, pos, Bool, true, false, List, [], ◌∷◌, ◌++◌, map, slice_index_or, Some, None, unwrap_or, Err}
 use Rattle.std.specs.List.{range_with_len}
 use Rattle.blocks_file.specs.Records as blocks
 use Rattle.blocks_file.specs.Denotes.{BlocksView}
@@ -33,6 +33,16 @@ price_keys s = keys_by (names_mill s) []
 abbrev pub slope_keys : List Key
 slope_keys = Slopes ∷ Region ∷ Up ∷ []
 
+-- the keys that are needed beside those of prices: slopes before the others where blocks rest on one another by slopes (true)
+abbrev pub others_by : Bool → List Key → List Key
+others_by true others = Slopes ∷ others
+others_by false others = others
+
+-- the keys of which no use is made: those of slopes where the precedence is a text of its own (false), and none otherwise
+abbrev pub unused_by : Bool → List Key
+unused_by true = []
+unused_by false = slope_keys
+
 -- the columns of charges that settings name
 abbrev pub charges_by : Bool → SettingsView → ChargeColumns
 charges_by false s = Plain (unwrap_or s.cost 0)
@@ -42,24 +52,26 @@ charges_by true s = Mill (unwrap_or s.processing 0) (unwrap_or s.mining 0)
 abbrev pub columns_said : SettingsView → PriceColumns
 columns_said s = record { revenue = unwrap_or s.revenue 0; charges = charges_by (names_mill s) s }
 
--- the columns that are chosen of the blocks, in this order: revenues, then the charges
+-- the columns of charges in the order in which they are chosen: the cost, or processing and then mining
 abbrev pub charge_list : ChargeColumns → List ℕ
 charge_list (Plain cost) = cost ∷ []
 charge_list (Mill processing mining) = processing ∷ mining ∷ []
 
+-- the columns of prices in the order in which they are chosen of the blocks: revenues, then the charges
 abbrev pub column_list : PriceColumns → List ℕ
 column_list columns = columns.revenue ∷ charge_list columns.charges
 
--- the columns of prices that are chosen of the blocks, and last the other column, where one is read beside them
-abbrev pub columns_beside : PriceColumns → Option ℕ → List ℕ
-columns_beside columns None = column_list columns
-columns_beside columns (Some other) = column_list columns ++ (other ∷ [])
+-- the columns of prices that are chosen of the blocks, and behind them the others
+abbrev pub columns_beside : PriceColumns → List ℕ → List ℕ
+columns_beside columns [] = column_list columns
+columns_beside columns (other ∷ others) = column_list columns ++ (other ∷ others)
 
--- the place of that other column among them
+-- how many columns of prices there are, which is the place of the first other column behind them
 abbrev pub place_beside : ChargeColumns → ℕ
 place_beside (Plain cost) = 2
 place_beside (Mill processing mining) = 3
 
+-- the columns of prices that settings name, in the order in which they are chosen of the blocks
 abbrev pub price_columns : SettingsView → List ℕ
 price_columns s = column_list (columns_said s)
 
@@ -83,11 +95,12 @@ first_charges (Mill processing mining) m = mill_costs (values_of m 1) (values_of
 abbrev pub first_columns : ChargeColumns → BlocksView → PricesView
 first_columns charges m = record { revenue = values_of m 0; costs = first_charges charges m }
 
--- the revenues and the charges of the blocks of a text, by their columns
+-- what is charged for the blocks of a text, in millionths, by the columns of charges
 abbrev pub costs_at : ChargeColumns → List ℕ → CostsView
 costs_at (Plain cost) text = plain_costs (cells text cost)
 costs_at (Mill processing mining) text = mill_costs (cells text processing) (cells text mining)
 
+-- the prices of the blocks of a text, by columns: the revenues, and what is charged
 abbrev pub table_at : PriceColumns → List ℕ → PricesView
 table_at columns text = record { revenue = cells text columns.revenue; costs = costs_at columns.charges text }
 
@@ -111,13 +124,28 @@ pub record KeysSaid (needed : SettingsView → List Key) (unused : List Key) (se
 abbrev pub ColumnsKnown : List ℕ → Type 0
 ColumnsKnown settings = KeysSaid price_keys slope_keys settings
 
--- The settings name the columns of prices, and the text of blocks has them, of n blocks; no revenue is negative.
-pub record PricesRead (settings text : List ℕ) (n : ℕ) : Type 0 where
-  pub columns : ColumnsKnown settings
+-- What a mine of prices wants of its settings and its blocks: the keys that settings need, by what they say; those of which no use is
+-- made; and the columns that are chosen of the blocks.
+pub record Wanted : Type 0 where
+  pub needed : SettingsView → List Key
+  pub unused : List Key
+  pub chosen : SettingsView → List ℕ
+
+-- what is wanted where the precedence is a text of its own
+abbrev pub prices_alone : Wanted
+prices_alone = record { needed = price_keys; unused = slope_keys; chosen = price_columns }
+
+-- The settings say what is wanted of them, and the text of blocks has the columns, of n blocks; no revenue is negative.
+pub record PricesReadBy (w : Wanted) (settings text : List ℕ) (n : ℕ) : Type 0 where
+  pub columns : KeysSaid w.needed w.unused settings
   pub within : IsWithinLimit text
-  pub read : blocks.fault_of (price_columns (settings_of settings)) text ≡ None
+  pub read : blocks.fault_of (w.chosen (settings_of settings)) text ≡ None
   pub count : blocks.record_count_of text ≡ n
   pub revenues : NoRevenueNegative (table_of settings text)
+
+-- the settings name the columns of prices, and the text of blocks has them
+abbrev pub PricesRead : List ℕ → List ℕ → ℕ → Type 0
+PricesRead settings text n = PricesReadBy prices_alone settings text n
 
 -- a fault of settings that need the first of these keys, where no use is made of the others: one of the text, a key that isn't
 -- used, or one that is missing; want of memory isn't one
@@ -127,17 +155,26 @@ SettingsFaultStands needed unused text (settings_fault.Unused key) = AreSettings
 SettingsFaultStands needed unused text (settings_fault.Missing key) = AreSettings text × (first_missing (needed (settings_of text)) (settings_of text) ≡ Some key) × (first_said unused (settings_of text) ≡ None)
 SettingsFaultStands needed unused text fault = ReadsSettings text (Err fault)
 
+-- the settings aren't read: their text is too long, or this fault of it stands
 abbrev pub SettingsFails : (SettingsView → List Key) → List Key → List ℕ → Problem SettingsFault → Type 0
 SettingsFails needed unused text problem.InputTooLong = IsTooLong text
 SettingsFails needed unused text (problem.Fault fault) = IsWithinLimit text × SettingsFaultStands needed unused text fault
 
 -- a fault of the blocks, of which the settings name the columns
-abbrev pub PricedBlocksFail : List ℕ → List ℕ → Problem BlocksFault → Type 0
-PricedBlocksFail settings text p = ColumnsKnown settings × BlocksFails (price_columns (settings_of settings)) text p
+abbrev pub PricedBlocksFailBy : Wanted → List ℕ → List ℕ → Problem BlocksFault → Type 0
+PricedBlocksFailBy w settings text p = KeysSaid w.needed w.unused settings × BlocksFails (w.chosen (settings_of settings)) text p
 
--- the columns are no table of prices
-pub record PricesFail (settings text : List ℕ) (fault : PricesFault) : Type 0 where
-  pub columns : ColumnsKnown settings
+-- a fault of the blocks, of which the settings name the columns of prices, where the precedence is a text of its own
+abbrev pub PricedBlocksFail : List ℕ → List ℕ → Problem BlocksFault → Type 0
+PricedBlocksFail settings text p = PricedBlocksFailBy prices_alone settings text p
+
+-- the settings and the blocks are read, and the columns are no table of prices for this reason
+pub record PricesFailBy (w : Wanted) (settings text : List ℕ) (fault : PricesFault) : Type 0 where
+  pub columns : KeysSaid w.needed w.unused settings
   pub within : IsWithinLimit text
-  pub read : blocks.fault_of (price_columns (settings_of settings)) text ≡ None
+  pub read : blocks.fault_of (w.chosen (settings_of settings)) text ≡ None
   pub stands : PricesFaultStands (table_of settings text) fault
+
+-- the columns are no table of prices for this reason, where the precedence is a text of its own
+abbrev pub PricesFail : List ℕ → List ℕ → PricesFault → Type 0
+PricesFail settings text fault = PricesFailBy prices_alone settings text fault

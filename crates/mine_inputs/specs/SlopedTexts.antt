@@ -1,18 +1,29 @@
--- What settings say of slopes by region: which block rests on which.
-use Rattle.std.specs.Prelude.{ℕ, List, [], ◌∷◌, Option, Some, None, unwrap_or}
+-- What settings say of slopes by region: which block rests on which; and the mine that settings and blocks denote with no precedence
+-- beside them.
+use Rattle.std.specs.Prelude.{ℕ, Bool, List, [], ◌∷◌, map, Option, Some, None, unwrap_or}
+use Rattle.std.specs.List.{range_with_len}
 use Rattle.blocks_file.specs.Denotes.{BlocksView}
-use Rattle.settings_file.specs.Settings.{SettingsView}
+use Rattle.blocks_file.specs.Records as blocks
+use Rattle.settings_file.specs.Settings.{SettingsView, names_mill}
+use Rattle.settings_file.specs.declared.keys.Key.{Key}
+use Rattle.settings_file.specs.declared.keys.Key.TheVariants.{Slopes}
 use Rattle.settings_file.specs.declared.up_sign.UpSign.{UpSign}
 use Rattle.settings_file.specs.declared.up_sign.UpSign.TheVariants.{Plus, Minus}
-use Rattle.slope.specs.Prelude.{Offset, rests}
+use Rattle.slope.specs.Prelude.{GivePairs, Offset, RegionFaultStands, rests_by_slopes}
+use Rattle.slope.specs.declared.selection.Selection.TheVariants.{Every}
 use Rattle.slope.specs.declared.up.Up.{Up}
 use Rattle.slope.specs.declared.up.Up.TheVariants.{PlusZ, MinusZ}
+use Rattle.slope.specs.declared.region_fault.RegionFault.TheVariants as region
+use Rattle.mine_inputs.specs.declared.engine_fault.SlopeProblem.{SlopeProblem}
+use Rattle.mine_inputs.specs.declared.engine_fault.SlopeProblem.TheVariants as of
+use Rattle.mine_inputs.specs.PricedTexts.{Wanted, cells, columns_beside, columns_said, keys_by}
 
--- the columns of blocks that say in which region each is: one where settings name it, and none otherwise
+-- a column as a list of columns: of one, or of none where no column is named
 abbrev pub columns_for : Option ℕ → List ℕ
 columns_for None = []
 columns_for (Some column) = column ∷ []
 
+-- the columns of blocks that say in which region each is: one where settings name it, and none otherwise
 abbrev pub region_columns : SettingsView → List ℕ
 region_columns s = columns_for s.region
 
@@ -20,15 +31,55 @@ region_columns s = columns_for s.region
 abbrev pub slopes_said : SettingsView → List (List Offset)
 slopes_said s = unwrap_or s.slopes []
 
--- which way is up: plus, where settings don't say
+-- which way is up by what is said of it: towards greater z, where it is plus or nothing is said
 abbrev pub up_by : Option UpSign → Up
 up_by (Some Minus) = MinusZ
 up_by (Some Plus) = PlusZ
 up_by None = PlusZ
 
+-- which way is up by settings: towards greater z, unless they say minus
 abbrev pub up_said : SettingsView → Up
 up_said s = up_by s.up
 
--- Block b rests on block p by settings and blocks: p stands from b at an offset that the settings list for b's own region.
-abbrev pub rests_said : SettingsView → BlocksView → ℕ → ℕ → Type 0
-rests_said s m b p = rests (slopes_said s) m (up_said s) b p
+-- Whether block b rests on block p by settings and blocks: p stands from b at an offset that the settings list for b's own region.
+abbrev pub rests_said : SettingsView → BlocksView → ℕ → ℕ → Bool
+rests_said s m = rests_by_slopes (slopes_said s) m (up_said s)
+
+-- no fault of the slopes that settings list stands in the blocks
+abbrev pub SlopesRead : SettingsView → BlocksView → Type 0
+SlopesRead s m = GivePairs (slopes_said s) m (up_said s) Every
+
+-- this fault of the slopes that settings list stands; want of memory isn't a fault of slopes
+abbrev pub SlopesFail : SettingsView → BlocksView → SlopeProblem → Type 0
+SlopesFail s m (of.Regions region.NoMemory) = ⊥
+SlopesFail s m (of.Regions fault) = RegionFaultStands (slopes_said s) m (up_said s) Every fault
+SlopesFail s m _ = ⊥
+
+-- the blocks of a text, with these columns
+abbrev pub model_in : List ℕ → List ℕ → BlocksView
+model_in chosen text = record {
+  blocks = blocks.record_count_of text;
+  places = map (λ b. blocks.place_of_record (blocks.record_among (blocks.lines_in text) b)) (range_with_len 0 (blocks.record_count_of text));
+  columns = map (cells text) chosen;
+}
+
+-- the blocks of a text, with the column of regions that settings name
+abbrev pub placed_in : SettingsView → List ℕ → BlocksView
+placed_in s text = model_in (region_columns s) text
+
+-- the keys that settings need which have both prices and slopes
+abbrev pub sloped_keys : SettingsView → List Key
+sloped_keys s = keys_by (names_mill s) (Slopes ∷ [])
+
+-- the columns that are chosen of the blocks: those of prices, and last that of regions
+abbrev pub sloped_columns : SettingsView → List ℕ
+sloped_columns s = columns_beside (columns_said s) (region_columns s)
+
+-- what is wanted of settings and blocks where slopes stand in the place of a precedence: every key is used
+abbrev pub prices_and_slopes : Wanted
+prices_and_slopes = record { needed = sloped_keys; unused = []; chosen = sloped_columns }
+
+-- the place of the column of regions behind so many others, where settings name it
+abbrev pub column_after : ℕ → Option ℕ → Option ℕ
+column_after others None = None
+column_after others (Some region) = Some others

@@ -6,24 +6,28 @@
 //!
 //! - Each reader gives what its text says, or the first fault of the text, and says so of the bytes that the device told.
 //!   An input has at most 2^32 bytes.
-//! - [`mine_to_check`] and [`mine_to_solve`] give the mine that its texts denote, of either kind, or a fault
+//! - [`mine_to_check`] and [`mine_to_solve`] give the mine that its texts denote, of whichever kind, or a fault
 //!   that stands in them, and none before it does.
 //! - A failed read is answered as `Device`, and nothing else is: the devices have then counted one failure more together.
 #![tactic(auto)]
 
+mod checked_mine;
 mod engine_fault;
 mod inputs;
 mod mines;
 mod priced_inputs;
 mod sloped_inputs;
+mod sloped_mines;
 mod worths;
 
+pub use checked_mine::MineToCheck;
 pub use engine_fault::{CertificateProblem, EngineFault, Problem, SlopeProblem};
 pub use inputs::{blocks_from, predecessors_from, unread};
-pub use mines::{MineInputs, MineToCheck, MineToSolve, WorthInputs, mine_to_check, mine_to_solve};
+pub use mines::{MineInputs, MineToSolve, WorthInputs, mine_to_check, mine_to_solve};
 pub use priced_inputs::{
     ChargeColumns, PriceColumns, missing, place_beside, price_columns, priced_blocks_from,
     priced_settings_from, prices_from, prices_of, settings_from,
 };
 pub use sloped_inputs::{sloped_blocks_from, up_of};
+pub use sloped_mines::{predecessors_by_slopes, regional_blocks_from};
 pub use worths::Worths;

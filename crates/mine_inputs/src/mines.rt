@@ -1,20 +1,21 @@
-//! Reads the inputs of a mine, whether its blocks have values or prices: gives what a check needs of it, or what a
-//! solver needs.
+//! Reads the inputs of a mine, of whichever kind: gives what a check needs of it, or what a solver needs.
 
 ghost use Rattle.std.specs.Prelude.{◌≡◌, ◌+◌, ◌-◌, ◌^◌, ◌<◌, ℕ, List, IfOk, IfSome, MatchResult, IsErrOf};
 ghost use Rattle.certificate_file.specs.ReadBack.{IsPrice};
 ghost use Rattle.mine_inputs.specs.FaultStands.{MineFails};
-ghost use Rattle.mine_inputs.specs.MineInputs.{ForTexts, CanCount, NoneFailed, OneFailed};
+ghost use Rattle.mine_inputs.specs.MineInputs.{ForTexts, ForWorths, CanCount, WorthsCanCount, NoneFailed, NoWorthsFailed, OneFailed, is_priced, worths_failures};
 ghost use Rattle.mine_inputs.specs.Mines.{priced_texts, price_wanted};
 ghost use Rattle.mine_inputs.specs.ReadMines.{AreRead, AreWorthsOf, IsMineRead};
 
+use crate::checked_mine::MineToCheck;
 use crate::engine_fault::{EngineFault, Problem};
 use crate::inputs::{predecessors_from, unread};
 use crate::priced_inputs::{price_columns, priced_settings_from, prices_from};
+use crate::sloped_mines::sloped_mine;
 use crate::worths::Worths;
 use certificate_file::Price;
 use fixed_worth::{CountedRead, MOST_BYTES, read_whole};
-use prec_file::{Predecessors, Rests};
+use prec_file::Rests;
 use shells::Factor;
 use std::alloc::Global;
 use std::thread::Threads;
@@ -39,11 +40,22 @@ pub enum WorthInputs<D> {
 
 /// The inputs of a mine. They are read in the order of these fields, each to its end.
 #[derive(Drop)]
-pub struct MineInputs<D> {
-    /// What its blocks are worth.
-    pub worths: WorthInputs<D>,
-    /// What rests on what: MineLib's `.prec`.
-    pub prec: D,
+pub enum MineInputs<D> {
+    /// A text of its own says what rests on what.
+    Listed {
+        /// What its blocks are worth.
+        worths: WorthInputs<D>,
+        /// What rests on what: MineLib's `.prec`.
+        prec: D,
+    },
+    /// The blocks have prices, and rest on one another by slopes.
+    Sloped {
+        /// The settings, which say which columns are prices, list the slopes of each region, and say in which column a
+        /// block's region stands.
+        settings: D,
+        /// MineLib's `.blocks`, which has these columns and the places.
+        blocks: D,
+    },
 }
 
 // What blocks are worth by the columns of prices that settings name.
@@ -74,20 +86,49 @@ fn worths_by_prices<D: CountedRead>(
     Ok(Worths::Prices(prices))
 }
 
-/// What a check needs of a mine.
-#[derive(Drop)]
-pub struct MineToCheck {
-    /// What its blocks are worth.
-    pub worths: Worths,
-    /// The predecessors of each block.
-    pub predecessors: Predecessors,
+// The mine whose precedence is a text of its own.
+fn listed_mine<D: CountedRead>(
+    alloc: Global,
+    worths: &mut WorthInputs<D>,
+    prec: &mut D,
+) -> Result<MineToCheck, EngineFault>
+    requires worths_room { WorthsCanCount worths.old D.failed }
+    requires prec_room { D.failed prec.old < 2 ^ 64 - 1 }
+    ensures read { (factor : ℕ)
+        → IfSome (D.remaining prec.old) (λ p. ForWorths worths.old D.remaining factor p (λ texts.
+        MatchResult result
+        (λ mine. IsMineRead texts factor mine.worths mine.predecessors)
+        (MineFails texts))) }
+    ensures device { IsErrOf result EngineFault.Device
+        → (is_priced worths.new ≡ is_priced worths.old)
+        × (worths_failures worths.new D.failed + D.failed prec.new
+        ≡ worths_failures worths.old D.failed + D.failed prec.old + 1) }
+    ensures kept { ¬ IsErrOf result EngineFault.Device
+        → NoWorthsFailed worths.old worths.new D.failed × (D.failed prec.new ≡ D.failed prec.old) }
+{
+    let valued = match worths {
+        WorthInputs::Values { upit } => {
+            let too_long = EngineFault::Upit(Problem::InputTooLong);
+            let text = read_whole(alloc, upit, MOST_BYTES).map_err(|fault| unread(
+                fault, too_long,
+            ))?;
+            Worths::Values(read_values(alloc, text.as_slice(), None)?)
+        }
+        WorthInputs::Prices { settings, blocks } => worths_by_prices(alloc, settings, blocks)?,
+    };
+    let predecessors = predecessors_from(alloc, prec, valued.len())?;
+    Ok(MineToCheck {
+        worths: valued,
+        predecessors,
+    })
 }
 
 /// The mine that its texts denote, as a check needs it. Which factor the prices count at is asked later.
 ///
 /// # Errors
 /// Of values: `Upit`. Of prices, in this order: `Settings` for a fault of this text or a missing key; `Blocks`; `Prices`
-/// for a negative revenue. Then `Prec`. `Memory` where memory is refused, `Device` where a read fails.
+/// for a negative revenue. Then `Prec`; or, where slopes say what rests on what, `Slope` with the first fault of
+/// `predecessors_by_region`. `Memory` where memory is refused, `Device` where a read fails.
 pub fn mine_to_check<D: CountedRead>(
     alloc: Global,
     inputs: &mut MineInputs<D>,
@@ -101,21 +142,10 @@ pub fn mine_to_check<D: CountedRead>(
         → OneFailed inputs.old inputs.new D.failed 0 0 }
     ensures kept { ¬ IsErrOf result EngineFault.Device → NoneFailed inputs.old inputs.new D.failed }
 {
-    let worths = match &mut inputs.worths {
-        WorthInputs::Values { upit } => {
-            let too_long = EngineFault::Upit(Problem::InputTooLong);
-            let text = read_whole(alloc, upit, MOST_BYTES).map_err(|fault| unread(
-                fault, too_long,
-            ))?;
-            Worths::Values(read_values(alloc, text.as_slice(), None)?)
-        }
-        WorthInputs::Prices { settings, blocks } => worths_by_prices(alloc, settings, blocks)?,
-    };
-    let predecessors = predecessors_from(alloc, &mut inputs.prec, worths.len())?;
-    Ok(MineToCheck {
-        worths,
-        predecessors,
-    })
+    match inputs {
+        MineInputs::Listed { worths, prec } => listed_mine(alloc, worths, prec),
+        MineInputs::Sloped { settings, blocks } => sloped_mine(alloc, settings, blocks),
+    }
 }
 
 /// What solvers need of a mine.

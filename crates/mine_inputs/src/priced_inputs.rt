@@ -1,7 +1,7 @@
 //! Reads settings and the columns of blocks that they name: gives each block's revenue and charges, or the first
 //! fault of an input.
 
-ghost use Rattle.std.specs.Prelude.{◌≡◌, ◌+◌, ◌-◌, ◌^◌, ◌<◌, ◌↔◌, true, false, [], ◌∷◌, ◌++◌, length, None, IfOk, IfSome, MatchResult, IsErrOf};
+ghost use Rattle.std.specs.Prelude.{◌≡◌, ◌+◌, ◌-◌, ◌^◌, ◌<◌, ◌≤◌, ◌↔◌, true, false, [], ◌∷◌, ◌++◌, length, None, IfOk, IfSome, MatchResult, IsErrOf};
 ghost use Rattle.settings_file.specs.Settings.{names_mill, first_missing, first_said};
 ghost use Rattle.mine_inputs.specs.Limits.{IsWithinLimit};
 ghost use Rattle.mine_inputs.specs.PricedTexts.{keys_by, slope_keys, charges_by, columns_said, charge_list, columns_beside, place_beside, values_of, first_columns};
@@ -200,12 +200,32 @@ pub fn prices_from<R: CountedRead>(
         ↔ (R.failed from.new ≡ R.failed from.old + 1) }
     ensures kept { ¬ IsErrOf result EngineFault.Device → R.failed from.new ≡ R.failed from.old }
 {
-    let model = priced_blocks_from(alloc, from, columns, None)?;
+    let model = priced_blocks_from(alloc, from, columns, &[])?;
     prices_of(alloc, &model, columns.charges)
 }
 
-/// The blocks of a text with the columns of their prices and, where another column is asked for beside them, with that
-/// one behind them.
+// The numbers of the columns of prices, and behind them the others.
+fn columns_beside(
+    alloc: Global,
+    columns: PriceColumns,
+    others: &[u32],
+) -> Result<Vec<u32>, AllocError>
+    ensures { IfOk result (λ v. v.items ≡ columns_beside columns others.now) }
+{
+    let mut chosen = Vec::new(alloc);
+    chosen.push(columns.revenue)?;
+    match columns.charges {
+        ChargeColumns::Plain { cost } => chosen.push(cost)?,
+        ChargeColumns::Mill { processing, mining } => {
+            chosen.push(processing)?;
+            chosen.push(mining)?;
+        }
+    }
+    chosen.extend_from_slice(others)?;
+    Ok(chosen)
+}
+
+/// The blocks of a text with the columns of their prices and, behind these, at most two others.
 ///
 /// # Errors
 /// Those of [`blocks_from`].
@@ -213,32 +233,24 @@ pub fn priced_blocks_from<R: CountedRead>(
     alloc: Global,
     from: &mut R,
     columns: PriceColumns,
-    beside: Option<u32>,
+    others: &[u32],
 ) -> Result<BlockModel, EngineFault>
-    requires { R.failed from.old < 2 ^ 64 - 1 }
+    requires few { length others.now ≤ 2 }
+    requires room { R.failed from.old < 2 ^ 64 - 1 }
     ensures read { IfSome (R.remaining from.old) (λ text. MatchResult result
-        (ReadsBlocks (columns_beside columns beside) text)
-        (BlocksReadFails (columns_beside columns beside) text)) }
+        (ReadsBlocks (columns_beside columns others.now) text)
+        (BlocksReadFails (columns_beside columns others.now) text)) }
     ensures columns { IfOk result
-        (λ model. length model.columns ≡ length (columns_beside columns beside)) }
+        (λ model. length model.columns ≡ length (columns_beside columns others.now)) }
     ensures device { IsErrOf result EngineFault.Device
         ↔ (R.failed from.new ≡ R.failed from.old + 1) }
     ensures kept { ¬ IsErrOf result EngineFault.Device → R.failed from.new ≡ R.failed from.old }
 {
-    let revenue = columns.revenue;
-    match columns.charges {
-        ChargeColumns::Plain { cost } => match beside {
-            None => blocks_from(alloc, from, &[revenue, cost]),
-            Some(other) => blocks_from(alloc, from, &[revenue, cost, other]),
-        },
-        ChargeColumns::Mill { processing, mining } => match beside {
-            None => blocks_from(alloc, from, &[revenue, processing, mining]),
-            Some(other) => blocks_from(alloc, from, &[revenue, processing, mining, other]),
-        },
-    }
+    let chosen = columns_beside(alloc, columns, others)?;
+    blocks_from(alloc, from, chosen.as_slice())
 }
 
-/// The place among the columns of [`priced_blocks_from`] of the one that is read beside those of prices.
+/// How many columns of prices there are: the place behind them of the first other column of [`priced_blocks_from`].
 pub fn place_beside(charges: ChargeColumns) -> u32
     ensures { result ≡ place_beside charges }
 {

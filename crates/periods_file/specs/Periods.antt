@@ -22,11 +22,12 @@ pub record PeriodsView : Type 0 where
 abbrev pub periods_view : Periods → PeriodsView
 periods_view p = record { weights = p.weights.items; resources = p.resources.items; capacities = p.capacities.items; multipliers = option_map (λ v. v.items) p.multipliers }
 
--- What a key says by its value, if any: a key that isn't there is missing, and a value that doesn't read is bad.
+-- What a value at a key reads as; one that doesn't read is bad.
 abbrev pub or_bad : {V : Type 0} → PeriodKey → Option V → Result V PeriodsFault
 or_bad key (Some v) = Ok v
 or_bad key None = Err (BadValue key)
 
+-- What a key says by its value, if any: a key that isn't there is missing, and a value that doesn't read is bad.
 abbrev pub value_said : {V : Type 0} → PeriodKey → (Data → Option V) → Option Data → Result V PeriodsFault
 value_said key reads None = Err (Missing key)
 value_said key reads (Some d) = or_bad key (reads d)
@@ -35,7 +36,7 @@ value_said key reads (Some d) = or_bad key (reads d)
 abbrev pub said_at : {V : Type 0} → PeriodKey → (Data → Option V) → Members → Result V PeriodsFault
 said_at key reads ms = value_said key reads (get_member (key_name key) ms)
 
--- The same of a key that may be left out.
+-- What a key says that may be left out: nothing where it is missing.
 abbrev pub or_none : {V : Type 0} → Result V PeriodsFault → Result (Option V) PeriodsFault
 or_none (Ok v) = Ok (Some v)
 or_none (Err (Missing key)) = Ok None
@@ -55,7 +56,7 @@ values_in ms =
     then_with (or_none (said_at Multipliers (rows_of 1000000000000000 (length resources) (length weights)) ms)) (λ multipliers.
     Ok (record { weights = weights; resources = resources; capacities = capacities; multipliers = multipliers })))))
 
--- A name that is no key comes before all of them.
+-- What a table says of periods, or its first fault: a name that is no key comes before the faults of keys.
 abbrev pub periods_in : Members → Result PeriodsView PeriodsFault
 periods_in ms = cond (all_known ms) (values_in ms) (Err UnknownKey)
 

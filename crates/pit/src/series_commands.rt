@@ -31,7 +31,7 @@ pub fn series_files<
     }
 }
 
-// Opens the inputs, that of the predecessors first.
+// Opens the inputs, that of the predecessors first, if there is one.
 fn open_series<'a, R: Files + Eprint + AllocGlobal>(
     rt: &'a R,
     args: SeriesArgs<'a>,
@@ -39,8 +39,11 @@ fn open_series<'a, R: Files + Eprint + AllocGlobal>(
     ensures { IfOk result (λ inputs. InputsCanCount inputs (λ device. device.failures)) }
 {
     let alloc = rt.alloc();
-    let prec = open_file(rt, args.verbose, args.prec, Heard::nothing(alloc))?;
-    let heard = Heard::of_settings(alloc, args.verbose, None);
+    let prec = open_if_named(rt, args.verbose, args.prec)?;
+    let heard = match args.prec {
+        Some(_) => Heard::of_settings(alloc, args.verbose, None),
+        None => Heard::of_sloped_settings(alloc, args.verbose),
+    };
     let settings = open_file(rt, args.verbose, args.settings, heard)?;
     let blocks = open_file(rt, args.verbose, args.blocks, Heard::nothing(alloc))?;
     Ok(SeriesInputs {
@@ -48,6 +51,20 @@ fn open_series<'a, R: Files + Eprint + AllocGlobal>(
         blocks,
         prec,
     })
+}
+
+// Opens a file, if one is named.
+fn open_if_named<'a, R: Files + Eprint + AllocGlobal>(
+    rt: &'a R,
+    verbose: bool,
+    name: Option<&'a str>,
+) -> Result<Option<Counted<Told<'a, R, R::File>>>, EngineFault>
+    ensures { IfOk result (λ opened. failures_in opened (λ device. device.failures) ≡ 0) }
+{
+    match name {
+        Some(name) => Ok(Some(open_file(rt, verbose, name, Heard::nothing(rt.alloc()))?)),
+        None => Ok(None),
+    }
 }
 
 // Makes the file of the table of blocks, where one is named, and the output.

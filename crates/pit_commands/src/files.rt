@@ -84,6 +84,7 @@ pub fn uses_file<'a>(uses: Option<&'a str>, model: ModelArgs<'a>) -> &'a str {
     match (uses, model) {
         (Some(uses), _) => uses,
         (None, ModelArgs::Prices { blocks, .. }) => blocks,
+        (None, ModelArgs::Sloped { blocks, .. }) => blocks,
         // the command line needs the option beside values
         (None, ModelArgs::Values { .. }) => "",
     }

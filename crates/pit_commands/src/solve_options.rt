@@ -53,7 +53,7 @@ pub fn factor_asked<'a>(
 ) -> Result<Factor, WrongValue<'a>> {
     let value = match model {
         ModelArgs::Values { .. } => "0",
-        ModelArgs::Prices { .. } => value.unwrap_or(""),
+        ModelArgs::Prices { .. } | ModelArgs::Sloped { .. } => value.unwrap_or(""),
     };
     factor_named(value.as_bytes()).ok_or(wrong(command, NamedOption::Factor, value))
 }

@@ -7,16 +7,16 @@
 #![tactic(auto)]
 
 mod advice;
-mod heard;
-mod opened;
+mod input_notes;
+mod mine_files;
 mod pairs_bound;
 mod replaced;
+mod reporting_files;
 mod settings_reasons;
-mod told;
 
 pub use advice::{Advice, advice_for_series, advice_to_solve};
-pub use heard::Heard;
-pub use opened::open_mine;
+pub use input_notes::Heard;
+pub use mine_files::open_mine;
 pub use pairs_bound::offsets_of;
 pub use replaced::Replaced;
-pub use told::{Told, make_file, open_file, output};
+pub use reporting_files::{Told, make_file, open_file, output};

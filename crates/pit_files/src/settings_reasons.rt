@@ -29,6 +29,7 @@ pub struct KeptText<'a> {
     bytes: Vec<u8>,
     is_whole: bool,
     offsets: Option<&'a AtomicU64>,
+    are_slopes_used: bool,
 }
 
 impl<'a> KeptText<'a> {
@@ -38,6 +39,17 @@ impl<'a> KeptText<'a> {
             bytes: Vec::new(alloc),
             is_whole: true,
             offsets,
+            are_slopes_used: false,
+        }
+    }
+
+    /// Nothing was read of settings whose slopes are used.
+    pub fn of_slopes(alloc: Global) -> KeptText<'a> {
+        KeptText {
+            bytes: Vec::new(alloc),
+            is_whole: true,
+            offsets: None,
+            are_slopes_used: true,
         }
     }
 
@@ -62,6 +74,7 @@ impl<'a> KeptText<'a> {
             Err(_) => {}
             Ok(settings) => match self.offsets {
                 Some(number) => number.store(most_offsets(&settings), Ordering::SeqCst),
+                None if self.are_slopes_used => {}
                 None => tell_unused(rt, name, &settings),
             },
         }
@@ -89,7 +102,7 @@ fn tell_unused<R: Eprint>(rt: &R, name: &str, settings: &Settings) {
             let name = Escaped { text: name };
             let key = key.name();
             let _ = rt.eprintln(format_args!(
-                "reason: {name} has the key {key}, and who rests on whom is said by --prec: leave slopes, region and up to the settings of slopes --pattern settings, which writes that file"
+                "reason: {name} has the key {key}, and who rests on whom is said by --prec: leave out --prec, or slopes, region and up"
             ));
             return;
         }

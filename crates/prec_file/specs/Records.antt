@@ -9,12 +9,12 @@ pub use Rattle.fixed_worth.specs.Record.{Line, lines_in, reads, number_of, is_sk
 use Rattle.prec_file.specs.declared.prec_fault.PrecFault.{PrecFault}
 use Rattle.prec_file.specs.declared.prec_fault.PrecFault.TheVariants.{Text, Number, UnknownBlock, Repeated, WrongCount, TooMany, NoMemory}
 
--- Its second field is how many predecessors it lists.
+-- How many predecessors a record says that it lists: its second field.
 abbrev pub predecessor_count_of : List (List ℕ) → ℕ
 predecessor_count_of [] = 0
 predecessor_count_of (block ∷ fields) = block_of fields
 
--- The further fields are the predecessors.
+-- The predecessors that a record lists: its fields from the third on.
 abbrev pub predecessors_of : List (List ℕ) → List ℕ
 predecessors_of [] = []
 predecessors_of (block ∷ []) = []
@@ -28,7 +28,7 @@ shape_fault n line fields =
     (cond (nat_le n (block_of fields) || list_any (nat_le n) (predecessors_of fields)) (Some (UnknownBlock line))
     None))
 
--- What is wrong with it, given which blocks had records before and how many predecessors these listed.
+-- What is wrong with a record, given which blocks had records before and how many predecessors these listed.
 unfoldable pub history_fault : (ℕ → Bool) → ℕ → ℕ → List (List ℕ) → Option PrecFault
 history_fault had before line fields =
     cond (had (block_of fields)) (Some (Repeated line))

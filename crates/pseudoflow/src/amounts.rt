@@ -17,11 +17,11 @@ pub(crate) trait Amount: Copy {
     /// Nothing.
     fn zero() -> Self;
 
-    /// The sum, or `None` where it doesn't fit.
-    fn sum(self, other: Self) -> Option<Self>;
+    /// The sum, or `TooLarge` where it doesn't fit.
+    fn sum(self, other: Self) -> Result<Self, PseudoflowFault>;
 
-    /// The difference, or `None` where it doesn't fit.
-    fn difference(self, other: Self) -> Option<Self>;
+    /// The difference, or `TooLarge` where it doesn't fit.
+    fn difference(self, other: Self) -> Result<Self, PseudoflowFault>;
 
     /// Whether it is greater than zero.
     fn is_positive(self) -> bool;
@@ -36,12 +36,12 @@ impl Amount for i64 {
         0
     }
 
-    fn sum(self, other: i64) -> Option<i64> {
-        self.checked_add(other)
+    fn sum(self, other: i64) -> Result<i64, PseudoflowFault> {
+        self.checked_add(other).ok_or(PseudoflowFault::TooLarge)
     }
 
-    fn difference(self, other: i64) -> Option<i64> {
-        self.checked_sub(other)
+    fn difference(self, other: i64) -> Result<i64, PseudoflowFault> {
+        self.checked_sub(other).ok_or(PseudoflowFault::TooLarge)
     }
 
     fn is_positive(self) -> bool {
@@ -59,12 +59,12 @@ impl Amount for i128 {
         0
     }
 
-    fn sum(self, other: i128) -> Option<i128> {
-        self.checked_add(other)
+    fn sum(self, other: i128) -> Result<i128, PseudoflowFault> {
+        self.checked_add(other).ok_or(PseudoflowFault::TooLarge)
     }
 
-    fn difference(self, other: i128) -> Option<i128> {
-        self.checked_sub(other)
+    fn difference(self, other: i128) -> Result<i128, PseudoflowFault> {
+        self.checked_sub(other).ok_or(PseudoflowFault::TooLarge)
     }
 
     fn is_positive(self) -> bool {
@@ -87,14 +87,18 @@ impl<G: OrderedGroup> Amount for OfGroup<G> {
         OfGroup { amount: G::zero() }
     }
 
-    fn sum(self, other: OfGroup<G>) -> Option<OfGroup<G>> {
-        let amount = self.amount.try_add(other.amount)?;
-        Some(OfGroup { amount })
+    fn sum(self, other: OfGroup<G>) -> Result<OfGroup<G>, PseudoflowFault> {
+        match self.amount.try_add(other.amount) {
+            Some(amount) => Ok(OfGroup { amount }),
+            None => Err(PseudoflowFault::TooLarge),
+        }
     }
 
-    fn difference(self, other: OfGroup<G>) -> Option<OfGroup<G>> {
-        let amount = self.amount.try_sub(other.amount)?;
-        Some(OfGroup { amount })
+    fn difference(self, other: OfGroup<G>) -> Result<OfGroup<G>, PseudoflowFault> {
+        match self.amount.try_sub(other.amount) {
+            Some(amount) => Ok(OfGroup { amount }),
+            None => Err(PseudoflowFault::TooLarge),
+        }
     }
 
     fn is_positive(self) -> bool {

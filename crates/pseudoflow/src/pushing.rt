@@ -8,16 +8,6 @@ use crate::fault::PseudoflowFault;
 use crate::forest::{Direction, Forest};
 use crate::search::Search;
 
-// The sum.
-fn sum<A: Amount>(a: A, b: A) -> Result<A, PseudoflowFault> {
-    a.sum(b).ok_or(PseudoflowFault::TooLarge)
-}
-
-// The difference.
-fn difference<A: Amount>(a: A, b: A) -> Result<A, PseudoflowFault> {
-    a.difference(b).ok_or(PseudoflowFault::TooLarge)
-}
-
 // Pushes as much of a block's excess to its parent as their arc's residual capacity takes.
 fn push_to_parent<A: Amount>(
     forest: &mut Forest<A>,
@@ -31,15 +21,15 @@ fn push_to_parent<A: Amount>(
     let excess = forest.excess(block);
     let flow = forest.flow(block);
     let (pushed, flow) = match forest.direction(block) {
-        Direction::Up => (excess, sum(flow, excess)?),
+        Direction::Up => (excess, flow.sum(excess)?),
         Direction::Down => {
             let pushed = excess.lesser(flow);
-            (pushed, difference(flow, pushed)?)
+            (pushed, flow.difference(pushed)?)
         }
     };
     forest.set_flow(block, flow);
-    forest.set_excess(parent, sum(forest.excess(parent), pushed)?);
-    forest.set_excess(block, difference(excess, pushed)?);
+    forest.set_excess(parent, forest.excess(parent).sum(pushed)?);
+    forest.set_excess(block, excess.difference(pushed)?);
     Ok(())
 }
 

@@ -26,7 +26,6 @@ unread_at texts name t w engine.Device h = (h, inl (keeps_self w))
 unread_at texts name t w (engine.Model q) h = absurd h
 unread_at texts name t w (engine.Certificate q) h = absurd h
 unread_at texts name t w (engine.Trace q) h = absurd h
-unread_at texts name t w (engine.Slope q) h = absurd h
 unread_at texts name t w engine.Thread h = absurd h
 unread_at texts name t w engine.Stranger h = absurd h
 unread_at texts name t w e h = (h, keeps_self w)

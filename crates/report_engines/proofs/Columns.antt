@@ -65,3 +65,24 @@ front_there count (x ∷ xs) ys h = all_step (nat_lt x count) (are_there (xs ++ 
 
 pub front_of : (xs ys : List ℕ) → AreSomeOf xs (xs ++ ys)
 front_of xs ys = record { good = λ columns h. none_in_front (is_bad columns) xs ys h; there = λ count h. front_there count xs ys h }
+
+-- ---- all but one of some columns
+
+any_tail : (s a : Bool) → (s || a) ≡ false → a ≡ false
+any_tail true a h = absurd cc
+any_tail false a h = h
+
+all_tail : (s a : Bool) → (s && a) ≡ true → a ≡ true
+all_tail true a h = h
+all_tail false a h = absurd cc
+
+none_without : (f : ℕ → Bool) (xs : List ℕ) (y : ℕ) (zs : List ℕ) → list_any f (xs ++ (y ∷ zs)) ≡ false → list_any f (xs ++ zs) ≡ false
+none_without f [] y zs h = any_tail (f y) (list_any f zs) h
+none_without f (x ∷ xs) y zs h = any_step (f x) (list_any f (xs ++ (y ∷ zs))) (list_any f (xs ++ zs)) (none_without f xs y zs) h
+
+there_without : (count : ℕ) (xs : List ℕ) (y : ℕ) (zs : List ℕ) → are_there (xs ++ (y ∷ zs)) count ≡ true → are_there (xs ++ zs) count ≡ true
+there_without count [] y zs h = all_tail (nat_lt y count) (are_there zs count) h
+there_without count (x ∷ xs) y zs h = all_step (nat_lt x count) (are_there (xs ++ (y ∷ zs)) count) (are_there (xs ++ zs) count) (there_without count xs y zs) h
+
+pub all_but : (xs : List ℕ) (y : ℕ) (zs : List ℕ) → AreSomeOf (xs ++ zs) (xs ++ (y ∷ zs))
+all_but xs y zs = record { good = λ columns h. none_without (is_bad columns) xs y zs h; there = λ count h. there_without count xs y zs h }

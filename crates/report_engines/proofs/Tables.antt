@@ -16,7 +16,7 @@ use Rattle.engines.specs.declared.effort.Effort.{Effort}
 use Rattle.mine_inputs.specs.declared.engine_fault.EngineFault.{EngineFault}
 use Rattle.mine_inputs.specs.declared.priced_inputs.ChargeColumns.{ChargeColumns}
 use Rattle.mine_inputs.specs.declared.priced_inputs.ChargeColumns.TheVariants.{Plain, Mill}
-use Rattle.mine_inputs.specs.Prelude.{columns_said, charge_list, place_beside, cell, table_of, of_model}
+use Rattle.mine_inputs.specs.Prelude.{PrecedenceBy, is_sloped, columns_said, charge_list, place_beside, region_columns, cell, table_of, of_model}
 use Rattle.shell_engines.specs.declared.shell_rows.ShellRow.{ShellRow}
 use Rattle.shell_engines.specs.declared.no_series.NoSeries.{NoSeries}
 use Rattle.shell_engines.specs.Prelude.{IsSettled, NoSeriesStands, TellsWhy, IsFaultOf, DenoteSeries, ShellsFail}
@@ -27,16 +27,16 @@ use Rattle.report_engines.specs.Prelude.{ReportBlocksRead, report_factor, report
 use Rattle.report_engines.proofs.SameBlocks.{AreAlike, table_same}
 
 -- the tonnes stand behind the columns of prices
-tonnes_chosen : (charges : ChargeColumns) (revenue tonnes : ℕ) → get_or (revenue ∷ (charge_list charges ++ (tonnes ∷ []))) (place_beside charges) 0 ≡ tonnes
-tonnes_chosen (Plain cost) revenue tonnes = refl
-tonnes_chosen (Mill processing mining) revenue tonnes = refl
+tonnes_chosen : (charges : ChargeColumns) (revenue tonnes : ℕ) (others : List ℕ) → get_or (revenue ∷ (charge_list charges ++ (tonnes ∷ others))) (place_beside charges) 0 ≡ tonnes
+tonnes_chosen (Plain cost) revenue tonnes others = refl
+tonnes_chosen (Mill processing mining) revenue tonnes others = refl
 
-tonnes_within : (charges : ChargeColumns) (revenue tonnes : ℕ) → place_beside charges < length (revenue ∷ (charge_list charges ++ (tonnes ∷ [])))
-tonnes_within (Plain cost) revenue tonnes = omega arith
-tonnes_within (Mill processing mining) revenue tonnes = omega arith
+pub tonnes_within : (charges : ChargeColumns) (revenue tonnes : ℕ) (others : List ℕ) → place_beside charges < length (revenue ∷ (charge_list charges ++ (tonnes ∷ others)))
+tonnes_within (Plain cost) revenue tonnes others = omega arith
+tonnes_within (Mill processing mining) revenue tonnes others = omega arith
 
-module _ (s t p : List ℕ) (prices : PricesView) (rests : RestsView) (factors : List ℕ) (m : BlocksView) (charges : ChargeColumns) (factor : ℕ) (read : IsReportRead s t p prices rests factors m charges factor) where
-  blocks_read : ReportBlocksRead s t
+module _ (s t : List ℕ) (p : PrecedenceBy) (prices : PricesView) (rests : RestsView) (factors : List ℕ) (m : BlocksView) (charges : ChargeColumns) (factor : ℕ) (read : IsReportRead s t p prices rests factors m charges factor) where
+  blocks_read : ReportBlocksRead (is_sloped p) s t
   blocks_read = record { keys = read.keys; within = read.blocks_are.0; read = read.blocks_are.1 }
 
   size_is : rests.blocks ≡ m.blocks
@@ -59,9 +59,9 @@ module _ (s t p : List ℕ) (prices : PricesView) (rests : RestsView) (factors :
         let Q : ℕ → Type 0 = λ i. get_or (get_or m.columns i []) b (pos 0) ≡ cell t (unwrap_or said.tonnes 0) b in
         let revenue = unwrap_or said.revenue 0 in
         let tonnes = unwrap_or said.tonnes 0 in
-        subst Q (sym (ap place_beside read.charges_are)) (read.blocks_are.2.value (place_beside kind) b (tonnes_within kind revenue tonnes) l ∙ ap (λ i. cell t i b) (tonnes_chosen kind revenue tonnes))
+        subst Q (sym (ap place_beside read.charges_are)) (read.blocks_are.2.value (place_beside kind) b (tonnes_within kind revenue tonnes (region_columns said)) l ∙ ap (λ i. cell t i b) (tonnes_chosen kind revenue tonnes (region_columns said)))
 
-    alike : AreAlike (reported_blocks m series (place_beside charges) (worths_at series.prices factor)) (report_blocks rests.blocks s t p (upto series.shells))
+    alike : AreAlike (reported_blocks m series (place_beside charges) (worths_at series.prices factor)) (report_blocks rests.blocks s t (upto series.shells))
     alike = record {
       blocks = size_is;
       height = λ b l. sym (ap (λ (q : Place). q.z) (read.blocks_are.2.place b l));
@@ -83,7 +83,7 @@ module _ (s t p : List ℕ) (prices : PricesView) (rests : RestsView) (factors :
       spelled = spelled;
     }
 
-  both : ReportBlocksRead s t × DenoteSeries s t p
+  both : ReportBlocksRead (is_sloped p) s t × DenoteSeries s t p
   both = (blocks_read, denoted s t p prices rests factors read.series)
 
   net_fails : (fault : NetFault) → ShellsFail s t p (of_model fault) → ReportFails s t p (of_model fault)

@@ -1,22 +1,22 @@
 -- What only the functions of this crate say to one another.
-use Rattle.std.specs.Prelude.{◌≡◌, ℕ, ◌<◌, ◌≤◌, List, [], ◌∷◌, ◌++◌, length, unwrap_or}
-use Rattle.blocks_file.specs.Denotes.{BlocksView, IsSmall}
+use Rattle.std.specs.Prelude.{◌≡◌, ℕ, ◌+◌, ◌<◌, ◌≤◌, Bool, List, ◌∷◌, ◌++◌, length, unwrap_or}
+use Rattle.blocks_file.specs.Denotes.{BlocksView, IsSmall, narrowed}
 use Rattle.prec_file.specs.Rests.{RestsView}
 use Rattle.settings_file.specs.Settings.{SettingsView, settings_of}
 use Rattle.shells.specs.Prices.{PricesView, PricesFaultStands}
 use Rattle.mine_inputs.specs.declared.engine_fault.EngineFault.{EngineFault}
 use Rattle.mine_inputs.specs.declared.engine_fault.EngineFault.TheVariants as engine
 use Rattle.mine_inputs.specs.declared.priced_inputs.ChargeColumns.{ChargeColumns}
-use Rattle.mine_inputs.specs.Prelude.{columns_said, column_list, place_beside, first_columns, slope_keys, SettingsFails, ReadsBlocks, BlocksFails}
+use Rattle.mine_inputs.specs.Prelude.{PrecedenceBy, by_slopes, by_text, is_sloped, columns_for, columns_said, column_after, column_list, place_beside, first_columns, rests_said, unused_by, SettingsFails, ReadsBlocks, BlocksFails, ReadsPrec, PrecReadFails, SlopesRead, ArePairsBy, PairsSaidFail}
 use Rattle.shell_engines.specs.SeriesTexts.{factors_said, IsSeriesRead}
 use Rattle.report_engines.specs.declared.report_inputs.ReportColumns.{ReportColumns}
 use Rattle.report_engines.specs.ReportTexts.{report_keys, ReportKeysKnown, report_columns, report_factor}
 
 -- The prices, the pairs and the factors that were read, the blocks with their places and columns, the kind of the charges, and
 -- the factor of the report are those of the texts.
-pub record IsReportRead (settings blocks precedence : List ℕ) (prices : PricesView) (rests : RestsView) (factors : List ℕ) (model : BlocksView) (charges : ChargeColumns) (factor : ℕ) : Type 0 where
+pub record IsReportRead (settings blocks : List ℕ) (precedence : PrecedenceBy) (prices : PricesView) (rests : RestsView) (factors : List ℕ) (model : BlocksView) (charges : ChargeColumns) (factor : ℕ) : Type 0 where
   pub series : IsSeriesRead settings blocks precedence prices rests factors
-  pub keys : ReportKeysKnown settings
+  pub keys : ReportKeysKnown (is_sloped precedence) settings
   pub blocks_are : ReadsBlocks (report_columns (settings_of settings)) blocks model
   pub charges_are : charges ≡ (columns_said (settings_of settings)).charges
   pub factor_is : factor ≡ report_factor settings
@@ -29,24 +29,39 @@ pub record IsPricedModel (charges : ChargeColumns) (m : BlocksView) (prices : Pr
 
 -- the columns that settings name, and their list
 abbrev pub columns_by : SettingsView → ReportColumns
-columns_by s = record { prices = columns_said s; tonnes = unwrap_or s.tonnes 0 }
+columns_by s = record { prices = columns_said s; tonnes = unwrap_or s.tonnes 0; region = s.region }
 
 abbrev pub report_list : ReportColumns → List ℕ
-report_list columns = column_list columns.prices ++ (columns.tonnes ∷ [])
+report_list columns = column_list columns.prices ++ (columns.tonnes ∷ columns_for columns.region)
 
--- The columns, the factors and the factor of the report are those of the text of settings.
-pub record IsSaid (settings : List ℕ) (columns : ReportColumns) (factors : List ℕ) (factor : ℕ) : Type 0 where
-  pub keys : ReportKeysKnown settings
+-- The settings, the columns, the factors and the factor of the report are those of the text of settings.
+pub record IsSaid (sloped : Bool) (settings : List ℕ) (said : SettingsView) (columns : ReportColumns) (factors : List ℕ) (factor : ℕ) : Type 0 where
+  pub keys : ReportKeysKnown sloped settings
+  pub said_is : settings_of settings ≡ said
   pub columns_are : columns ≡ columns_by (settings_of settings)
   pub factors_are : factors ≡ factors_said settings
   pub factor_is : factor ≡ report_factor settings
 
 -- why they aren't said
-abbrev pub SaidFails : List ℕ → EngineFault → Type 0
-SaidFails settings (engine.Settings p) = SettingsFails report_keys slope_keys settings p
-SaidFails settings engine.Memory = Unit {0}
-SaidFails settings engine.Device = Unit {0}
-SaidFails settings _ = ⊥
+abbrev pub SaidFails : Bool → List ℕ → EngineFault → Type 0
+SaidFails sloped settings (engine.Settings p) = SettingsFails (report_keys sloped) (unused_by sloped) settings p
+SaidFails sloped settings engine.Memory = Unit {0}
+SaidFails sloped settings engine.Device = Unit {0}
+SaidFails sloped settings _ = ⊥
+
+-- the blocks with the column of regions alone, which stands behind those of prices and of tonnes
+abbrev pub regions_among : SettingsView → ChargeColumns → BlocksView → BlocksView
+regions_among said charges m = narrowed (column_after (place_beside charges + 1) said.region) m
+
+-- who rests on whom among n blocks, as a text of its own lists it or as the slopes of settings say, was read
+abbrev pub ReadsRests : PrecedenceBy → SettingsView → ChargeColumns → BlocksView → ℕ → RestsView → Type 0
+ReadsRests (by_text precedence) said charges m n rests = ReadsPrec n precedence rests
+ReadsRests by_slopes said charges m n rests = (rests.blocks ≡ m.blocks) × SlopesRead said (regions_among said charges m) × ArePairsBy (rests_said said (regions_among said charges m)) rests.pairs
+
+-- why it isn't read
+abbrev pub RestsReadFail : PrecedenceBy → SettingsView → ChargeColumns → BlocksView → ℕ → EngineFault → Type 0
+RestsReadFail (by_text precedence) said charges m n = PrecReadFails n precedence
+RestsReadFail by_slopes said charges m n = PairsSaidFail said (regions_among said charges m)
 
 -- why blocks with these columns, and their prices, aren't read
 abbrev pub PricedModelFails : ReportColumns → List ℕ → EngineFault → Type 0

@@ -1,32 +1,33 @@
--- The texts of a mine that is reported: settings that name its prices, its tonnes and the factors, blocks and precedence.
+-- The texts of a mine that is reported: settings that name its prices, its tonnes and the factors, blocks, and what says which block
+-- rests on which.
 use Rattle.std.specs.Prelude.{◌≡◌, ℕ, ◌-◌, Bool, List, [], ◌∷◌, ◌++◌, length, slice_index_or, None, unwrap_or}
 use Rattle.std.specs.List.{find}
 use Rattle.blocks_file.specs.Records as blocks
 use Rattle.settings_file.specs.declared.keys.Key.{Key}
 use Rattle.settings_file.specs.declared.keys.Key.TheVariants.{Tonnes, Factors}
 use Rattle.settings_file.specs.Settings.{SettingsView, settings_of, names_mill}
-use Rattle.shells.specs.Prices.{PricesFaultStands}
+use Rattle.shells.specs.Prices.{PricesFaultStands, worth_at}
 use Rattle.bench_report.specs.Benches.{ReportedBlocks}
 use Rattle.mine_inputs.specs.declared.engine_fault.EngineFault.{EngineFault}
 use Rattle.mine_inputs.specs.declared.engine_fault.EngineFault.TheVariants as engine
-use Rattle.mine_inputs.specs.Prelude.{IsWithinLimit, BlocksFails, keys_by, slope_keys, price_columns, cell, table_of, KeysSaid, PricesRead, SettingsFails, priced_texts, worth_by, PrecFails}
+use Rattle.mine_inputs.specs.Prelude.{IsWithinLimit, BlocksFails, PrecedenceBy, is_sloped, texts_by, keys_by, others_by, unused_by, price_columns, region_columns, cell, table_of, KeysSaid, SettingsFails, MineFails}
 use Rattle.shell_engines.specs.SeriesTexts.{factors_said}
 
--- the keys that a report needs
-abbrev pub report_keys : SettingsView → List Key
-report_keys s = keys_by (names_mill s) (Tonnes ∷ Factors ∷ [])
+-- the keys that a report needs, where settings list slopes and where they don't
+abbrev pub report_keys : Bool → SettingsView → List Key
+report_keys sloped s = keys_by (names_mill s) (others_by sloped (Tonnes ∷ Factors ∷ []))
 
 -- the text of settings has no fault, and says something at each of these keys
-abbrev pub ReportKeysKnown : List ℕ → Type 0
-ReportKeysKnown settings = KeysSaid report_keys slope_keys settings
+abbrev pub ReportKeysKnown : Bool → List ℕ → Type 0
+ReportKeysKnown sloped settings = KeysSaid (report_keys sloped) (unused_by sloped) settings
 
--- the columns of the blocks that settings name: those of prices, then tonnes
+-- the columns of the blocks that settings name: those of prices, then tonnes, and last that of regions where there is one
 abbrev pub report_columns : SettingsView → List ℕ
-report_columns s = price_columns s ++ (unwrap_or s.tonnes 0 ∷ [])
+report_columns s = price_columns s ++ (unwrap_or s.tonnes 0 ∷ region_columns s)
 
 -- The settings name these columns, and the text of blocks has no fault where they are chosen.
-pub record ReportBlocksRead (settings text : List ℕ) : Type 0 where
-  pub keys : ReportKeysKnown settings
+pub record ReportBlocksRead (sloped : Bool) (settings text : List ℕ) : Type 0 where
+  pub keys : ReportKeysKnown sloped settings
   pub within : IsWithinLimit text
   pub read : blocks.fault_of (report_columns (settings_of settings)) text ≡ None
 
@@ -44,21 +45,20 @@ report_factor settings = factor_by (settings_of settings)
 
 -- What is reported of n blocks, where these are the pits at the factors: the height of a block and its tonnes as its
 -- record says; as its shell the first factor whose pit holds it; and its worth at the factor of the report.
-abbrev pub report_blocks : ℕ → List ℕ → List ℕ → List ℕ → (ℕ → ℕ → Bool) → ReportedBlocks
-report_blocks n settings text precedence pit = record {
+abbrev pub report_blocks : ℕ → List ℕ → List ℕ → (ℕ → ℕ → Bool) → ReportedBlocks
+report_blocks n settings text pit = record {
   blocks = n;
   height = λ b. (blocks.place_of_record (blocks.record_among (blocks.lines_in text) b)).z;
   shell = λ b. find (λ k. pit k b) (factors_said settings);
   tonnes = λ b. cell text (unwrap_or (settings_of settings).tonnes 0) b;
-  worth = λ b. worth_by (priced_texts settings text precedence (report_factor settings)) b;
+  worth = λ b. worth_at (table_of settings text) (report_factor settings) b;
 }
 
 -- why the texts aren't read: each fault stands, and none before it does
-abbrev pub ReportMineFails : List ℕ → List ℕ → List ℕ → EngineFault → Type 0
-ReportMineFails settings text precedence (engine.Settings p) = SettingsFails report_keys slope_keys settings p
-ReportMineFails settings text precedence (engine.Blocks p) = ReportKeysKnown settings × BlocksFails (report_columns (settings_of settings)) text p
-ReportMineFails settings text precedence (engine.Prices fault) = ReportBlocksRead settings text × PricesFaultStands (table_of settings text) fault
-ReportMineFails settings text precedence (engine.Prec p) = ReportBlocksRead settings text × ((n : ℕ) × PricesRead settings text n × PrecFails n precedence p)
+abbrev pub ReportMineFails : List ℕ → List ℕ → PrecedenceBy → EngineFault → Type 0
+ReportMineFails settings text precedence (engine.Settings p) = SettingsFails (report_keys (is_sloped precedence)) (unused_by (is_sloped precedence)) settings p
+ReportMineFails settings text precedence (engine.Blocks p) = ReportKeysKnown (is_sloped precedence) settings × BlocksFails (report_columns (settings_of settings)) text p
+ReportMineFails settings text precedence (engine.Prices fault) = ReportBlocksRead (is_sloped precedence) settings text × PricesFaultStands (table_of settings text) fault
 ReportMineFails settings text precedence engine.Memory = Unit {0}
 ReportMineFails settings text precedence engine.Device = Unit {0}
-ReportMineFails settings text precedence _ = ⊥
+ReportMineFails settings text precedence fault = ReportBlocksRead (is_sloped precedence) settings text × ((factor : ℕ) → MineFails (texts_by settings text precedence factor) fault)

@@ -7,33 +7,33 @@ use Rattle.engines.specs.declared.judgement.Verdict.{Verdict}
 use Rattle.engines.specs.declared.judgement.Verdict.TheVariants.{Done, No}
 use Rattle.mine_inputs.specs.declared.engine_fault.EngineFault.{EngineFault}
 use Rattle.engines.specs.declared.effort.Effort.{Effort}
-use Rattle.mine_inputs.specs.Mines.{priced_texts, DenoteMine}
+use Rattle.mine_inputs.specs.Mines.{PrecedenceBy, is_sloped, texts_by, DenoteMine}
 use Rattle.shell_engines.specs.Prelude.{factors_said, FailsBy, Ends, mine_at_factor, IsTableIfAsked, AreNested, DenoteSeries, IsNoTable, NoNetAt}
 use Rattle.report_engines.specs.ReportTexts.{ReportBlocksRead, report_blocks, ReportMineFails}
 
 -- The texts denote a mine at each factor, the pits at the factors of the settings are the best ones, each of them lies
 -- within the next, and this text is the bench table of the blocks in their shells.
-pub record IsReport (settings blocks precedence text : List ℕ) : Type 0 where
+pub record IsReport (settings blocks : List ℕ) (precedence : PrecedenceBy) (text : List ℕ) : Type 0 where
   pub size : ℕ
-  pub mine : (factor : ℕ) → DenoteMine (priced_texts settings blocks precedence factor) size
-  pub read : ReportBlocksRead settings blocks
+  pub mine : (factor : ℕ) → DenoteMine (texts_by settings blocks precedence factor) size
+  pub read : ReportBlocksRead (is_sloped precedence) settings blocks
   pub pit : ℕ → ℕ → Bool
   pub best : (k : ℕ) → Contains (factors_said settings) k → IsBest (mine_at_factor size settings blocks precedence k) (pit k)
   pub nested : AreNested (mine_at_factor size settings blocks precedence)
   pub rows : List BenchRow
-  pub table : IsBenchTable (report_blocks size settings blocks precedence pit) rows
+  pub table : IsBenchTable (report_blocks size settings blocks pit) rows
   pub spelled : text ≡ table_text rows
 
 -- the table of blocks, which may be asked for, and the text that answer for them
-abbrev pub AnswersReport : List ℕ → List ℕ → List ℕ → Effort → Bool → Verdict → List ℕ → List ℕ → Type 0
+abbrev pub AnswersReport : List ℕ → List ℕ → PrecedenceBy → Effort → Bool → Verdict → List ℕ → List ℕ → Type 0
 AnswersReport settings blocks precedence effort asked Done table text = IsReport settings blocks precedence text × IsTableIfAsked asked settings blocks precedence table
-AnswersReport settings blocks precedence effort asked No table text = ReportBlocksRead settings blocks × IsNoTable settings blocks precedence effort text × (table ≡ [])
+AnswersReport settings blocks precedence effort asked No table text = ReportBlocksRead (is_sloped precedence) settings blocks × IsNoTable settings blocks precedence effort text × (table ≡ [])
 
 -- why the engine answers a fault: it stands, and none before it does
-abbrev pub ReportFails : List ℕ → List ℕ → List ℕ → EngineFault → Type 0
-ReportFails settings blocks precedence = FailsBy (ReportMineFails settings blocks precedence) (ReportBlocksRead settings blocks × DenoteSeries settings blocks precedence)
-    (λ fault. ReportBlocksRead settings blocks × NoNetAt settings blocks precedence fault)
+abbrev pub ReportFails : List ℕ → List ℕ → PrecedenceBy → EngineFault → Type 0
+ReportFails settings blocks precedence = FailsBy (ReportMineFails settings blocks precedence) (ReportBlocksRead (is_sloped precedence) settings blocks × DenoteSeries settings blocks precedence)
+    (λ fault. ReportBlocksRead (is_sloped precedence) settings blocks × NoNetAt settings blocks precedence fault)
 
 -- the answer, and what was written with it
-abbrev pub Reports : List ℕ → List ℕ → List ℕ → Effort → Bool → Option (List ℕ) → Option (List ℕ) → Option (List ℕ) → Option (List ℕ) → Result Verdict EngineFault → Type 0
+abbrev pub Reports : List ℕ → List ℕ → PrecedenceBy → Effort → Bool → Option (List ℕ) → Option (List ℕ) → Option (List ℕ) → Option (List ℕ) → Result Verdict EngineFault → Type 0
 Reports settings blocks precedence effort asked = Ends (AnswersReport settings blocks precedence effort asked) (ReportFails settings blocks precedence)

@@ -2,6 +2,7 @@
 //! worth of each shell on each bench.
 
 ghost use Rattle.std.specs.Prelude.{ℕ, List, ◌+◌, ◌≡◌, MatchResult, IsErrOf};
+ghost use Rattle.mine_inputs.specs.Mines.{PrecedenceBy};
 ghost use Rattle.shell_engines.specs.Devices.{ForSeries, InputsCanCount, OutputsCanCount, input_failures, output_failures, NoInputFailed, NoOutputFailed, is_asked, contents_in};
 ghost use Rattle.report_engines.specs.Reports.{AnswersReport, ReportFails, Reports};
 ghost use Rattle.report_engines.specs.ReportParts.{IsReportRead};
@@ -91,7 +92,7 @@ fn answer_of<R: Threads + Wait + Sync, T: Gate + Progress + SeriesProgress>(
     gate: &T,
     is_asked: bool,
 ) -> Result<Answer, EngineFault>
-    ensures answer { (s b p : List ℕ)
+    ensures answer { (s b : List ℕ) (p : PrecedenceBy)
         → IsReportRead s b p mine.series.prices mine.series.predecessors
         mine.series.factors.items mine.model mine.charges mine.factor
         → MatchResult result

@@ -1,11 +1,10 @@
 -- What a schedule comes to by figures that were read is what it comes to by the texts.
-use Rattle.fixed_worth.proofs.Common.{◌≡◌, ℕ, zero, suc, ◌+◌, ◌*◌, ◌<◌, ℤ, pos, ◌*ℤ◌, Bool, true, false, not, ◌==◌, nat_lt, and_parts, and_from, eq-eqb, ne_eqb, List, [], ◌∷◌, ◌++◌, length, take, slice_index, refl, sym, ap, ap₂, subst, ◌∙◌, arith, All, All-head, All-tail, get_or_default}
+use Rattle.fixed_worth.proofs.Common.{◌≡◌, ℕ, zero, suc, ◌+◌, ◌*◌, ◌<◌, ℤ, pos, ◌*ℤ◌, Bool, true, false, ◌==◌, nat_lt, List, [], ◌∷◌, ◌++◌, length, take, slice_index, refl, sym, ap, ap₂, subst, ◌∙◌, arith, All, All-head, All-tail, get_or_default}
 use Rattle.ordered_group.specs.Sets.{worth_in, count_in}
 use Rattle.ordered_group.proofs.BlockSets.{count_in-same, worth_in-agrees}
-use Rattle.prec_file.specs.Records as prec
-use Rattle.prec_file.specs.Rests.{RestsView, IsRests, IsKnown, ArePairsOf, has_pair}
+use Rattle.prec_file.specs.Rests.{RestsView, IsRests, IsKnown, has_pair}
 use Rattle.prec_file.proofs.Pairs.{rests_of_pair, pair_of_rests}
-use Rattle.mine_inputs.specs.Prelude.{AreRead, MineTexts, precedence_of, rests_by}
+use Rattle.mine_inputs.specs.Prelude.{ArePairsBy, AreRead, MineTexts, rests_of}
 use Rattle.periods_file.specs.Periods.{PeriodsView}
 use Rattle.schedule_file.specs.Records as schedule
 use Rattle.schedules.specs.Prelude.{Production, used_in, dug_in}
@@ -22,16 +21,8 @@ same_truth true y f g = sym (f refl)
 same_truth false true f g = g refl
 same_truth false false f g = refl
 
-apart : (b p : ℕ) → (b ≡ p → ⊥) → not (b == p) ≡ true
-apart b p h = rw (ne_eqb b p h) refl
-
-differ : (b p : ℕ) → not (b == p) ≡ true → b ≡ p → ⊥
-differ b p h e = let t : not (b == p) ≡ false = rw (eq-eqb b p e) refl in cc
-
-pub rests_same : (listed pairs : List (ℕ × ℕ)) → ArePairsOf listed pairs → (b p : ℕ) → rests_by listed b p ≡ has_pair pairs b p
-rests_same listed pairs are b p = same_truth (rests_by listed b p) (has_pair pairs b p)
-    (λ h. let t = and_parts (not (b == p)) (has_pair listed b p) h in rests_of_pair pairs b p (are.held (b, p) (pair_of_rests listed b p t.1) (differ b p t.0)))
-    (λ h. let o = are.only (b, p) (pair_of_rests pairs b p h) in and_from (not (b == p)) (has_pair listed b p) (apart b p o.1) (rests_of_pair listed b p o.0))
+pub rests_same : (rests : ℕ → ℕ → Bool) (pairs : List (ℕ × ℕ)) → ArePairsBy rests pairs → (b p : ℕ) → rests b p ≡ has_pair pairs b p
+rests_same rests pairs are b p = same_truth (rests b p) (has_pair pairs b p) (λ h. rests_of_pair pairs b p ((are.same b p).1 h)) (λ h. (are.same b p).0 (pair_of_rests pairs b p h))
 
 -- ---- two schedules that agree below n
 
@@ -100,7 +91,7 @@ module _ (texts : MineTexts) (periods uses text : List ℕ) (nanos : List ℤ) (
       let pairs : broken_pairs (period_by listed) T rests.pairs ≡ broken_pairs told T rests.pairs = broken_alike n T (period_by listed) told rests.pairs period_same known.known in
       let all : v.broken ≡ length (broken_pairs told T rests.pairs) = j.broken.all ∙ ap length pairs in
       let over : v.over ≡ overs_in_rows by_texts told (length said.resources) = j.over ∙ rows_alike by_figures by_texts (period_by listed) told (length said.resources) refl (λ r k l. used_same r k l) (λ r k l. refl) in
-      let iff = feasible_iff by_texts rests.pairs (rests_same (prec.pairs_of_text (precedence_of texts)) rests.pairs a.pairs) told in
+      let iff = feasible_iff by_texts rests.pairs (rests_same (rests_of texts) rests.pairs a.pairs) told in
       record {
         count = n;
         mine = a.mine;

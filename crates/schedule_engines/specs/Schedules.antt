@@ -2,11 +2,10 @@
 use Rattle.std.specs.Prelude.{◌≡◌, ◌⊎◌, ℕ, ℤ, ◌+◌, ◌*◌, pos, ◌*ℤ◌, Bool, List, length, slice_index, None, Option, Result, Ok, Err}
 use Rattle.std.specs.Io.KnownBytes.{Appends, Keeps}
 use Rattle.fixed_worth.specs.Device.{ReceivedPrefix}
-use Rattle.prec_file.specs.Records as prec
-use Rattle.prec_file.specs.Rests.{ArePairsOf, RestsView}
+use Rattle.prec_file.specs.Rests.{RestsView}
 use Rattle.blocks_file.specs.Records as blocks
 use Rattle.mine_inputs.specs.declared.engine_fault.EngineFault.TheVariants as engine
-use Rattle.mine_inputs.specs.Prelude.{AreRead, DenoteMine, IsWithinLimit, MineFails, MineTexts, cell, mine_of, precedence_of, worth_by}
+use Rattle.mine_inputs.specs.Prelude.{ArePairsBy, AreRead, DenoteMine, IsWithinLimit, MineFails, MineTexts, cell, mine_of, rests_of, worth_by}
 use Rattle.periods_file.specs.Periods.{PeriodsView}
 use Rattle.schedule_file.specs.Records as schedule
 use Rattle.schedules.specs.Prelude.{Production}
@@ -44,7 +43,7 @@ pub record IsScheduled (texts : MineTexts) (periods uses text : List ℕ) (v : J
   pub schedule_within : IsWithinLimit text
   pub schedule_read : schedule.fault_of count (length said.weights) text ≡ None
   pub pairs : List (ℕ × ℕ)
-  pub are : ArePairsOf (prec.pairs_of_text (precedence_of texts)) pairs
+  pub are : ArePairsBy (rests_of texts) pairs
   pub judged : IsJudged (plan_of texts count said uses) (schedule.schedule_of (length said.weights) text) pairs v
 
 -- The texts denote a mine and its periods whose figures are too large, or too many.

@@ -116,7 +116,7 @@ values_in ms =
     then_with (regions_in ms) (λ by.
     Ok (settings_view revenue cost tonnes factors report offsets processing mining by.slopes by.region by.up))))))))))
 
--- A name that is no key comes before all bad values.
+-- What a table says at each key, or its first fault: a name that is no key comes before all bad values.
 abbrev pub settings_in : Members → Result SettingsView SettingsFault
 settings_in ms = cond (all_known ms) (values_in ms) (Err UnknownKey)
 
@@ -144,6 +144,7 @@ abbrev pub said_or_nothing : Result SettingsView SettingsFault → SettingsView
 said_or_nothing (Ok s) = s
 said_or_nothing (Err e) = settings_view None None None None None None None None None None None
 
+-- what the table of a document says as settings; nothing at any key where there is no document, or a fault in it
 abbrev pub settings_by : Option Members → SettingsView
 settings_by (Some ms) = said_or_nothing (settings_in ms)
 settings_by None = said_or_nothing (Err NotToml)
@@ -152,7 +153,7 @@ settings_by None = said_or_nothing (Err NotToml)
 unfoldable pub settings_of : List ℕ → SettingsView
 settings_of text = settings_by (parse_document text)
 
--- the text has no fault
+-- the text reads as settings without a fault
 abbrev pub AreSettings : List ℕ → Type 0
 AreSettings text = ReadsSettings text (Ok (settings_of text))
 

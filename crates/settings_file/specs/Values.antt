@@ -22,76 +22,82 @@ whole_in_i32 (Some (pos n)) = cond (nat_le n 2147483647) (Some (pos n)) None
 whole_in_i32 (Some (negsuc n)) = cond (nat_le n 2147483647) (Some (negsuc n)) None
 whole_in_i32 None = None
 
--- What a value reads as that has to be a number of an offset.
+-- What a value reads as that has to be a number of an offset, from -2^31 to 2^31 - 1.
 abbrev pub offset_number : Data → Option ℤ
 offset_number d = whole_in_i32 (as_integer d)
 
--- What each item reads as, in order, and nothing where one doesn't read.
+-- One value set before others; nothing where it or one of them didn't read.
 abbrev pub put_first : {V : Type 0} → Option V → Option (List V) → Option (List V)
 put_first (Some v) (Some vs) = Some (v ∷ vs)
 put_first _ _ = None
 
+-- What each item reads as, in order, and nothing where one doesn't read.
 unfoldable pub all_read : {V : Type 0} → (Data → Option V) → Items → Option (List V)
 all_read reads no_items = Some []
 all_read reads (item d ds) = put_first (reads d) (all_read reads ds)
 
--- Each number is above the one before it.
+-- The number is below the first of these, where there is one.
 abbrev pub is_below_first : ℕ → List ℕ → Bool
 is_below_first n [] = true
 is_below_first n (m ∷ ms) = nat_lt n m
 
+-- Each number is above the one before it.
 unfoldable pub are_ascending : List ℕ → Bool
 are_ascending [] = true
 are_ascending (n ∷ ns) = is_below_first n ns && are_ascending ns
 
--- Factors: an array of 1 to 64 whole numbers from 0 to 10,000, each above the one before it.
+-- Numbers that were read, where they are 1 to 64 and each is above the one before it.
 abbrev pub if_factors : Option (List ℕ) → Option (List ℕ)
 if_factors (Some ns) = cond ((nat_le 1 (length ns) && nat_le (length ns) MOST_FACTORS) && are_ascending ns) (Some ns) None
 if_factors None = None
 
+-- The factors that the items of an array are: whole numbers from 0 to 10,000, as many and in such order as factors must be.
 abbrev pub factors_of_items : Option Items → Option (List ℕ)
 factors_of_items (Some ds) = if_factors (all_read (whole_value_within MOST_FACTOR) ds)
 factors_of_items None = None
 
+-- What a value reads as that has to be factors: an array of 1 to 64 whole numbers from 0 to 10,000, each above the one before it.
 abbrev pub factors_of : Data → Option (List ℕ)
 factors_of d = factors_of_items (as_array d)
 
--- An offset: an array of three whole numbers.
+-- The offset of three numbers, and nothing where one of them didn't read.
 abbrev pub three : Option ℤ → Option ℤ → Option ℤ → Option (ℤ × ℤ × ℤ)
 three (Some x) (Some y) (Some z) = Some (x, y, z)
 three _ _ _ = None
 
+-- The offset that the items of an array are, where they are exactly three whole numbers of an offset.
 abbrev pub offset_of_items : Option Items → Option (ℤ × ℤ × ℤ)
 offset_of_items (Some (item x (item y (item z no_items)))) = three (offset_number x) (offset_number y) (offset_number z)
 offset_of_items _ = None
 
+-- What a value reads as that has to be an offset: an array of three whole numbers from -2^31 to 2^31 - 1.
 abbrev pub offset_of : Data → Option (ℤ × ℤ × ℤ)
 offset_of d = offset_of_items (as_array d)
 
--- Offsets: an array of any number of them.
+-- The offsets that the items of an array are, in order.
 abbrev pub offsets_of_items : Option Items → Option (List (ℤ × ℤ × ℤ))
 offsets_of_items (Some ds) = all_read offset_of ds
 offsets_of_items None = None
 
+-- What a value reads as that has to be offsets: an array of any number of them.
 abbrev pub offsets_of : Data → Option (List (ℤ × ℤ × ℤ))
 offsets_of d = offsets_of_items (as_array d)
 
--- Slopes: an array with the offsets of each region, as `offsets` lists them.
+-- The offsets of each region that the items of an array are, in order: one item for each region.
 abbrev pub slopes_of_items : Option Items → Option (List (List (ℤ × ℤ × ℤ)))
 slopes_of_items (Some ds) = all_read offsets_of ds
 slopes_of_items None = None
 
+-- What a value reads as that has to be slopes: an array with the offsets of each region, as `offsets` lists them.
 abbrev pub slopes_of : Data → Option (List (List (ℤ × ℤ × ℤ)))
 slopes_of d = slopes_of_items (as_array d)
 
--- Which way is up: "plus", where a greater z is higher, or "minus".
-abbrev pub sign_of_word : List ℕ → Option UpSign
-sign_of_word word = cond (bytes_eq word (codes "plus")) (Some Plus) (cond (bytes_eq word (codes "minus")) (Some Minus) None)
-
+-- Which way is up by a value that may be a text: "plus", where a greater z is higher, or "minus".
 abbrev pub sign_of_text : Option (List ℕ) → Option UpSign
-sign_of_text (Some word) = sign_of_word word
+sign_of_text (Some word) = cond (bytes_eq word (codes "plus")) (Some Plus) (cond (bytes_eq word (codes "minus")) (Some Minus) None)
 sign_of_text None = None
 
+-- What a value reads as that has to say which way is up: the text "plus" or "minus".
 abbrev pub sign_of : Data → Option UpSign
 sign_of d = sign_of_text (as_str d)
 

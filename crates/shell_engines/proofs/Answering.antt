@@ -4,6 +4,7 @@ use Rattle.closure_net.specs.declared.net.NetFault.{NetFault}
 use Rattle.mine_inputs.specs.declared.engine_fault.EngineFault.{EngineFault}
 use Rattle.mine_inputs.specs.declared.engine_fault.EngineFault.TheVariants as engine
 use Rattle.engines.specs.declared.judgement.Verdict.{Verdict}
+use Rattle.mine_inputs.specs.Mines.{PrecedenceBy}
 use Rattle.engines.proofs.Answered.{keeps_self}
 use Rattle.mine_inputs.proofs.PricedAnswers.{under3}
 use Rattle.shell_engines.specs.Answering.{FailsBy, IsCutShort, WritesBothAtFault, Ends}
@@ -21,20 +22,20 @@ unread Unread Denoted NoNet none thread stranger engine.Thread h = thread h
 unread Unread Denoted NoNet none thread stranger engine.Stranger h = stranger h
 unread Unread Denoted NoNet none thread stranger e h = h
 
-module _ (o q r : Option (List ℕ)) (Answers : List ℕ → List ℕ → List ℕ → Verdict → List ℕ → List ℕ → Type 0) where
+module _ (o q : Option (List ℕ)) (r : Option PrecedenceBy) (Answers : List ℕ → List ℕ → PrecedenceBy → Verdict → List ℕ → List ℕ → Type 0) where
   -- the texts were not read
-  pub texts_unread : (Unread : List ℕ → List ℕ → List ℕ → EngineFault → Type 0) (Denoted : List ℕ → List ℕ → List ℕ → Type 0) (NoNet : List ℕ → List ℕ → List ℕ → NetFault → Type 0) → ((s b p : List ℕ) (k : NetFault) → Unread s b p (engine.Model k) → NoNet s b p k)
-      → ((s b p : List ℕ) → Unread s b p engine.Thread → Denoted s b p) → ((s b p : List ℕ) → Unread s b p engine.Stranger → Denoted s b p)
+  pub texts_unread : (Unread : List ℕ → List ℕ → PrecedenceBy → EngineFault → Type 0) (Denoted : List ℕ → List ℕ → PrecedenceBy → Type 0) (NoNet : List ℕ → List ℕ → PrecedenceBy → NetFault → Type 0) → ((s b : List ℕ) (p : PrecedenceBy) (k : NetFault) → Unread s b p (engine.Model k) → NoNet s b p k)
+      → ((s b : List ℕ) (p : PrecedenceBy) → Unread s b p engine.Thread → Denoted s b p) → ((s b : List ℕ) (p : PrecedenceBy) → Unread s b p engine.Stranger → Denoted s b p)
       → (v w : Option (List ℕ)) (e : EngineFault) → IfSome o (λ s. IfSome q (λ b. IfSome r (λ p. Unread s b p e))) → IfSome o (λ s. IfSome q (λ b. IfSome r (λ p. Ends (Answers s b p) (FailsBy (Unread s b p) (Denoted s b p) (NoNet s b p)) v v w w (Err e))))
   texts_unread Unread Denoted NoNet none thread stranger v w e h = under3 o q r (λ s b p. Unread s b p e) (λ s b p. Ends (Answers s b p) (FailsBy (Unread s b p) (Denoted s b p) (NoNet s b p)) v v w w (Err e)) h
       (λ s b p f. (unread (Unread s b p) (Denoted s b p) (NoNet s b p) (none s b p) (thread s b p) (stranger s b p) e f, unwritten (Answers s b p) v w e))
 
-  module _ (Fails : List ℕ → List ℕ → List ℕ → EngineFault → Type 0) (Read : List ℕ → List ℕ → List ℕ → Type 0) (h : IfSome o (λ s. IfSome q (λ b. IfSome r (λ p. Read s b p)))) where
+  module _ (Fails : List ℕ → List ℕ → PrecedenceBy → EngineFault → Type 0) (Read : List ℕ → List ℕ → PrecedenceBy → Type 0) (h : IfSome o (λ s. IfSome q (λ b. IfSome r (λ p. Read s b p)))) where
     -- there is no answer
-    pub unanswered : (v w : Option (List ℕ)) (e : EngineFault) → ((s b p : List ℕ) → Read s b p → Fails s b p e) → IfSome o (λ s. IfSome q (λ b. IfSome r (λ p. Ends (Answers s b p) (Fails s b p) v v w w (Err e))))
+    pub unanswered : (v w : Option (List ℕ)) (e : EngineFault) → ((s b : List ℕ) (p : PrecedenceBy) → Read s b p → Fails s b p e) → IfSome o (λ s. IfSome q (λ b. IfSome r (λ p. Ends (Answers s b p) (Fails s b p) v v w w (Err e))))
     unanswered v w e fails = under3 o q r Read (λ s b p. Ends (Answers s b p) (Fails s b p) v v w w (Err e)) h (λ s b p read. (fails s b p read, unwritten (Answers s b p) v w e))
 
-    module _ (before after old new : Option (List ℕ)) (verdict : Verdict) (table text : List ℕ) (answers : (s b p : List ℕ) → Read s b p → Answers s b p verdict table text) (fails : (s b p : List ℕ) → Fails s b p engine.Device) where
+    module _ (before after old new : Option (List ℕ)) (verdict : Verdict) (table text : List ℕ) (answers : (s b : List ℕ) (p : PrecedenceBy) → Read s b p → Answers s b p verdict table text) (fails : (s b : List ℕ) (p : PrecedenceBy) → Fails s b p engine.Device) where
       abbrev Ended : Result Verdict EngineFault → Type 0
       Ended answer = IfSome o (λ s. IfSome q (λ b. IfSome r (λ p. Ends (Answers s b p) (Fails s b p) before after old new answer)))
 

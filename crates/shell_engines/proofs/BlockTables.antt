@@ -5,11 +5,12 @@ use Rattle.closure_net.specs.Mine.{Mine, IsBest}
 use Rattle.shells.specs.Prelude.{PricesView, priced_count, SeriesView, mine_at, shell_at, upto, IsSeries}
 use Rattle.bench_report.specs.BlockShells.{block_table_text}
 use Rattle.shell_engines.specs.declared.shell_rows.ShellRow.{ShellRow}
+use Rattle.mine_inputs.specs.Mines.{PrecedenceBy}
 use Rattle.shell_engines.specs.Prelude.{mine_at_factor, IsBlockTable, IsTableIfAsked, factors_said, IsSeriesRead, IsSettled, HasTableIfAsked}
 use Rattle.shell_engines.proofs.FirstShell.{first_is}
 use Rattle.shell_engines.proofs.Lifted.{mine_is}
 
-module _ (s t p : List ℕ) (prices : PricesView) (rests : RestsView) (factors : List ℕ) (read : IsSeriesRead s t p prices rests factors) (series : SeriesView) (shell_rows : List ShellRow) (settled : IsSettled rests.pairs prices factors series shell_rows) (is : IsSeries series) where
+module _ (s t : List ℕ) (p : PrecedenceBy) (prices : PricesView) (rests : RestsView) (factors : List ℕ) (read : IsSeriesRead s t p prices rests factors) (series : SeriesView) (shell_rows : List ShellRow) (settled : IsSettled rests.pairs prices factors series shell_rows) (is : IsSeries series) where
   -- the shell of a block is the first factor whose pit holds it
   pub first_shell : (b : ℕ) → find (λ k. upto series.shells k b) (factors_said s) ≡ shell_at series.shells b
   first_shell b = subst (λ (fs : List ℕ). find (λ k. upto series.shells k b) fs ≡ shell_at series.shells b) (settled.same_factors ∙ read.factors_are) (first_is (shell_at series.shells b) series.factors is.rising (is.known b))

@@ -1,8 +1,7 @@
 -- Mines of prices and pairs that were read are those of their texts.
-use Rattle.fixed_worth.proofs.Common.{◌≡◌, ℕ, Bool, true, false, List, [], length, refl, sym, ◌∙◌, subst, IsTrue, Result, Ok, Err, MatchResult, arith, Contains, common_steps}
+use Rattle.fixed_worth.proofs.Common.{◌≡◌, ℕ, Bool, true, false, List, [], length, refl, sym, ◌∙◌, subst, IsTrue, Result, Ok, Err, MatchResult, ap, Contains}
 use Rattle.ordered_group.specs.Block.{scaled_block}
-use Rattle.prec_file.specs.Rests.{RestsView, ArePairsOf, has_pair}
-use Rattle.prec_file.specs.Records as prec
+use Rattle.prec_file.specs.Rests.{RestsView, has_pair}
 use Rattle.closure_net.specs.Prelude.{NetView, Mine, IsBest, LiesWithin, IsNetOf, WorthsFaultStands}
 use Rattle.closure_net.specs.declared.net.NetFault.{NetFault}
 use Rattle.closure_net.specs.declared.net.NetFault.TheVariants as net_fault
@@ -15,10 +14,10 @@ use Rattle.engines.specs.declared.judgement.Verdict.{Verdict}
 use Rattle.engines.specs.declared.judgement.Verdict.TheVariants.{No}
 use Rattle.mine_inputs.specs.declared.engine_fault.EngineFault.{EngineFault}
 use Rattle.mine_inputs.specs.declared.engine_fault.EngineFault.TheVariants as engine
-use Rattle.mine_inputs.specs.Prelude.{priced_texts, rests_by, mine_of, DenoteMine, ArePricesRead, of_model}
+use Rattle.mine_inputs.specs.Prelude.{PrecedenceBy, by_slopes, by_text, texts_by, rests_of, worth_by, mine_of, table_of, WorthsRead, DenoteMine, ArePairsBy, ArePricesRead, of_model}
 use Rattle.engines.specs.Prelude.{NetFails, ModelFails, IsNetBy}
-use Rattle.engines.proofs.Listed.{is_listed, where_listed, listed_rests}
-use Rattle.mine_inputs.proofs.Priced.{worths_priced}
+use Rattle.mine_inputs.proofs.Listed.{is_listed, where_listed}
+use Rattle.mine_inputs.proofs.Priced.{worths_priced, worth_by_prices}
 use Rattle.shell_engines.specs.declared.shell_rows.ShellRow.{ShellRow}
 use Rattle.shell_engines.specs.Prelude.{AreRowsOf, shell_table_text, IsLineOf, factors_said, IsSeriesRead, IsNetAt, NotSolvedStands, NoSeriesStands, IsWant, TellsWhy, IsFaultOf, mine_at_factor, shell_group, AreNested, DenoteSeries, IsShellTable, IsNoTable, NoNetAt, ShellsFail}
 use Rattle.shell_engines.specs.declared.no_series.NoSeries.{NoSeries}
@@ -37,38 +36,46 @@ same_test true u f g = sym (f refl)
 same_test false true f g = g refl
 same_test false false f g = refl
 
-rests_same : (listed pairs : List (ℕ × ℕ)) → ArePairsOf listed pairs → (b p : ℕ) → has_pair pairs b p ≡ rests_by listed b p
-rests_same listed pairs a b p = grind (arith, common_steps, listed_rests, same_test, where_listed, is_listed)
+-- the pairs in order have those that the test has
+rests_same : (rests : ℕ → ℕ → Bool) (pairs : List (ℕ × ℕ)) → ArePairsBy rests pairs → (b p : ℕ) → has_pair pairs b p ≡ rests b p
+rests_same rests pairs a b p = same_test (has_pair pairs b p) (rests b p) (λ h. (a.same b p).0 (where_listed pairs b p h)) (λ h. is_listed pairs b p ((a.same b p).1 h))
 
-module _ (s t p : List ℕ) (table : PricesView) (rests : RestsView) (r : ArePricesRead s t p table rests) where
+-- no revenue of the mine's prices is negative
+none_negative : (s t : List ℕ) (p : PrecedenceBy) (k n : ℕ) → WorthsRead (texts_by s t p k) n → NoRevenueNegative (table_of s t)
+none_negative s t (by_text precedence) k n h = h.revenues
+none_negative s t by_slopes k n h = h.revenues
+
+module _ (s t : List ℕ) (p : PrecedenceBy) (table : PricesView) (rests : RestsView) (r : ArePricesRead s t p table rests) where
   pub mine_is : (k : ℕ) → mine_at rests.pairs table k ≡ mine_at_factor rests.blocks s t p k
-  mine_is k = λ i. record { blocks = r.size i; rests = λ b q. rests_same (prec.pairs_of_text p) rests.pairs r.pairs b q i; worth = worth_at (r.table i) k }
+  mine_is k =
+      let earned : (b : ℕ) → worth_at table k b ≡ worth_by (texts_by s t p k) b = λ b. ap (λ (v : PricesView). worth_at v k b) r.table ∙ sym (worth_by_prices s t p k b) in
+      λ i. record { blocks = r.size i; rests = λ b q. rests_same (rests_of (texts_by s t p k)) rests.pairs (r.pairs k) b q i; worth = λ b. earned b i }
 
   pub nested : BestPitsAreNested → AreNested (mine_at_factor rests.blocks s t p)
   nested law j k e c le low high =
       let B : (ℕ → Bool) → Mine → Type 0 = λ d m. IsBest m d in
       let W : Mine → Type 0 = λ m. LiesWithin m e c in
-      let none : NoRevenueNegative table = subst NoRevenueNegative (sym r.table) (r.mine j).worths_read.revenues in
+      let none : NoRevenueNegative table = subst NoRevenueNegative (sym r.table) (none_negative s t p j rests.blocks (r.mine j).worths_read) in
       subst W (mine_is j) (law (has_pair rests.pairs) table j k e c none le (subst (B e) (sym (mine_is j)) low) (subst (B c) (sym (mine_is k)) high))
 
   rows_of : (factors : List ℕ) (rows : List ShellRow) → AreRowsOf (mine_at rests.pairs table) factors rows → AreRowsOf (mine_at_factor rests.blocks s t p) factors rows
   rows_of factors rows h = subst (λ (m : ℕ → Mine). AreRowsOf m factors rows) (λ i k. mine_is k i) h
 
-  net_by : (k : ℕ) (net : NetView) → IsNetAt scaled_block rests.pairs table k net → IsNetBy (priced_texts s t p k) shell_group net
+  net_by : (k : ℕ) (net : NetView) → IsNetAt scaled_block rests.pairs table k net → IsNetBy (texts_by s t p k) shell_group net
   net_by k net at =
       let size : rests.blocks ≡ length net.worths = sym (at.over.blocks ∙ r.size) in
-      let D : ℕ → Type 0 = λ n. DenoteMine (priced_texts s t p k) n in
+      let D : ℕ → Type 0 = λ n. DenoteMine (texts_by s t p k) n in
       let N : Mine → Type 0 = λ m. IsNetOf scaled_block m net in
       record {
         mine = subst D size (r.mine k);
         is_net = at.is_net;
-        of_mine = subst (λ n. N (mine_of n (priced_texts s t p k))) size (subst N (mine_is k) (net_of_over scaled_block rests.pairs table k net at.over));
+        of_mine = subst (λ n. N (mine_of n (texts_by s t p k))) size (subst N (mine_is k) (net_of_over scaled_block rests.pairs table k net at.over));
       }
 
-  net_fails : (k : ℕ) (fault : NetFault) → WorthsFaultStands scaled_block rests.blocks (worths_at table k) fault → NetFails (priced_texts s t p k) rests.blocks shell_group fault
+  net_fails : (k : ℕ) (fault : NetFault) → WorthsFaultStands scaled_block rests.blocks (worths_at table k) fault → NetFails (texts_by s t p k) rests.blocks shell_group fault
   net_fails k fault f = record { worths = worths_at table k; are = (worths_priced s t p table rests k r).worths; stands = f }
 
-module _ (s t p : List ℕ) (table : PricesView) (rests : RestsView) (factors : List ℕ) (read : IsSeriesRead s t p table rests factors) where
+module _ (s t : List ℕ) (p : PrecedenceBy) (table : PricesView) (rests : RestsView) (factors : List ℕ) (read : IsSeriesRead s t p table rests factors) where
   pub is_table : BestPitsAreNested → (rows : List ShellRow) (text : List ℕ) → AreRowsOf (mine_at rests.pairs table) factors rows → text ≡ shell_table_text rows → IsShellTable s t p text
   is_table law rows text are spelled = record {
     size = rests.blocks;
@@ -98,7 +105,7 @@ module _ (s t p : List ℕ) (table : PricesView) (rests : RestsView) (factors : 
   }
 
   -- an amount of the mine doesn't fit at a factor
-  no_net : (factor : ℕ) (fault : NetFault) → Contains factors factor → ModelFails (priced_texts s t p factor) rests.blocks shell_group fault → NoNetAt s t p fault
+  no_net : (factor : ℕ) (fault : NetFault) → Contains factors factor → ModelFails (texts_by s t p factor) rests.blocks shell_group fault → NoNetAt s t p fault
   no_net factor fault c m = record { factor = factor; said = said factor c; size = rests.blocks; mine = read.mine.mine factor; stands = m }
 
   pub no_net_answer : (factor : ℕ) (fault : NetFault) → Contains factors factor × WorthsFaultStands scaled_block rests.blocks (worths_at table factor) fault → ShellsFail s t p (of_model fault)

@@ -1,7 +1,7 @@
 -- The names of this crate that its proofs and the crates above it use, each from its own file.
 pub use Rattle.shell_engines.specs.Answering.{Ends, FailsBy, IsCutShort, WritesBothAtFault}
 pub use Rattle.shell_engines.specs.BlockTables.{BlockTablesAreOne, IsBlockTable, IsTableIfAsked, mine_at_factor}
-pub use Rattle.shell_engines.specs.Devices.{ForSeries, InputsCanCount, NoInputFailed, NoOutputFailed, OutputsCanCount, contents_in, failures_in, input_failures, is_asked, output_failures}
+pub use Rattle.shell_engines.specs.Devices.{ForSeries, InputsCanCount, NoInputFailed, NoOutputFailed, OutputsCanCount, contents_in, failures_in, input_failures, is_asked, is_without, output_failures, precedence_in}
 pub use Rattle.shell_engines.specs.Parting.{AreHalved, AreJoined, ArePriced, IsBestAmong, IsLeft, IsNetAmong, IsPart, IsSearchLevel, LiesBetweenLists, NoPitStands, NoSumStands, SumLeaves, mine_among}
 pub use Rattle.shell_engines.specs.PitsAtFactors.{HasTableIfAsked, IsAdded, IsBestOf, IsFaultOf, IsProved, IsWant, NoNetStands, TellsWhy}
 pub use Rattle.shell_engines.specs.SeriesTexts.{IsSeriesRead, KeysKnown, SeriesMineFails, factors_said, series_keys}

@@ -1,5 +1,6 @@
--- The texts of a mine of which shells are drawn: settings that name its prices and the factors, blocks and precedence.
-use Rattle.std.specs.Prelude.{◌≡◌, ℕ, List, [], ◌∷◌, None, unwrap_or}
+-- The texts of a mine of which shells are drawn: settings that name its prices and the factors, blocks, and what says which block
+-- rests on which.
+use Rattle.std.specs.Prelude.{◌≡◌, ℕ, Bool, List, [], ◌∷◌, None, unwrap_or}
 use Rattle.prec_file.specs.Rests.{RestsView}
 use Rattle.settings_file.specs.declared.keys.Key.{Key}
 use Rattle.settings_file.specs.declared.keys.Key.TheVariants.{Factors}
@@ -7,32 +8,29 @@ use Rattle.settings_file.specs.Settings.{SettingsView, settings_of, names_mill, 
 use Rattle.shells.specs.Prices.{PricesView}
 use Rattle.mine_inputs.specs.declared.engine_fault.EngineFault.{EngineFault}
 use Rattle.mine_inputs.specs.declared.engine_fault.EngineFault.TheVariants as engine
-use Rattle.mine_inputs.specs.Prelude.{keys_by, slope_keys, SettingsFails, PricedBlocksFail, PricesFail, PricesRead, PrecFails, ArePricesRead}
+use Rattle.mine_inputs.specs.Prelude.{PrecedenceBy, is_sloped, texts_by, keys_by, others_by, unused_by, SettingsFails, MineFails, ArePricesRead}
 
--- the keys that a series of shells needs
-abbrev pub series_keys : SettingsView → List Key
-series_keys s = keys_by (names_mill s) (Factors ∷ [])
+-- the keys that a series of shells needs, where settings list slopes and where they don't
+abbrev pub series_keys : Bool → SettingsView → List Key
+series_keys sloped s = keys_by (names_mill s) (others_by sloped (Factors ∷ []))
 
 -- the settings have all of them
-abbrev pub KeysKnown : List ℕ → Type 0
-KeysKnown settings = first_missing (series_keys (settings_of settings)) (settings_of settings) ≡ None
+abbrev pub KeysKnown : Bool → List ℕ → Type 0
+KeysKnown sloped settings = first_missing (series_keys sloped (settings_of settings)) (settings_of settings) ≡ None
 
 -- the factors of the settings, in thousandths
 abbrev pub factors_said : List ℕ → List ℕ
 factors_said settings = unwrap_or (settings_of settings).factors []
 
 -- The prices, the pairs and the factors that were read are those of the texts.
-pub record IsSeriesRead (settings blocks precedence : List ℕ) (prices : PricesView) (rests : RestsView) (factors : List ℕ) : Type 0 where
+pub record IsSeriesRead (settings blocks : List ℕ) (precedence : PrecedenceBy) (prices : PricesView) (rests : RestsView) (factors : List ℕ) : Type 0 where
   pub mine : ArePricesRead settings blocks precedence prices rests
-  pub keys : KeysKnown settings
+  pub keys : KeysKnown (is_sloped precedence) settings
   pub factors_are : factors ≡ factors_said settings
 
 -- why they aren't read: each fault stands, and none before it does
-abbrev pub SeriesMineFails : List ℕ → List ℕ → List ℕ → EngineFault → Type 0
-SeriesMineFails settings blocks precedence (engine.Settings p) = SettingsFails series_keys slope_keys settings p
-SeriesMineFails settings blocks precedence (engine.Blocks p) = KeysKnown settings × PricedBlocksFail settings blocks p
-SeriesMineFails settings blocks precedence (engine.Prices fault) = KeysKnown settings × PricesFail settings blocks fault
-SeriesMineFails settings blocks precedence (engine.Prec p) = KeysKnown settings × ((n : ℕ) × PricesRead settings blocks n × PrecFails n precedence p)
+abbrev pub SeriesMineFails : List ℕ → List ℕ → PrecedenceBy → EngineFault → Type 0
+SeriesMineFails settings blocks precedence (engine.Settings p) = SettingsFails (series_keys (is_sloped precedence)) (unused_by (is_sloped precedence)) settings p
 SeriesMineFails settings blocks precedence engine.Memory = Unit {0}
 SeriesMineFails settings blocks precedence engine.Device = Unit {0}
-SeriesMineFails settings blocks precedence _ = ⊥
+SeriesMineFails settings blocks precedence fault = KeysKnown (is_sloped precedence) settings × ((factor : ℕ) → MineFails (texts_by settings blocks precedence factor) fault)

@@ -8,7 +8,7 @@ use Rattle.engines.specs.declared.judgement.Verdict.{Verdict}
 use Rattle.engines.specs.declared.judgement.Verdict.TheVariants.{Done, No}
 use Rattle.mine_inputs.specs.declared.engine_fault.EngineFault.{EngineFault}
 use Rattle.engines.specs.declared.effort.Effort.{Effort}
-use Rattle.mine_inputs.specs.Mines.{priced_texts, DenoteMine}
+use Rattle.mine_inputs.specs.Mines.{PrecedenceBy, is_sloped, texts_by, DenoteMine}
 use Rattle.engines.specs.Prelude.{ModelFails, IsNetBy}
 use Rattle.engines.specs.declared.solvers.Unsolved.{Unsolved}
 use Rattle.shell_engines.specs.declared.shell_rows.ShellRow.{ShellRow}
@@ -27,49 +27,49 @@ abbrev pub AreNested : (ℕ → Mine) → Type 0
 AreNested mine = (j k : ℕ) (e c : ℕ → Bool) → j ≤ k → IsBest (mine j) e → IsBest (mine k) c → LiesWithin (mine j) e c
 
 -- The texts denote a mine at each factor, and the settings name those of the shells.
-pub record DenoteSeries (settings blocks precedence : List ℕ) : Type 0 where
+pub record DenoteSeries (settings blocks : List ℕ) (precedence : PrecedenceBy) : Type 0 where
   pub size : ℕ
-  pub mine : (factor : ℕ) → DenoteMine (priced_texts settings blocks precedence factor) size
-  pub keys : KeysKnown settings
+  pub mine : (factor : ℕ) → DenoteMine (texts_by settings blocks precedence factor) size
+  pub keys : KeysKnown (is_sloped precedence) settings
 
 -- The texts denote a mine at each of the factors of the settings, and this one the table of its best pits, each of which
 -- lies within the next.
-pub record IsShellTable (settings blocks precedence text : List ℕ) : Type 0 where
+pub record IsShellTable (settings blocks : List ℕ) (precedence : PrecedenceBy) (text : List ℕ) : Type 0 where
   pub size : ℕ
-  pub mine : (factor : ℕ) → DenoteMine (priced_texts settings blocks precedence factor) size
-  pub keys : KeysKnown settings
+  pub mine : (factor : ℕ) → DenoteMine (texts_by settings blocks precedence factor) size
+  pub keys : KeysKnown (is_sloped precedence) settings
   pub rows : List ShellRow
   pub rows_are : AreRowsOf (mine_at_factor size settings blocks precedence) (factors_said settings) rows
   pub nested : AreNested (mine_at_factor size settings blocks precedence)
   pub spelled : text ≡ shell_table_text rows
 
 -- At one of the factors of the settings no pit is proved, for a reason that stands.
-pub record IsNoTable (settings blocks precedence : List ℕ) (effort : Effort) (text : List ℕ) : Type 0 where
+pub record IsNoTable (settings blocks : List ℕ) (precedence : PrecedenceBy) (effort : Effort) (text : List ℕ) : Type 0 where
   pub factor : ℕ
   pub said : Contains (factors_said settings) factor
   pub net : NetView
-  pub by : IsNetBy (priced_texts settings blocks precedence factor) shell_group net
+  pub by : IsNetBy (texts_by settings blocks precedence factor) shell_group net
   pub why : Unsolved
   pub stands : NotSolvedStands net effort why
   pub spelled : IsLineOf factor why text
 
 -- the table of blocks, which may be asked for, and the text that answer for them
-abbrev pub AnswersShells : List ℕ → List ℕ → List ℕ → Effort → Bool → Verdict → List ℕ → List ℕ → Type 0
+abbrev pub AnswersShells : List ℕ → List ℕ → PrecedenceBy → Effort → Bool → Verdict → List ℕ → List ℕ → Type 0
 AnswersShells settings blocks precedence effort asked Done table text = IsShellTable settings blocks precedence text × IsTableIfAsked asked settings blocks precedence table
 AnswersShells settings blocks precedence effort asked No table text = IsNoTable settings blocks precedence effort text × (table ≡ [])
 
 -- at one of the factors of the settings an amount of the mine's doesn't fit
-pub record NoNetAt (settings blocks precedence : List ℕ) (fault : NetFault) : Type 0 where
+pub record NoNetAt (settings blocks : List ℕ) (precedence : PrecedenceBy) (fault : NetFault) : Type 0 where
   pub factor : ℕ
   pub said : Contains (factors_said settings) factor
   pub size : ℕ
-  pub mine : DenoteMine (priced_texts settings blocks precedence factor) size
-  pub stands : ModelFails (priced_texts settings blocks precedence factor) size shell_group fault
+  pub mine : DenoteMine (texts_by settings blocks precedence factor) size
+  pub stands : ModelFails (texts_by settings blocks precedence factor) size shell_group fault
 
 -- why the engine answers a fault: it stands, and none before it does
-abbrev pub ShellsFail : List ℕ → List ℕ → List ℕ → EngineFault → Type 0
+abbrev pub ShellsFail : List ℕ → List ℕ → PrecedenceBy → EngineFault → Type 0
 ShellsFail settings blocks precedence = FailsBy (SeriesMineFails settings blocks precedence) (DenoteSeries settings blocks precedence) (NoNetAt settings blocks precedence)
 
 -- the answer, and what was written with it
-abbrev pub Shells : List ℕ → List ℕ → List ℕ → Effort → Bool → Option (List ℕ) → Option (List ℕ) → Option (List ℕ) → Option (List ℕ) → Result Verdict EngineFault → Type 0
+abbrev pub Shells : List ℕ → List ℕ → PrecedenceBy → Effort → Bool → Option (List ℕ) → Option (List ℕ) → Option (List ℕ) → Option (List ℕ) → Result Verdict EngineFault → Type 0
 Shells settings blocks precedence effort asked = Ends (AnswersShells settings blocks precedence effort asked) (ShellsFail settings blocks precedence)

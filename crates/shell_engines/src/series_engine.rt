@@ -2,6 +2,7 @@
 //! at each factor and, where asked for, each block's shell.
 
 ghost use Rattle.std.specs.Prelude.{◌≡◌, ℕ, List, [], ◌+◌, MatchResult, IsErrOf};
+ghost use Rattle.mine_inputs.specs.Mines.{PrecedenceBy};
 ghost use Rattle.shell_engines.specs.Devices.{ForSeries, InputsCanCount, OutputsCanCount, input_failures, output_failures, NoInputFailed, NoOutputFailed, is_asked, contents_in};
 ghost use Rattle.shell_engines.specs.ShellTable.{IsLineOf};
 ghost use Rattle.shell_engines.specs.SeriesTexts.{IsSeriesRead};
@@ -89,7 +90,7 @@ fn answer_of<R: Threads + Wait + Sync, T: Gate + Progress + SeriesProgress>(
     gate: &T,
     is_asked: bool,
 ) -> Result<Answer, EngineFault>
-    ensures answer { (s b p : List ℕ)
+    ensures answer { (s b : List ℕ) (p : PrecedenceBy)
         → IsSeriesRead s b p mine.prices mine.predecessors mine.factors.items → MatchResult result
         (λ a. AnswersShells s b p effort is_asked a.verdict a.table.items a.text.items)
         (λ e. ShellsFail s b p e) }

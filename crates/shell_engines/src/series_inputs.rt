@@ -1,17 +1,21 @@
-//! Reads settings, blocks and predecessors: gives a mine with prices and the factors at which its shells are drawn,
-//! or the first fault of an input.
+//! Reads settings and blocks, and predecessors where a text of their own lists them: gives a mine with prices and the
+//! factors at which its shells are drawn, or the first fault of an input.
 
-ghost use Rattle.std.specs.Prelude.{◌≡◌, ◌≤◌, ◌+◌, ◌⊎◌, ◌∷◌, [], None, unwrap_or, All, IfOk, IfErr, MatchResult, IsErrOf};
+ghost use Rattle.std.specs.Prelude.{◌≡◌, ◌≤◌, ◌<◌, ◌+◌, ◌-◌, ◌^◌, ◌⊎◌, ◌∷◌, [], None, unwrap_or, All, IfOk, IfErr, IfSome, MatchResult, IsErrOf};
 ghost use Rattle.settings_file.specs.Settings.{first_missing};
 ghost use Rattle.settings_file.specs.Values.{AreFactors};
 ghost use Rattle.shells.specs.Prices.{priced_count};
 ghost use Rattle.mine_inputs.specs.Inputs.{IsMissing};
-ghost use Rattle.shell_engines.specs.Devices.{ForSeries, InputsCanCount, input_failures, NoInputFailed};
+ghost use Rattle.mine_inputs.specs.Mines.{by_text, by_slopes};
+ghost use Rattle.shell_engines.specs.Devices.{ForSeries, InputsCanCount, input_failures, is_without, NoInputFailed};
 ghost use Rattle.shell_engines.specs.SeriesTexts.{IsSeriesRead, SeriesMineFails};
 
 use engines::EngineFault;
 use fixed_worth::{CountedRead, MOST_FACTOR};
-use mine_inputs::{missing, predecessors_from, price_columns, priced_settings_from, prices_from};
+use mine_inputs::{
+    missing, place_beside, predecessors_by_slopes, predecessors_from, price_columns,
+    priced_settings_from, prices_from, prices_of, regional_blocks_from, settings_from,
+};
 use prec_file::Predecessors;
 use settings_file::{Key, Settings};
 use shells::{Factor, Prices};
@@ -24,8 +28,20 @@ pub struct SeriesInputs<D> {
     pub settings: D,
     /// MineLib's `.blocks`, which has these columns.
     pub blocks: D,
-    /// What rests on what: MineLib's `.prec`.
-    pub prec: D,
+    /// What rests on what: MineLib's `.prec`; or none, where the settings list slopes.
+    pub prec: Option<D>,
+}
+
+impl<D> SeriesInputs<D> {
+    /// Whether slopes of the settings say what rests on what.
+    pub fn has_slopes(&self) -> bool
+        ensures { result ≡ is_without self.now.prec }
+    {
+        match &self.prec {
+            Some(_) => false,
+            None => true,
+        }
+    }
 }
 
 /// A mine whose blocks have prices, and the factors at which its pits are wanted.
@@ -76,12 +92,81 @@ pub fn factors_of(alloc: Global, settings: &Settings) -> Result<Vec<Factor>, Eng
     }
 }
 
-/// The mine that settings, blocks and a precedence denote, with the factors of the settings: the texts are read in this
-/// order, each to its end.
+// The mine whose precedence is a text of its own.
+fn listed_series<D: CountedRead>(
+    alloc: Global,
+    settings: &mut D,
+    blocks: &mut D,
+    prec: &mut D,
+) -> Result<SeriesMine, EngineFault>
+    requires settings_room { D.failed settings.old < 2 ^ 64 - 1 }
+    requires blocks_room { D.failed blocks.old < 2 ^ 64 - 1 }
+    requires prec_room { D.failed prec.old < 2 ^ 64 - 1 }
+    ensures read { IfSome (D.remaining settings.old) (λ s. IfSome (D.remaining blocks.old) (λ b.
+        IfSome (D.remaining prec.old) (λ p. MatchResult result
+        (λ mine. IsSeriesRead s b (by_text p) mine.prices mine.predecessors mine.factors.items)
+        (SeriesMineFails s b (by_text p))))) }
+    ensures device { IsErrOf result EngineFault.Device
+        → D.failed settings.new + D.failed blocks.new + D.failed prec.new
+        ≡ D.failed settings.old + D.failed blocks.old + D.failed prec.old + 1 }
+    ensures kept { ¬ IsErrOf result EngineFault.Device
+        → (D.failed settings.new ≡ D.failed settings.old)
+        × (D.failed blocks.new ≡ D.failed blocks.old)
+        × (D.failed prec.new ≡ D.failed prec.old) }
+{
+    let settings = priced_settings_from(alloc, settings)?;
+    let columns = price_columns(&settings, &[Key::Factors])?;
+    let factors = factors_of(alloc, &settings)?;
+    let prices = prices_from(alloc, blocks, columns)?;
+    let predecessors = predecessors_from(alloc, prec, prices.len())?;
+    Ok(SeriesMine {
+        prices,
+        predecessors,
+        factors,
+    })
+}
+
+// The mine whose settings list slopes, by which its blocks rest on one another.
+fn sloped_series<D: CountedRead>(
+    alloc: Global,
+    settings: &mut D,
+    blocks: &mut D,
+) -> Result<SeriesMine, EngineFault>
+    requires settings_room { D.failed settings.old < 2 ^ 64 - 1 }
+    requires blocks_room { D.failed blocks.old < 2 ^ 64 - 1 }
+    ensures read { IfSome (D.remaining settings.old) (λ s. IfSome (D.remaining blocks.old) (λ b.
+        MatchResult result
+        (λ mine. IsSeriesRead s b by_slopes mine.prices mine.predecessors mine.factors.items)
+        (SeriesMineFails s b by_slopes))) }
+    ensures device { IsErrOf result EngineFault.Device
+        → D.failed settings.new + D.failed blocks.new
+        ≡ D.failed settings.old + D.failed blocks.old + 1 }
+    ensures kept { ¬ IsErrOf result EngineFault.Device
+        → (D.failed settings.new ≡ D.failed settings.old)
+        × (D.failed blocks.new ≡ D.failed blocks.old) }
+{
+    let settings = settings_from(alloc, settings, &[])?;
+    let columns = price_columns(&settings, &[Key::Slopes, Key::Factors])?;
+    let factors = factors_of(alloc, &settings)?;
+    let model = regional_blocks_from(alloc, blocks, columns, settings.region())?;
+    let prices = prices_of(alloc, &model, columns.charges)?;
+    // proof: no revenue of prices is negative
+    let _blocks = prices.len();
+    let others = place_beside(columns.charges);
+    let predecessors = predecessors_by_slopes(alloc, &model, others, &settings)?;
+    Ok(SeriesMine {
+        prices,
+        predecessors,
+        factors,
+    })
+}
+
+/// The mine that settings and blocks denote, with a precedence where one is read, and the factors of the settings: the
+/// texts are read in this order, each to its end.
 ///
 /// # Errors
 /// In this order: `Settings` for a fault of this text or a missing key; `Blocks`; `Prices` for a negative revenue;
-/// `Prec`. `Memory` where memory is refused, `Device` where a read fails.
+/// `Prec`, or where slopes stand in its place `Slope`. `Memory` where memory is refused, `Device` where a read fails.
 pub fn series_mine_from<D: CountedRead>(
     alloc: Global,
     inputs: &mut SeriesInputs<D>,
@@ -95,14 +180,8 @@ pub fn series_mine_from<D: CountedRead>(
     ensures kept { ¬ IsErrOf result EngineFault.Device
         → NoInputFailed inputs.old inputs.new D.failed }
 {
-    let settings = priced_settings_from(alloc, &mut inputs.settings)?;
-    let columns = price_columns(&settings, &[Key::Factors])?;
-    let factors = factors_of(alloc, &settings)?;
-    let prices = prices_from(alloc, &mut inputs.blocks, columns)?;
-    let predecessors = predecessors_from(alloc, &mut inputs.prec, prices.len())?;
-    Ok(SeriesMine {
-        prices,
-        predecessors,
-        factors,
-    })
+    match &mut inputs.prec {
+        Some(prec) => listed_series(alloc, &mut inputs.settings, &mut inputs.blocks, prec),
+        None => sloped_series(alloc, &mut inputs.settings, &mut inputs.blocks),
+    }
 }

@@ -67,7 +67,8 @@ pub record IsFirstNegative (revenue : List ℤ) (b : ℕ) : Type 0 where
   pub negative : number_at revenue b <ℤ pos 0
   pub before : (c : ℕ) → c < b → pos 0 ≤ℤ number_at revenue c
 
--- why these are no table
+-- why revenues and charges are no table: their lengths differ, there are more than 2^24 blocks, or a revenue is negative, of which
+-- the first is named
 abbrev pub PricesFaultStands : PricesView → PricesFault → Type 0
 PricesFaultStands table WrongLength = (AreCharged table.costs (length table.revenue) → ⊥) ⊎ (MOST_BLOCKS < length table.revenue)
 PricesFaultStands table (NegativeRevenue b) = AreCharged table.costs (length table.revenue) × (length table.revenue ≤ MOST_BLOCKS) × IsFirstNegative table.revenue b

@@ -14,3 +14,4 @@ pub mod Reduction
 pub mod Narrow
 pub mod Alike
 pub mod Regions
+pub mod Tested

@@ -23,7 +23,7 @@ unfolding moved
 moved_apart k last x y a b c = grind (arith, nat_tests, a, b, c)
 
 -- n numbers below k of which no two are equal are at most k
-at_most : (k n : ℕ) (f : (i : ℕ) → i < n → ℕ) → ((i : ℕ) (l : i < n) → f i l < k) → ((i j : ℕ) (l : i < n) (h : j < n) → i < j → f i l ≢ f j h) → n ≤ k
+pub at_most : (k n : ℕ) (f : (i : ℕ) → i < n → ℕ) → ((i : ℕ) (l : i < n) → f i l < k) → ((i j : ℕ) (l : i < n) (h : j < n) → i < j → f i l ≢ f j h) → n ≤ k
 at_most k zero f below apart = omega arith
 at_most zero (suc n) f below apart = absurd (let b = below 0 (omega arith) in omega (arith, b))
 at_most (suc k) (suc n) f below apart =

@@ -1,5 +1,7 @@
 -- Which block rests on which, by a pattern or by the offsets of its own region.
-use Rattle.std.specs.Prelude.{◌≡◌, ℕ, ◌<◌, ◌≤◌, ◌/◌, ◌%◌, ◌==◌, ℤ, pos, negsuc, ◌-ℤ◌, List, [], Contains, ◌≢◌, slice_index_or, length, Bool, IsTrue, cond, Option, Some, None, All}
+use Rattle.std.specs.Prelude.{◌≡◌, ℕ, ◌<◌, ◌≤◌, ◌/◌, ◌%◌, ◌==◌, ℤ, pos, negsuc, ◌-ℤ◌, List, [], Contains, ◌≢◌, slice_index_or, length, Bool, IsTrue, cond, ◌&&◌, nat_lt, Option, Some, None, All}
+use Rattle.std.specs.List.{list_any}
+use Rattle.std.specs.Ordering.{int_eq}
 use Rattle.prec_file.specs.declared.limits.TheConstants.{MOST_PAIRS}
 use Rattle.slope.specs.declared.pattern.TheConstants.{MOST_OFFSETS}
 use Rattle.slope.specs.declared.region_slopes.TheConstants.{MOST_REGIONS}
@@ -81,13 +83,9 @@ abbrev pub whole_of : ℤ → Option ℕ
 whole_of (pos n) = cond (n % 1000000 == 0) (Some (n / 1000000)) None
 whole_of (negsuc n) = None
 
--- What the first column of a model says of a block, in millionths; 0 where it has no column.
-abbrev pub region_said : BlocksView → ℕ → ℤ
-region_said m b = slice_index_or (slice_index_or m.columns 0 []) b (pos 0)
-
--- The region of a block, where it is a number of one: that in the first column, and region 0 where there is no column.
+-- The region of a block, where it has one: the whole number that the first column says, or region 0 where there is no column.
 abbrev pub region_of : BlocksView → ℕ → Option ℕ
-region_of m b = whole_of (region_said m b)
+region_of m b = whole_of (slice_index_or (slice_index_or m.columns 0 []) b (pos 0))
 
 -- The offsets of a region, and none where there is no such region.
 abbrev pub offsets_in : List (List Offset) → Option ℕ → List Offset
@@ -102,6 +100,14 @@ own_offsets listed m b = offsets_in listed (region_of m b)
 abbrev pub rests : List (List Offset) → BlocksView → Up → ℕ → ℕ → Type 0
 rests listed m up b p = IsOwnPair m (own_offsets listed m) up (b, p)
 
+-- Whether an offset is this one.
+abbrev pub is_offset : Offset → Offset → Bool
+is_offset o q = int_eq q.0 o.0 && (int_eq q.1 o.1 && int_eq q.2 o.2)
+
+-- Whether b rests on p by slopes of regions: both are blocks, and the offset from b to p is one of b's own region.
+abbrev pub rests_by_slopes : List (List Offset) → BlocksView → Up → ℕ → ℕ → Bool
+rests_by_slopes listed m up b p = (nat_lt b m.blocks && nat_lt p m.blocks) && list_any (is_offset (offset_between up (place_of m b) (place_of m p))) (own_offsets listed m b)
+
 -- The number of a region is that of a listed one.
 abbrev pub IsRegion : List (List Offset) → Option ℕ → Type 0
 IsRegion listed (Some r) = r < length listed
@@ -111,7 +117,7 @@ IsRegion listed None = ⊥
 abbrev pub AreRegions : List (List Offset) → BlocksView → Type 0
 AreRegions listed m = (b : ℕ) → b < m.blocks → IsRegion listed (region_of m b)
 
--- Region r of a list.
+-- The offsets of region r of a list.
 abbrev pub listed_at : List (List Offset) → ℕ → List Offset
 listed_at listed r = slice_index_or listed r []
 
@@ -119,7 +125,7 @@ listed_at listed r = slice_index_or listed r []
 abbrev pub IsAllUpward : List (List Offset) → ℕ → Type 0
 IsAllUpward listed r = All IsUpward (listed_at listed r)
 
--- A region has few offsets.
+-- A region has at most 4,096 offsets.
 abbrev pub HasFew : List (List Offset) → ℕ → Type 0
 HasFew listed r = length (listed_at listed r) ≤ MOST_OFFSETS
 
@@ -127,7 +133,7 @@ HasFew listed r = length (listed_at listed r) ≤ MOST_OFFSETS
 abbrev pub AreAllUpward : List (List Offset) → Type 0
 AreAllUpward listed = (r : ℕ) → r < length listed → IsAllUpward listed r
 
--- Every region has few offsets.
+-- Every region has at most 4,096 offsets.
 abbrev pub HaveAllFew : List (List Offset) → Type 0
 HaveAllFew listed = (r : ℕ) → r < length listed → HasFew listed r
 
@@ -176,3 +182,11 @@ RegionFaultStands listed m up selection (region.TooManyOffsets r) = ArePlaced li
 RegionFaultStands listed m up selection region.TooManyRegions = ArePlaced listed m × AreAllUpward listed × HaveAllFew listed × (MOST_REGIONS < length listed)
 RegionFaultStands listed m up selection region.TooMany = ArePlaced listed m × AreAllUpward listed × HaveAllFew listed × (length listed ≤ MOST_REGIONS) × AreMoreThan MOST_PAIRS (IsSelected selection m (own_offsets listed m) up)
 RegionFaultStands listed m up selection region.NoMemory = Unit {0}
+
+-- The slopes of regions give the selected pairs of a model: no fault of them stands.
+pub record GivePairs (listed : List (List Offset)) (m : BlocksView) (up : Up) (selection : Selection) : Type 0 where
+  pub placed : ArePlaced listed m
+  pub upward : AreAllUpward listed
+  pub few_offsets : HaveAllFew listed
+  pub few_regions : length listed ≤ MOST_REGIONS
+  pub few_pairs : AreMoreThan MOST_PAIRS (IsSelected selection m (own_offsets listed m) up) → ⊥

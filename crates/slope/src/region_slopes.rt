@@ -2,7 +2,7 @@
 
 ghost use Rattle.std.specs.Prelude.{◌≡◌, ℕ, ◌<◌, ◌≤◌, map, true, All, IfOk, MatchOption, MatchResult, IsErrOf, length};
 ghost use Rattle.prec_file.specs.Written.{AreNarrow};
-ghost use Rattle.slope.specs.Slopes.{AreOwnSlopes, AreRegions, AreAllUpward, HaveAllFew, IsFirstOutside, IsFirstNotUpward, IsFirstWide, RegionFaultStands, own_offsets};
+ghost use Rattle.slope.specs.Slopes.{AreOwnSlopes, AreRegions, AreAllUpward, GivePairs, HaveAllFew, IsFirstOutside, IsFirstNotUpward, IsFirstWide, RegionFaultStands, own_offsets};
 ghost use Rattle.slope.specs.Gathering.{AreOfListed, RegionRefusalStands, region_fault_of};
 
 use crate::ground::{Ground, region_at};
@@ -125,6 +125,8 @@ pub fn predecessors_by_region(
         (AreOwnSlopes model.now (own_offsets (map (λ w. w.items) listed.now) model.now) up selection)
         (RegionFaultStands (map (λ w. w.items) listed.now) model.now up selection) }
     ensures narrow { IfOk result AreNarrow }
+    ensures right { IfOk result (λ _.
+        GivePairs (map (λ w. w.items) listed.now) model.now up selection) }
 {
     let index = match index_of(alloc, model) {
         Ok(index) => index,

@@ -33,6 +33,7 @@ record_fault n had line fields = cond (is_skipped fields) None (option_or (shape
 abbrev pub line_fault : ℕ → (ℕ → Bool) → Line → Option UpitFault
 line_fault n had l = cond (is_long l) (Some (Text l.number)) (record_fault n had l.number (fields_in l))
 
+-- A record of block b is among the lines.
 abbrev pub has_record : List Line → ℕ → Bool
 has_record ls b = list_any (λ l. is_record_of b (fields_in l)) ls
 

@@ -27,7 +27,7 @@ key_of word =
     (cond (bytes_eq word (codes "OBJECTIVE_FUNCTION")) Objective
     Other)))
 
--- EOF alone
+-- A record that is EOF alone: the end of the text.
 abbrev pub is_eof : List (List ℕ) → Bool
 is_eof [] = false
 is_eof (word ∷ []) = bytes_eq word (codes "EOF")

@@ -4,7 +4,7 @@ ghost use Rattle.std.specs.Prelude.{◌≡◌, ◌<◌, length};
 ghost use Rattle.closure_net.specs.Ports.{ports};
 ghost use Rattle.machine_law.specs.Residual.{label_beyond};
 ghost use Rattle.machine_law.specs.Reads.{after_port as operation_after_port, after_label as operation_after_label};
-ghost use Rattle.word_runner.specs.StepWords.{after_capacity_word, after_look_word, smaller_of, push_units as units_of_push, after as after_step};
+ghost use Rattle.word_runner.specs.StepWords.{after_capacity_word, after_look_word, operation_begun_by_word, smaller_of, push_units as units_of_push, after as after_step};
 ghost use Rattle.word_runner.specs.Turns.{IsPlaced};
 
 use closure_net::{Net, Port, PortKind};
@@ -120,6 +120,22 @@ pub fn push_units(have: u64, kind: PortKind, capacity: u64) -> u64
     }
 }
 
+// The operation that a block begins where it has so many units.
+fn begun(have: u64) -> Operation<u64>
+    ensures { result ≡ operation_begun_by_word have }
+{
+    if have > 0 {
+        Operation::Scan {
+            have,
+            place: 0,
+            read: None,
+            best: None,
+        }
+    } else {
+        Operation::Idle
+    }
+}
+
 /// The operation of b after its next step, where its word was x.
 pub fn after(
     net: &Net<Scaled>,
@@ -133,18 +149,7 @@ pub fn after(
     ensures { result ≡ after_step net.now b label operation.now x }
 {
     match *operation {
-        Operation::Idle => {
-            if x > 0 {
-                Operation::Scan {
-                    have: x,
-                    place: 0,
-                    read: None,
-                    best: None,
-                }
-            } else {
-                Operation::Idle
-            }
-        }
+        Operation::Idle => begun(x),
         Operation::Scan {
             have,
             place,

@@ -1,5 +1,11 @@
+use Rattle.schedule_engines.specs.declared.schedule_fault.PlanFault.TheVariants as plan
+use Rattle.bound_engines.specs.declared.bound_fault.BoundFault.TheVariants as bound
 use Rattle.bound_engines.proofs.Answered.{answered, unanswered}
 use Rattle.bound_engines.proofs.bounding_engine.bound_engine.Goals as goal
+
+pub returns-in-Err-clause-answer : goal.returns-in-Err-clause-answer
+returns-in-Err-clause-answer g c =
+    unanswered c.args.inputs.now c.args.beside.now g.D.Read.remaining (g.C.Read.remaining c.args.certificate.now) (g.W.Write.contents c.args.out.now) (bound.Plan (plan.Engine c.in-Err.fault))
 
 pub returns-in-Err-replace_with-clause-answer : goal.returns-in-Err-replace_with-clause-answer
 returns-in-Err-replace_with-clause-answer g c =

@@ -1,6 +1,13 @@
+use Rattle.schedule_engines.specs.declared.schedule_fault.PlanFault.TheVariants as plan
 use Rattle.schedule_value.specs.Judging.{judged_view}
+use Rattle.bound_engines.specs.declared.bound_fault.BoundFault.TheVariants as bound
 use Rattle.bound_engines.proofs.GapsTold.{compared_answer, uncompared}
 use Rattle.bound_engines.proofs.comparing_engine.compare_schedule_engine.Goals as goal
+
+pub returns-in-Err-clause-answer : goal.returns-in-Err-clause-answer
+returns-in-Err-clause-answer g c =
+    let b = c.args.beside.now in
+    uncompared c.args.inputs.now g.D.Read.remaining (g.C.Read.remaining c.args.certificate.now) (g.D.Read.remaining b.periods) (g.D.Read.remaining b.uses) (g.D.Read.remaining b.schedule) (g.W.Write.contents c.args.out.now) (bound.Plan (plan.Engine c.in-Err.fault))
 
 pub returns-in-Err-replace_with-clause-answer : goal.returns-in-Err-replace_with-clause-answer
 returns-in-Err-replace_with-clause-answer g c =

@@ -1,45 +1,11 @@
-use Rattle.fixed_worth.proofs.Common.{rules, sym, subst, ap, err_from_is_err_and, IfSome}
-use Rattle.mine_inputs.specs.declared.worths.Worths.TheVariants.{Values}
-use Rattle.mine_inputs.specs.Prelude.{MineFails, ReadsPrec, PrecReadFails, ForWorths, AreWorthsOf}
-use Rattle.mine_inputs.proofs.MinesRead.{worths_unread, values_read, prec_unread, mine_read}
-use Rattle.mine_inputs.proofs.mines.mine_to_check.Goals.{in-Values+in_ok-text-in-Values+in_ok-read_values-in-Values, in-Prices+in_ok-worths-in-Prices}
+use Rattle.fixed_worth.proofs.Common.{MatchResult, sym, subst}
+use Rattle.mine_inputs.specs.Prelude.{ForTexts, IsMineRead, MineFails}
 use Rattle.mine_inputs.proofs.mines.mine_to_check.Goals as goal
 
-pub returns-in_err-worths-in-Prices-clause-read : goal.returns-in_err-worths-in-Prices-clause-read
-returns-in_err-worths-in-Prices-clause-read g c = λ factor.
-    let e = c.in_err-worths-in-Prices.field-0.0 in
-    let p = err_from_is_err_and c.from_residual-in_err-worths-in-Prices.result c.from_residual-in_err-worths-in-Prices.ensures.1 in
-    rw (p.1, p.2) (worths_unread c.args.inputs.now g.D.Read.remaining factor e (λ q.
-    subst (λ i. ForWorths i g.D.Read.remaining factor q (λ texts. MineFails texts e)) (sym c.in-Prices.is) (c.in_err-worths-in-Prices.ensures.read factor q)))
+pub returns-in-Listed-clause-read : goal.returns-in-Listed-clause-read
+returns-in-Listed-clause-read g c = λ factor.
+    subst (λ i. ForTexts i g.D.Read.remaining factor (λ texts. MatchResult c.listed_mine.result (λ mine. IsMineRead texts factor mine.worths mine.predecessors) (MineFails texts))) (sym c.in-Listed.is) (c.listed_mine.ensures.read factor)
 
-pub returns-in_err-predecessors-clause-read : goal.returns-in_err-predecessors-clause-read
-returns-in_err-predecessors-clause-read g c = λ factor.
-    let e = c.in_err-predecessors.field-0.0 in
-    let p = err_from_is_err_and c.from_residual-in_err-predecessors.result c.from_residual-in_err-predecessors.ensures.1 in
-    rw (p.1, p.2) (elim c.match-inputs.branch [
-      | in-Values+in_ok-text-in-Values+in_ok-read_values-in-Values w ↦ prec_unread c.args.inputs.now g.D.Read.remaining factor c.match-inputs.worths c.len.result c.len.ensures.count (λ q.
-          subst (λ x. ForWorths c.args.inputs.now.worths g.D.Read.remaining factor q (λ texts. AreWorthsOf texts factor x)) (sym w.worths-is)
-          (subst (λ i. ForWorths i g.D.Read.remaining factor q (λ texts. AreWorthsOf texts factor (Values w.in_ok-read_values-in-Values.field-0))) (sym w.in-Values.is)
-          (values_read (g.D.Read.remaining w.in-Values.upit) q factor w.in_ok-read_values-in-Values.field-0 (search rules))))
-          e (subst (λ i. IfSome (g.D.Read.remaining i) (λ q. PrecReadFails c.len.result q e)) (ap (λ i. i.prec) w.inputs-is) c.in_err-predecessors.ensures.read)
-      | in-Prices+in_ok-worths-in-Prices w ↦ prec_unread c.args.inputs.now g.D.Read.remaining factor c.match-inputs.worths c.len.result c.len.ensures.count (λ q.
-          subst (λ x. ForWorths c.args.inputs.now.worths g.D.Read.remaining factor q (λ texts. AreWorthsOf texts factor x)) (sym w.worths-is)
-          (subst (λ i. ForWorths i g.D.Read.remaining factor q (λ texts. AreWorthsOf texts factor w.in_ok-worths-in-Prices.worths)) (sym w.in-Prices.is)
-          (w.in_ok-worths-in-Prices.ensures.read factor q)))
-          e (subst (λ i. IfSome (g.D.Read.remaining i) (λ q. PrecReadFails c.len.result q e)) (ap (λ i. i.prec) w.inputs-is) c.in_err-predecessors.ensures.read)
-    ])
-
-pub returns-clause-read : goal.returns-clause-read
-returns-clause-read g c = λ factor.
-    elim c.match-inputs.branch [
-      | in-Values+in_ok-text-in-Values+in_ok-read_values-in-Values w ↦ mine_read c.args.inputs.now g.D.Read.remaining factor c.match-inputs.worths c.len.result c.len.ensures.count (λ q.
-          subst (λ x. ForWorths c.args.inputs.now.worths g.D.Read.remaining factor q (λ texts. AreWorthsOf texts factor x)) (sym w.worths-is)
-          (subst (λ i. ForWorths i g.D.Read.remaining factor q (λ texts. AreWorthsOf texts factor (Values w.in_ok-read_values-in-Values.field-0))) (sym w.in-Values.is)
-          (values_read (g.D.Read.remaining w.in-Values.upit) q factor w.in_ok-read_values-in-Values.field-0 (search rules))))
-          c.in_ok-predecessors.predecessors (subst (λ i. IfSome (g.D.Read.remaining i) (λ q. ReadsPrec c.len.result q c.in_ok-predecessors.predecessors)) (ap (λ i. i.prec) w.inputs-is) c.in_ok-predecessors.ensures.read)
-      | in-Prices+in_ok-worths-in-Prices w ↦ mine_read c.args.inputs.now g.D.Read.remaining factor c.match-inputs.worths c.len.result c.len.ensures.count (λ q.
-          subst (λ x. ForWorths c.args.inputs.now.worths g.D.Read.remaining factor q (λ texts. AreWorthsOf texts factor x)) (sym w.worths-is)
-          (subst (λ i. ForWorths i g.D.Read.remaining factor q (λ texts. AreWorthsOf texts factor w.in_ok-worths-in-Prices.worths)) (sym w.in-Prices.is)
-          (w.in_ok-worths-in-Prices.ensures.read factor q)))
-          c.in_ok-predecessors.predecessors (subst (λ i. IfSome (g.D.Read.remaining i) (λ q. ReadsPrec c.len.result q c.in_ok-predecessors.predecessors)) (ap (λ i. i.prec) w.inputs-is) c.in_ok-predecessors.ensures.read)
-    ]
+pub returns-in-Sloped-clause-read : goal.returns-in-Sloped-clause-read
+returns-in-Sloped-clause-read g c = λ factor.
+    subst (λ i. ForTexts i g.D.Read.remaining factor (λ texts. MatchResult c.sloped_mine.result (λ mine. IsMineRead texts factor mine.worths mine.predecessors) (MineFails texts))) (sym c.in-Sloped.is) (c.sloped_mine.ensures.read factor)

@@ -14,4 +14,4 @@ pub unreachable-requires : goal.unreachable-requires
 unreachable-requires c =
     let nothing : c.args.settings.now.tonnes ≡ None = search (rules, c.tonnes.ensures.value, c.in_default.not-Some) in
     let first : first_missing (Tonnes ∷ []) c.args.settings.now ≡ Some Tonnes = rw nothing refl in
-    never _ Tonnes (others_known c.args.settings.now c.in_ok-prices.ensures.columns.1).0 first
+    never _ Tonnes (others_known c.args.is_sloped c.args.settings.now c.in_ok-prices.ensures.columns.1).0 first

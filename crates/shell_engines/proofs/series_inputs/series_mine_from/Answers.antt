@@ -1,46 +1,19 @@
-use Rattle.std.proofs.lemmas.Result.{err_from_is_err_and}
-use Rattle.mine_inputs.proofs.PricedAnswers.{prices_said, prices_unsaid, prices_answer, prec_answer, mine_answer}
-use Rattle.shell_engines.proofs.Readings.{prices_known, columns_missing, factors_refused, mine_fails, mine_read}
+use Rattle.fixed_worth.proofs.Common.{List, ℕ, IfSome, MatchResult, sym, subst}
+use Rattle.mine_inputs.specs.Mines.{PrecedenceBy}
+use Rattle.shell_engines.specs.Prelude.{IsSeriesRead, SeriesMineFails, precedence_in}
+use Rattle.shell_engines.proofs.Readings.{listed_told}
 use Rattle.shell_engines.proofs.series_inputs.series_mine_from.Goals as goal
 
-pub returns-in_err-columns-clause-read : goal.returns-in_err-columns-clause-read
-returns-in_err-columns-clause-read g c =
-    let p = err_from_is_err_and c.from_residual-in_err-columns.result c.from_residual-in_err-columns.ensures.1 in
-    rw (p.1, p.2) (columns_missing (g.D.Read.remaining c.args.inputs.now.settings) (g.D.Read.remaining c.args.inputs.now.blocks) (g.D.Read.remaining c.args.inputs.now.prec) c.in_ok-settings.settings c.in_err-columns.field-0.0 c.in_ok-settings.ensures.read c.in_err-columns.ensures.columns)
-
-pub returns-in_err-factors-clause-read : goal.returns-in_err-factors-clause-read
-returns-in_err-factors-clause-read g c =
-    let p = err_from_is_err_and c.from_residual-in_err-factors.result c.from_residual-in_err-factors.ensures.1 in
-    rw (p.1, p.2) (factors_refused (g.D.Read.remaining c.args.inputs.now.settings) (g.D.Read.remaining c.args.inputs.now.blocks) (g.D.Read.remaining c.args.inputs.now.prec) c.in_ok-settings.settings c.in_err-factors.field-0.0 c.in_ok-columns.ensures.columns.1 c.in_err-factors.ensures.fault)
-
-pub returns-in_err-prices-clause-read : goal.returns-in_err-prices-clause-read
-returns-in_err-prices-clause-read g c =
-    let p = err_from_is_err_and c.from_residual-in_err-prices.result c.from_residual-in_err-prices.ensures.1 in
-    let columns = c.in_ok-columns.ensures.columns in
+pub returns-in-Some-clause-read : goal.returns-in-Some-clause-read
+returns-in-Some-clause-read g c =
     let o = g.D.Read.remaining c.args.inputs.now.settings in
     let q = g.D.Read.remaining c.args.inputs.now.blocks in
-    let r = g.D.Read.remaining c.args.inputs.now.prec in
-    let said = c.in_ok-settings.settings in
-    rw (p.1, p.2) (mine_fails o q r said c.in_err-prices.field-0.0 c.in_ok-settings.ensures.read columns.1
-    (prices_answer o q r said c.in_err-prices.field-0.0 c.in_ok-settings.ensures.read (prices_known said columns.1) (prices_unsaid q c.in_ok-columns.columns said c.in_err-prices.field-0.0 columns.0 c.in_err-prices.ensures.read)))
+    let P : List ℕ → List ℕ → PrecedenceBy → Type 0 = λ s b p. MatchResult c.listed_series.result (λ mine. IsSeriesRead s b p mine.prices mine.predecessors mine.factors.items) (SeriesMineFails s b p) in
+    subst (λ d. IfSome o (λ s. IfSome q (λ b. IfSome (precedence_in d g.D.Read.remaining) (λ p. P s b p)))) (sym c.in-Some.is) (listed_told o q (g.D.Read.remaining c.in-Some.prec) P c.listed_series.ensures.read)
 
-pub returns-in_err-predecessors-clause-read : goal.returns-in_err-predecessors-clause-read
-returns-in_err-predecessors-clause-read g c =
-    let p = err_from_is_err_and c.from_residual-in_err-predecessors.result c.from_residual-in_err-predecessors.ensures.1 in
-    let columns = c.in_ok-columns.ensures.columns in
+pub returns-in-None-clause-read : goal.returns-in-None-clause-read
+returns-in-None-clause-read g c =
     let o = g.D.Read.remaining c.args.inputs.now.settings in
     let q = g.D.Read.remaining c.args.inputs.now.blocks in
-    let r = g.D.Read.remaining c.args.inputs.now.prec in
-    let said = c.in_ok-settings.settings in
-    rw (p.1, p.2) (mine_fails o q r said c.in_err-predecessors.field-0.0 c.in_ok-settings.ensures.read columns.1
-    (prec_answer o q r said c.in_ok-prices.prices c.len.result c.in_err-predecessors.field-0.0 c.len.ensures.is c.len.ensures.table.revenues (prices_known said columns.1) c.in_ok-settings.ensures.read (prices_said q c.in_ok-columns.columns said c.in_ok-prices.prices columns.0 c.in_ok-prices.ensures.read) c.in_err-predecessors.ensures.read))
-
-pub returns-clause-read : goal.returns-clause-read
-returns-clause-read g c =
-    let columns = c.in_ok-columns.ensures.columns in
-    let o = g.D.Read.remaining c.args.inputs.now.settings in
-    let q = g.D.Read.remaining c.args.inputs.now.blocks in
-    let r = g.D.Read.remaining c.args.inputs.now.prec in
-    let said = c.in_ok-settings.settings in
-    mine_read o q r said c.in_ok-prices.prices c.in_ok-predecessors.predecessors c.in_ok-factors.factors.items c.in_ok-settings.ensures.read columns.1 c.in_ok-factors.ensures.factors.0
-    (mine_answer o q r said c.in_ok-prices.prices c.in_ok-predecessors.predecessors c.len.result c.len.ensures.is c.len.ensures.table.revenues (prices_known said columns.1) c.in_ok-settings.ensures.read (prices_said q c.in_ok-columns.columns said c.in_ok-prices.prices columns.0 c.in_ok-prices.ensures.read) c.in_ok-predecessors.ensures.read)
+    let P : List ℕ → List ℕ → PrecedenceBy → Type 0 = λ s b p. MatchResult c.sloped_series.result (λ mine. IsSeriesRead s b p mine.prices mine.predecessors mine.factors.items) (SeriesMineFails s b p) in
+    subst (λ d. IfSome o (λ s. IfSome q (λ b. IfSome (precedence_in d g.D.Read.remaining) (λ p. P s b p)))) (sym c.in-None.is) c.sloped_series.ensures.read

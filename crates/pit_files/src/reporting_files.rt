@@ -3,7 +3,7 @@
 ghost use Rattle.std.specs.Prelude.{◌≡◌, IfOk};
 
 use crate::advice::Advice;
-use crate::heard::Heard;
+use crate::input_notes::Heard;
 use crate::replaced::{Replaced, open_replaced};
 use command_line::Escaped;
 use engines::EngineFault;
@@ -30,6 +30,28 @@ pub struct Told<'a, R, D> {
     heard: Heard<'a>,
 }
 
+impl<'a, R, D> Told<'a, R, D> {
+    // Nothing is read or written yet.
+    fn new(
+        rt: &'a R,
+        verbose: bool,
+        name: &'a str,
+        advice: Option<Advice>,
+        device: D,
+        heard: Heard<'a>,
+    ) -> Told<'a, R, D> {
+        Told {
+            rt,
+            verbose,
+            name,
+            advice,
+            device,
+            is_begun: false,
+            heard,
+        }
+    }
+}
+
 // What some programs put at the head of a text in UTF-8.
 const MARK: &[u8] = b"\xEF\xBB\xBF";
 
@@ -39,15 +61,15 @@ pub fn output<'a, R: Print + Eprint + AllocGlobal>(
     verbose: bool,
     advice: Option<Advice>,
 ) -> Told<'a, R, Printer<'a, R>> {
-    Told {
+    let heard = Heard::nothing(rt.alloc());
+    Told::new(
         rt,
         verbose,
-        name: "standard output",
+        "standard output",
         advice,
-        device: io::writer(rt),
-        is_begun: false,
-        heard: Heard::nothing(rt.alloc()),
-    }
+        io::writer(rt),
+        heard,
+    )
 }
 
 /// Opens a file to be read, of which there may be something to tell at its end.
@@ -63,15 +85,7 @@ pub fn open_file<'a, R: Files + Eprint>(
     ensures { IfOk result (λ counted. counted.failures ≡ 0) }
 {
     match File::open(rt, name) {
-        Ok(device) => Ok(Counted::new(Told {
-            rt,
-            verbose,
-            name,
-            advice: None,
-            device,
-            is_begun: false,
-            heard,
-        })),
+        Ok(device) => Ok(Counted::new(Told::new(rt, verbose, name, None, device, heard))),
         Err(error) => {
             tell(rt, verbose, "open", name, error);
             Err(EngineFault::Device)
@@ -92,15 +106,10 @@ pub fn make_file<'a, R: Files + Eprint + AllocGlobal>(
     ensures { IfOk result (λ counted. counted.failures ≡ 0) }
 {
     match open_replaced(rt, name) {
-        Ok(device) => Ok(Counted::new(Told {
-            rt,
-            verbose,
-            name,
-            advice: None,
-            device,
-            is_begun: false,
-            heard: Heard::nothing(rt.alloc()),
-        })),
+        Ok(device) => {
+            let heard = Heard::nothing(rt.alloc());
+            Ok(Counted::new(Told::new(rt, verbose, name, None, device, heard)))
+        }
         Err(error) => {
             tell(rt, verbose, "make", name, error);
             Err(EngineFault::Device)

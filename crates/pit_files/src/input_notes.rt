@@ -25,39 +25,37 @@ pub struct Heard<'a> {
 }
 
 impl<'a> Heard<'a> {
+    // What was read of this, if anything is told of it.
+    fn of(topic: Topic, is_told: bool, text: KeptText<'a>, bound: PairsBound<'a>) -> Heard<'a> {
+        Heard {
+            topic: if is_told { topic } else { Topic::Nothing },
+            text,
+            bound,
+        }
+    }
+
     /// Nothing is told.
     pub fn nothing(alloc: Global) -> Heard<'a> {
-        Heard {
-            topic: Topic::Nothing,
-            text: KeptText::new(alloc, None),
-            bound: PairsBound::new(None),
-        }
+        let text = KeptText::new(alloc, None);
+        Heard::of(Topic::Nothing, false, text, PairsBound::new(None))
     }
 
     /// Of settings, if anything is told: why they are refused.
     pub fn of_settings(alloc: Global, is_told: bool, offsets: Option<&'a AtomicU64>) -> Heard<'a> {
-        Heard {
-            topic: if is_told {
-                Topic::Settings
-            } else {
-                Topic::Nothing
-            },
-            text: KeptText::new(alloc, offsets),
-            bound: PairsBound::new(None),
-        }
+        let text = KeptText::new(alloc, offsets);
+        Heard::of(Topic::Settings, is_told, text, PairsBound::new(None))
+    }
+
+    /// Of settings whose slopes are used, if anything is told: why they are refused.
+    pub fn of_sloped_settings(alloc: Global, is_told: bool) -> Heard<'a> {
+        let text = KeptText::of_slopes(alloc);
+        Heard::of(Topic::Settings, is_told, text, PairsBound::new(None))
     }
 
     /// Of blocks, if anything is told: how many pairs their slopes may give.
     pub fn of_blocks(alloc: Global, is_told: bool, offsets: &'a AtomicU64) -> Heard<'a> {
-        Heard {
-            topic: if is_told {
-                Topic::Blocks
-            } else {
-                Topic::Nothing
-            },
-            text: KeptText::new(alloc, None),
-            bound: PairsBound::new(Some(offsets)),
-        }
+        let text = KeptText::new(alloc, None);
+        Heard::of(Topic::Blocks, is_told, text, PairsBound::new(Some(offsets)))
     }
 
     /// Takes in further bytes.

@@ -1,0 +1,141 @@
+"""Compares what the program answers over mines of two texts, settings that list slopes and blocks, with what it answers over
+the same mines by a precedence file, in which Python writes the pairs that it finds itself, and with what Python says of both.
+
+The mines are those of regions.py: boxes with holes, with places below nothing, in any order of blocks, of up to four regions.
+A certificate is the same by either, is read by plain_check.py, and is accepted over the other too. The lines of shells and
+of a report are added up from the pits of certificates at the same factors.
+"""
+import os
+import random
+import tempfile
+from collections import namedtuple
+from concurrent.futures import ThreadPoolExecutor
+from fractions import Fraction
+from pathlib import Path
+
+from program import plain_check, regions
+from program.refused_calls import run
+
+MINES = 500
+MODELS = {
+    "slopes": ["--blocks", "b", "--settings", "s"],
+    "pairs": ["--prec", "p", "--blocks", "b", "--settings", "t"],
+}
+
+# The texts of a mine by the names of its files, the heights of its blocks and their tonnes, two factors, and whether there is a mill.
+Mine = namedtuple("Mine", "files heights tonnes factors is_mill")
+
+
+def made_up(seed):
+    """A mine with prices at two factors, of which the second is higher."""
+    places, region_of, slopes, is_plus, _ = regions.made_up(seed)
+    chance = random.Random(-1 - seed)
+    is_mill, has_column = chance.random() < 0.5, len(slopes) > 1 or chance.random() < 0.5
+    blocks = range(len(places))
+    tonnes = [chance.randrange(200) for _ in blocks]
+    rows = [
+        "%d %d %d %d %d %s %s %d %d\n"
+        % (
+            (b, *places[b], region_of[b])
+            + (chance.randrange(200) / 10, chance.randrange(60) / 10, chance.randrange(5))
+            + (tonnes[b],)
+        )
+        for b in blocks
+    ]
+    chance.shuffle(rows)
+    factors = sorted(chance.sample(range(100, 3001), 2))
+    prices = "revenue = 1\n%s\ntonnes = 4\nfactors = %r\n" % (
+        "processing = 2\nmining = 3" if is_mill else "cost = 2",
+        factors,
+    )
+    up = "plus" if is_plus else "minus"
+    said = 'slopes = %r\n%sup = "%s"\n' % (slopes, "region = 0\n" * has_column, up)
+    pairs = regions.precedence(places, region_of, slopes, is_plus, False)
+    files = {"b": "".join(rows), "s": prices + said, "t": prices, "p": pairs}
+    return Mine(files, [place[2] for place in places], tonnes, factors, is_mill)
+
+
+def pit_of(mine, factor, certificate):
+    """The pit of a certificate and what each block is worth at the factor; or what is wrong with it."""
+    texts = {name: text.encode() for name, text in mine.files.items()}
+    worths = plain_check.worths_of_prices(texts["t"], texts["b"], factor, mine.is_mill)
+    said = plain_check.proof_of(certificate)
+    refusal = plain_check.refusal(worths, plain_check.predecessors(texts["p"]), said)
+    return refusal, said.pit, worths
+
+
+def read(line, mark):
+    """The numbers of a line, exactly."""
+    return [Fraction(field) for field in line.split(mark) if field != "SHELL"]
+
+
+def report_of(mine, pits, worths):
+    """The rows of the report, where these are the pits at the factors and the worths at the last of them."""
+    rows = {}
+    for b, (height, tonnes) in enumerate(zip(mine.heights, mine.tonnes)):
+        shell = next((factor for factor, pit in zip(mine.factors, pits) if b in pit), None)
+        if shell is not None:
+            row = rows.setdefault((height, shell), [0, 0, 0])
+            for i, more in enumerate((1, tonnes, worths[b])):
+                row[i] += more
+    return [
+        [*key, count, tonnes, Fraction(worth, 10**9)]
+        for key, (count, tonnes, worth) in sorted(rows.items())
+    ]
+
+
+def solved(program, folder, mine):
+    """The pits at the factors, the worths at each, and what is wrong with their certificates."""
+    pits, worths, faults = [], [], []
+    for factor in mine.factors:
+        by = {
+            kind: run(program, ["solve", *words, "--factor", str(factor)], folder)
+            for kind, words in MODELS.items()
+        }
+        (folder / "c").write_bytes(by["slopes"][1])
+        checks = [run(program, ["check", *words, "c"], folder)[:2] for words in MODELS.values()]
+        refusal, pit, worth = pit_of(mine, factor, by["slopes"][1])
+        line = b"ACCEPTED %d " % len(pit)
+        if by["slopes"] != by["pairs"] or by["slopes"][0] != 0 or refusal:
+            faults.append("%d: %s, solved as %r and %r" % (factor, refusal, *by.values()))
+        if checks[0] != checks[1] or not checks[0][1].startswith(line):
+            faults.append("%d: checked as %r and %r" % (factor, *checks))
+        pits.append(pit)
+        worths.append(worth)
+    return pits, worths, faults
+
+
+def wrong(program, seed):
+    """What is wrong with the answers for a mine, or None."""
+    mine = made_up(seed)
+    with tempfile.TemporaryDirectory() as room:
+        folder = Path(room)
+        for name, text in mine.files.items():
+            (folder / name).write_text(text)
+        pits, worths, faults = solved(program, folder, mine)
+        wanted = {
+            "shells": [
+                [factor, len(pit), Fraction(sum(worth[b] for b in pit), 10**9)]
+                for factor, pit, worth in zip(mine.factors, pits, worths)
+            ],
+            "report": report_of(mine, pits, worths[-1]),
+        }
+        for command, rows in wanted.items():
+            for kind, words in MODELS.items():
+                status, output, errors = run(program, [command, *words], folder)
+                lines = output.decode().splitlines()[command == "report" :]
+                mark = "," if command == "report" else None
+                if status != 0 or [read(line, mark) for line in lines] != rows:
+                    faults.append("%s by %s: %r %r" % (command, kind, output, errors))
+    return "; ".join(faults) or None
+
+
+def try_all(program):
+    """Tries every mine, and gives how many were answered as they must be and how many not."""
+    with ThreadPoolExecutor(len(os.sched_getaffinity(0))) as pool:
+        results = list(pool.map(lambda seed: wrong(program, seed), range(MINES)))
+    for seed, line in enumerate(results):
+        if line:
+            print("mine of two texts %d: %s" % (seed, line[:300]))
+    failed = sum(map(bool, results))
+    return MINES - failed, failed
