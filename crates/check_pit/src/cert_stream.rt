@@ -8,6 +8,7 @@ ghost use Rattle.check_pit.specs.StreamHeaders.{GivesHeader, LacksHeader};
 
 use crate::accepted::Accepted;
 use crate::accepted_pit::AcceptedPit;
+use crate::held_graph::HeldGraph;
 use crate::room::Room;
 use crate::stream_bytes::StreamBytes;
 use crate::stream_checking::check_lines;
@@ -15,7 +16,7 @@ use crate::stream_fault::StreamFault;
 use crate::stream_header::read_header;
 use crate::stream_lines::StreamLines;
 use certificate_file::{CertFault, Header};
-use closure_net::{GraphRef, Net};
+use closure_net::Net;
 use fixed_worth::CountedRead;
 use ordered_group::OrderedGroup;
 use std::alloc::{AllocError, Global};
@@ -153,7 +154,7 @@ impl<R: CountedRead> CertStream<R> {
 /// certificate was accepted.
 pub fn check_graph<'a, R: CountedRead, G: OrderedGroup>(
     stream: &mut CertStream<R>,
-    net: GraphRef<'a, G>,
+    net: HeldGraph<'a, G>,
     room: &'a mut Room<G>,
 ) -> Result<AcceptedPit<'a, G>, StreamFault>
     requires count { R.failed stream.old.lines.from < 2 ^ 64 - 1 }
@@ -239,7 +240,7 @@ pub fn check_stream<'a, R: CountedRead, G: OrderedGroup>(
         → length net.now.worths ≤ room.old.space
         → ¬ IsErrOf result (StreamFault.Cert CertFault.NoMemory) }
 {
-    match check_graph(stream, net.graph(), room) {
+    match check_graph(stream, HeldGraph::listed(net.graph()), room) {
         Ok(accepted) => Ok(Accepted::new(net, accepted)),
         Err(fault) => Err(fault),
     }

@@ -1,7 +1,7 @@
 //! The checker: whether a certificate's flow proves its pit.
 //!
-//! Stands on `certificate_file` for the lines of a certificate, and on `closure_net`, `fixed_worth`, `ordered_group` and
-//! `prec_file`. Promises upward: whatever `check` accepts is closed, and no closed set sums to more; whatever it refuses has
+//! Stands on `certificate_file` for the lines of a certificate, on `held_pairs` and `places` for who rests on whom without a list, and on
+//! `closure_net`, `fixed_worth`, `ordered_group` and `prec_file`. Promises upward: whatever `check` accepts is closed, and no closed set sums to more; whatever it refuses has
 //! the fault that it names, and none that comes before it; and a closed, tight pit with a flow whose sums fit is never
 //! refused. `check_graph` and `check_stream` read and check a certificate at once, line by line.
 //!
@@ -18,6 +18,7 @@ mod accepted_pit;
 mod cert_stream;
 mod checking;
 mod closing;
+mod held_graph;
 pub mod laws;
 mod marks;
 mod pit_fault;
@@ -38,6 +39,7 @@ pub use certificate_file::{
     CertFault, Certificate, Header, Price, read_certificate, reading, write_certificate,
 };
 pub use checking::check;
+pub use held_graph::{HeldGraph, graph_of_worths};
 pub use pit_fault::PitFault;
 pub use room::Room;
 pub use stream_bytes::StreamBytes;
