@@ -87,7 +87,7 @@ fn worths_by_prices<D: CountedRead>(
 }
 
 // The mine whose precedence is a text of its own.
-fn listed_mine<D: CountedRead>(
+pub(crate) fn listed_mine<D: CountedRead>(
     alloc: Global,
     worths: &mut WorthInputs<D>,
     prec: &mut D,

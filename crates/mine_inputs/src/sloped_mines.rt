@@ -29,14 +29,14 @@ use std::alloc::Global;
 // Settings that list slopes, the columns of prices that they name, and the blocks with these columns and with that of
 // regions.
 #[derive(Drop)]
-struct SlopedTexts {
-    settings: Settings,
-    columns: PriceColumns,
-    model: BlockModel,
+pub(crate) struct SlopedTexts {
+    pub(crate) settings: Settings,
+    pub(crate) columns: PriceColumns,
+    pub(crate) model: BlockModel,
 }
 
 // The settings and the blocks of a mine.
-fn sloped_texts_from<D: CountedRead>(
+pub(crate) fn sloped_texts_from<D: CountedRead>(
     alloc: Global,
     settings: &mut D,
     blocks: &mut D,
@@ -94,7 +94,7 @@ pub fn regional_blocks_from<R: CountedRead>(
 }
 
 // The place of the column of regions behind so many others, where there is one.
-fn column_after(others: u32, region: Option<u32>) -> Option<u32>
+pub(crate) fn column_after(others: u32, region: Option<u32>) -> Option<u32>
     ensures { result ≡ column_after others region }
 {
     match region {
@@ -104,7 +104,7 @@ fn column_after(others: u32, region: Option<u32>) -> Option<u32>
 }
 
 // The offsets of each region that settings list, and none where they list none.
-fn slopes_of(settings: &Settings) -> &[Vec<(i32, i32, i32)>]
+pub(crate) fn slopes_of(settings: &Settings) -> &[Vec<(i32, i32, i32)>]
     ensures { map (λ w. w.items) result.now ≡ slopes_said settings.now }
 {
     match settings.slopes() {
