@@ -81,9 +81,11 @@ fn least_placed<P: Precedence>(of: &P, marks: &[bool], b: u32) -> Option<u32>
 {
     // proof: the ways lead to blocks
     let _blocks = of.len();
+    let count = of.ways(b);
     let mut least: Option<u32> = None;
-    for k in 0..of.ways(b) {
-        least = lesser_lacking(marks, least, of.way(b, k));
+    for k in 0..count {
+        let way = of.way(b, k);
+        least = lesser_lacking(marks, least, way);
     }
     least
 }

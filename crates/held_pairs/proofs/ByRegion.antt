@@ -11,8 +11,7 @@ use Rattle.slope.proofs.Tested.{not_more}
 use Rattle.slope.specs.declared.selection.Selection.TheVariants.{Every}
 use Rattle.slope.specs.declared.up.Up.{Up}
 use Rattle.held_pairs.specs.OwnRegions.{AreOwnRegions}
-use Rattle.places.specs.Prelude.{AreRegions, ArePlaced, GridView, IsGrid, IsRegion, gridded, implied, offsets_of}
-use Rattle.places.proofs.GridWays.{gridded_is}
+use Rattle.places.specs.Prelude.{AreRegions, ArePlaced, GridView, IsPrecedence, IsRegion, gridded, implied, offsets_of}
 use Rattle.places.proofs.ImpliedPairs.{implied_is}
 
 chosen : (t : Bool) (r : ℕ) → t ≡ true → cond t (Some r) None ≡ Some r
@@ -41,25 +40,25 @@ regions_none m count n regions none some size all =
     }
 
 -- the pairs of the grid are those of the slopes
-module _ (m : BlocksView) (up : Up) (listed : List (List Offset)) (regions : List ℕ) (g : GridView) (is : IsGrid g) (own : AreOwnRegions m (length listed) regions) (placed : ArePlaced m up listed regions g) where
+module _ (m : BlocksView) (up : Up) (listed : List (List Offset)) (regions : List ℕ) (g : GridView) (is : IsPrecedence (gridded g)) (own : AreOwnRegions m (length listed) regions) (placed : ArePlaced m up listed regions g) where
   offsets_are : (b : ℕ) → b < m.blocks → own_offsets listed m b ≡ offsets_of listed (get_or regions b 0)
   offsets_are b l = ap (offsets_in listed) (own.each b l)
 
   held : (b p : ℕ) → IsOwnPair m (own_offsets listed m) up (b, p) → Contains (implied (gridded g)).pairs (b, p)
   held b p h =
       let offset = subst (λ (os : List Offset). Contains os (offset_between up (place_of m b) (place_of m p))) (offsets_are b h.bottom) h.offset in
-      (implied_is (gridded g) (gridded_is g is)).held b p ((placed.pairs b p).1 (record { bottom = h.bottom; top = h.top; offset = offset }))
+      (implied_is (gridded g) is).held b p ((placed.pairs b p).1 (record { bottom = h.bottom; top = h.top; offset = offset }))
 
   only : (b p : ℕ) → Contains (implied (gridded g)).pairs (b, p) → IsOwnPair m (own_offsets listed m) up (b, p)
   only b p c =
-      let h = (placed.pairs b p).0 ((implied_is (gridded g) (gridded_is g is)).only b p c) in
+      let h = (placed.pairs b p).0 ((implied_is (gridded g) is).only b p c) in
       record { bottom = h.bottom; top = h.top; offset = subst (λ (os : List Offset). Contains os (offset_between up (place_of m b) (place_of m p))) (sym (offsets_are b h.bottom)) h.offset }
 
   pub slopes_placed : AreOwnSlopes m (own_offsets listed m) up Every (implied (gridded g))
   slopes_placed = record {
     apart = placed.apart;
     blocks = placed.blocks;
-    rising = (implied_is (gridded g) (gridded_is g is)).pairs.rising;
+    rising = (implied_is (gridded g) is).pairs.rising;
     held = λ pair h. held pair.0 pair.1 h;
     only = λ pair c. only pair.0 pair.1 c;
   }

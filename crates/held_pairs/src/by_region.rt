@@ -24,19 +24,52 @@ fn placed_by_region(
     ensures right { IfSome result (λ _.
         GivePairs (map (λ w. w.items) listed.now) model.now up Every) }
 {
-    if listed.len() > MOST_REGIONS || !lead_up(listed) || !are_few(listed) {
+    let count = listed.len();
+    if count > MOST_REGIONS {
         return None;
     }
-    let regions = own_regions(alloc, model, listed.len())?;
+    if !lead_up(listed) {
+        return None;
+    }
+    if !are_few(listed) {
+        return None;
+    }
+    let Some(regions) = own_regions(alloc, model, count) else {
+        return None;
+    };
     let Ok(grid) = grid_of(alloc, model, regions, listed, up) else {
         return None;
     };
     // proof: what is known of every grid
     let _blocks = Precedence::len(&grid);
-    let held = HeldPairs::of_grid(grid)?;
+    let Some(held) = HeldPairs::of_grid(grid) else {
+        return None;
+    };
     // proof: the pairs are few
     let _few = held.len();
     Some(held)
+}
+
+// The pairs by a list.
+fn listed_by_region(
+    alloc: Global,
+    model: &BlockModel,
+    listed: &[Vec<(i32, i32, i32)>],
+    up: Up,
+) -> Result<HeldPairs, RegionFault>
+    ensures made { MatchResult result
+        (AreOwnSlopes model.now (own_offsets (map (λ w. w.items) listed.now) model.now) up Every)
+        (RegionFaultStands (map (λ w. w.items) listed.now) model.now up Every) }
+    ensures right { IfOk result (λ _.
+        GivePairs (map (λ w. w.items) listed.now) model.now up Every) }
+{
+    match predecessors_by_region(alloc, model, listed, up, Selection::Every) {
+        Ok(list) => {
+            let held = HeldPairs::of_list(list);
+            Ok(held)
+        }
+        Err(fault) => Err(fault),
+    }
 }
 
 /// Who rests on whom in a model of regions: the pairs of `slope::predecessors_by_region`, every one of them. No list is made
@@ -56,11 +89,8 @@ pub fn held_by_region(
     ensures right { IfOk result (λ _.
         GivePairs (map (λ w. w.items) listed.now) model.now up Every) }
 {
-    if let Some(held) = placed_by_region(alloc, model, listed, up) {
-        return Ok(held);
-    }
-    match predecessors_by_region(alloc, model, listed, up, Selection::Every) {
-        Ok(list) => Ok(HeldPairs::of_list(list)),
-        Err(fault) => Err(fault),
+    match placed_by_region(alloc, model, listed, up) {
+        Some(held) => Ok(held),
+        None => listed_by_region(alloc, model, listed, up),
     }
 }

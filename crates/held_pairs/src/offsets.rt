@@ -10,7 +10,12 @@ use slope::MOST_OFFSETS;
 fn all_upward(offsets: &[(i32, i32, i32)]) -> bool
     ensures { IsTrue result → All IsUpward offsets.now }
 {
-    offsets.iter().all(|offset| offset.2 >= 1)
+    for offset in offsets {
+        if offset.2 < 1 {
+            return false;
+        }
+    }
+    true
 }
 
 // Whether each offset of each region leads up.

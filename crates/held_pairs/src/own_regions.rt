@@ -1,17 +1,32 @@
 //! The region of each block as `slope` has it: by the first column of a model, and 0 where it has none.
 
-ghost use Rattle.std.specs.Prelude.{◌≡◌, IfSome, replicate};
+ghost use Rattle.std.specs.Prelude.{◌≡◌, ◌<◌, ◌≤◌, length, IfSome};
 ghost use Rattle.held_pairs.specs.OwnRegions.{AreOwnRegions};
 
 use blocks_file::BlockModel;
 use places::{MOST_REGIONS, regions_of};
 use std::alloc::Global;
 
-// No column says in which region a block is: all are of region 0.
-fn first_regions(alloc: Global, blocks: u32) -> Option<Vec<u8>>
-    ensures { IfSome result (λ v. v.items ≡ replicate blocks 0) }
+// All blocks are of region 0: no column says in which region one is.
+fn first_regions(alloc: Global, model: &BlockModel, count: usize) -> Option<Vec<u8>>
+    requires none { length model.now.columns ≡ 0 }
+    requires some { 0 < count }
+    ensures { IfSome result (λ v. AreOwnRegions model.now count v.items) }
 {
+    let blocks = model.len();
     match vec![in alloc; 0; blocks as usize] {
+        Ok(regions) => Some(regions),
+        Err(_) => None,
+    }
+}
+
+// The region of each block, by the first column.
+fn column_regions(alloc: Global, model: &BlockModel, count: usize) -> Option<Vec<u8>>
+    requires some { 0 < length model.now.columns }
+    requires few { count ≤ MOST_REGIONS }
+    ensures { IfSome result (λ v. AreOwnRegions model.now count v.items) }
+{
+    match regions_of(alloc, model, 0, count) {
         Ok(regions) => Some(regions),
         Err(_) => None,
     }
@@ -24,12 +39,10 @@ pub(crate) fn own_regions(alloc: Global, model: &BlockModel, count: usize) -> Op
     if count == 0 || count > MOST_REGIONS {
         return None;
     }
-    if model.columns() == 0 {
-        let regions = first_regions(alloc, model.len())?;
-        return Some(regions);
-    }
-    match regions_of(alloc, model, 0, count) {
-        Ok(regions) => Some(regions),
-        Err(_) => None,
+    let columns = model.columns();
+    if columns == 0 {
+        first_regions(alloc, model, count)
+    } else {
+        column_regions(alloc, model, count)
     }
 }

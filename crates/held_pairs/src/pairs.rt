@@ -35,10 +35,12 @@ impl Model for HeldPairs {
 fn has_few_ways(grid: &Grid) -> bool
     ensures { IsTrue result → length (implied (gridded grid.now)).pairs ≤ MOST_PAIRS }
 {
-    let mut ways: u64 = 0;
-    for b in 0..grid.len() {
-        ways += grid.ways(b) as u64;
-        if ways > MOST_PAIRS as u64 {
+    let count = grid.len();
+    let mut total: u64 = 0;
+    for b in 0..count {
+        let more = grid.ways(b);
+        total += more as u64;
+        if total > MOST_PAIRS as u64 {
             return false;
         }
     }
@@ -66,9 +68,10 @@ impl HeldPairs {
         }
         // proof: what is known of every grid
         let _blocks = grid.len();
-        Some(HeldPairs {
+        let pairs = HeldPairs {
             held: Held::Placed(grid),
-        })
+        };
+        Some(pairs)
     }
 
     /// How many blocks there are.

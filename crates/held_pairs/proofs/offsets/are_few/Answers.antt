@@ -14,4 +14,4 @@ loop-offsets-preserved c =
     below_more (HasFew (map (λ (w : Vec (ℤ × ℤ × ℤ)). w.items) vs)) k c.loop-offsets.invariant (omega (arith, few, ap length (list_at vs k c.offsets-item.result inside)))
 
 pub returns : goal.returns
-returns c = λ t r l. c.loop-offsets.invariant r (omega (arith, l, c.loop-offsets-test.false, length-map c.args.listed.now (λ (w : Vec (ℤ × ℤ × ℤ)). w.items)))
+returns c = λ t r l. c.loop-offsets.invariant r (omega (arith, l, c.loop-offsets-test.false, c.loop-offsets.auto.offsets-index-end, length-map c.args.listed.now (λ (w : Vec (ℤ × ℤ × ℤ)). w.items)))

@@ -10,8 +10,8 @@ loop-offsets-preserved c =
     let k = c.loop-offsets.offsets-index in
     let inside : k < length vs = c.loop-offsets-test.true in
     let item : (get_or vs k c.offsets-item.result).items ≡ c.deref.result.now = search (rules, c.offsets-item.is, c.deref.ensures.value) in
-    let up : All IsUpward c.deref.result.now = search (rules, c.all_upward.ensures, c.if-not-all_upward.false) in
+    let up : All IsUpward c.deref.result.now = c.all_upward.ensures c.if-not-all_upward.false in
     below_more (IsAllUpward (map (λ (w : Vec (ℤ × ℤ × ℤ)). w.items) vs)) k c.loop-offsets.invariant (subst (All IsUpward) (sym (list_at vs k c.offsets-item.result inside ∙ item)) up)
 
 pub returns : goal.returns
-returns c = λ t r l. c.loop-offsets.invariant r (omega (arith, l, c.loop-offsets-test.false, length-map c.args.listed.now (λ (w : Vec (ℤ × ℤ × ℤ)). w.items)))
+returns c = λ t r l. c.loop-offsets.invariant r (omega (arith, l, c.loop-offsets-test.false, c.loop-offsets.auto.offsets-index-end, length-map c.args.listed.now (λ (w : Vec (ℤ × ℤ × ℤ)). w.items)))
