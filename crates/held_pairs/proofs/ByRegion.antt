@@ -1,5 +1,5 @@
 -- A grid of places and of the offsets of each block's own region has the pairs of the slopes of regions.
-use Rattle.fixed_worth.proofs.Common.{◌≡◌, ℕ, ◌<◌, ◌*◌, ◌/◌, ◌%◌, ◌==◌, ◌+◌, ◌∙◌, ℤ, pos, cond, true, IsTrue, List, [], Contains, Option, Some, None, length, get_or, sym, subst, ap, refl, arith, eq-eqb, get_or_past, replicate, Bool}
+use Rattle.fixed_worth.proofs.Common.{◌≡◌, ℕ, ◌<◌, ◌≤◌, ◌*◌, ◌/◌, ◌%◌, ◌==◌, ◌+◌, ◌∙◌, ℤ, pos, cond, true, IsTrue, List, [], Contains, Option, Some, None, length, get_or, sym, subst, ap, refl, arith, eq-eqb, get_or_past, replicate, Bool}
 use Rattle.std.proofs.lemmas.Nat.{div-mul-add, mod-mul-add}
 use Rattle.std.proofs.lemmas.List.{get_or-replicate, length-replicate}
 use Rattle.blocks_file.specs.Denotes.{BlocksView}
@@ -20,9 +20,10 @@ chosen t r e = rw e refl
 -- a whole number of millions
 whole_is : (value : ℤ) (count r : ℕ) → IsRegion value count r → whole_of value ≡ Some r
 whole_is value count r h =
-    let rest : (r * 1000000) % 1000000 ≡ 0 = ap (λ k. k % 1000000) (omega arith) ∙ mod-mul-add r 1000000 0 (omega arith) in
-    let part : (r * 1000000) / 1000000 ≡ r = ap (λ k. k / 1000000) (omega arith) ∙ div-mul-add r 1000000 0 (omega arith) in
-    ap whole_of h.whole ∙ (ap (λ k. cond ((r * 1000000) % 1000000 == 0) (Some k) None) part ∙ chosen ((r * 1000000) % 1000000 == 0) r (eq-eqb _ _ rest))
+    let same : r * 1000000 ≡ r * 1000000 + 0 = omega arith in
+    let rest : (r * 1000000) % 1000000 ≡ 0 = ap (λ (k : ℕ). k % 1000000) same ∙ mod-mul-add r 1000000 0 (omega arith) in
+    let part : (r * 1000000) / 1000000 ≡ r = ap (λ (k : ℕ). k / 1000000) same ∙ div-mul-add r 1000000 0 (omega arith) in
+    ap whole_of h.whole ∙ (ap (λ (k : ℕ). cond ((r * 1000000) % 1000000 == 0) (Some k) None) part ∙ chosen ((r * 1000000) % 1000000 == 0) r (eq-eqb _ _ rest))
 
 -- regions by a column
 pub regions_own : (m : BlocksView) (count : ℕ) (regions : List ℕ) → AreRegions m 0 count m.blocks regions → AreOwnRegions m count regions
@@ -35,7 +36,7 @@ regions_none m count n regions none some size all =
     let bare : get_or m.columns 0 [] ≡ [] = get_or_past m.columns 0 [] (omega (arith, none)) in
     record {
       size = ap length all ∙ length-replicate n 0 ∙ size;
-      each = λ b l. ap (λ (column : List ℤ). whole_of (get_or column b (pos 0))) bare ∙ ap Some (sym (first b l));
+      each = λ b l. ap (λ (column : List ℤ). whole_of (get_or column b (pos 0))) bare ∙ ap whole_of (get_or_past [] b (pos 0) (omega arith)) ∙ ap Some (sym (first b l));
       below = λ b l. omega (arith, some, first b l);
     }
 

@@ -1,5 +1,5 @@
 -- A block has no more pairs than ways, so that few ways are few pairs.
-use Rattle.fixed_worth.proofs.Common.{◌≡◌, ℕ, zero, suc, ◌+◌, ◌<◌, ◌≤◌, ◌==◌, ◌||◌, ◌++◌, ◌∙◌, Bool, true, false, inl, inr, IsTrue, Option, Some, None, length, get_or, sym, subst, ap, refl, arith, common_steps, cases_Bool, or_cases, or_left, or_right, eq-eqb, eqb-true, length-map, length-append, cases_eq, add-one}
+use Rattle.fixed_worth.proofs.Common.{◌≡◌, ℕ, zero, suc, ◌+◌, ◌<◌, ◌≤◌, ◌==◌, ◌||◌, ◌++◌, ◌∙◌, Bool, true, false, inl, inr, IsTrue, Option, Some, None, length, get_or, sym, subst, ap, refl, arith, true≢false, false_from_ne_true, cases_Bool, or_cases, or_left, or_right, eq-eqb, eqb-true, length-map, length-append, cases_eq, add-one}
 use Rattle.prec_file.specs.Rests.{IsRests, numbers_passing}
 use Rattle.prec_file.specs.declared.limits.TheConstants.{MOST_PAIRS}
 use Rattle.prec_file.proofs.Passing.{bit, bit-true, bit-false, bit-most, length-numbers_passing}
@@ -8,13 +8,24 @@ use Rattle.places.proofs.GridWays.{any_to}
 use Rattle.places.proofs.ImpliedPairs.{implied_is}
 
 -- whether what a way leads to is this block
-pub is_at : Option ℕ → ℕ → Bool
+abbrev is_at : Option ℕ → ℕ → Bool
 is_at None p = false
 is_at (Some q) p = q == p
 
 bit_or : (s t : Bool) → bit (s || t) ≤ bit s + bit t
-unfolding bit
-bit_or s t = grind (arith, common_steps)
+bit_or s t = elim (cases_Bool s) [
+  | inl e ↦ omega (arith, bit-most (s || t), bit-true s e)
+  | inr e ↦ elim (cases_Bool t) [
+    | inl f ↦ omega (arith, bit-most (s || t), bit-true t f)
+    | inr f ↦ omega (
+      arith,
+      bit-false (s || t) (false_from_ne_true (s || t) (λ h. elim (or_cases s t h) [
+        | inl a ↦ true≢false (sym a ∙ e)
+        | inr b ↦ true≢false (sym b ∙ f)
+      ])),
+    )
+  ]
+]
 
 bit_less : (s t : Bool) → (s ≡ true → t ≡ true) → bit s ≤ bit t
 bit_less s t h = elim (cases_Bool s) [
@@ -36,7 +47,7 @@ passing_none s zero h = refl
 passing_none s (suc n) h = omega (arith, length-numbers_passing s n, bit-false (s n) (h n (omega arith)), passing_none s n (λ k l. h k (omega arith)))
 
 differs : (q k n : ℕ) → k < n → q ≡ n → (q == k) ≡ false
-differs q k n l e = grind (arith, common_steps)
+differs q k n l e = false_from_ne_true (q == k) (λ t. omega (arith, eqb-true q k t, l, e))
 
 -- a way leads to one block at most
 pub at_once : (o : Option ℕ) (n : ℕ) → length (numbers_passing (is_at o) n) ≤ 1
@@ -44,7 +55,7 @@ at_once None n = omega (arith, passing_none (is_at None) n (λ k l. refl))
 at_once (Some q) zero = omega arith
 at_once (Some q) (suc n) = elim (cases_eq q n) [
   | inl e ↦ omega (arith, length-numbers_passing (is_at (Some q)) n, bit-most (is_at (Some q) n), passing_none (is_at (Some q)) n (λ k l. differs q k n l e))
-  | inr d ↦ omega (arith, length-numbers_passing (is_at (Some q)) n, bit-false (is_at (Some q) n) (grind (arith, common_steps)), at_once (Some q) n)
+  | inr d ↦ omega (arith, length-numbers_passing (is_at (Some q)) n, bit-false (is_at (Some q) n) (false_from_ne_true (q == n) (λ t. d (eqb-true q n t))), at_once (Some q) n)
 ]
 
 -- the blocks to which some ways lead are no more than these ways
