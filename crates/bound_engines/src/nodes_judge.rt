@@ -11,7 +11,7 @@ ghost use Rattle.bound_engines.specs.declared.bound_fault.BoundFault.TheVariants
 ghost use Rattle.bound_engines.specs.Bounded.{IsJudgedOf, IsRefusal};
 
 use crate::bound_fault::{BoundFault, of_net};
-use check_pit::{CertFault, CertStream, HeldGraph, PitFault, Room, StreamFault, check_graph};
+use check_pit::{CertFault, CertStream, PitFault, Room, StreamFault, check_graph};
 use closure_net::Graph;
 use fixed_worth::CountedRead;
 use mine_inputs::{CertificateProblem, EngineFault, Worths};
@@ -126,7 +126,7 @@ pub(crate) fn judge_nodes<C: CountedRead>(
         Ok(graph) => graph,
         Err(fault) => return Err(of_net(fault)),
     };
-    let net = HeldGraph::listed(graph.as_ref());
+    let net = graph.as_ref();
     // proof: what is known of every net, that its pairs are of its blocks and in order
     let _worths = net.worths();
     let Ok(mut room) = Room::<Worth>::of_blocks(alloc, net.len()) else {

@@ -20,7 +20,7 @@ ghost use Rattle.mine_inputs.specs.ReadMines.{AreRead, IsMineRead};
 use crate::judgement::Judgement;
 use check_pit::{
     AcceptedPit, CertFault, CertStream, Header, HeldGraph, Room, StreamBytes, StreamFault,
-    check_graph, graph_of_worths,
+    check_held, graph_of_worths,
 };
 use closure_net::laws;
 use fixed_worth::CountedRead;
@@ -366,7 +366,7 @@ fn judge_by<G: OrderedGroup, C: CountedRead>(
     // proof: what is known of every net, that its pairs are of its blocks and in order
     let _worths = net.worths();
     let mut room = Room::of_blocks(alloc, net.len())?;
-    match check_graph(stream, net, &mut room) {
+    match check_held(stream, net, &mut room) {
         Ok(accepted) => {
             let (count, worth) = size_and_worth(&accepted);
             Ok(Judgement::Accepted {

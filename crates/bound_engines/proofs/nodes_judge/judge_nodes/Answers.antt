@@ -8,9 +8,9 @@ pub returns-in-Ok-check_graph-clause-is : goal.returns-in-Ok-check_graph-clause-
 returns-in-Ok-check_graph-clause-is g c =
     let pairs = c.args.pairs in
     let worths = c.args.worths.now in
-    let net = c.listed-net.result in
+    let net = c.as_ref-net.result in
     let pit = c.in-Ok-check_graph.accepted.pit in
     let checked = c.in-Ok-check_graph.ensures.checked c.requires.open.fault c.requires.open.undone in
-    let told = worth_told_by pairs worths c.in-Ok.graph net c.in-Ok-check_graph.accepted.net pit _ c.in-Ok.ensures.0 (c.listed-net.ensures ∙ c.as_ref.ensures) checked.2.0 c.worth.ensures.set in
+    let told = worth_told_by pairs worths c.in-Ok.graph net c.in-Ok-check_graph.accepted.net pit _ c.in-Ok.ensures.0 c.as_ref-net.ensures checked.2.0 c.worth.ensures.set in
     let fits : SFits w128 c.worth.result.nanos = search rules in
-    (holds_of pit, richest_told pairs worths c.in-Ok.graph net c.in-Ok-check_graph.accepted.net pit c.in-Ok.ensures.0 (c.listed-net.ensures ∙ c.as_ref.ensures) checked.2.0 c.worth.ensures.greatest, omega (arith, ints, told, fits))
+    (holds_of pit, richest_told pairs worths c.in-Ok.graph net c.in-Ok-check_graph.accepted.net pit c.in-Ok.ensures.0 c.as_ref-net.ensures checked.2.0 c.worth.ensures.greatest, omega (arith, ints, told, fits))

@@ -1,4 +1,4 @@
-use Rattle.std.proofs.Common.{ℕ, List, ◌++◌, ◌∙◌, subst}
+use Rattle.std.proofs.Common.{ℕ, List, ◌++◌, subst}
 use Rattle.closure_net.specs.Network.{NetView}
 use Rattle.check_pit.specs.StreamChecks.{ReadsOn, BodyFails}
 use Rattle.check_pit.proofs.cert_stream.check_stream.Goals as goal
@@ -8,4 +8,4 @@ returns-in-Err-clause-checked g c = λ none fresh.
     let before = c.args.stream.now.lines in
     let later = c.check_graph.new.stream.lines in
     let P : NetView → Type 0 = λ net. (x : List ℕ) × ReadsOn g.R.Read.remaining before later x × BodyFails (g.R.Read.remaining later.from) later.taken g.G.OrderedGroup.counts net (before.held ++ x) c.in-Err.fault in
-    subst P (c.listed.ensures ∙ c.graph.ensures) (c.in-Err.ensures.checked none fresh)
+    subst P c.graph.ensures (c.in-Err.ensures.checked none fresh)

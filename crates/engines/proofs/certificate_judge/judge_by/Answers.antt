@@ -24,7 +24,7 @@ returns-in-Ok-clause-judged g c = λ texts text read named header stands.
     let asked : IsAsked name block counts texts text net = record { mine = known.mine; named = named; header = known.header; is_net = c.worths-worths.ensures.net; of_mine = known.of_mine } in
     let checked = c.in-Ok.ensures.checked c.requires.open.fault c.requires.open.undone in
     let before = c.args.stream.now.lines in
-    let later = c.check_graph.new.stream.lines in
+    let later = c.check_held.new.stream.lines in
     let pit = c.in-Ok.accepted.pit in
     let laws = g.met.G.OrderedGroup g.world.𝓛 g.world.𝓜 g.world.𝓡 ((λ s x. x), (λ x. x), (λ x. x), λ x. x) in
     let fits : FitsSigned w128 c.size_and_worth-count.result.1 = search rules in
@@ -47,4 +47,4 @@ returns-clause-judged g c = λ texts text read named header stands.
     let asked : IsAsked name block counts texts text net = record { mine = known.mine; named = named; header = known.header; is_net = c.worths-worths.ensures.net; of_mine = known.of_mine } in
     let checked = c.in-Err.ensures.checked c.requires.open.fault c.requires.open.undone in
     rw (c.judgement_of.ensures)
-    (stream_answered name block counts texts text net asked g.C.Read.remaining c.args.stream.now.lines c.check_graph.new.stream.lines stands checked.0 checked.1 c.in-Err.fault checked.2)
+    (stream_answered name block counts texts text net asked g.C.Read.remaining c.args.stream.now.lines c.check_held.new.stream.lines stands checked.0 checked.1 c.in-Err.fault checked.2)
