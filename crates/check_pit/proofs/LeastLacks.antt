@@ -1,9 +1,9 @@
 -- The least block that a block rests on and that a set lacks, way by way; and that it is that of the first pair.
-use Rattle.fixed_worth.proofs.Common.{◌≡◌, ℕ, ◌+◌, ◌<◌, ◌≤◌, Bool, true, false, inl, inr, IsTrue, IfSome, List, length, get_or, Option, Some, None, MatchOption, Contains, sym, subst, refl, ap, arith, cond, nat_lt, cond_both, cases_lt, lt-ltb, ltb-true, Contains-get_or, get_or_default, none-some, same_Some, true_from_ne_false, ◌∙◌}
+use Rattle.fixed_worth.proofs.Common.{◌≡◌, ℕ, ◌+◌, ◌<◌, ◌≤◌, Bool, true, false, inl, inr, IsTrue, IfSome, length, get_or, Option, Some, None, MatchOption, Contains, sym, subst, refl, ap, arith, cond, nat_lt, cond_both, cases_lt, lt-ltb, ltb-true, Contains-get_or, get_or_default, none-some, same_Some, true_from_ne_false, ◌∙◌}
 use Rattle.prec_file.specs.Rests.{from_at, to_at}
-use Rattle.places.specs.Prelude.{PrecedenceView, IsPrecedence, Leads, implied, IsImplied}
+use Rattle.places.specs.Prelude.{PrecedenceView, IsPrecedence, implied}
 use Rattle.places.proofs.ImpliedPairs.{implied_is}
-use Rattle.check_pit.specs.Closing.{HoldsAbove, IsFirstLack, IsLacking, HoldsEach, IsLeastLacking, lesser_of, least_with}
+use Rattle.check_pit.specs.Closing.{HoldsAbove, IsLacking, HoldsEach, IsLeastLacking, lesser_of, least_with}
 
 -- of the first k ways of b, p is the least block that the set lacks
 pub record LeastBy (v : PrecedenceView) (e : ℕ → Bool) (b k p : ℕ) : Type 0 where

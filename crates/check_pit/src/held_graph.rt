@@ -65,6 +65,9 @@ pub fn graph_of_worths<G: OrderedGroup>(
 {
     // proof: there are few blocks
     let blocks = pairs.len();
+    if blocks as usize != nanos.len() {
+        return Err(NetFault::WrongLength);
+    }
     let Ok(none) = no_pairs(alloc, blocks) else {
         return Err(NetFault::NoMemory);
     };

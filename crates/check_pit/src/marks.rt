@@ -95,8 +95,8 @@ fn first_lacking(held: HeldRef<'_>, marks: &[bool], b: u32) -> Option<u32>
     requires size { length marks.now ≡ (pairs_lent held).blocks }
     requires known { b < (pairs_lent held).blocks }
     ensures { MatchOption result
-        (HoldsAbove (pairs_lent held).pairs (λ p. slice_index_or marks.now p false) b)
-        (λ p. IsLacking (pairs_lent held).pairs (λ q. slice_index_or marks.now q false) b p) }
+        (HoldsAbove (pairs_lent held.entry).pairs (λ p. slice_index_or marks.now p false) b)
+        (λ p. IsLacking (pairs_lent held.entry).pairs (λ q. slice_index_or marks.now q false) b p) }
 {
     match held {
         HeldRef::Listed(list) => first_listed(list, marks, b),
@@ -112,8 +112,9 @@ fn first_lacking(held: HeldRef<'_>, marks: &[bool], b: u32) -> Option<u32>
 pub(crate) fn first_open(held: HeldRef<'_>, marks: &[bool]) -> Option<(u32, u32)>
     requires { length marks.now ≡ (pairs_lent held).blocks }
     ensures { MatchOption result
-        (IsClosed (pairs_lent held).pairs (λ b. slice_index_or marks.now b false))
-        (λ pair. IsFirstOpen (pairs_lent held).pairs (λ b. slice_index_or marks.now b false) pair) }
+        (IsClosed (pairs_lent held.entry).pairs (λ b. slice_index_or marks.now b false))
+        (λ pair. IsFirstOpen
+        (pairs_lent held.entry).pairs (λ b. slice_index_or marks.now b false) pair) }
 {
     for b in 0..held.blocks() {
         if marks[b as usize] {

@@ -19,7 +19,8 @@ use places::{HeldRef, Precedence};
 // Whether the model has the pair of a line, where the line is of one.
 fn is_of_model(held: HeldRef<'_>, line: &BodyLine) -> bool
     requires { spec.is_end line.now.kind ≡ false → line.now.block < (pairs_lent held).blocks }
-    ensures { result ≡ spec.is_of_model (has_pair (pairs_lent held).pairs) line.now.kind line.now }
+    ensures { result
+        ≡ spec.is_of_model (has_pair (pairs_lent held.entry).pairs) line.now.kind line.now }
 {
     // proof: whether one rests on another is whether the pairs have them
     let _blocks = held.blocks();
@@ -38,8 +39,8 @@ fn line_behind(
     text: &[u8],
 ) -> Result<BodyLine, CertFault>
     requires { length text.now ≤ LINE_BYTES }
-    ensures { result ≡ spec.next_line counts (pairs_lent held).blocks
-        (has_pair (pairs_lent held).pairs) previous number
+    ensures { result ≡ spec.next_line counts (pairs_lent held.entry).blocks
+        (has_pair (pairs_lent held.entry).pairs) previous number
         (record { text = text.now; ended = true }) }
 {
     let line = in_line(number, line_of(counts, held.blocks(), text))?;

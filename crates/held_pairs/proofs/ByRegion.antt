@@ -1,10 +1,10 @@
 -- A grid of places and of the offsets of each block's own region has the pairs of the slopes of regions.
-use Rattle.fixed_worth.proofs.Common.{◌≡◌, ℕ, ◌<◌, ◌≤◌, ◌*◌, ◌/◌, ◌%◌, ◌==◌, ◌+◌, ◌∙◌, ℤ, pos, cond, true, IsTrue, List, [], Contains, Option, Some, None, length, get_or, sym, subst, ap, refl, arith, eq-eqb, get_or_past, replicate, Bool}
+use Rattle.fixed_worth.proofs.Common.{◌≡◌, ℕ, ◌<◌, ◌≤◌, ◌*◌, ◌/◌, ◌%◌, ◌==◌, ◌+◌, ◌∙◌, ℤ, pos, cond, true, List, [], Contains, Some, None, length, get_or, sym, subst, ap, refl, arith, eq-eqb, get_or_past, replicate, Bool}
 use Rattle.std.proofs.lemmas.Nat.{div-mul-add, mod-mul-add}
 use Rattle.std.proofs.lemmas.List.{get_or-replicate, length-replicate}
 use Rattle.blocks_file.specs.Denotes.{BlocksView}
 use Rattle.prec_file.specs.Prelude.{IsRests}
-use Rattle.slope.specs.Prelude.{AreAllUpward, AreOwnSlopes, GivePairs, HaveAllFew, IsOwnPair, Offset, offset_between, offsets_in, own_offsets, place_of, region_of, whole_of}
+use Rattle.slope.specs.Prelude.{AreAllUpward, AreOwnSlopes, GivePairs, HaveAllFew, IsOwnPair, Offset, offset_between, offsets_in, own_offsets, place_of, whole_of}
 use Rattle.slope.specs.Slopes.{AreRegions as AreRegionsListed, IsRegion as IsRegionListed}
 use Rattle.slope.specs.declared.region_slopes.TheConstants.{MOST_REGIONS}
 use Rattle.slope.proofs.Tested.{not_more}

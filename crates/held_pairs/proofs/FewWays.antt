@@ -1,9 +1,9 @@
 -- A block has no more pairs than ways, so that few ways are few pairs.
-use Rattle.fixed_worth.proofs.Common.{◌≡◌, ℕ, zero, suc, ◌+◌, ◌<◌, ◌≤◌, ◌==◌, ◌||◌, ◌++◌, ◌∙◌, Bool, true, false, inl, inr, IsTrue, Option, Some, None, length, get_or, sym, subst, ap, refl, arith, true≢false, false_from_ne_true, cases_Bool, or_cases, or_left, or_right, eq-eqb, eqb-true, length-map, length-append, cases_eq, add-one}
+use Rattle.fixed_worth.proofs.Common.{◌≡◌, ℕ, zero, suc, ◌+◌, ◌<◌, ◌≤◌, ◌==◌, ◌||◌, ◌∙◌, Bool, true, false, inl, inr, Option, Some, None, length, sym, subst, refl, arith, true≢false, false_from_ne_true, cases_Bool, or_cases, eq-eqb, eqb-true, length-map, length-append, cases_eq, add-one}
 use Rattle.prec_file.specs.Rests.{IsRests, numbers_passing}
 use Rattle.prec_file.specs.declared.limits.TheConstants.{MOST_PAIRS}
 use Rattle.prec_file.proofs.Passing.{bit, bit-true, bit-false, bit-most, length-numbers_passing}
-use Rattle.places.specs.Prelude.{PrecedenceView, IsPrecedence, Leads, any_below, implied, row_of, pairs_below}
+use Rattle.places.specs.Prelude.{PrecedenceView, IsPrecedence, any_below, implied, row_of, pairs_below}
 use Rattle.places.proofs.GridWays.{any_to}
 use Rattle.places.proofs.ImpliedPairs.{implied_is}
 

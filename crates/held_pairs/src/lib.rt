@@ -12,8 +12,7 @@
 //! - [`held_by_region`] gives the very pairs of `slope::predecessors_by_region`, or the very fault.
 //!
 //! An example: three by three by two blocks, of which `slope::predecessors_by_region` lists 49 pairs by the offsets of
-//! `Pattern::nine`. [`held_by_region`] holds 18 places and 9 offsets, and its pairs are these 49. Tried in
-//! `lower_tests/src/grids_of_places.rt`.
+//! `Pattern::nine`. [`held_by_region`] holds 18 places and 9 offsets, and its pairs are these 49.
 #![tactic(auto)]
 
 mod by_region;

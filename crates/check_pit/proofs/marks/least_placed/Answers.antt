@@ -5,8 +5,8 @@ use Rattle.check_pit.proofs.marks.least_placed.Goals as goal
 pub loop-k-init : goal.loop-k-init
 loop-k-init g c = none_yet (g.P.Precedence.shown c.args.of.now) (λ q. get_or c.args.marks.now q false) c.args.b
 
-pub lesser_lacking-requires : goal.lesser_lacking-requires
-lesser_lacking-requires g c =
+pub lesser_lacking-least-requires : goal.lesser_lacking-least-requires
+lesser_lacking-least-requires g c =
     let v = g.P.Precedence.shown c.args.of.now in
     subst (λ (n : ℕ). IfSome c.way-way.result (λ p. p < n)) (sym c.requires.size)
     (way_known v c.args.b c.loop-k.k c.way-way.result c.len-blocks.ensures.all c.requires.known (omega (arith, c.loop-k-test.true, c.ways-count.ensures)) c.way-way.ensures)
@@ -14,7 +14,7 @@ lesser_lacking-requires g c =
 pub loop-k-preserved : goal.loop-k-preserved
 loop-k-preserved g c =
     let v = g.P.Precedence.shown c.args.of.now in
-    subst (λ (o : Option ℕ). LeastSoFar v (λ q. get_or c.args.marks.now q false) c.args.b (c.loop-k.k + 1) o) (sym c.lesser_lacking.ensures)
+    subst (λ (o : Option ℕ). LeastSoFar v (λ q. get_or c.args.marks.now q false) c.args.b (c.loop-k.k + 1) o) (sym c.lesser_lacking-least.ensures)
     (least_more v (λ q. get_or c.args.marks.now q false) c.args.b c.loop-k.k c.loop-k.least c.way-way.result c.way-way.ensures c.loop-k.invariant)
 
 pub returns : goal.returns

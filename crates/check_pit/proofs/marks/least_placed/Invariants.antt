@@ -1,4 +1,4 @@
-use Rattle.std.proofs.Common.{ℕ, false, get_or}
+use Rattle.std.proofs.Common.{false, get_or}
 use Rattle.check_pit.proofs.LeastLacks.{LeastSoFar}
 use Rattle.check_pit.proofs.marks.least_placed.Given as goal
 

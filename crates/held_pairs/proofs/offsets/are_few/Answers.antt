@@ -1,4 +1,4 @@
-use Rattle.fixed_worth.proofs.Common.{◌≡◌, ℕ, ◌<◌, ◌≤◌, ◌+◌, ℤ, List, [], map, length, get_or, sym, ap, ◌∙◌, arith, rules, length-map}
+use Rattle.fixed_worth.proofs.Common.{◌<◌, ◌≤◌, ℤ, map, length, get_or, ap, arith, rules, length-map}
 use Rattle.std.specs.Global.{Vec}
 use Rattle.slope.specs.declared.pattern.TheConstants.{MOST_OFFSETS}
 use Rattle.slope.specs.Prelude.{HasFew}

@@ -1,4 +1,4 @@
-use Rattle.fixed_worth.proofs.Common.{◌≡◌, ℕ, ◌<◌, ◌≤◌, ◌+◌, ℤ, List, [], All, map, length, get_or, sym, ap, subst, ◌∙◌, arith, rules, length-map}
+use Rattle.fixed_worth.proofs.Common.{◌≡◌, ◌<◌, ℤ, All, map, length, get_or, sym, subst, ◌∙◌, arith, rules, length-map}
 use Rattle.std.specs.Global.{Vec}
 use Rattle.slope.specs.Prelude.{IsUpward, IsAllUpward}
 use Rattle.slope.proofs.Regions.{list_at, below_more}
