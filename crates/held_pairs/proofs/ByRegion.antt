@@ -4,8 +4,7 @@ use Rattle.std.proofs.lemmas.Nat.{div-mul-add, mod-mul-add}
 use Rattle.std.proofs.lemmas.List.{get_or-replicate, length-replicate}
 use Rattle.blocks_file.specs.Denotes.{BlocksView}
 use Rattle.prec_file.specs.Prelude.{IsRests}
-use Rattle.slope.specs.Prelude.{AreAllUpward, AreOwnSlopes, GivePairs, HaveAllFew, IsOwnPair, Offset, offset_between, offsets_in, own_offsets, place_of, whole_of}
-use Rattle.slope.specs.Slopes.{AreRegions as AreRegionsListed, IsRegion as IsRegionListed}
+use Rattle.slope.specs.Prelude.{AreAllUpward, AreOwnSlopes, AreRegions as AreRegionsListed, GivePairs, HaveAllFew, IsOwnPair, IsRegion as IsRegionListed, Offset, offset_between, offsets_in, own_offsets, place_of, whole_of}
 use Rattle.slope.specs.declared.region_slopes.TheConstants.{MOST_REGIONS}
 use Rattle.slope.proofs.Tested.{not_more}
 use Rattle.slope.specs.declared.selection.Selection.TheVariants.{Every}
