@@ -1,6 +1,5 @@
 use Rattle.fixed_worth.proofs.Common.{◌≡◌, ℕ, ℤ, map, sym, ap, subst, ◌∙◌}
-use Rattle.closure_net.specs.Prelude.{NetView}
-use Rattle.closure_net.specs.Faults.{WorthsFaultStands}
+use Rattle.closure_net.specs.Prelude.{NetView, WorthsFaultStands}
 use Rattle.check_pit.proofs.held_graph.graph_of_worths.Goals as goal
 
 pub returns-in-Ok-of_worths : goal.returns-in-Ok-of_worths
