@@ -8,7 +8,7 @@ ghost use Rattle.places.specs.Holders.{pairs_lent};
 ghost use Rattle.closure_net.specs.Network.{net_view, IsNet};
 ghost use Rattle.closure_net.specs.Faults.{WorthsFaultStands};
 
-use closure_net::{Graph, GraphRef, NetFault};
+use closure_net::{Graph, GraphRef, Net, NetFault};
 use held_pairs::HeldPairs;
 use ordered_group::OrderedGroup;
 use places::HeldRef;
@@ -89,6 +89,13 @@ impl<'a, G: OrderedGroup> HeldGraph<'a, G> {
             graph,
             held: HeldRef::Listed(pairs),
         }
+    }
+
+    // The graph of a net.
+    pub(crate) fn of_net(net: &'a Net<G>) -> HeldGraph<'a, G>
+        ensures { result ≡ net.now }
+    {
+        HeldGraph::listed(net.graph())
     }
 
     /// What blocks are worth by a graph, with other pairs than it lists.
