@@ -1,4 +1,4 @@
-use Rattle.fixed_worth.proofs.Common.{ℤ, List, length, refl, sym, ap, ◌∙◌, arith, subst, rules, FitsSigned, w128, to_z-of_z, err_from_is_err_and}
+use Rattle.fixed_worth.proofs.Common.{◌≡◌, ℤ, List, length, length-map, refl, sym, ap, ◌∙◌, subst, rules, FitsSigned, w128, to_z-of_z, err_from_is_err_and}
 use Rattle.closure_net.specs.Prelude.{NetView, net_view}
 use Rattle.mine_inputs.specs.ReadMines.{AreRead}
 use Rattle.engines.specs.Refusals.{flow_for}
@@ -48,3 +48,9 @@ returns-clause-judged g c = λ texts text read named header stands.
     let checked = c.in-Err.ensures.checked c.requires.open.fault c.requires.open.undone in
     rw (c.judgement_of.ensures)
     (stream_answered name block counts texts text net asked g.C.Read.remaining c.args.stream.now.lines c.check_held.new.stream.lines stands checked.0 checked.1 c.in-Err.fault checked.2)
+
+pub with_pairs-net-requires : goal.with_pairs-net-requires
+with_pairs-net-requires g c = λ κs le.
+    let rests = c.args.mine.predecessors in
+    let size : length c.as_ref.result.worths ≡ length c.deref.result.now = ap (λ (v : NetView). length v.worths) c.as_ref.ensures ∙ (ap length c.in_ok-graph.ensures.0 ∙ length-map c.deref.result.now (λ (v : ℤ). g.G.OrderedGroup.block_parts v rests.blocks)) in
+    c.in_ok-graph.ensures.1 ∙ sym size
