@@ -5,6 +5,7 @@
     bench/check.py --readers    the reading of a model alone, in MB/s
     bench/check.py --prec       the reading of a .prec file alone, in MB/s
     bench/check.py --blocks     the reading of a .blocks file alone, in MB/s
+    bench/check.py --slopes     settings that list 29 offsets and blocks, beside the same mine by a .prec file: d300k and d1m
 
 The certificates are those of `pit solve`, in GROUP PAIR, or with --group worth those of Boost's solver (bench/peers/boost_bk).
 Both programs run on one core, in turns, and the best of the rounds counts. This is a measurement and no test: it holds no time
@@ -24,10 +25,14 @@ from common import (
     files_of,
     model,
     peer,
+    priced_files_of,
     rounds,
     size_of,
     table,
 )
+
+# What holds 45 degrees of blocks of 10 m within a level: each ring of offsets by how far it is out along both axes, and its level.
+RINGS = ((0, 0, 1), (0, 1, 2), (1, 1, 3), (1, 3, 6), (2, 3, 7), (3, 3, 8))
 
 
 def certificate_of(mine, group, folder):
@@ -267,14 +272,66 @@ def blocks(given):
     )
 
 
+def offsets():
+    """The 29 offsets of the rings."""
+    return [
+        [x, y, level]
+        for least, most, level in RINGS
+        for x in range(-3, 4)
+        for y in range(-3, 4)
+        if sorted((abs(x), abs(y))) == [least, most]
+    ]
+
+
+def by_slopes(mine, folder):
+    """The arguments of a check of a mine by settings that list slopes, and by a .prec file of their pairs; and its certificate."""
+    settings, prec, cert = (os.path.join(folder, name) for name in ("s.toml", "p.prec", "cert"))
+    Path(settings).write_text(Path(mine.settings).read_text() + "slopes = [%r]\n" % offsets())
+    two = ["--blocks", mine.blocks, "--settings", settings]
+    for words, file in (
+        (["slopes", *two, "--pattern", "settings"], prec),
+        (["solve", *two, "--factor", "1000"], cert),
+    ):
+        with open(file, "wb") as out:
+            subprocess.run([str(PIT), *words], stdout=out, check=True)
+    return two, priced_files_of(mine._replace(prec=prec)), cert
+
+
+def slopes(models, given):
+    """The check of one certificate over two texts and over three."""
+    rows = []
+    for mine in models:
+        with tempfile.TemporaryDirectory() as folder:
+            two, three, cert = by_slopes(mine, folder)
+            blocks, pairs = size_of(three[1])
+            held, listed = rounds(
+                [[str(PIT), "check", *words, cert] for words in (two, three)],
+                given.rounds,
+                given.core,
+            )
+        if len({r.output for r in held + listed}) != 1 or not held[0].output.startswith("ACCEPTED"):
+            sys.exit(f"bench: {mine.name}: {held[-1].output} {listed[-1].output}")
+        (cpu, peak), (their_cpu, their_peak) = best(held), best(listed)
+        rows.append(
+            [mine.name, f"{blocks:,}", f"{pairs:,}"]
+            + [f"{cpu:.3f}", f"{their_cpu:.3f}", f"{cpu / their_cpu:.2f}"]
+            + [f"{peak:.1f}", f"{their_peak:.1f}", f"{peak / their_peak:.2f}"]
+        )
+    head = ["model", "blocks", "pairs", "slopes s", ".prec s", "ratio"]
+    table([*head, "slopes peak MB", ".prec peak MB", "ratio"], rows)
+
+
 def main():
-    words = arguments(__doc__, ["marvin", "mclim", "b350k", "b2m"])
+    words = arguments(__doc__, None)
     words.add_argument(
         "--readers", action="store_true", help="read the model alone: the certificate is cut short"
     )
     words.add_argument("--prec", action="store_true", help="read and index .prec files alone")
     words.add_argument(
         "--blocks", action="store_true", help="read .blocks files alone, which are made for it"
+    )
+    words.add_argument(
+        "--slopes", action="store_true", help="check over settings, and over a .prec file"
     )
     words.add_argument(
         "--group",
@@ -287,8 +344,12 @@ def main():
     if given.blocks:
         blocks(given)
         return
+    if given.slopes:
+        slopes([model(name) for name in given.models or ["d300k", "d1m"]], given)
+        return
     measure = readers if given.readers else prec if given.prec else check
-    measure([model(name) for name in given.models], given)
+    usual = ["marvin", "mclim", "b350k", "b2m"]
+    measure([model(name) for name in given.models or usual], given)
 
 
 if __name__ == "__main__":

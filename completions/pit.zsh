@@ -23,8 +23,8 @@ _pit() {
     case $command in
         check) _arguments '--prec[The predecessors of each block]:prec:_files' \
             '--upit[What each block is worth]:upit:_files' \
-            '--blocks[The blocks with columns of revenues and costs, or of a mill'\''s charges]:blocks:_files' \
-            '--settings[The columns of revenues and costs, or of a mill'\''s charges instead of costs, and the factors of the shells]:settings:_files' \
+            '--blocks[The blocks with the columns that the settings name]:blocks:_files' \
+            '--settings[The columns of revenues and costs, or of a mill'\''s charges or several ways to treat blocks]:settings:_files' \
             '--verbose[Reports on standard error which file failed, and the system'\''s reason]' \
             '-h[Print help (see a summary with '\''-h'\'')]' '--help[Print help (see a summary with '\''-h'\'')]' '*:file:_files' ;;
         slopes) _arguments '--blocks[Where the blocks are]:blocks:_files' \
@@ -36,8 +36,8 @@ _pit() {
             '-h[Print help (see a summary with '\''-h'\'')]' '--help[Print help (see a summary with '\''-h'\'')]' ;;
         solve) _arguments '--prec[The predecessors of each block]:prec:_files' \
             '--upit[What each block is worth]:upit:_files' \
-            '--blocks[The blocks with columns of revenues and costs, or of a mill'\''s charges]:blocks:_files' \
-            '--settings[The columns of revenues and costs, or of a mill'\''s charges instead of costs, and the factors of the shells]:settings:_files' \
+            '--blocks[The blocks with the columns that the settings name]:blocks:_files' \
+            '--settings[The columns of revenues and costs, or of a mill'\''s charges or several ways to treat blocks]:settings:_files' \
             '--factor[The share of the revenues that counts, in thousandths, from 0 to 10000]:factor: ' \
             '--method[Which solver computes the flow]:method:(auto pseudoflow push-relabel lock-free)' \
             '--group[What the flow counts]:group:(pair scaled worth)' \
@@ -51,8 +51,8 @@ _pit() {
             '--uses[With --periods, the blocks with the columns of what they use]:uses:_files' \
             '-h[Print help (see a summary with '\''-h'\'')]' '--help[Print help (see a summary with '\''-h'\'')]' ;;
         shells) _arguments '--prec[The predecessors of each block]:prec:_files' \
-            '--blocks[The blocks with columns of revenues and costs, or of a mill'\''s charges]:blocks:_files' \
-            '--settings[The columns of revenues and costs, or of a mill'\''s charges instead of costs, and the factors of the shells]:settings:_files' \
+            '--blocks[The blocks with the columns that the settings name]:blocks:_files' \
+            '--settings[The columns of revenues and costs, or of a mill'\''s charges or several ways to treat blocks]:settings:_files' \
             '--method[Which solver computes the flows]:method:(auto pseudoflow push-relabel)' \
             '--steps[The most steps of push-relabel, or turns of pseudoflow, from 1 to 1099511627776 (by default 1000000000 steps and 1099511627776 turns); without --method it chooses push-relabel]:steps: ' \
             '--workers[How many factors pseudoflow solves at a time, or the threads of push-relabel, from 1 to 64 (1 by default)]:workers: ' \
@@ -61,8 +61,8 @@ _pit() {
             '--verbose[Reports on standard error which file failed, and the system'\''s reason]' \
             '-h[Print help (see a summary with '\''-h'\'')]' '--help[Print help (see a summary with '\''-h'\'')]' ;;
         report) _arguments '--prec[The predecessors of each block]:prec:_files' \
-            '--blocks[The blocks with columns of revenues and costs, or of a mill'\''s charges]:blocks:_files' \
-            '--settings[The columns of revenues, of costs or a mill'\''s charges, and of tonnes]:settings:_files' \
+            '--blocks[The blocks with the columns that the settings name]:blocks:_files' \
+            '--settings[The columns of prices, as for shells, and of tonnes]:settings:_files' \
             '--method[Which solver computes the flows]:method:(auto pseudoflow push-relabel)' \
             '--steps[The most steps of push-relabel, or turns of pseudoflow, from 1 to 1099511627776 (by default 1000000000 steps and 1099511627776 turns); without --method it chooses push-relabel]:steps: ' \
             '--workers[How many factors pseudoflow solves at a time, or the threads of push-relabel, from 1 to 64 (1 by default)]:workers: ' \
@@ -72,16 +72,16 @@ _pit() {
             '-h[Print help (see a summary with '\''-h'\'')]' '--help[Print help (see a summary with '\''-h'\'')]' ;;
         value) _arguments '--prec[The predecessors of each block]:prec:_files' \
             '--upit[What each block is worth]:upit:_files' \
-            '--blocks[The blocks with columns of revenues and costs, or of a mill'\''s charges]:blocks:_files' \
-            '--settings[The columns of revenues and costs, or of a mill'\''s charges instead of costs, and the factors of the shells]:settings:_files' \
+            '--blocks[The blocks with the columns that the settings name]:blocks:_files' \
+            '--settings[The columns of revenues and costs, or of a mill'\''s charges or several ways to treat blocks]:settings:_files' \
             '--factor[The share of the revenues that counts, in thousandths, from 0 to 10000, with --blocks]:factor: ' \
             '--best[A certificate of the best pit, with which the design is compared]:best:_files' \
             '--verbose[Reports on standard error which file failed, and the system'\''s reason]' \
             '-h[Print help (see a summary with '\''-h'\'')]' '--help[Print help (see a summary with '\''-h'\'')]' '*:file:_files' ;;
         schedule) _arguments '--prec[The predecessors of each block]:prec:_files' \
             '--upit[What each block is worth]:upit:_files' \
-            '--blocks[The blocks with columns of revenues and costs, or of a mill'\''s charges]:blocks:_files' \
-            '--settings[The columns of revenues and costs, or of a mill'\''s charges instead of costs, and the factors of the shells]:settings:_files' \
+            '--blocks[The blocks with the columns that the settings name]:blocks:_files' \
+            '--settings[The columns of revenues and costs, or of a mill'\''s charges or several ways to treat blocks]:settings:_files' \
             '--periods[What periods weigh, which columns have what blocks use of resources, and what each period has]:periods:_files' \
             '--uses[The blocks with the columns of what they use]:uses:_files' \
             '--factor[The share of the revenues that counts, in thousandths, from 0 to 10000, with --blocks]:factor: ' \
@@ -90,16 +90,16 @@ _pit() {
             '-h[Print help (see a summary with '\''-h'\'')]' '--help[Print help (see a summary with '\''-h'\'')]' '*:file:_files' ;;
         bound) _arguments '--prec[The predecessors of each block]:prec:_files' \
             '--upit[What each block is worth]:upit:_files' \
-            '--blocks[The blocks with columns of revenues and costs, or of a mill'\''s charges]:blocks:_files' \
-            '--settings[The columns of revenues and costs, or of a mill'\''s charges instead of costs, and the factors of the shells]:settings:_files' \
+            '--blocks[The blocks with the columns that the settings name]:blocks:_files' \
+            '--settings[The columns of revenues and costs, or of a mill'\''s charges or several ways to treat blocks]:settings:_files' \
             '--periods[What periods weigh, which columns have what blocks use of resources, what each period has, and the multipliers]:periods:_files' \
             '--uses[The blocks with the columns of what they use]:uses:_files' \
             '--verbose[Reports on standard error which file failed, and the system'\''s reason]' \
             '-h[Print help (see a summary with '\''-h'\'')]' '--help[Print help (see a summary with '\''-h'\'')]' '*:file:_files' ;;
         replay) _arguments '--prec[The predecessors of each block]:prec:_files' \
             '--upit[What each block is worth]:upit:_files' \
-            '--blocks[The blocks with columns of revenues and costs, or of a mill'\''s charges]:blocks:_files' \
-            '--settings[The columns of revenues and costs, or of a mill'\''s charges instead of costs, and the factors of the shells]:settings:_files' \
+            '--blocks[The blocks with the columns that the settings name]:blocks:_files' \
+            '--settings[The columns of revenues and costs, or of a mill'\''s charges or several ways to treat blocks]:settings:_files' \
             '--factor[The share of the revenues that counts, in thousandths, from 0 to 10000]:factor: ' \
             '--group[What the flow counts]:group:(pair scaled worth)' \
             '--verbose[Reports on standard error which file failed, and the system'\''s reason]' \

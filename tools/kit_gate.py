@@ -8,6 +8,8 @@ One run of the gate gives a crate a second process only where no other crate wai
 chain of crates sets the clock while processors are idle. On four processors or more each library is therefore proved by
 a run of its own (`rt ci NAME`), once those below it are kept: the longest chain first and by two processes, and the
 others, at a lower priority, by one. A last run over all takes what these have kept, and proves the program.
+
+An older kit's gate takes no words, and keeps nothing: it answers words with its usage, and then one run proves all.
 """
 import os
 import re
@@ -33,6 +35,7 @@ SILENT = 20  # a run that has said nothing for so many seconds is proving, and n
 # on fewer one run keeps them as busy, by a simulation, and reads what is kept but once
 PROCESSORS = 4
 MOST_JOBS = 4  # the kit's own limit; a run of one crate gives its proof half of the processors, since its (empty) tests wait too
+REFUSES = "usage: rt "  # how the answer of a kit begins whose gate takes no words
 NEAR = 0.9  # a chain of crates that is so much of the longest goes first too
 
 
@@ -101,7 +104,7 @@ class Gate:
     """A run of the kit's gate over the copy."""
 
     def __init__(self, told, words):
-        self.told = told
+        self.told, self.has_no_words = told, False
         # in a group of its own, so that all its processes are ended together
         self.process = subprocess.Popen(
             ["rt", "ci", *words],
@@ -148,11 +151,16 @@ class Gate:
                 return False
             if ended:
                 told.crate(ended[1], "".join(said))
-        if self.process.wait():
+        if self.process.wait() and not self.is_refused(said):
             told.screen.line(
                 "the kit's gate failed; the end of %s:\n\n%s" % (told.log.name, "".join(said[-40:]))
             )
         return self.process.returncode == 0
+
+    def is_refused(self, said):
+        """Whether the kit's gate takes no such words."""
+        self.has_no_words = "".join(said[:1]).startswith(REFUSES)
+        return self.has_no_words
 
     def stop(self):
         """Ends what is still at work."""
@@ -175,6 +183,11 @@ class LibraryRun(proving.Work):
         # without RT_JOBS the kit itself halves the processors
         fixed = {} if self.jobs > 1 else {"RT_JOBS": "1"}
         self.start(["ci", self.crate.name], COPY, dict(os.environ, TMPDIR=str(self.room), **fixed))
+
+    def is_refused(self):
+        """Whether it has ended since the kit's gate takes no names."""
+        is_over = self.process.poll() not in (None, 0)
+        return is_over and (self.room / "said").read_bytes().startswith(REFUSES.encode())
 
     def end(self):
         """The text that the kit printed, and whether all is proved."""
@@ -206,6 +219,13 @@ class LibraryRuns(proving.Run):
         self.told.crate(run.crate.name, said)
         self.keeps = self.keeps and KEPT in said
 
+    def take_ended(self):
+        """As for proofs; but where the kit's gate takes no names, nothing has failed, and the last run proves all."""
+        if any(run.is_refused() for run in self.running):
+            self.keeps = False
+            return True
+        return super().take_ended()
+
     def goes_on(self):
         """Where the kit keeps nothing, as on a full disk, the run of a crate would prove again all below it: the last run proves the rest."""
         return self.keeps and super().goes_on()
@@ -220,7 +240,11 @@ class Build:
     def gate(self, is_first=False):
         with proving.unbroken():  # so that no run is begun that isn't known here
             self.at_work.append(Gate(self.told, self.words))
-        return self.at_work[-1].follow(is_first)
+        is_proved = self.at_work[-1].follow(is_first)
+        if self.words and self.at_work[-1].has_no_words:
+            self.words = []  # a kit that knows no `--anew` has kept nothing
+            return self.gate()
+        return is_proved
 
     def is_side_by_side(self):
         """Whether each library gets a run of its own: not where nothing kept may be taken, where somebody has set the number of processes, where

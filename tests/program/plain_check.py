@@ -53,22 +53,23 @@ def worths_of_values(text):
 
 
 def worths_of_prices(settings, text, factor, is_mill):
-    """The worth of each block of a `.blocks` text at a factor in thousandths, in billionths, by costs or by a mill's charges."""
+    """The worth of each block of a `.blocks` text at a factor in thousandths, in billionths, by costs or by ways, of which a mill is one."""
     try:
         said = tomllib.loads(settings.decode())
     except (ValueError, RecursionError) as why:
         raise Unread(why) from None
     columns = {whole(fields[0]): fields[4:] for fields in records(text)}
 
-    def of(b, key):
-        return millionths(columns[b][said[key]])
+    def left(b, revenue, charge):
+        return factor * millionths(columns[b][revenue]) - 1000 * millionths(columns[b][charge])
 
     if is_mill:
+        ways = [(way["revenue"], way["processing"]) for way in said.get("ways", [said])]
         return [
-            max(factor * of(b, "revenue") - 1000 * of(b, "processing"), 0) - 1000 * of(b, "mining")
+            max(0, *(left(b, *way) for way in ways)) - 1000 * millionths(columns[b][said["mining"]])
             for b in range(len(columns))
         ]
-    return [factor * of(b, "revenue") - 1000 * of(b, "cost") for b in range(len(columns))]
+    return [left(b, said["revenue"], said["cost"]) for b in range(len(columns))]
 
 
 def predecessors(text):

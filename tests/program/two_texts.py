@@ -2,8 +2,9 @@
 the same mines by a precedence file, in which Python writes the pairs that it finds itself, and with what Python says of both.
 
 The mines are those of regions.py: boxes with holes, with places below nothing, in any order of blocks, of up to four regions.
-A certificate is the same by either, is read by plain_check.py, and is accepted over the other too. The lines of shells and
-of a report are added up from the pits of certificates at the same factors.
+A certificate is the same by either, is read by plain_check.py, and is accepted over the other too. One with a thing changed
+gets the same line over either, that of plain_check.py. The lines of shells and of a report are added up from the pits of
+certificates at the same factors.
 """
 import os
 import random
@@ -56,12 +57,65 @@ def made_up(seed):
 
 
 def pit_of(mine, factor, certificate):
-    """The pit of a certificate and what each block is worth at the factor; or what is wrong with it."""
+    """What is wrong with a certificate, what it says, and what each block is worth at the factor."""
     texts = {name: text.encode() for name, text in mine.files.items()}
     worths = plain_check.worths_of_prices(texts["t"], texts["b"], factor, mine.is_mill)
     said = plain_check.proof_of(certificate)
     refusal = plain_check.refusal(worths, plain_check.predecessors(texts["p"]), said)
-    return refusal, said.pit, worths
+    return refusal, said, worths
+
+
+def changed(said, blocks, chance):
+    """What a certificate says with one thing changed: a block of the pit, an amount, or the pair that carries one."""
+    b, p = chance.randrange(blocks), chance.randrange(blocks)
+    yield said._replace(pit=said.pit ^ {b})
+    yield said._replace(rest={(b, p): (1, 0)} | said.rest)
+    if said.source:
+        ore = chance.choice(sorted(said.source))
+        worth, count = said.source[ore]
+        yield said._replace(source=said.source | {ore: (worth + 1, count)})
+    if said.rest:
+        b, q = chance.choice(sorted(said.rest))
+        others = {pair: amount for pair, amount in said.rest.items() if pair != (b, q)}
+        for pair in ((b, p), (q, b), (b, b)):
+            yield said._replace(rest=others | {pair: said.rest[b, q]})
+
+
+def lines_of(head, said):
+    """The certificate that says so, after the lines of its head."""
+    amounts = [
+        " ".join([kind, *map(str, key if kind == "REST" else [key]), *map(str, amount)])
+        for kind, by in zip(("SOURCE", "REST", "SINK"), said[1:])
+        for key, amount in sorted(by.items())
+    ]
+    return "\n".join([*head, *("PIT %d" % b for b in sorted(said.pit)), *amounts, "END", ""])
+
+
+def judged(mine, worths, said):
+    """The status and the line that a check has to give, after four lines of a head; of an accepted one how its line begins."""
+    rests = plain_check.predecessors(mine.files["p"].encode())
+    is_closed = not (plain_check.refusal(worths, rests, said) or "").startswith("NotClosed")
+    for line, (b, p) in enumerate(sorted(said.rest), 5 + len(said.pit) + len(said.source)):
+        if is_closed and p not in rests.get(b, ()):
+            return 3, b"", b"fault: certificate UnknownPair(%d)\n" % line
+    refusal = plain_check.refusal(worths, rests, said)
+    if refusal:
+        return 1, b"REFUSED %s\n" % refusal.encode(), b""
+    return 0, b"ACCEPTED %d " % len(said.pit), b""
+
+
+def misjudged(program, folder, mine, worths, certificate):
+    """What is wrong with the lines of checks of certificates with one thing changed."""
+    head = certificate.decode().split("\n")[:4]
+    said, faults = plain_check.proof_of(certificate), []
+    for other in changed(said, len(worths), random.Random(certificate)):
+        (folder / "d").write_text(lines_of(head, other))
+        checks = [run(program, ["check", *words, "d"], folder) for words in MODELS.values()]
+        status, line, errors = judged(mine, worths, other)
+        is_so = checks[0][::2] == (status, errors) and checks[0][1].startswith(line)
+        if checks[0] != checks[1] or not is_so:
+            faults.append("changed as %r: %r in place of %r %r" % (other, checks, line, errors))
+    return faults
 
 
 def read(line, mark):
@@ -94,14 +148,15 @@ def solved(program, folder, mine):
         }
         (folder / "c").write_bytes(by["slopes"][1])
         checks = [run(program, ["check", *words, "c"], folder)[:2] for words in MODELS.values()]
-        refusal, pit, worth = pit_of(mine, factor, by["slopes"][1])
-        line = b"ACCEPTED %d " % len(pit)
+        refusal, said, worth = pit_of(mine, factor, by["slopes"][1])
+        line = b"ACCEPTED %d " % len(said.pit)
         if by["slopes"] != by["pairs"] or by["slopes"][0] != 0 or refusal:
             faults.append("%d: %s, solved as %r and %r" % (factor, refusal, *by.values()))
         if checks[0] != checks[1] or not checks[0][1].startswith(line):
             faults.append("%d: checked as %r and %r" % (factor, *checks))
-        pits.append(pit)
+        pits.append(said.pit)
         worths.append(worth)
+    faults += misjudged(program, folder, mine, worth, by["slopes"][1])
     return pits, worths, faults
 
 

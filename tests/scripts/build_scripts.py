@@ -264,6 +264,20 @@ def one_run_proves_all_where_several_cannot(tree):
     return runs == [(0, [["--anew"]]), (0, [[]]), (0, [[]]), (0, [[]])], repr(runs)
 
 
+def a_kit_whose_gate_takes_no_words_proves_all_in_one_run(tree):
+    tree.write("../kit/KEEPS-NOTHING", "")
+    tree.write("../kit/TAKES-NO-WORDS", "")
+    made = []
+    for words in ([], ["--anew"]):
+        status, said = tree.ran("build", *words)
+        runs = [line[1:] for line in tree.log() if line[0] == "ci"]
+        made.append((status, runs, said.count("functions proved")))
+    return (
+        made == [(0, [[]], 4)] * 2 and tree.has("out/pit") and is_left_alone(tree),
+        said + repr(made),
+    )
+
+
 def a_kit_that_keeps_nothing_proves_all_in_one_run(tree):
     tree.write("../kit/KEEPS-NOTHING", "")
     status, said = tree.ran("build")
@@ -1208,6 +1222,7 @@ CASES = [
     what_is_kept_is_taken_by_one_run,
     one_run_proves_all_where_several_cannot,
     a_kit_that_keeps_nothing_proves_all_in_one_run,
+    a_kit_whose_gate_takes_no_words_proves_all_in_one_run,
     a_library_that_fails_ends_the_others,
     ctrl_c_ends_the_runs_of_a_build,
     sigterm_ends_the_runs_of_a_build,

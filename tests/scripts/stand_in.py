@@ -4,7 +4,7 @@ What it does with a crate is told by words in the crate's sources: `SLEEP 2` tak
 run from its sources; `FAIL` isn't proved. Each
 crate that it works on is a line of the file LOG beside it: `NAME JOBS FOLDER`, and `again` where it goes on from earlier work;
 its gate writes `ci` and the names that it was given, and `NAME gate FOLDER` or, where it had kept the crate, `NAME kept FOLDER`, and
-RT_JOBS. Where there is a file KEEPS-NOTHING beside LOG, it keeps nothing.
+RT_JOBS. Where there is a file KEEPS-NOTHING beside LOG, it keeps nothing, and with TAKES-NO-WORDS its gate takes no words either.
 """
 import os
 import re
@@ -107,6 +107,9 @@ elif words[0] == "try":
     print("checked: ended status=0", file=sys.stderr)
 elif words[0] in ("lib", "run"):
     prove()
+elif words[0] == "ci" and words[1:] and (KIT / "TAKES-NO-WORDS").exists():
+    print("usage: rt new FOLDER", file=sys.stderr)
+    sys.exit(2)
 elif words[0] == "ci":
     log("ci " + " ".join(words[1:]))
     lines = [line.partition(":") for line in (here / "crates.txt").read_text().splitlines()]

@@ -2,6 +2,7 @@
 use Rattle.fixed_worth.proofs.Common.{◌≡◌, ℕ, ℤ, pos, ◌+◌, ◌*◌, ◌<◌, ◌≤◌, ◌≢◌, Bool, true, false, cond, eqb, List, [], ◌∷◌, ◌++◌, length, get_or, set, replicate, Option, Some, None, refl, sym, ap, ◌∙◌, arith, append-nil, true≢false, zero, suc, ◌||◌, nat_le, option_or, or_parts, nat_tests, length-replicate, get_or-replicate, list_any-append, or-false, common_steps}
 use Rattle.std.proofs.Math.ListN.{length-set}
 use Rattle.fixed_worth.specs.declared.limits.TheConstants.{MOST_BLOCKS}
+use Rattle.blocks_file.specs.declared.limits.TheConstants.{MOST_COLUMNS}
 use Rattle.fixed_worth.specs.Prelude.{Left, fields_of, Line, numbered_lines, is_skipped, block_of, is_record_of}
 use Rattle.blocks_file.specs.declared.place.Place.{Place}
 use Rattle.blocks_file.specs.declared.blocks_fault.BlocksFault.{BlocksFault}
@@ -190,7 +191,7 @@ keeps n block chosen p row all seen more places others values new left next k te
     }
 
 -- All is read.
-pub read_all : (n : ℕ) (chosen : List ℕ) (all : List Line) (seen : List Bool) (places : List Place) (values : List ℤ) (left : Left) → ReadSoFar n chosen all seen places values left → left.lines ≡ [] → n ≡ length (record_line_numbers all) → n ≤ MOST_BLOCKS → length chosen ≤ 8
+pub read_all : (n : ℕ) (chosen : List ℕ) (all : List Line) (seen : List Bool) (places : List Place) (values : List ℤ) (left : Left) → ReadSoFar n chosen all seen places values left → left.lines ≡ [] → n ≡ length (record_line_numbers all) → n ≤ MOST_BLOCKS → length chosen ≤ MOST_COLUMNS
     → (first_fault n chosen [] all ≡ None) × AreKept n chosen all places values
 read_all n chosen all seen places values left g e count bound few =
     let none : numbered_lines left.number left.lines ≡ [] = rw e refl in

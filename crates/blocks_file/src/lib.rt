@@ -1,7 +1,7 @@
 //! Reads `.blocks` files, which give the blocks of an open pit their places and their columns of numbers.
 //!
 //! Each record is a block's number, its place x, y and z, and further fields, the block's columns. A caller chooses up
-//! to eight columns, such as a tonnage or a grade; the others are passed over, whatever stands in them. The layout is
+//! to 19 columns, such as a tonnage or a grade; the others are passed over, whatever stands in them. The layout is
 //! that of the files of MineLib (Espinoza and others 2013).
 //!
 //! It stands on `fixed_worth`, which cuts lines and fields and reads the numbers in them.

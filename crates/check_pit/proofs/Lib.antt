@@ -3,7 +3,9 @@ pub mod Duality
 pub mod FirstPits
 pub mod HeldBytes
 pub mod HeldLines
+pub mod HeldNets
 pub mod Lacks
+pub mod LeastLacks
 pub mod NextLines
 pub mod MarkedBlocks
 pub mod LineFlows

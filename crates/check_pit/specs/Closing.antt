@@ -1,5 +1,5 @@
 -- What a set lacks to be closed.
-use Rattle.std.specs.Prelude.{◌≡◌, ℕ, ◌<◌, Bool, IsTrue, List, length, slice_index_or}
+use Rattle.std.specs.Prelude.{◌≡◌, ℕ, ◌<◌, Bool, IsTrue, Option, Some, None, cond, nat_lt, List, length, slice_index_or}
 use Rattle.prec_file.specs.Rests.{from_at, to_at, IsFirstNot}
 use Rattle.check_pit.specs.Checks.{StaysAt}
 
@@ -21,3 +21,23 @@ IsLacking ps e b p = (k : ℕ) × IsFirstLack ps e b k × (to_at ps k ≡ p)
 -- the first pair whose block is in the set and whose predecessor isn't
 abbrev pub IsFirstOpen : List (ℕ × ℕ) → (ℕ → Bool) → ℕ × ℕ → Type 0
 IsFirstOpen ps e pair = (i : ℕ) × IsFirstNot (StaysAt ps e) (length ps) i × (slice_index_or ps i (0, 0) ≡ pair)
+
+-- the set holds each block that passes the test
+abbrev pub HoldsEach : (ℕ → Bool) → (ℕ → Bool) → Type 0
+HoldsEach test e = (p : ℕ) → IsTrue (test p) → IsTrue (e p)
+
+-- p is the least block that passes the test and that the set lacks
+pub record IsLeastLacking (test e : ℕ → Bool) (p : ℕ) : Type 0 where
+  pub passes : IsTrue (test p)
+  pub lacks : ¬ (IsTrue (e p))
+  pub below : (q : ℕ) → q < p → IsTrue (test q) → IsTrue (e q)
+
+-- the lesser of two numbers, of which one may be none
+abbrev pub lesser_of : Option ℕ → ℕ → ℕ
+lesser_of None other = other
+lesser_of (Some one) other = cond (nat_lt one other) one other
+
+-- the least block so far, where the set lacks it, and what one way more leads to
+abbrev pub least_with : (ℕ → Bool) → Option ℕ → Option ℕ → Option ℕ
+least_with e least None = least
+least_with e least (Some p) = cond (e p) least (Some (lesser_of least p))

@@ -2,7 +2,7 @@
 pub use Rattle.check_pit.specs.Balances.{BalanceFault, ComesTo}
 pub use Rattle.check_pit.specs.CertStreams.{CertView, IsReadFor, StandsAt}
 pub use Rattle.check_pit.specs.Checks.{AllBalanced, AllWithin, BalanceStands, BalancedWhileFit, FaultHolds, IsOfNet, IsOpen, IsSound, KeepsWithin, NoneBefore, NoneBelowZero, PassesCapacities, PassesSigns, PitFaultStands, ProvesPit, Sizes, StayBefore, StaysAt}
-pub use Rattle.check_pit.specs.Closing.{HoldsAbove, IsFirstLack, IsFirstOpen, IsLacking}
+pub use Rattle.check_pit.specs.Closing.{HoldsAbove, HoldsEach, IsFirstLack, IsFirstOpen, IsLacking, IsLeastLacking, least_with, lesser_of}
 pub use Rattle.check_pit.specs.Fits.{BalanceFits, BalanceOverflows, EndFits, EndOverflows, ResidualFits, ResidualOverflows, SetFits, SetOverflows, SomeBalanceOverflows, SomeSumOverflows, SumsFit}
 pub use Rattle.check_pit.specs.LineLaws.{LineSumsTell, LinesTell}
 pub use Rattle.check_pit.specs.LineSums.{KeepLimits, SomeLineSumOverflows, balance_of, brings_by, flow_of, keeps_by, residual_after, source_by, source_sum, worth_of_blocks}

@@ -6,14 +6,15 @@ ghost use Rattle.closure_net.specs.Network.{holds_of};
 ghost use Rattle.closure_net.specs.Closure.{IsClosed, IsGreatest, group_worth};
 ghost use Rattle.check_pit.specs.Checks.{IsOfNet};
 
-use closure_net::{GraphRef, Pit};
+use crate::held_graph::HeldGraph;
+use closure_net::Pit;
 use ordered_group::OrderedGroup;
 use std::marker::Model;
 
 /// A pit of a net that was checked, with the net's graph: it is closed, and no closed set sums to more.
 #[derive(Drop)]
 pub struct AcceptedPit<'a, G: OrderedGroup> {
-    graph: GraphRef<'a, G>,
+    graph: HeldGraph<'a, G>,
     pit: &'a Pit,
     worth: G,
 }
@@ -31,7 +32,7 @@ impl<'a, G: OrderedGroup> Model for AcceptedPit<'a, G> {
 
 impl<'a, G: OrderedGroup> AcceptedPit<'a, G> {
     // What a check has shown.
-    pub(crate) fn new(graph: GraphRef<'a, G>, pit: &'a Pit, worth: G) -> AcceptedPit<'a, G>
+    pub(crate) fn new(graph: HeldGraph<'a, G>, pit: &'a Pit, worth: G) -> AcceptedPit<'a, G>
         requires of_net { IsOfNet graph pit.now }
         requires greatest { IsGreatest graph (holds_of pit.now) }
         requires worth { G.parts_of worth ≡ group_worth graph.worths (holds_of pit.now) }
@@ -42,7 +43,7 @@ impl<'a, G: OrderedGroup> AcceptedPit<'a, G> {
     }
 
     /// The graph of the net.
-    pub fn graph(&self) -> &GraphRef<'a, G>
+    pub fn graph(&self) -> &HeldGraph<'a, G>
         ensures is { result.now ≡ self.now.net }
         ensures closed { IsClosed self.now.net.pairs (holds_of self.now.pit) }
         ensures greatest { IsGreatest self.now.net (holds_of self.now.pit) }

@@ -8,6 +8,7 @@ ghost use Rattle.check_pit.specs.StreamHeaders.{GivesHeader, LacksHeader};
 
 use crate::accepted::Accepted;
 use crate::accepted_pit::AcceptedPit;
+use crate::held_graph::HeldGraph;
 use crate::room::Room;
 use crate::stream_bytes::StreamBytes;
 use crate::stream_checking::check_lines;
@@ -151,9 +152,9 @@ impl<R: CountedRead> CertStream<R> {
 /// `Cert` with `NoMemory` only in a room that has served a check before, where memory for the list of the pit's blocks is
 /// refused. Called again, the stream returns the fault that it returned before, or `Cert` with `Truncated` once the
 /// certificate was accepted.
-pub fn check_graph<'a, R: CountedRead, G: OrderedGroup>(
+pub fn check_held<'a, R: CountedRead, G: OrderedGroup>(
     stream: &mut CertStream<R>,
-    net: GraphRef<'a, G>,
+    net: HeldGraph<'a, G>,
     room: &'a mut Room<G>,
 ) -> Result<AcceptedPit<'a, G>, StreamFault>
     requires count { R.failed stream.old.lines.from < 2 ^ 64 - 1 }
@@ -201,6 +202,48 @@ pub fn check_graph<'a, R: CountedRead, G: OrderedGroup>(
             stream.fault = Some(fault);
             Err(fault)
         }
+    }
+}
+
+/// Checks the certificate as [`check_held`] does, over a graph and the pairs that it lists.
+///
+/// # Errors
+/// Those of [`check_held`].
+pub fn check_graph<'a, R: CountedRead, G: OrderedGroup>(
+    stream: &mut CertStream<R>,
+    net: GraphRef<'a, G>,
+    room: &'a mut Room<G>,
+) -> Result<AcceptedPit<'a, G>, StreamFault>
+    requires count { R.failed stream.old.lines.from < 2 ^ 64 - 1 }
+    requires header { IsReadFor (length net.worths) G.name stream.old.header stream.old.fault }
+    requires room { length room.old.balances ≡ length net.worths }
+    ensures fault_again { (e : StreamFault) → stream.old.fault ≡ Some e
+        → IsErrOf result e × (stream.new ≡ stream.old) }
+    ensures done_again { stream.old.fault ≡ None → stream.old.is_done ≡ true
+        → IsErrOf result (StreamFault.Cert CertFault.Truncated)
+        × (stream.new.lines ≡ stream.old.lines) }
+    ensures checked { stream.old.fault ≡ None → stream.old.is_done ≡ false → (bytes : List ℕ)
+        × ReadsOn R.remaining stream.old.lines stream.new.lines bytes × MatchResult result
+        (λ a. (a.net ≡ net.entry)
+        × BodyProves (R.remaining stream.new.lines.from) stream.new.lines.taken G.counts net.entry
+        (stream.old.lines.held ++ bytes) a.pit)
+        (λ e. BodyFails
+        (R.remaining stream.new.lines.from) stream.new.lines.taken G.counts net.entry
+        (stream.old.lines.held ++ bytes) e) }
+    ensures ok { IfOk result (λ a. (stream.new.fault ≡ None) × (stream.new.is_done ≡ true)) }
+    ensures fault { IfErr result (λ e. stream.new.fault ≡ Some e) }
+    ensures header { stream.new.header ≡ stream.old.header }
+    ensures device { stream.old.fault ≡ None → IsErrOf result StreamFault.Device
+        → R.failed stream.new.lines.from ≡ R.failed stream.old.lines.from + 1 }
+    ensures kept { ¬ IsErrOf result StreamFault.Device
+        → R.failed stream.new.lines.from ≡ R.failed stream.old.lines.from }
+    ensures memory { stream.old.fault ≡ None → room.old.is_pit ≡ false
+        → length net.entry.worths ≤ room.old.space
+        → ¬ IsErrOf result (StreamFault.Cert CertFault.NoMemory) }
+{
+    match check_held(stream, HeldGraph::listed(net), room) {
+        Ok(accepted) => Ok(accepted),
+        Err(fault) => Err(fault),
     }
 }
 

@@ -14,6 +14,7 @@ ghost use Rattle.check_pit.specs.Balances.{BalanceFault};
 use crate::accepted::Accepted;
 use crate::accepted_pit::AcceptedPit;
 use crate::closing::first_open;
+use crate::held_graph::HeldGraph;
 use crate::pit_fault::PitFault;
 use crate::sums::{balance_of, pit_worth, residual_of_source};
 use closure_net::{Carried, Flow, Net, Pit};
@@ -147,6 +148,6 @@ pub fn check<'a, G: OrderedGroup>(
     if !same(worth, room) {
         return Err(PitFault::NotTight);
     }
-    let on_graph = AcceptedPit::new(net.graph(), pit, worth);
+    let on_graph = AcceptedPit::new(HeldGraph::of_net(net), pit, worth);
     Ok(Accepted::new(net, on_graph))
 }

@@ -1,9 +1,9 @@
 //! The checker: whether a certificate's flow proves its pit.
 //!
-//! Stands on `certificate_file` for the lines of a certificate, and on `closure_net`, `fixed_worth`, `ordered_group` and
-//! `prec_file`. Promises upward: whatever `check` accepts is closed, and no closed set sums to more; whatever it refuses has
+//! Stands on `certificate_file` for the lines of a certificate, on `held_pairs` and `places` for who rests on whom without a list, and on
+//! `closure_net`, `fixed_worth`, `ordered_group` and `prec_file`. Promises upward: whatever `check` accepts is closed, and no closed set sums to more; whatever it refuses has
 //! the fault that it names, and none that comes before it; and a closed, tight pit with a flow whose sums fit is never
-//! refused. `check_graph` and `check_stream` read and check a certificate at once, line by line.
+//! refused. `check_graph`, `check_held` and `check_stream` read and check a certificate at once, line by line.
 //!
 //! An example: three blocks are worth 6, 5 and -10, and the first two rest on the third. `Net::build` makes a net of the
 //! worths and the pairs (0, 2) and (1, 2); `Pit::new` the pit of all three; `Flow::new` a flow in which the source gives 6
@@ -18,6 +18,7 @@ mod accepted_pit;
 mod cert_stream;
 mod checking;
 mod closing;
+mod held_graph;
 pub mod laws;
 mod marks;
 mod pit_fault;
@@ -33,11 +34,12 @@ mod sums;
 
 pub use accepted::Accepted;
 pub use accepted_pit::AcceptedPit;
-pub use cert_stream::{CertStream, check_graph, check_stream};
+pub use cert_stream::{CertStream, check_graph, check_held, check_stream};
 pub use certificate_file::{
     CertFault, Certificate, Header, Price, read_certificate, reading, write_certificate,
 };
 pub use checking::check;
+pub use held_graph::{HeldGraph, graph_of_worths};
 pub use pit_fault::PitFault;
 pub use room::Room;
 pub use stream_bytes::StreamBytes;

@@ -14,11 +14,12 @@ ghost use Rattle.check_pit.specs.Closing.{IsFirstOpen};
 ghost use Rattle.check_pit.specs.LineSums.{keeps_by};
 ghost use Rattle.check_pit.specs.Rooms.{AreSumsOf, MayPut, Puts, PutsLine, RefusesLine, with_balance, with_left, IsFirstUnbalanced, TellsTight};
 
+use crate::held_graph::HeldGraph;
 use crate::marks::{first_open, mark};
 use crate::pit_fault::PitFault;
 use crate::pit_list::PitList;
 use certificate_file::{BodyLine, LineKind, amount};
-use closure_net::{GraphRef, Net, Pit};
+use closure_net::{Net, Pit};
 use ordered_group::{OrderedGroup, at_most, is_zero, same, zeros};
 use std::alloc::{AllocError, Global};
 use std::marker::Model;
@@ -47,7 +48,7 @@ impl<G: OrderedGroup> Model for Room<G> {
 }
 
 // What the source may give in all.
-fn positive_total<G: OrderedGroup>(net: &GraphRef<'_, G>) -> G
+fn positive_total<G: OrderedGroup>(net: &HeldGraph<'_, G>) -> G
     ensures { G.parts_of result ≡ total
         (λ b. positive (amount_at net.now.worths b)) (length net.now.worths) }
 {
@@ -129,7 +130,7 @@ impl<G: OrderedGroup> Room<G> {
     }
 
     // Clears the room, as a check begins.
-    pub(crate) fn begin(&mut self, net: &GraphRef<'_, G>) -> Result<(), AllocError>
+    pub(crate) fn begin(&mut self, net: &HeldGraph<'_, G>) -> Result<(), AllocError>
         requires { length self.old.balances ≡ length net.now.worths }
         ensures size { length self.new.balances ≡ length self.old.balances }
         ensures sums { IfOk result (λ _. AreSumsOf net.now [] self.new) }
@@ -179,7 +180,7 @@ impl<G: OrderedGroup> Room<G> {
         Ok(())
     }
 
-    fn put_block(&mut self, net: &GraphRef<'_, G>, line: &BodyLine) -> Result<(), PitFault>
+    fn put_block(&mut self, net: &HeldGraph<'_, G>, line: &BodyLine) -> Result<(), PitFault>
         requires kind { line.now.kind ≡ kind.Pit }
         requires may { MayPut net.now self.old line.now }
         ensures size { length self.new.balances ≡ length self.old.balances }
@@ -191,7 +192,7 @@ impl<G: OrderedGroup> Room<G> {
         Ok(())
     }
 
-    fn put_source(&mut self, net: &GraphRef<'_, G>, line: &BodyLine) -> Result<(), PitFault>
+    fn put_source(&mut self, net: &HeldGraph<'_, G>, line: &BodyLine) -> Result<(), PitFault>
         requires kind { line.now.kind ≡ kind.Source }
         requires may { MayPut net.now self.old line.now }
         requires counted { (G.counts ≡ true) ⊎ (line.now.count ≡ pos 0) }
@@ -206,7 +207,7 @@ impl<G: OrderedGroup> Room<G> {
         self.give(amount)
     }
 
-    fn put_rest(&mut self, net: &GraphRef<'_, G>, line: &BodyLine) -> Result<(), PitFault>
+    fn put_rest(&mut self, net: &HeldGraph<'_, G>, line: &BodyLine) -> Result<(), PitFault>
         requires kind { line.now.kind ≡ kind.Rest }
         requires may { MayPut net.now self.old line.now }
         requires counted { (G.counts ≡ true) ⊎ (line.now.count ≡ pos 0) }
@@ -221,7 +222,7 @@ impl<G: OrderedGroup> Room<G> {
         Ok(())
     }
 
-    fn put_sink(&mut self, net: &GraphRef<'_, G>, line: &BodyLine) -> Result<(), PitFault>
+    fn put_sink(&mut self, net: &HeldGraph<'_, G>, line: &BodyLine) -> Result<(), PitFault>
         requires kind { line.now.kind ≡ kind.Sink }
         requires may { MayPut net.now self.old line.now }
         requires counted { (G.counts ≡ true) ⊎ (line.now.count ≡ pos 0) }
@@ -236,7 +237,7 @@ impl<G: OrderedGroup> Room<G> {
     }
 
     // Puts a line: in this order `Negative`, `OverCapacity` and `TooLarge` of this line.
-    pub(crate) fn put(&mut self, net: &GraphRef<'_, G>, line: &BodyLine) -> Result<(), PitFault>
+    pub(crate) fn put(&mut self, net: &HeldGraph<'_, G>, line: &BodyLine) -> Result<(), PitFault>
         requires may { MayPut net.now self.old line.now }
         requires counted { (G.counts ≡ true) ⊎ (line.now.count ≡ pos 0) }
         ensures size { length self.new.balances ≡ length self.old.balances }
@@ -276,7 +277,7 @@ impl<G: OrderedGroup> Room<G> {
     }
 
     // The first pair of the net whose block is in the pit while its predecessor isn't.
-    pub(crate) fn first_open(&mut self, net: &GraphRef<'_, G>) -> Option<(u32, u32)>
+    pub(crate) fn first_open(&mut self, net: &HeldGraph<'_, G>) -> Option<(u32, u32)>
         requires made { self.old.is_pit ≡ true }
         requires size { length self.old.balances ≡ length net.now.worths }
         ensures same { self.new ≡ self.old }
@@ -287,11 +288,11 @@ impl<G: OrderedGroup> Room<G> {
         // proof: the pairs of a net are of its blocks
         let _worths = net.worths();
         mark(&mut self.marks, self.pit.pit().blocks());
-        first_open(net.predecessors(), &self.marks)
+        first_open(net.held(), &self.marks)
     }
 
     // The first block of the net whose balance is not zero.
-    pub(crate) fn first_unbalanced(&self, net: &GraphRef<'_, G>) -> Option<u32>
+    pub(crate) fn first_unbalanced(&self, net: &HeldGraph<'_, G>) -> Option<u32>
         requires { length self.now.balances ≡ length net.now.worths }
         ensures is { MatchOption result
             ((b : ℕ) → b < length net.now.worths → amount_at self.now.balances b ≡ zero_amount)

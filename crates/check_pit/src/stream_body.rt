@@ -5,45 +5,49 @@ ghost use Rattle.std.specs.Prelude.{◌≡◌, ◌+◌, ◌-◌, ◌^◌, ◌<�
 ghost use Rattle.fixed_worth.specs.declared.limits.TheConstants.{LINE_BYTES};
 ghost use Rattle.certificate_file.specs.BodyLines as spec;
 ghost use Rattle.certificate_file.specs.Certificate.{has_pair};
+ghost use Rattle.places.specs.Holders.{pairs_lent};
 ghost use Rattle.check_pit.specs.TakenLines.{TakesLine, LacksLine};
 
+use crate::held_graph::HeldGraph;
 use crate::stream_fault::StreamFault;
 use crate::stream_lines::StreamLines;
 use certificate_file::{BodyLine, CertFault, LineKind, counts, in_line, line_of, may_follow};
-use closure_net::GraphRef;
 use fixed_worth::CountedRead;
 use ordered_group::OrderedGroup;
-use prec_file::Predecessors;
+use places::{HeldRef, Precedence};
 
 // Whether the model has the pair of a line, where the line is of one.
-fn is_of_model(predecessors: &Predecessors, line: &BodyLine) -> bool
-    requires { spec.is_end line.now.kind ≡ false → line.now.block < predecessors.now.blocks }
-    ensures { result ≡ spec.is_of_model (has_pair predecessors.now.pairs) line.now.kind line.now }
+fn is_of_model(held: HeldRef<'_>, line: &BodyLine) -> bool
+    requires { spec.is_end line.now.kind ≡ false → line.now.block < (pairs_lent held).blocks }
+    ensures { result
+        ≡ spec.is_of_model (has_pair (pairs_lent held.entry).pairs) line.now.kind line.now }
 {
+    // proof: whether one rests on another is whether the pairs have them
+    let _blocks = held.blocks();
     match line.kind {
         LineKind::Pit | LineKind::Source | LineKind::Sink | LineKind::End => true,
-        LineKind::Rest => predecessors.find(line.block, line.other).is_some(),
+        LineKind::Rest => held.has(line.block, line.other),
     }
 }
 
 // The line of this number that a text is, behind another one.
 fn line_behind(
-    predecessors: &Predecessors,
+    held: HeldRef<'_>,
     counts: bool,
     previous: Option<BodyLine>,
     number: u64,
     text: &[u8],
 ) -> Result<BodyLine, CertFault>
     requires { length text.now ≤ LINE_BYTES }
-    ensures { result ≡ spec.next_line counts predecessors.now.blocks
-        (has_pair predecessors.now.pairs) previous number
+    ensures { result ≡ spec.next_line counts (pairs_lent held.entry).blocks
+        (has_pair (pairs_lent held.entry).pairs) previous number
         (record { text = text.now; ended = true }) }
 {
-    let line = in_line(number, line_of(counts, predecessors.len(), text))?;
+    let line = in_line(number, line_of(counts, held.blocks(), text))?;
     if !may_follow(previous, &line) {
         return Err(CertFault::OutOfOrder(number));
     }
-    if !is_of_model(predecessors, &line) {
+    if !is_of_model(held, &line) {
         return Err(CertFault::UnknownPair(number));
     }
     Ok(line)
@@ -56,7 +60,7 @@ fn line_behind(
 /// the line, which isn't passed then.
 pub fn next_line<R: CountedRead, G: OrderedGroup>(
     lines: &mut StreamLines<R>,
-    net: &GraphRef<'_, G>,
+    net: &HeldGraph<'_, G>,
     previous: Option<BodyLine>,
 ) -> Result<BodyLine, StreamFault>
     requires { R.failed lines.old.from < 2 ^ 64 - 1 }
@@ -72,9 +76,9 @@ pub fn next_line<R: CountedRead, G: OrderedGroup>(
 {
     let count = lines.next_length()?;
     let number = lines.number() + 1;
-    let predecessors = net.predecessors();
+    let held = net.held();
     let text = lines.front(count);
-    let line = match line_behind(predecessors, counts::<G>(), previous, number, text) {
+    let line = match line_behind(held, counts::<G>(), previous, number, text) {
         Ok(line) => line,
         Err(fault) => return Err(StreamFault::Cert(fault)),
     };

@@ -9,13 +9,13 @@ ghost use Rattle.check_pit.specs.StreamLines.{ReadsSome};
 ghost use Rattle.check_pit.specs.StreamChecks as spec;
 ghost use Rattle.check_pit.specs.StreamChecks.{ClosesPit, IsOpenPit, SumsSettle, EndFails, ReadsOn, BodyFails, BodyProves};
 
+use crate::held_graph::HeldGraph;
 use crate::pit_fault::PitFault;
 use crate::room::Room;
 use crate::stream_body::next_line;
 use crate::stream_fault::StreamFault;
 use crate::stream_lines::StreamLines;
 use certificate_file::{BodyLine, CertFault, LineKind, is_end};
-use closure_net::GraphRef;
 use fixed_worth::CountedRead;
 use ordered_group::OrderedGroup;
 
@@ -37,7 +37,7 @@ fn is_after_pits(previous: Option<BodyLine>) -> bool
 
 // Whether the pit of the PIT lines is closed, at the first line after them.
 fn close_pit<G: OrderedGroup>(
-    net: &GraphRef<'_, G>,
+    net: &HeldGraph<'_, G>,
     room: &mut Room<G>,
     previous: Option<BodyLine>,
     kind: LineKind,
@@ -63,7 +63,7 @@ fn close_pit<G: OrderedGroup>(
 // Whether nothing stands behind END, and the sums prove the pit.
 fn check_end<R: CountedRead, G: OrderedGroup>(
     lines: &mut StreamLines<R>,
-    net: &GraphRef<'_, G>,
+    net: &HeldGraph<'_, G>,
     room: &Room<G>,
 ) -> Result<(), StreamFault>
     requires count { R.failed lines.old.from < 2 ^ 64 - 1 }
@@ -96,7 +96,7 @@ fn check_end<R: CountedRead, G: OrderedGroup>(
 /// `OverCapacity` and `TooLarge` of a line; after END `Unbalanced` and `NotTight`.
 pub fn check_lines<R: CountedRead, G: OrderedGroup>(
     lines: &mut StreamLines<R>,
-    net: &GraphRef<'_, G>,
+    net: &HeldGraph<'_, G>,
     room: &mut Room<G>,
 ) -> Result<(), StreamFault>
     requires count { R.failed lines.old.from < 2 ^ 64 - 1 }

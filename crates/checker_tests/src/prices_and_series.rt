@@ -1,4 +1,4 @@
-//! Tries what three blocks are worth at several factors, with a mill and without, and series of
+//! Tries what blocks are worth at several factors, with ways to treat them and without, and series of
 //! shells: which pits they take, and the shell of each block.
 
 use crate::pits_and_flows::same;
@@ -7,7 +7,7 @@ use closure_net::{Carried, Flow, Net, Pit};
 use fixed_worth::Micros;
 use ordered_group::WorthSize;
 use prec_file::Rests;
-use shells::{Factor, Prices, PricesFault, Series, SeriesFault};
+use shells::{Factor, Prices, PricesFault, Series, SeriesFault, Way};
 use std::alloc::Global;
 use std::fmt::Display;
 use std::process::Abort;
@@ -35,6 +35,21 @@ pub fn prices(rt: &impl Abort, alloc: Global, revenue: &[i64], cost: &[i64]) -> 
     table(rt, alloc, revenue, cost).expect(rt, "prices")
 }
 
+// The table of ways with these revenues and these costs of processing.
+fn ways_table(
+    rt: &impl Abort,
+    alloc: Global,
+    ways: &[(&[i64], &[i64])],
+    mining: &[i64],
+) -> Result<Prices, PricesFault> {
+    let mut made = Vec::new(alloc);
+    for (revenue, processing) in ways {
+        let way = Way::new(column(rt, alloc, revenue), column(rt, alloc, processing));
+        assert!(rt; made.push(way).is_ok());
+    }
+    Prices::ways(made, column(rt, alloc, mining))
+}
+
 fn mill_table(
     rt: &impl Abort,
     alloc: Global,
@@ -42,11 +57,7 @@ fn mill_table(
     processing: &[i64],
     mining: &[i64],
 ) -> Result<Prices, PricesFault> {
-    Prices::mill(
-        column(rt, alloc, revenue),
-        column(rt, alloc, processing),
-        column(rt, alloc, mining),
-    )
+    ways_table(rt, alloc, &[(revenue, processing)], mining)
 }
 
 // The first of three blocks rests on the second.
@@ -256,6 +267,14 @@ fn all_worth(rt: &impl Abort, prices: &Prices, thousandths: u32, worth: i128) {
     }
 }
 
+// Fails the test where a block doesn't go this way.
+fn all_go(rt: &impl Abort, prices: &Prices, thousandths: u32, way: Option<u32>) {
+    let factor = factor_of(rt, thousandths);
+    for b in 0..prices.len() {
+        assert!(rt; prices.way_of(b, factor) == way);
+    }
+}
+
 #[test]
 fn a_block_goes_to_the_mill_or_to_waste(rt: HostRuntime) {
     let alloc = rt.alloc();
@@ -267,6 +286,48 @@ fn a_block_goes_to_the_mill_or_to_waste(rt: HostRuntime) {
     same(&rt, short.err(), Some(PricesFault::WrongLength));
     let negative = mill_table(&rt, alloc, &[-1], &[0], &[0]);
     same(&rt, negative.err(), Some(PricesFault::NegativeRevenue(0)));
+}
+
+// Leached a block earns 6 and costs 1, milled it earns 10 and costs 4, and mining costs 2. At 0.75 both ways are worth as much.
+#[test]
+fn a_block_goes_the_way_that_is_worth_most(rt: HostRuntime) {
+    let alloc = rt.alloc();
+    let ways: [(&[i64], &[i64]); 2] = [(&[6_000_000], &[1_000_000]), (&[10_000_000], &[4_000_000])];
+    let prices = ways_table(&rt, alloc, &ways, &[2_000_000]).expect(&rt, "prices");
+    let cases: [(u32, i128, Option<u32>); 4] = [
+        (100, -2_000_000_000, None),
+        (600, 600_000_000, Some(0)),
+        (750, 1_500_000_000, Some(0)),
+        (1_000, 4_000_000_000, Some(1)),
+    ];
+    for (thousandths, worth, way) in cases {
+        all_worth(&rt, &prices, thousandths, worth);
+        all_go(&rt, &prices, thousandths, way);
+    }
+}
+
+#[test]
+fn ways_are_few_and_of_one_length(rt: HostRuntime) {
+    let alloc = rt.alloc();
+    let way: (&[i64], &[i64]) = (&[1, 1], &[1, 1]);
+    let tables: [(&[(&[i64], &[i64])], &str); 5] = [
+        (&[], "WrongLength"),
+        (&[way; 9], "WrongLength"),
+        (&[way, (&[1], &[1, 1])], "WrongLength"),
+        (&[way, (&[1, 1], &[1])], "WrongLength"),
+        (
+            &[(&[1, -1], &[1, 1]), (&[-1, 1], &[1, 1])],
+            "NegativeRevenue(0)",
+        ),
+    ];
+    for (ways, text) in tables {
+        tells(
+            &rt,
+            alloc,
+            ways_table(&rt, alloc, ways, &[1, 1]).err(),
+            text,
+        );
+    }
 }
 
 // Mined for what each block of the other table costs, and never worth milling.

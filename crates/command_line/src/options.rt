@@ -59,11 +59,11 @@ pub fn file_arg<'a>(alloc: Global, name: &'a str, shown: &'a str, help: &'a str)
 
 /// The help of `--settings`.
 pub const SETTINGS_HELP: &str =
-    "The columns of revenues and costs, or of a mill's charges instead of costs, and the factors of the shells: a TOML text";
+    "The columns of revenues and costs, or of a mill's charges or several ways to treat blocks; the factors of the shells; slopes, where there is no --prec: a TOML text";
 
 /// The help of `--blocks` of a priced model.
 pub const PRICED_BLOCKS_HELP: &str =
-    "The blocks with columns of revenues and costs, or of a mill's charges: MineLib's .blocks";
+    "The blocks with the columns that the settings name: MineLib's .blocks";
 
 /// The option of a command over periods that names the blocks which have what is used.
 pub fn uses_option<'a>(alloc: Global) -> Result<Arg<'a>, AllocError> {

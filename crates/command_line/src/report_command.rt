@@ -15,7 +15,7 @@ Prints comma-separated values, which a spreadsheet opens: the line z,shell,block
 Each pit is found and checked as `pit shells` does it, and nothing is printed before all are. With --by-block it writes the shell of each block to a file too. Prints UNSETTLED and the factor where no pit was found within the limits, and REFUSED TooLarge where a number overflows; both have the status 1.";
 
 const SETTINGS_HELP: &str =
-    "The columns of revenues, of costs or a mill's charges, and of tonnes; the factors of the shells, and that of the worths: a TOML text";
+    "The columns of prices, as for shells, and of tonnes; the factors of the shells, and that of the worths; slopes, where there is no --prec: a TOML text";
 
 /// The command.
 pub fn report_command<'a>(alloc: Global) -> Result<Command<'a>, AllocError> {

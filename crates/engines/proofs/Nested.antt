@@ -1,19 +1,19 @@
 -- Accepted pits over one table of prices are nested.
-use Rattle.fixed_worth.proofs.Common.{◌≡◌, ℕ, Bool, List, sym, ◌∙◌, subst, unwrap_or, length-map-range_with_len}
-use Rattle.blocks_file.specs.Records as blocks
+use Rattle.fixed_worth.proofs.Common.{◌≡◌, ℕ, Bool, List, sym, ◌∙◌, subst}
 use Rattle.prec_file.specs.Records as prec
 use Rattle.closure_net.specs.Prelude.{holds_of, Mine, IsBest, LiesWithin}
 use Rattle.settings_file.specs.Settings.{settings_of}
 use Rattle.shells.specs.Prelude.{PricesView, priced_count, worth_at, mine_of_prices}
 use Rattle.shells.proofs.Rising.{best_is_nested}
-use Rattle.mine_inputs.specs.Prelude.{cell, table_of, PricesRead, priced_texts, rests_by, mine_of}
+use Rattle.mine_inputs.proofs.Priced.{priced_at}
+use Rattle.mine_inputs.specs.Prelude.{columns_said, table_of, PricesRead, priced_texts, rests_by, mine_of}
 use Rattle.ordered_group.specs.declared.groups.Group.{Group}
 use Rattle.ordered_group.specs.declared.groups.Group.TheVariants.{Worth}
 use Rattle.engines.specs.Prelude.{IsProvedPit, TellsSizes, AcceptedAreNested}
 
 -- the table is of the blocks that the mine has
 table_size : (settings text : List ℕ) (n : ℕ) → PricesRead settings text n → n ≡ priced_count (table_of settings text)
-table_size settings text n r = sym (length-map-range_with_len (cell text (unwrap_or (settings_of settings).revenue 0)) 0 (blocks.record_count_of text) ∙ r.count)
+table_size settings text n r = sym (priced_at (columns_said (settings_of settings)) text ∙ r.count)
 
 -- the mine of texts is that of their table
 mine_is : (settings text precedence : List ℕ) (k n : ℕ) → n ≡ priced_count (table_of settings text) → mine_of n (priced_texts settings text precedence k) ≡ mine_of_prices (rests_by (prec.pairs_of_text precedence)) (table_of settings text) k

@@ -9,11 +9,12 @@ use Rattle.certificate_file.specs.declared.header.Price.{Price}
 use Rattle.certificate_file.specs.declared.header.Price.TheVariants.{Objective}
 use Rattle.certificate_file.specs.Prelude.{header_of, pieces_of, IsPrice}
 use Rattle.check_pit.specs.StreamView.{LineView}
+use Rattle.mine_inputs.specs.declared.engine_fault.EngineFault.{EngineFault}
 use Rattle.mine_inputs.specs.declared.engine_fault.EngineFault.TheVariants as engine
 use Rattle.mine_inputs.specs.declared.engine_fault.CertificateProblem.TheVariants as problem
 use Rattle.mine_inputs.specs.declared.worths.Worths.{Worths}
-use Rattle.engines.specs.Prelude.{StandsBehind, factor_in, factor_named, IsHeader}
-use Rattle.mine_inputs.specs.Prelude.{MineTexts, AreRead, IsMineRead, factor_at, nanos_at, price_at}
+use Rattle.engines.specs.Prelude.{Fails, StandsBehind, factor_in, factor_named, IsHeader}
+use Rattle.mine_inputs.specs.Prelude.{DenoteMine, MineTexts, AreRead, IsMineRead, factor_at, nanos_at, price_at}
 use Rattle.mine_inputs.proofs.MinesRead.{read_as}
 use Rattle.engines.proofs.Answered.{JudgedBy}
 use Rattle.engines.proofs.HeaderPrices.{header_price}
@@ -26,6 +27,12 @@ HasHeader remaining s h c = (header_of (pieces_of c) ≡ Ok h) × StandsBehind r
 factor_low : (price : Price) → IsPrice price → factor_at price ≤ MOST_FACTOR
 factor_low Objective h = omega arith
 factor_low price h = h
+
+-- the header isn't one for a mine of so many blocks
+pub header_unjudged : (t : Option (List ℕ)) (worths : Worths) (rests : RestsView) (n : ℕ) (e : EngineFault) → rests.blocks ≡ n → IfSome t (λ c. (texts : MineTexts) → DenoteMine texts n → Fails texts c e)
+    → IfSome t (λ c. (texts : MineTexts) → IsMineRead texts (factor_in c) worths rests → Fails texts c e)
+header_unjudged None worths rests n e same k = tt
+header_unjudged (Some c) worths rests n e same k = λ texts read. k texts (subst (DenoteMine texts) same read.0.mine)
 
 pub price_unjudged : {R : Type 0} (remaining : R → Option (List ℕ)) (s : LineView R) (t : Option (List ℕ)) (worths : Worths) (rests : RestsView) (h : Header) → h.blocks ≡ rests.blocks → ((k : ℕ) → k ≤ MOST_FACTOR → h.price ≢ price_at worths k) → IfSome t (HasHeader remaining s h)
     → IfSome t (JudgedBy worths rests (Err (engine.Certificate problem.WrongPrice)))

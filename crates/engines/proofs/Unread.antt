@@ -1,7 +1,10 @@
 -- Where the texts are read, no fault of a text stands.
-use Rattle.fixed_worth.proofs.Common.{◌≡◌, ℕ, ◌≤◌, pos, List, [], length, get_or, refl, arith, sym, ap, ◌∙◌, subst, Bool, true, false, cond, Option, Some, None, unwrap_or, Result, Ok, Err, inl, inr, nat_lt, option_or, nat_tests, ints, length-map-range_with_len, common_steps}
+use Rattle.fixed_worth.proofs.Common.{◌≡◌, ℕ, ◌≤◌, ℤ, pos, ◌<ℤ◌, ◌≤ℤ◌, List, [], length, get_or, All, All-map, refl, arith, sym, ap, ◌∙◌, subst, Bool, true, false, cond, Option, Some, None, IfSome, Result, Ok, Err, inl, inr, nat_lt, option_or, nat_tests, ints, length-map, length-map-range_with_len, common_steps}
 use Rattle.fixed_worth.specs.declared.limits.TheConstants.{MOST_BLOCKS}
-use Rattle.settings_file.specs.Settings.{SettingsView, settings_of}
+use Rattle.std.specs.Prelude.{Any}
+use Rattle.settings_file.specs.Settings.{SettingsView, settings_of, names_mill}
+use Rattle.settings_file.specs.declared.ways.WayColumns.{WayColumns}
+use Rattle.settings_file.proofs.FewWays.{AreFew, few_ways}
 use Rattle.settings_file.specs.declared.keys.Key.{Key}
 use Rattle.slope.specs.declared.region_fault.RegionFault.TheVariants as region
 use Rattle.mine_inputs.specs.declared.engine_fault.SlopeProblem.{SlopeProblem}
@@ -25,13 +28,14 @@ use Rattle.blocks_file.specs.declared.blocks_fault.BlocksFault.{BlocksFault}
 use Rattle.settings_file.specs.declared.settings_fault.SettingsFault.{SettingsFault}
 use Rattle.settings_file.specs.declared.settings_fault.SettingsFault.TheVariants as settings_fault
 use Rattle.settings_file.proofs.Known.{no_settings_fault}
-use Rattle.shells.specs.Prices.{AreCharged}
+use Rattle.shells.specs.Prices.{AreListed, HasNumbers, revenues_at}
 use Rattle.shells.specs.declared.prices_fault.PricesFault.{PricesFault}
-use Rattle.mine_inputs.specs.declared.priced_inputs.ChargeColumns.{ChargeColumns}
-use Rattle.mine_inputs.specs.declared.priced_inputs.ChargeColumns.TheVariants.{Plain, Mill}
+use Rattle.mine_inputs.specs.declared.columns_of_prices.PriceColumns.{PriceColumns}
+use Rattle.mine_inputs.specs.declared.columns_of_prices.PriceColumns.TheVariants.{Plain, Treated}
 use Rattle.shells.specs.declared.prices_fault.PricesFault.TheVariants as prices_fault
-use Rattle.mine_inputs.specs.Prelude.{price_keys, slope_keys, sloped_keys, columns_said, cell, costs_at, placed_in, prices_alone, prices_and_slopes, table_of, KeysSaid, Wanted, PricesReadBy, PricesFailBy, SettingsFails, SlopesFail, SlopesRead, MineTexts, mine_texts, priced_texts, sloped_texts, ValuesRead, WorthsRead, RestsRead, PrecedenceRead, mine_of, DenoteMine, MineSlopesFail, PrecFails, PrecedenceFails, ValuesFail, SettingsFail, BlocksFail, TableFails}
+use Rattle.mine_inputs.specs.Prelude.{price_keys, slope_keys, sloped_keys, columns_by, columns_said, cell, cells, table_at, way_cells, placed_in, prices_alone, prices_and_slopes, table_of, KeysSaid, Wanted, PricesReadBy, PricesFailBy, SettingsFails, SlopesFail, SlopesRead, MineTexts, mine_texts, priced_texts, sloped_texts, ValuesRead, WorthsRead, RestsRead, PrecedenceRead, mine_of, DenoteMine, MineSlopesFail, PrecFails, PrecedenceFails, ValuesFail, SettingsFail, BlocksFail, TableFails}
 use Rattle.engines.specs.Prelude.{block_by, counts_by, IsHeader, Reads, ModelFails, HeaderFails, BodyTextFails, PriceDiffers}
+use Rattle.mine_inputs.proofs.Priced.{priced_at}
 use Rattle.engines.proofs.Alone.{ok_same, nets_same}
 use Rattle.engines.proofs.Fitting.{no_model_fails}
 
@@ -92,19 +96,46 @@ few_blocks text chosen h =
     let records = blocks.record_line_numbers (blocks.lines_in text) in
     few_records records (nat_lt MOST_BLOCKS (length records)) refl (or_second (blocks.long_fault (blocks.lines_in text)) (blocks.many_fault (blocks.lines_in text)) (or_none _ _ h))
 
--- the columns of a text of blocks have one length, and no revenue is negative
-are_charged : (charges : ChargeColumns) (text : List ℕ) (n : ℕ) → n ≡ blocks.record_count_of text → AreCharged (costs_at charges text) n
-are_charged (Plain cost) text n e = length-map-range_with_len (cell text cost) 0 (blocks.record_count_of text) ∙ sym e
-are_charged (Mill processing mining) text n e = (length-map-range_with_len (cell text processing) 0 (blocks.record_count_of text) ∙ sym e, length-map-range_with_len (cell text mining) 0 (blocks.record_count_of text) ∙ sym e)
+-- ways are neither none nor too many
+abbrev AreFewWays : PriceColumns → Type 0
+AreFewWays (Plain revenue cost) = Unit {0}
+AreFewWays (Treated ways mining) = AreFew ways
+
+few_ways_by : (o : Option (List WayColumns)) (mill : Bool) (said : SettingsView) → IfSome o AreFew → AreFewWays (columns_by o mill said)
+few_ways_by (Some ways) mill said h = h
+few_ways_by None true said h = (omega arith, omega arith)
+few_ways_by None false said h = tt
+
+-- the columns of a text of blocks have one length
+are_listed : (columns : PriceColumns) (text : List ℕ) → AreFewWays columns → AreListed (table_at columns text)
+are_listed (Plain revenue cost) text few = length-map-range_with_len (cell text cost) 0 (blocks.record_count_of text) ∙ sym (length-map-range_with_len (cell text revenue) 0 (blocks.record_count_of text))
+are_listed (Treated ways mining) text few =
+    let n = blocks.record_count_of text in
+    let mined = length-map-range_with_len (cell text mining) 0 n in
+    let count = length-map ways (way_cells text) in
+    let some = few.0 in
+    let most = few.1 in (
+      omega (arith, count, some),
+      omega (arith, count, most),
+      All-map (HasNumbers (length (cells text mining))) (way_cells text) ways (λ i d l.
+          let way = get_or ways i d in (length-map-range_with_len (cell text way.revenue) 0 n ∙ sym mined, length-map-range_with_len (cell text way.processing) 0 n ∙ sym mined)),
+    )
+
+-- no revenue is negative where none is
+not_negative : (rs : List ℤ) → Any (λ r. r <ℤ pos 0) rs → All (λ r. pos 0 ≤ℤ r) rs → ⊥
+not_negative rs some all =
+    let below = some.4 in
+    let above : pos 0 ≤ℤ some.1 = subst (λ r. pos 0 ≤ℤ r) some.3 (all some.0 some.1 some.2) in
+    omega (arith, ints, below, above)
 
 table_stands : (w : Wanted) (settings text : List ℕ) (n : ℕ) (fault : PricesFault) → PricesReadBy w settings text n → PricesFailBy w settings text fault → ⊥
 table_stands w settings text n prices_fault.WrongLength r h =
     let said = settings_of settings in
-    let revenues = length-map-range_with_len (cell text (unwrap_or said.revenue 0)) 0 (blocks.record_count_of text) in
-    elim h.stands [ inl uncharged ↦ uncharged (are_charged (columns_said said).charges text (length (table_of settings text).revenue) revenues) | inr many ↦ omega (arith, many, revenues, few_blocks text (w.chosen said) r.read) ]
+    let few = few_ways_by said.ways (names_mill said) said (few_ways settings r.columns.read) in
+    elim h.stands [ inl unlisted ↦ unlisted (are_listed (columns_said said) text few) | inr many ↦ omega (arith, many, priced_at (columns_said said) text, few_blocks text (w.chosen said) r.read) ]
 table_stands w settings text n (prices_fault.NegativeRevenue b) r h =
     let first = h.stands.2 in
-    omega (arith, ints, first.negative, r.revenues b first.block)
+    not_negative (revenues_at (table_of settings text) b) first.negative (r.revenues b first.block)
 
 prices_stand : (texts : MineTexts) (n : ℕ) (fault : PricesFault) → WorthsRead texts n → TableFails texts fault → ⊥
 prices_stand (mine_texts u p) n fault r h = h

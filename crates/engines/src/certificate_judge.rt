@@ -3,6 +3,7 @@
 
 ghost use Rattle.std.specs.Prelude.{◌≡◌, ◌≢◌, ◌+◌, ◌-◌, ◌^◌, ◌<◌, ◌≤◌, ℕ, List, [], length, Some, Ok, Err, IfSome, IfOk, MatchResult, IsErrOf};
 ghost use Rattle.std.specs.Thread.{IsSync};
+ghost use Rattle.prec_file.specs.Rests.{RestsView};
 ghost use Rattle.certificate_file.specs.Pieces.{pieces_of};
 ghost use Rattle.certificate_file.specs.Header.{header_of};
 ghost use Rattle.closure_net.specs.Network.{holds_of, IsAscending};
@@ -18,11 +19,13 @@ ghost use Rattle.mine_inputs.specs.ReadMines.{AreRead, IsMineRead};
 
 use crate::judgement::Judgement;
 use check_pit::{
-    AcceptedPit, CertFault, CertStream, Header, Room, StreamBytes, StreamFault, check_graph,
+    AcceptedPit, CertFault, CertStream, Header, HeldGraph, Room, StreamBytes, StreamFault,
+    check_held, graph_of_worths,
 };
-use closure_net::{Graph, laws};
+use closure_net::laws;
 use fixed_worth::CountedRead;
-use mine_inputs::{CertificateProblem, EngineFault, MineToCheck};
+use held_pairs::HeldPairs;
+use mine_inputs::{CertificateProblem, EngineFault, HeldMine, MineToCheck, Worths};
 use ordered_group::{Group, OrderedGroup, Scaled, Worth, WorthSize};
 use prec_file::Predecessors;
 use std::alloc::Global;
@@ -33,7 +36,7 @@ use std::thread::Threads;
 pub(crate) struct Case<'a, R> {
     pub(crate) rt: &'a R,
     pub(crate) alloc: Global,
-    pub(crate) mine: MineToCheck,
+    pub(crate) mine: HeldMine,
 }
 
 /// What the certificate that a device gives proves for a mine that was read, or why it can't be judged. Where the blocks have
@@ -60,8 +63,8 @@ pub(crate) fn judge<R: Threads + Sync, C: CountedRead>(
         return (device, Err(EngineFault::Memory));
     };
     let mut stream = CertStream::over(held, device);
-    let judgement = match price_mine(rt, alloc, mine, &mut stream) {
-        Ok(priced) => judge_priced(alloc, priced, &mut stream),
+    let judgement = match price_held(rt, alloc, mine, &mut stream) {
+        Ok(priced) => judge_held(alloc, priced, &mut stream),
         Err(fault) => Err(fault),
     };
     (stream.into_device(), judgement)
@@ -93,6 +96,13 @@ fn header_for<C: CountedRead>(stream: &mut CertStream<C>, n: u32) -> Result<Head
     Ok(header)
 }
 
+// What the blocks of a mine are worth by the header of a certificate, and the group of its amounts.
+#[derive(Drop)]
+struct PricedBlocks {
+    group: Group,
+    nanos: Vec<i128>,
+}
+
 /// A mine whose blocks are worth so many billionths by the header of a certificate, which counts in amounts of this group.
 #[derive(Drop)]
 pub struct PricedMine {
@@ -102,6 +112,52 @@ pub struct PricedMine {
     pub nanos: Vec<i128>,
     /// The predecessors of each block.
     pub predecessors: Predecessors,
+}
+
+// The same, where the pairs are held by a list or by places.
+#[derive(Drop)]
+struct PricedHeld {
+    group: Group,
+    nanos: Vec<i128>,
+    predecessors: HeldPairs,
+}
+
+// Reads the header of a certificate for a mine of so many blocks, and gives what they are worth by it. The values or prices are
+// given back.
+fn price_blocks<R: Threads + Sync, C: CountedRead>(
+    rt: &R,
+    alloc: Global,
+    worths: Worths,
+    blocks: u32,
+    stream: &mut CertStream<C>,
+) -> Result<PricedBlocks, EngineFault>
+    requires count { C.failed stream.old.lines.from < 2 ^ 64 - 1 }
+    requires fresh { IsFresh stream.old }
+    ensures priced { (rests : RestsView) → rests.blocks ≡ blocks
+        → IfSome (C.remaining stream.old.lines.from) (λ c. (texts : MineTexts)
+        → IsMineRead texts (factor_in c) worths rests
+        → MatchResult result
+        (λ m. AreRead texts m.nanos.items rests
+        × IsHeader texts c rests.blocks m.group
+        × StandsBehind C.remaining c stream.new.lines)
+        (Fails texts c)) }
+    ensures header { IfOk result
+        (λ m. IsReadFor blocks m.group stream.new.header stream.new.fault) }
+    ensures open { IfOk result (λ _. IsUndecided stream.new) }
+    ensures device { IsErrOf result EngineFault.Device
+        → C.failed stream.new.lines.from ≡ C.failed stream.old.lines.from + 1 }
+    ensures kept { ¬ IsErrOf result EngineFault.Device
+        → C.failed stream.new.lines.from ≡ C.failed stream.old.lines.from }
+{
+    let header = header_for(stream, blocks)?;
+    let Some(factor) = worths.factor_of(header.price) else {
+        return Err(EngineFault::Certificate(CertificateProblem::WrongPrice));
+    };
+    let nanos = worths.nanos_at(rt, alloc, factor)?;
+    Ok(PricedBlocks {
+        group: header.group,
+        nanos,
+    })
 }
 
 /// Reads the header of a certificate for a mine, and gives what its blocks are worth by it. The values or prices are given
@@ -138,16 +194,52 @@ pub fn price_mine<R: Threads + Sync, C: CountedRead>(
         worths,
         predecessors,
     } = mine;
-    let header = header_for(stream, predecessors.len())?;
-    let Some(factor) = worths.factor_of(header.price) else {
-        return Err(EngineFault::Certificate(CertificateProblem::WrongPrice));
-    };
-    let nanos = worths.nanos_at(rt, alloc, factor)?;
-    Ok(PricedMine {
-        group: header.group,
-        nanos,
+    match price_blocks(rt, alloc, worths, predecessors.len(), stream) {
+        Ok(priced) => Ok(PricedMine {
+            group: priced.group,
+            nanos: priced.nanos,
+            predecessors,
+        }),
+        Err(fault) => Err(fault),
+    }
+}
+
+// The same of a mine whose pairs are held by a list or by places.
+fn price_held<R: Threads + Sync, C: CountedRead>(
+    rt: &R,
+    alloc: Global,
+    mine: HeldMine,
+    stream: &mut CertStream<C>,
+) -> Result<PricedHeld, EngineFault>
+    requires count { C.failed stream.old.lines.from < 2 ^ 64 - 1 }
+    requires fresh { IsFresh stream.old }
+    ensures priced { IfSome (C.remaining stream.old.lines.from) (λ c. (texts : MineTexts)
+        → IsMineRead texts (factor_in c) mine.worths mine.predecessors
+        → MatchResult result
+        (λ m. AreRead texts m.nanos.items m.predecessors
+        × IsHeader texts c m.predecessors.blocks m.group
+        × StandsBehind C.remaining c stream.new.lines)
+        (Fails texts c)) }
+    ensures header { IfOk result
+        (λ m. IsReadFor m.predecessors.blocks m.group stream.new.header stream.new.fault) }
+    ensures open { IfOk result (λ _. IsUndecided stream.new) }
+    ensures device { IsErrOf result EngineFault.Device
+        → C.failed stream.new.lines.from ≡ C.failed stream.old.lines.from + 1 }
+    ensures kept { ¬ IsErrOf result EngineFault.Device
+        → C.failed stream.new.lines.from ≡ C.failed stream.old.lines.from }
+{
+    let HeldMine {
+        worths,
         predecessors,
-    })
+    } = mine;
+    match price_blocks(rt, alloc, worths, predecessors.len(), stream) {
+        Ok(priced) => Ok(PricedHeld {
+            group: priced.group,
+            nanos: priced.nanos,
+            predecessors,
+        }),
+        Err(fault) => Err(fault),
+    }
 }
 
 // What is answered to a fault of the header, which is none of the pit.
@@ -200,6 +292,39 @@ pub fn judge_priced<C: CountedRead>(
     ensures kept { ¬ IsErrOf result EngineFault.Device
         → C.failed stream.new.lines.from ≡ C.failed stream.old.lines.from }
 {
+    let PricedMine {
+        group,
+        nanos,
+        predecessors,
+    } = mine;
+    let held = HeldPairs::of_list(predecessors);
+    let priced = PricedHeld {
+        group,
+        nanos,
+        predecessors: held,
+    };
+    judge_held(alloc, priced, stream)
+}
+
+// The same of a mine whose pairs are held by a list or by places.
+fn judge_held<C: CountedRead>(
+    alloc: Global,
+    mine: PricedHeld,
+    stream: &mut CertStream<C>,
+) -> Result<Judgement, EngineFault>
+    requires count { C.failed stream.old.lines.from < 2 ^ 64 - 1 }
+    requires open { IsUndecided stream.old }
+    requires header { IsReadFor
+        mine.predecessors.blocks mine.group stream.old.header stream.old.fault }
+    ensures judged { (texts : MineTexts) (c : List ℕ)
+        → AreRead texts mine.nanos.items mine.predecessors
+        → IsHeader texts c mine.predecessors.blocks mine.group
+        → StandsBehind C.remaining c stream.old.lines → Judges texts c result }
+    ensures device { IsErrOf result EngineFault.Device
+        → C.failed stream.new.lines.from ≡ C.failed stream.old.lines.from + 1 }
+    ensures kept { ¬ IsErrOf result EngineFault.Device
+        → C.failed stream.new.lines.from ≡ C.failed stream.old.lines.from }
+{
     // proof: a greatest set of the net is a pit that is worth most, and of amounts with sizes the best one
     laws::greatest_set_is_richest_pit();
     laws::greatest_set_is_best_pit::<WorthSize>();
@@ -214,7 +339,7 @@ pub fn judge_priced<C: CountedRead>(
 // Judges the stream behind its header for this mine, in amounts of the group G.
 fn judge_by<G: OrderedGroup, C: CountedRead>(
     alloc: Global,
-    mine: PricedMine,
+    mine: PricedHeld,
     stream: &mut CertStream<C>,
 ) -> Result<Judgement, EngineFault>
     requires count { C.failed stream.old.lines.from < 2 ^ 64 - 1 }
@@ -230,18 +355,18 @@ fn judge_by<G: OrderedGroup, C: CountedRead>(
     ensures kept { ¬ IsErrOf result EngineFault.Device
         → C.failed stream.new.lines.from ≡ C.failed stream.old.lines.from }
 {
-    let PricedMine {
+    let PricedHeld {
         nanos,
         predecessors,
         ..
     } = mine;
-    let graph = Graph::<G>::of_worths(alloc, predecessors, &nanos)?;
+    let graph = graph_of_worths::<G>(alloc, &predecessors, &nanos)?;
     drop(nanos);
-    let net = graph.as_ref();
+    let net = HeldGraph::with_pairs(graph.as_ref(), &predecessors);
     // proof: what is known of every net, that its pairs are of its blocks and in order
     let _worths = net.worths();
     let mut room = Room::of_blocks(alloc, net.len())?;
-    match check_graph(stream, net, &mut room) {
+    match check_held(stream, net, &mut room) {
         Ok(accepted) => {
             let (count, worth) = size_and_worth(&accepted);
             Ok(Judgement::Accepted {

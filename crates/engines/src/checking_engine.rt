@@ -11,7 +11,7 @@ use crate::judgement::Verdict;
 use crate::judgement_line::write_judgement;
 use core::mem::replace_with;
 use fixed_worth::{CountedRead, CountedWrite};
-use mine_inputs::{EngineFault, MineInputs, mine_to_check};
+use mine_inputs::{EngineFault, MineInputs, held_mine};
 use std::alloc::Global;
 use std::thread::Threads;
 
@@ -28,7 +28,7 @@ use std::thread::Threads;
 /// first fault.
 ///
 /// # Errors
-/// Those of [`mine_to_check`]; then `Certificate` with the first fault of the certificate, `WrongPrice` among them; `Model`
+/// Those of [`held_mine`]; then `Certificate` with the first fault of the certificate, `WrongPrice` among them; `Model`
 /// where an amount of the net doesn't fit; `Device` where a read fails, and `Memory` where memory is refused.
 ///
 /// Each device must have counted fewer than 2^64 - 1 failures, so that one more can be counted.
@@ -59,7 +59,7 @@ pub fn check_engine<R: Threads + Sync, D: CountedRead, C: CountedRead, W: Counte
         × (C.failed certificate.new ≡ C.failed certificate.old)
         × (W.failed out.new ≡ W.failed out.old) }
 {
-    let mine = mine_to_check(alloc, inputs)?;
+    let mine = held_mine(alloc, inputs)?;
     let judgement = replace_with(certificate, Case { rt, alloc, mine }, judge)?;
     write_judgement(alloc, judgement, out)?;
     Ok(judgement.verdict())

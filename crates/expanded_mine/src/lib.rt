@@ -4,6 +4,9 @@
 //! Stands on `schedules` for the laws, on `production_figures`, and on `closure_net`, `prec_file`, `ordered_group` and
 //! `fixed_worth`. Promises upward: the pairs and the worths of the nodes are exactly those of the expanded mine; what `bound_by`
 //! answers no feasible schedule exceeds.
+//!
+//! That the relaxation at given prices is a maximum closure of blocks and periods is used so by Bienstock and Zuckerberg (Solving
+//! LP relaxations of large-scale precedence constrained problems, Integer Programming and Combinatorial Optimization, 2010).
 #![tactic(auto)]
 
 mod bound;

@@ -1,10 +1,11 @@
 //! Tries grids of places: over made-up mines with holes, negative places and two regions, whether each block rests on
-//! just the blocks that the slope of its own region lists.
+//! just the blocks that the slope of its own region lists; and pairs that are held by places beside lists of them.
 
 use blocks_file::{BlockModel, read_blocks};
-use places::{Grid, GridFault, Precedence, grid_of};
+use held_pairs::held_by_region;
+use places::{Grid, GridFault, HeldRef, Precedence, grid_of};
 use prec_file::Predecessors;
-use slope::{Pattern, Selection, Up, predecessors_of};
+use slope::{Pattern, RegionFault, Selection, Up, predecessors_by_region, predecessors_of};
 use std::alloc::Global;
 use std::process::Abort;
 use std::test::Fail;
@@ -154,5 +155,91 @@ fn faults_of_grids(rt: HostRuntime) -> Result<(), Fail> {
         Some(GridFault::TooWide)
     );
     assert_eq!(rt; fault_of(alloc, b"0 0 0 0\n", (0, 0, 1))?, None);
+    Ok(())
+}
+
+// The mine of a seed, with a column in which each block's region stands, 0 or 1.
+fn mine_of_regions(alloc: Global, mut seed: u32) -> Result<BlockModel, Fail> {
+    let mut text = String::new(alloc);
+    let mut block: u32 = 0;
+    for cell in 0..60 {
+        seed = next(seed);
+        if seed / 65_536 % 4 > 0 {
+            let place = (cell % 5 - 2, cell / 5 % 4 - 1, cell / 20 - 1);
+            let region = seed / 262_144 % 2;
+            let line = format!(in alloc;
+                "{} {} {} {} {}\n",
+                block, place.0, place.1, place.2, region
+            )?;
+            text.push_str(&line)?;
+            block = block.saturating_add(1);
+        }
+    }
+    Ok(read_blocks(alloc, text.as_bytes(), &[4])?)
+}
+
+// Whether the pairs that are held are just those of the list.
+fn are_held(held: HeldRef<'_>, list: &Predecessors) -> bool {
+    let n = held.blocks();
+    if n != list.len() {
+        return false;
+    }
+    for b in 0..n {
+        for p in 0..n {
+            if held.has(b, p) != list.find(b, p).is_some() {
+                return false;
+            }
+        }
+    }
+    true
+}
+
+// The offsets of two regions, of which the second lists one twice.
+fn two_regions(alloc: Global) -> Result<Vec<Vec<(i32, i32, i32)>>, Fail> {
+    let mut slopes = Vec::new(alloc);
+    slopes.push(Vec::from_slice(alloc, Pattern::nine(alloc)?.offsets())?)?;
+    slopes.push(Vec::from_slice(
+        alloc,
+        &[(0, 0, 1), (1, -1, 1), (0, 0, 2), (1, -1, 1), (-4, 3, 2)],
+    )?)?;
+    Ok(slopes)
+}
+
+#[test]
+fn held_pairs_are_those_of_lists(rt: HostRuntime) -> Result<(), Fail> {
+    let alloc: Global = rt.alloc();
+    let slopes = two_regions(alloc)?;
+    for seed in 0..50 {
+        let model = mine_of_regions(alloc, seed)?;
+        for up in [Up::PlusZ, Up::MinusZ] {
+            let held = held_by_region(alloc, &model, &slopes, up)?;
+            let list = predecessors_by_region(alloc, &model, &slopes, up, Selection::Every)?;
+            assert!(rt; matches!(held.as_ref(), HeldRef::Placed(_)));
+            assert!(rt; are_held(held.as_ref(), &list));
+        }
+    }
+    Ok(())
+}
+
+#[test]
+fn faults_of_held_pairs_are_those_of_lists(rt: HostRuntime) -> Result<(), Fail> {
+    let alloc: Global = rt.alloc();
+    let slopes = two_regions(alloc)?;
+    let twice = read_blocks(alloc, b"0 0 0 0 0\n1 1 0 0 1\n2 1 0 0 7\n", &[4])?;
+    assert_eq!(rt;
+        held_by_region(alloc, &twice, &slopes, Up::PlusZ).err(),
+        Some(RegionFault::SamePlace(1, 2))
+    );
+    let outside = read_blocks(alloc, b"0 0 0 0 0\n1 1 0 0 2\n", &[4])?;
+    assert_eq!(rt;
+        held_by_region(alloc, &outside, &slopes, Up::PlusZ).err(),
+        Some(RegionFault::UnknownRegion(1))
+    );
+    // a box that is too wide for a grid: the pairs are listed
+    let apart = read_blocks(alloc, b"0 -2147483648 0 0 0\n1 2147483647 0 1 0\n", &[4])?;
+    let held = held_by_region(alloc, &apart, &slopes, Up::PlusZ)?;
+    assert!(rt; matches!(held.as_ref(), HeldRef::Listed(_)));
+    let list = predecessors_by_region(alloc, &apart, &slopes, Up::PlusZ, Selection::Every)?;
+    assert!(rt; are_held(held.as_ref(), &list));
     Ok(())
 }

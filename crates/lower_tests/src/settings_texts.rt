@@ -1,6 +1,6 @@
 //! Tries what is read from settings with every key and with none, and with what faults other texts are refused.
 
-use settings_file::{Key, SettingsFault, read_settings};
+use settings_file::{Key, SettingsFault, WayColumns, read_settings};
 use std::alloc::Global;
 use std::process::Abort;
 use std::test::Fail;
@@ -77,6 +77,77 @@ fn costs_beside_a_mill(rt: HostRuntime) {
         (b"mining = 1", None),
     ];
     have_their_faults(&rt, rt.alloc(), &rows);
+}
+
+#[test]
+fn ways_to_treat_blocks(rt: HostRuntime) -> Result<(), Fail> {
+    let text =
+        b"mining = 4\n[[ways]]\nprocessing = 6\nrevenue = 5\n[[ways]]\nrevenue = 65535\nprocessing = 6";
+    let settings = read_settings(rt.alloc(), text).ok().ok_or("read")?;
+    let ways = [
+        WayColumns {
+            revenue: 5,
+            processing: 6,
+        },
+        WayColumns {
+            revenue: 65_535,
+            processing: 6,
+        },
+    ];
+    assert!(rt; settings.ways() == Some(ways.as_slice()));
+    assert!(rt; settings.says(Key::Ways) && !settings.says(Key::Revenue));
+    Ok(())
+}
+
+#[test]
+fn bad_ways(rt: HostRuntime) {
+    let bad = Some(SettingsFault::BadValue(Key::Ways));
+    let rows: [(&[u8], Option<SettingsFault>); 14] = [
+        (b"ways = []", bad),
+        (b"ways = 1", bad),
+        (b"ways = {revenue = 1, processing = 2}", bad),
+        (b"ways = [[1, 2]]", bad),
+        (b"ways = [{revenue = 1, processing = 2}, 3]", bad),
+        (b"ways = [{}]", bad),
+        (b"ways = [{revenue = 1}]", bad),
+        (b"ways = [{processing = 1}]", bad),
+        (b"ways = [{revenue = 1, processing = 2, mining = 3}]", bad),
+        (b"ways = [{revenue = 65536, processing = 2}]", bad),
+        (
+            b"ways = [{revenue = 1, processing = 2}, {revenue = 1, processing = -1}]",
+            bad,
+        ),
+        (b"ways = []\nup = 1", Some(SettingsFault::BadValue(Key::Up))),
+        (b"cost = 1\nways = [{revenue = 1, processing = 2}]", None),
+        (
+            b"cost = 1\nmining = 2\nways = []",
+            Some(SettingsFault::BadValue(Key::Cost)),
+        ),
+    ];
+    have_their_faults(&rt, rt.alloc(), &rows);
+}
+
+// As many ways as asked for.
+fn counted_ways(alloc: Global, count: usize) -> Result<Vec<u8>, Fail> {
+    repeated(
+        alloc,
+        b"ways = [",
+        b"{revenue = 0, processing = 1},",
+        count,
+        b"]",
+    )
+}
+
+#[test]
+fn at_most_8_ways(rt: HostRuntime) -> Result<(), Fail> {
+    let most = counted_ways(rt.alloc(), 8)?;
+    assert_eq!(rt; fault(rt.alloc(), most.as_slice()), None);
+    let more = counted_ways(rt.alloc(), 9)?;
+    assert_eq!(rt;
+        fault(rt.alloc(), more.as_slice()),
+        Some(SettingsFault::BadValue(Key::Ways))
+    );
+    Ok(())
 }
 
 #[test]
@@ -247,6 +318,7 @@ fn printed_faults(rt: HostRuntime) -> Result<(), Fail> {
         (SettingsFault::Missing(Key::Mining), "Missing(mining)"),
         (SettingsFault::Unused(Key::Slopes), "Unused(slopes)"),
         (SettingsFault::Unused(Key::Up), "Unused(up)"),
+        (SettingsFault::BadValue(Key::Ways), "BadValue(ways)"),
         (SettingsFault::NoMemory, "NoMemory"),
     ];
     for (fault, text) in rows {

@@ -13,7 +13,7 @@ use Rattle.shells.specs.Prices.{PricesView, NoRevenueNegative, priced_count, pri
 use Rattle.mine_inputs.specs.declared.engine_fault.EngineFault.{EngineFault}
 use Rattle.mine_inputs.specs.declared.engine_fault.EngineFault.TheVariants as engine
 use Rattle.mine_inputs.specs.declared.mines.MineInputs.{MineInputs}
-use Rattle.mine_inputs.specs.declared.priced_inputs.PriceColumns.{PriceColumns}
+use Rattle.mine_inputs.specs.declared.columns_of_prices.PriceColumns.{PriceColumns}
 use Rattle.mine_inputs.specs.declared.worths.Worths.{Worths}
 use Rattle.mine_inputs.specs.declared.worths.Worths.TheVariants.{Values, Prices}
 use Rattle.mine_inputs.specs.Prelude.{MineFails, PrecFails, ReadsUpit, ReadsSettingsText, SettingsReadFails, IsMissing, ReadsPrices, PricesReadFail, ReadsPrec, PrecReadFails, PricedMineFails, ForWorths, ForTexts, MineTexts, mine_texts, priced_texts, sloped_texts, rests_of, price_wanted, WorthsRead, RestsRead, PrecedenceRead, PrecedenceFails, AreWorths, ArePairsBy, price_keys, slope_keys, columns_said, table_by, table_of, AreRead, AreWorthsOf, IsMineRead, blocks_valued, nanos_at, price_at}
@@ -64,7 +64,7 @@ module _ (o q : Option (List ℕ)) (p : List ℕ) (k : ℕ) where
               size = length-map-range_with_len (worth_at table k) 0 (priced_count table);
               each = λ c h. get_or-map-range_with_len (worth_at table k) 0 (priced_count table) c c (pos 0) h (omega arith) ∙ ap (λ (t : PricesView). worth_at t k c) known;
             };
-            price = ap (λ (t : PricesView). price_of t.costs k) known;
+            price = ap (λ (t : PricesView). price_of t k) known;
           }
 
       pub prices_read : (table : PricesView) → NoRevenueNegative table → IfSome q (λ b. ReadsPrices columns b table) → IfSome o (λ s. IfSome q (λ b. AreWorthsOf (priced_texts s b p k) k (Prices table)))

@@ -1,10 +1,10 @@
 -- From the parts of the reading of a mine of prices to what was read, where the readers tell their bytes.
-use Rattle.fixed_worth.proofs.Common.{◌≡◌, ℕ, List, sym, ap, ◌∙◌, subst, Option, Some, None, IfSome, unwrap_or, length-map-range_with_len}
+use Rattle.fixed_worth.proofs.Common.{◌≡◌, ℕ, List, sym, ap, ◌∙◌, subst, Option, Some, None, IfSome}
 use Rattle.blocks_file.specs.Records as blocks
 use Rattle.prec_file.specs.Rests.{RestsView}
 use Rattle.settings_file.specs.declared.keys.Key.{Key}
 use Rattle.settings_file.specs.declared.settings_fault.SettingsFault.TheVariants as settings_fault
-use Rattle.settings_file.specs.Settings.{SettingsView, first_missing, first_said}
+use Rattle.settings_file.specs.Settings.{SettingsView, first_missing}
 use Rattle.settings_file.proofs.Known.{settings_are, settings_read}
 use Rattle.shells.specs.Prices.{PricesView, PricesFaultStands, NoRevenueNegative, priced_count}
 use Rattle.mine_inputs.specs.declared.engine_fault.EngineFault.{EngineFault}
@@ -12,9 +12,9 @@ use Rattle.mine_inputs.specs.declared.engine_fault.EngineFault.TheVariants as en
 use Rattle.mine_inputs.specs.declared.engine_fault.Problem.{Problem}
 use Rattle.mine_inputs.specs.declared.engine_fault.Problem.TheVariants as problem
 use Rattle.settings_file.specs.declared.settings_fault.SettingsFault.{SettingsFault}
-use Rattle.mine_inputs.specs.declared.priced_inputs.PriceColumns.{PriceColumns}
-use Rattle.mine_inputs.specs.Prelude.{BlocksFails, price_keys, slope_keys, columns_said, price_columns, cell, table_by, table_of, KeysSaid, ColumnsKnown, PricesRead, SettingsFails, ReadsSettingsText, SettingsReadFails, IsMissing, ReadsPrices, PricesReadFail, ReadsPrec, PrecReadFails, PricedMineFails, ArePricesRead, by_text}
-use Rattle.mine_inputs.proofs.Priced.{all_read}
+use Rattle.mine_inputs.specs.declared.columns_of_prices.PriceColumns.{PriceColumns}
+use Rattle.mine_inputs.specs.Prelude.{BlocksFails, price_keys, slope_keys, columns_said, price_columns, first_unused, table_by, table_of, KeysSaid, ColumnsKnown, PricesRead, SettingsFails, ReadsSettingsText, SettingsReadFails, IsMissing, ReadsPrices, PricesReadFail, ReadsPrec, PrecReadFails, PricedMineFails, ArePricesRead, by_text}
+use Rattle.mine_inputs.proofs.Priced.{all_read, priced_at}
 
 -- ---- readers that tell their bytes
 
@@ -51,7 +51,7 @@ settings_answer _ _ _ e h = tt
 -- of the keys that are needed this is the first that is missing
 pub key_missing : (needed : SettingsView → List Key) (unused : List Key) (s : List ℕ) (said : SettingsView) (key : Key) → ReadsSettingsText unused s said → first_missing (needed said) said ≡ Some key → SettingsFails needed unused s (problem.Fault (settings_fault.Missing key))
 key_missing needed unused s said key a m =
-    let U : SettingsView → Type 0 = λ v. first_said unused v ≡ None in
+    let U : SettingsView → Type 0 = λ v. first_unused unused v ≡ None in
     let M : SettingsView → Type 0 = λ v. first_missing (needed v) v ≡ Some key in
     (a.0, (settings_read s said a.1, subst M (sym (settings_are s said a.1)) m, subst U (sym (settings_are s said a.1)) a.2))
 
@@ -65,7 +65,7 @@ missing_answer _ _ _ said e h m = tt
 -- none of the keys that are needed is missing
 pub keys_said : (needed : SettingsView → List Key) (unused : List Key) (s : List ℕ) (said : SettingsView) → ReadsSettingsText unused s said → first_missing (needed said) said ≡ None → KeysSaid needed unused s
 keys_said needed unused s said a whole =
-    let U : SettingsView → Type 0 = λ v. first_said unused v ≡ None in
+    let U : SettingsView → Type 0 = λ v. first_unused unused v ≡ None in
     let M : SettingsView → Type 0 = λ v. first_missing (needed v) v ≡ None in
     record { within = a.0; read = settings_read s said a.1; used = subst U (sym (settings_are s said a.1)) a.2; said = subst M (sym (settings_are s said a.1)) whole }
 
@@ -101,7 +101,7 @@ priced s b said table n e positive whole a t =
     let known = sym (settings_are s said a.1) in
     let is : table ≡ table_of s b = t.is ∙ ap (λ (v : SettingsView). table_by v b) known in
     let C : SettingsView → Type 0 = λ v. blocks.fault_of (price_columns v) b ≡ None in
-    let count = sym (length-map-range_with_len (cell b (unwrap_or said.revenue 0)) 0 (blocks.record_count_of b)) ∙ ap priced_count (sym t.is) ∙ sym e in
+    let count = sym (priced_at (columns_said said) b) ∙ ap priced_count (sym t.is) ∙ sym e in
     record { columns = columns_known s said a whole; within = t.within; read = subst C known t.read; count = count; revenues = subst NoRevenueNegative is positive }
 
 prec_fails_at : (s b p : List ℕ) (said : SettingsView) (table : PricesView) (n : ℕ) (e : EngineFault) → n ≡ priced_count table → NoRevenueNegative table → first_missing (price_keys said) said ≡ None → ReadsSettingsText slope_keys s said → ReadsPrices (columns_said said) b table → PrecReadFails n p e → PricedMineFails s b p e

@@ -12,13 +12,11 @@ use Rattle.settings_file.proofs.Known.{settings_are}
 use Rattle.shells.specs.Prices.{PricesView, PricesFaultStands, NoRevenueNegative, priced_count, price_of}
 use Rattle.mine_inputs.specs.declared.engine_fault.EngineFault.{EngineFault}
 use Rattle.mine_inputs.specs.declared.engine_fault.EngineFault.TheVariants as engine
-use Rattle.mine_inputs.specs.declared.priced_inputs.ChargeColumns.{ChargeColumns}
-use Rattle.mine_inputs.specs.declared.priced_inputs.ChargeColumns.TheVariants.{Plain, Mill}
-use Rattle.mine_inputs.specs.declared.priced_inputs.PriceColumns.{PriceColumns}
+use Rattle.mine_inputs.specs.declared.columns_of_prices.PriceColumns.{PriceColumns}
 use Rattle.mine_inputs.specs.declared.worths.Worths.TheVariants.{Prices}
-use Rattle.mine_inputs.specs.Prelude.{AreSlopedTexts, ArePairsBy, ArePricesRead, BlocksFails, BlocksReadFails, ReadsBlocks, IsMineRead, IsMissing, KeysSaid, MineFails, ModelPricesFail, PairsSaidFail, PricesReadBy, ReadsSettingsText, SettingsReadFails, SlopesFail, SlopesRead, by_slopes, cells, charge_list, column_after, column_list, columns_beside, columns_for, columns_said, first_columns, model_in, place_beside, placed_in, prices_and_slopes, region_columns, rests_said, sloped_columns, sloped_keys, sloped_texts, table_at, table_by, table_of}
+use Rattle.mine_inputs.specs.Prelude.{AreSlopedTexts, ArePairsBy, ArePricesRead, BlocksFails, BlocksReadFails, ReadsBlocks, IsMineRead, IsMissing, KeysSaid, MineFails, ModelPricesFail, PairsSaidFail, PricesReadBy, ReadsSettingsText, SettingsReadFails, SlopesFail, SlopesRead, by_slopes, cells, column_after, column_list, columns_beside, columns_for, columns_said, first_columns, model_in, place_beside, placed_in, prices_and_slopes, region_columns, rests_said, sloped_columns, sloped_keys, sloped_texts, table_at, table_by, table_of}
 use Rattle.mine_inputs.proofs.MineDevices.{always, under}
-use Rattle.mine_inputs.proofs.Priced.{column_is, first_columns_are, worths_priced}
+use Rattle.mine_inputs.proofs.Priced.{beside_is, column_is, first_columns_are, first_size, price_places, worths_priced}
 use Rattle.mine_inputs.proofs.PricedAnswers.{key_missing, keys_said, settings_refused}
 
 -- ---- the blocks of a text
@@ -56,34 +54,25 @@ placed_is xs (Some other) text m d =
     let column = column_last xs other text m d in
     λ i. record { blocks = count i; places = places i; columns = column i ∷ [] }
 
--- the others stand behind the columns of prices
-pub beside_is : (columns : PriceColumns) (others : List ℕ) → columns_beside columns others ≡ column_list columns ++ others
-beside_is columns [] = sym (append-nil (column_list columns))
-beside_is columns (x ∷ xs) = refl
-
-price_places : (revenue : ℕ) (charges : ChargeColumns) → length (revenue ∷ charge_list charges) ≡ place_beside charges
-price_places revenue (Plain cost) = refl
-price_places revenue (Mill processing mining) = refl
-
 -- where the column of regions is read behind those of prices and others, as many as these
 pub regions_placed : (columns : PriceColumns) (others : List ℕ) (region : Option ℕ) (text : List ℕ) (m : BlocksView) → Denotes (columns_beside columns (others ++ columns_for region)) text m
-    → narrowed (column_after (place_beside columns.charges + length others) region) m ≡ model_in (columns_for region) text
+    → narrowed (column_after (place_beside columns + length others) region) m ≡ model_in (columns_for region) text
 regions_placed columns others region text m d =
     let xs = column_list columns ++ others in
-    let at : length xs ≡ place_beside columns.charges + length others = length-append (column_list columns) others ∙ ap (λ n. n + length others) (price_places columns.revenue columns.charges) in
+    let at : length xs ≡ place_beside columns + length others = length-append (column_list columns) others ∙ ap (λ n. n + length others) (price_places columns) in
     let chosen : columns_beside columns (others ++ columns_for region) ≡ xs ++ columns_for region = beside_is columns (others ++ columns_for region) ∙ sym (append_assoc (column_list columns) others (columns_for region)) in
     ap (λ i. narrowed (column_after i region) m) (sym at) ∙ placed_is xs region text m (subst (λ (cs : List ℕ). Denotes cs text m) chosen d)
 
 -- that column is one of those that were read
-pub regions_within : (columns : PriceColumns) (others : List ℕ) (region : Option ℕ) (i n : ℕ) → i ≡ place_beside columns.charges + length others → n ≡ length (columns_beside columns (others ++ columns_for region)) → IfSome (column_after i region) (λ j. j < n)
+pub regions_within : (columns : PriceColumns) (others : List ℕ) (region : Option ℕ) (i n : ℕ) → i ≡ place_beside columns + length others → n ≡ length (columns_beside columns (others ++ columns_for region)) → IfSome (column_after i region) (λ j. j < n)
 regions_within columns others None i n at size = tt
 regions_within columns others (Some other) i n at size =
     let all = ap length (beside_is columns (others ++ (other ∷ []))) in
     let front = length-append (column_list columns) (others ++ (other ∷ [])) in
-    omega (arith, at, size, all, front, length_push others other, price_places columns.revenue columns.charges)
+    omega (arith, at, size, all, front, length_push others other, price_places columns)
 
 -- the prices are those of the text, whatever is read beside them
-pub table_beside : (columns : PriceColumns) (others text : List ℕ) (m : BlocksView) → Denotes (columns_beside columns others) text m → first_columns columns.charges m ≡ table_at columns text
+pub table_beside : (columns : PriceColumns) (others text : List ℕ) (m : BlocksView) → Denotes (columns_beside columns others) text m → first_columns columns m ≡ table_at columns text
 table_beside columns others text m d = first_columns_are columns others text m (subst (λ (cs : List ℕ). Denotes cs text m) (beside_is columns others) d)
 
 -- ---- prices that were read, and the slopes of settings
@@ -121,37 +110,37 @@ module _ (s b : List ℕ) (said : SettingsView) (columns : PriceColumns) (m : Bl
   blocks_fine : blocks.fault_of (sloped_columns (settings_of s)) b ≡ None
   blocks_fine = subst (λ (c : List ℕ). blocks.fault_of c b ≡ None) chosen t.blocks_read.1
 
-  table : first_columns columns.charges m ≡ table_of s b
+  table : first_columns columns m ≡ table_of s b
   table = table_beside columns (region_columns said) b m t.blocks_read.2 ∙ ap (λ (c : PriceColumns). table_at c b) t.are ∙ ap (λ (v : SettingsView). table_by v b) (sym known)
 
   -- no prices are made of the columns
-  pub prices_refused : (k : ℕ) (e : EngineFault) → ModelPricesFail columns.charges m e → MineFails (sloped_texts s b k) e
+  pub prices_refused : (k : ℕ) (e : EngineFault) → ModelPricesFail columns m e → MineFails (sloped_texts s b k) e
   prices_refused k (engine.Prices fault) h = record { columns = keys; within = t.blocks_read.0; read = blocks_fine; stands = subst (λ (p : PricesView). PricesFaultStands p fault) table h }
   prices_refused k engine.Memory h = tt
   prices_refused k _ h = absurd h
 
-  module _ (prices : PricesView) (is : prices ≡ first_columns columns.charges m) (positive : NoRevenueNegative prices) where
+  module _ (prices : PricesView) (is : prices ≡ first_columns columns m) (positive : NoRevenueNegative prices) where
     pub same : prices ≡ table_of s b
     same = is ∙ table
 
     pub size : priced_count prices ≡ m.blocks
-    size = ap priced_count is ∙ length-map-range_with_len (λ c. get_or (get_or m.columns 0 []) c (pos 0)) 0 m.blocks
+    size = first_size columns m prices is
 
     worths_read : PricesReadBy prices_and_slopes s b (priced_count prices)
     worths_read = record { columns = keys; within = t.blocks_read.0; read = blocks_fine; count = sym t.blocks_read.2.count ∙ sym size; revenues = subst NoRevenueNegative same positive }
 
-    place : narrowed (column_after (place_beside columns.charges) said.region) m ≡ placed_in said b
+    place : narrowed (column_after (place_beside columns) said.region) m ≡ placed_in said b
     place = ap (λ i. narrowed (column_after i said.region) m) (omega arith) ∙ regions_placed columns [] said.region b m t.blocks_read.2
 
-    pub slopes_fail : (k : ℕ) (e : EngineFault) → PairsSaidFail said (narrowed (column_after (place_beside columns.charges) said.region) m) e → MineFails (sloped_texts s b k) e
-    slopes_fail k e h = slopes_refused s b said known prices worths_read same (narrowed (column_after (place_beside columns.charges) said.region) m) place k e h
+    pub slopes_fail : (k : ℕ) (e : EngineFault) → PairsSaidFail said (narrowed (column_after (place_beside columns) said.region) m) e → MineFails (sloped_texts s b k) e
+    slopes_fail k e h = slopes_refused s b said known prices worths_read same (narrowed (column_after (place_beside columns) said.region) m) place k e h
 
-    pub pairs_found : (rests : RestsView) → rests.blocks ≡ m.blocks → SlopesRead said (narrowed (column_after (place_beside columns.charges) said.region) m)
-        → ArePairsBy (rests_said said (narrowed (column_after (place_beside columns.charges) said.region) m)) rests.pairs → ArePricesRead s b by_slopes prices rests
-    pairs_found rests count right pairs = slopes_read s b said known prices worths_read same (narrowed (column_after (place_beside columns.charges) said.region) m) place rests (size ∙ sym count) right pairs
+    pub pairs_found : (rests : RestsView) → rests.blocks ≡ m.blocks → SlopesRead said (narrowed (column_after (place_beside columns) said.region) m)
+        → ArePairsBy (rests_said said (narrowed (column_after (place_beside columns) said.region) m)) rests.pairs → ArePricesRead s b by_slopes prices rests
+    pairs_found rests count right pairs = slopes_read s b said known prices worths_read same (narrowed (column_after (place_beside columns) said.region) m) place rests (size ∙ sym count) right pairs
 
     pub sloped_read : (k : ℕ) (rests : RestsView) → ArePricesRead s b by_slopes prices rests → IsMineRead (sloped_texts s b k) k (Prices prices) rests
-    sloped_read k rests a = (worths_priced s b by_slopes prices rests k a, ap (λ (p : PricesView). price_of p.costs k) same)
+    sloped_read k rests a = (worths_priced s b by_slopes prices rests k a, ap (λ (p : PricesView). price_of p k) same)
 
 -- ---- their readers, where they tell their bytes
 

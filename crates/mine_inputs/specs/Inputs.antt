@@ -7,17 +7,16 @@ use Rattle.mine_inputs.specs.declared.engine_fault.EngineFault.{EngineFault}
 use Rattle.mine_inputs.specs.declared.engine_fault.EngineFault.TheVariants as engine
 use Rattle.blocks_file.specs.Records as blocks
 use Rattle.blocks_file.specs.Denotes.{BlocksView}
-use Rattle.settings_file.specs.Settings.{SettingsView, ReadsSettings, first_missing, first_said}
+use Rattle.settings_file.specs.Settings.{SettingsView, ReadsSettings, first_missing}
 use Rattle.settings_file.specs.declared.keys.Key.{Key}
 use Rattle.settings_file.specs.declared.settings_fault.SettingsFault.TheVariants as settings_fault
 use Rattle.shells.specs.Prices.{PricesView, PricesFaultStands}
 use Rattle.mine_inputs.specs.declared.engine_fault.Problem.TheVariants as problem
 use Rattle.fixed_worth.specs.declared.whole_input.InputFault.{InputFault}
 use Rattle.fixed_worth.specs.declared.whole_input.InputFault.TheVariants as input
-use Rattle.mine_inputs.specs.declared.priced_inputs.ChargeColumns.{ChargeColumns}
-use Rattle.mine_inputs.specs.declared.priced_inputs.PriceColumns.{PriceColumns}
+use Rattle.mine_inputs.specs.declared.columns_of_prices.PriceColumns.{PriceColumns}
 use Rattle.mine_inputs.specs.Limits.{IsTooLong, IsWithinLimit}
-use Rattle.mine_inputs.specs.PricedTexts.{price_keys, slope_keys, column_list, first_columns, table_at, PricesRead, columns_beside, columns_said, SettingsFaultStands, SettingsFails, PricedBlocksFail, PricesFail}
+use Rattle.mine_inputs.specs.PricedTexts.{price_keys, slope_keys, first_unused, column_list, first_columns, table_at, PricesRead, columns_beside, columns_said, SettingsFaultStands, SettingsFails, PricedBlocksFail, PricesFail}
 use Rattle.mine_inputs.specs.BlockTexts.{BlocksFails, ReadsBlocks}
 use Rattle.mine_inputs.specs.SlopedTexts.{SlopesFail, region_columns, sloped_keys}
 use Rattle.mine_inputs.specs.Mines.{ValuesRead}
@@ -45,7 +44,7 @@ PrecReadFails n text _ = ⊥
 
 -- the settings are those of the text, and say nothing at the keys of which no use is made
 abbrev pub ReadsSettingsText : List Key → List ℕ → SettingsView → Type 0
-ReadsSettingsText unused text said = IsWithinLimit text × ReadsSettings text (Ok said) × (first_said unused said ≡ None)
+ReadsSettingsText unused text said = IsWithinLimit text × ReadsSettings text (Ok said) × (first_unused unused said ≡ None)
 
 -- a fault of the text of settings, a key that isn't used, want of memory or a failing device; that a key is missing is told later
 abbrev pub SettingsReadFails : List Key → List ℕ → EngineFault → Type 0
@@ -73,10 +72,10 @@ PricesReadFail columns text engine.Device = Unit {0}
 PricesReadFail columns text _ = ⊥
 
 -- why the first columns of a model are no prices: want of memory, or they are no table
-abbrev pub ModelPricesFail : ChargeColumns → BlocksView → EngineFault → Type 0
-ModelPricesFail charges m (engine.Prices fault) = PricesFaultStands (first_columns charges m) fault
-ModelPricesFail charges m engine.Memory = Unit {0}
-ModelPricesFail charges m _ = ⊥
+abbrev pub ModelPricesFail : PriceColumns → BlocksView → EngineFault → Type 0
+ModelPricesFail columns m (engine.Prices fault) = PricesFaultStands (first_columns columns m) fault
+ModelPricesFail columns m engine.Memory = Unit {0}
+ModelPricesFail columns m _ = ⊥
 
 -- why the texts of a mine of prices aren't read
 abbrev pub PricedMineFails : List ℕ → List ℕ → List ℕ → EngineFault → Type 0

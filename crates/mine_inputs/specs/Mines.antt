@@ -38,8 +38,8 @@ texts_by settings blocks by_slopes factor = sloped_texts settings blocks factor
 -- the price that a certificate for these texts names: by the kind of their table
 abbrev pub price_wanted : MineTexts → Price
 price_wanted (mine_texts values precedence) = Objective
-price_wanted (priced_texts settings blocks precedence factor) = price_of (table_of settings blocks).costs factor
-price_wanted (sloped_texts settings blocks factor) = price_of (table_of settings blocks).costs factor
+price_wanted (priced_texts settings blocks precedence factor) = price_of (table_of settings blocks) factor
+price_wanted (sloped_texts settings blocks factor) = price_of (table_of settings blocks) factor
 
 -- what block b is worth, in billionths: by its value in millionths, or by the prices at the factor
 abbrev pub worth_by : MineTexts → ℕ → ℤ

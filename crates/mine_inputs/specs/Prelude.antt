@@ -6,7 +6,7 @@ pub use Rattle.mine_inputs.specs.Inputs.{AreSlopedTexts, IsMissing, ModelPricesF
 pub use Rattle.mine_inputs.specs.Limits.{IsTooLong, IsWithinLimit, longest_input}
 pub use Rattle.mine_inputs.specs.MineInputs.{CanCount, ForTexts, ForWorths, MineKind, NoWorthsFailed, NoneFailed, OneFailed, WorthsCanCount, is_priced, kind_of, listed_kind, mine_failures, sloped_kind, worths_failures}
 pub use Rattle.mine_inputs.specs.Mines.{DenoteMine, MineTexts, PrecedenceBy, PrecedenceRead, RestsRead, ValuesRead, WorthsRead, by_slopes, by_text, is_sloped, mine_of, mine_texts, price_wanted, priced_texts, rests_by, rests_of, sloped_texts, texts_by, worth_by}
-pub use Rattle.mine_inputs.specs.PricedTexts.{ColumnsKnown, KeysSaid, PricedBlocksFail, PricedBlocksFailBy, PricesFail, PricesFailBy, PricesRead, PricesReadBy, SettingsFails, SettingsFaultStands, Wanted, cell, cells, charge_list, charges_by, column_list, columns_beside, columns_said, costs_at, first_charges, first_columns, keys_by, others_by, place_beside, price_columns, price_keys, prices_alone, slope_keys, table_at, table_by, table_of, unused_by, values_of}
+pub use Rattle.mine_inputs.specs.PricedTexts.{ColumnsKnown, KeysSaid, PricedBlocksFail, PricedBlocksFailBy, PricesFail, PricesFailBy, PricesRead, PricesReadBy, SettingsFails, SettingsFaultStands, Wanted, cell, cells, column_list, columns_beside, columns_by, columns_said, first_columns, first_unused, keys_by, mill_way, others_by, place_beside, price_columns, price_keys, prices_alone, replaced_by, slope_keys, table_at, table_by, table_of, unused_by, values_of, way_cells, way_from, way_list, ways_from}
 pub use Rattle.mine_inputs.specs.ReadMines.{ArePairsBy, ArePricesRead, AreRead, AreWorthsOf, IsMineRead}
 pub use Rattle.mine_inputs.specs.SlopedTexts.{SlopesFail, SlopesRead, column_after, columns_for, model_in, placed_in, prices_and_slopes, region_columns, rests_said, sloped_columns, sloped_keys, slopes_said, up_by, up_said}
 pub use Rattle.mine_inputs.specs.Worths.{blocks_valued, factor_at, nanos_at, price_at}

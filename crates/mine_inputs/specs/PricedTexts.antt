@@ -1,33 +1,43 @@
 -- What a text of settings and a text of blocks say together of prices.
-use Rattle.std.specs.Prelude.{◌≡◌, ℕ, ℤ, pos, Bool, true, false, List, [], ◌∷◌, ◌++◌, map, slice_index_or, Some, None, unwrap_or, Err}
+use Rattle.std.specs.Prelude.{◌≡◌, ℕ, ◌+◌, ◌*◌, ℤ, pos, Bool, true, false, List, [], ◌∷◌, ◌++◌, length, map, slice_index_or, Option, Some, None, unwrap_or, Err}
 use Rattle.std.specs.List.{range_with_len}
 use Rattle.blocks_file.specs.Records as blocks
 use Rattle.blocks_file.specs.Denotes.{BlocksView}
 use Rattle.blocks_file.specs.declared.blocks_fault.BlocksFault.{BlocksFault}
 use Rattle.settings_file.specs.declared.keys.Key.{Key}
-use Rattle.settings_file.specs.declared.keys.Key.TheVariants.{Revenue, Cost, Processing, Mining, Slopes, Region, Up}
+use Rattle.settings_file.specs.declared.keys.Key.TheVariants.{Revenue, Cost, Processing, Mining, Slopes, Region, Up, Ways}
 use Rattle.settings_file.specs.declared.settings_fault.SettingsFault.{SettingsFault}
 use Rattle.settings_file.specs.declared.settings_fault.SettingsFault.TheVariants as settings_fault
-use Rattle.settings_file.specs.Settings.{SettingsView, ReadsSettings, AreSettings, settings_of, names_mill, first_missing, first_said}
-use Rattle.shells.specs.Prices.{CostsView, plain_costs, mill_costs, PricesView, NoRevenueNegative, PricesFaultStands}
+use Rattle.settings_file.specs.declared.ways.WayColumns.{WayColumns}
+use Rattle.settings_file.specs.Settings.{SettingsView, ReadsSettings, AreSettings, settings_of, is_said, names_mill, first_missing, first_said}
+use Rattle.shells.specs.Prices.{WayView, PricesView, plain_prices, treated_prices, NoRevenueNegative, PricesFaultStands}
 use Rattle.shells.specs.declared.prices_fault.PricesFault.{PricesFault}
 use Rattle.mine_inputs.specs.declared.engine_fault.Problem.{Problem}
 use Rattle.mine_inputs.specs.declared.engine_fault.Problem.TheVariants as problem
-use Rattle.mine_inputs.specs.declared.priced_inputs.ChargeColumns.{ChargeColumns}
-use Rattle.mine_inputs.specs.declared.priced_inputs.ChargeColumns.TheVariants.{Plain, Mill}
-use Rattle.mine_inputs.specs.declared.priced_inputs.PriceColumns.{PriceColumns}
+use Rattle.mine_inputs.specs.declared.columns_of_prices.PriceColumns.{PriceColumns}
+use Rattle.mine_inputs.specs.declared.columns_of_prices.PriceColumns.TheVariants.{Plain, Treated}
 use Rattle.mine_inputs.specs.Limits.{IsTooLong, IsWithinLimit}
 use Rattle.mine_inputs.specs.BlockTexts.{BlocksFails}
 
--- The keys that are needed where there is a mill or none, with these others, in the order in which they are missed: costs come
--- before the others, and a mill's charges behind them.
-abbrev pub keys_by : Bool → List Key → List Key
-keys_by false others = Revenue ∷ Cost ∷ others
-keys_by true others = Revenue ∷ (others ++ (Processing ∷ Mining ∷ []))
+-- The keys that are needed where ways are listed or not, and where there is a mill or none, with these others, in the order in
+-- which they are missed: costs come before the others, and the charges of ways and of a mill behind them.
+abbrev pub keys_by : (ways mill : Bool) → List Key → List Key
+keys_by true mill others = others ++ (Mining ∷ [])
+keys_by false true others = Revenue ∷ (others ++ (Processing ∷ Mining ∷ []))
+keys_by false false others = Revenue ∷ Cost ∷ others
 
--- the keys that a priced model needs: there is a mill where the settings name one of its charges
+-- the keys that a priced model needs: there is a mill where the settings name one of its charges and list no ways
 abbrev pub price_keys : SettingsView → List Key
-price_keys s = keys_by (names_mill s) []
+price_keys s = keys_by (is_said s Ways) (names_mill s) []
+
+-- the keys in whose place ways stand: no use is made of them where ways are listed
+abbrev pub replaced_by : Bool → List Key
+replaced_by true = Revenue ∷ Cost ∷ Processing ∷ []
+replaced_by false = []
+
+-- the first key of which no use is made and at which there is something: those in whose place ways stand come before these others
+abbrev pub first_unused : List Key → SettingsView → Option Key
+first_unused others s = first_said (replaced_by (is_said s Ways) ++ others) s
 
 -- the keys of slopes by region: where the precedence is a text of its own, no use is made of them
 abbrev pub slope_keys : List Key
@@ -43,23 +53,30 @@ abbrev pub unused_by : Bool → List Key
 unused_by true = []
 unused_by false = slope_keys
 
--- the columns of charges that settings name
-abbrev pub charges_by : Bool → SettingsView → ChargeColumns
-charges_by false s = Plain (unwrap_or s.cost 0)
-charges_by true s = Mill (unwrap_or s.processing 0) (unwrap_or s.mining 0)
+-- the one way of a mill, by the keys of its columns
+abbrev pub mill_way : SettingsView → WayColumns
+mill_way s = record { revenue = unwrap_or s.revenue 0; processing = unwrap_or s.processing 0 }
+
+-- The columns of prices that settings name, by the ways that they list, if any, and whether they name a charge of a mill. A mill is
+-- one way.
+abbrev pub columns_by : Option (List WayColumns) → Bool → SettingsView → PriceColumns
+columns_by (Some ways) mill s = Treated ways (unwrap_or s.mining 0)
+columns_by None true s = Treated (mill_way s ∷ []) (unwrap_or s.mining 0)
+columns_by None false s = Plain (unwrap_or s.revenue 0) (unwrap_or s.cost 0)
 
 -- the columns of prices that settings name
 abbrev pub columns_said : SettingsView → PriceColumns
-columns_said s = record { revenue = unwrap_or s.revenue 0; charges = charges_by (names_mill s) s }
+columns_said s = columns_by s.ways (names_mill s) s
 
--- the columns of charges in the order in which they are chosen: the cost, or processing and then mining
-abbrev pub charge_list : ChargeColumns → List ℕ
-charge_list (Plain cost) = cost ∷ []
-charge_list (Mill processing mining) = processing ∷ mining ∷ []
+-- the columns of ways in the order in which they are chosen: of each its revenue and then its processing
+abbrev pub way_list : List WayColumns → List ℕ
+way_list [] = []
+way_list (way ∷ ways) = way.revenue ∷ way.processing ∷ way_list ways
 
--- the columns of prices in the order in which they are chosen of the blocks: revenues, then the charges
+-- The columns of prices in the order in which they are chosen of the blocks: revenues and costs, or those of the ways and then mining.
 abbrev pub column_list : PriceColumns → List ℕ
-column_list columns = columns.revenue ∷ charge_list columns.charges
+column_list (Plain revenue cost) = revenue ∷ cost ∷ []
+column_list (Treated ways mining) = way_list ways ++ (mining ∷ [])
 
 -- the columns of prices that are chosen of the blocks, and behind them the others
 abbrev pub columns_beside : PriceColumns → List ℕ → List ℕ
@@ -67,9 +84,9 @@ columns_beside columns [] = column_list columns
 columns_beside columns (other ∷ others) = column_list columns ++ (other ∷ others)
 
 -- how many columns of prices there are, which is the place of the first other column behind them
-abbrev pub place_beside : ChargeColumns → ℕ
-place_beside (Plain cost) = 2
-place_beside (Mill processing mining) = 3
+abbrev pub place_beside : PriceColumns → ℕ
+place_beside (Plain revenue cost) = 2
+place_beside (Treated ways mining) = 2 * length ways + 1
 
 -- the columns of prices that settings name, in the order in which they are chosen of the blocks
 abbrev pub price_columns : SettingsView → List ℕ
@@ -87,22 +104,27 @@ cells text column = map (cell text column) (range_with_len 0 (blocks.record_coun
 abbrev pub values_of : BlocksView → ℕ → List ℤ
 values_of m i = map (λ b. slice_index_or (slice_index_or m.columns i []) b (pos 0)) (range_with_len 0 m.blocks)
 
--- the prices that the first of the chosen columns of a model make: its revenues, then its charges
-abbrev pub first_charges : ChargeColumns → BlocksView → CostsView
-first_charges (Plain cost) m = plain_costs (values_of m 1)
-first_charges (Mill processing mining) m = mill_costs (values_of m 1) (values_of m 2)
+-- the way that the i-th pair of the chosen columns of a model makes
+abbrev pub way_from : BlocksView → ℕ → WayView
+way_from m i = record { revenue = values_of m (2 * i); processing = values_of m (2 * i + 1) }
 
-abbrev pub first_columns : ChargeColumns → BlocksView → PricesView
-first_columns charges m = record { revenue = values_of m 0; costs = first_charges charges m }
+-- the ways that the first of the chosen columns of a model make, so many of them
+abbrev pub ways_from : ℕ → BlocksView → List WayView
+ways_from count m = map (way_from m) (range_with_len 0 count)
 
--- what is charged for the blocks of a text, in millionths, by the columns of charges
-abbrev pub costs_at : ChargeColumns → List ℕ → CostsView
-costs_at (Plain cost) text = plain_costs (cells text cost)
-costs_at (Mill processing mining) text = mill_costs (cells text processing) (cells text mining)
+-- The prices that the first of the chosen columns of a model make: its revenues and its costs, or its ways and then mining.
+abbrev pub first_columns : PriceColumns → BlocksView → PricesView
+first_columns (Plain revenue cost) m = plain_prices (values_of m 0) (values_of m 1)
+first_columns (Treated ways mining) m = treated_prices (ways_from (length ways) m) (values_of m (2 * length ways))
 
--- the prices of the blocks of a text, by columns: the revenues, and what is charged
+-- what blocks earn by a way and what is charged for it, in millionths, by its columns in a text
+abbrev pub way_cells : List ℕ → WayColumns → WayView
+way_cells text way = record { revenue = cells text way.revenue; processing = cells text way.processing }
+
+-- the prices of the blocks of a text, by columns: the revenues and costs, or the ways and what it costs to mine
 abbrev pub table_at : PriceColumns → List ℕ → PricesView
-table_at columns text = record { revenue = cells text columns.revenue; costs = costs_at columns.charges text }
+table_at (Plain revenue cost) text = plain_prices (cells text revenue) (cells text cost)
+table_at (Treated ways mining) text = treated_prices (map (way_cells text) ways) (cells text mining)
 
 -- the prices of the blocks of a text, by the columns that settings name
 abbrev pub table_by : SettingsView → List ℕ → PricesView
@@ -117,7 +139,7 @@ table_of settings text = table_by (settings_of settings) text
 pub record KeysSaid (needed : SettingsView → List Key) (unused : List Key) (settings : List ℕ) : Type 0 where
   pub within : IsWithinLimit settings
   pub read : AreSettings settings
-  pub used : first_said unused (settings_of settings) ≡ None
+  pub used : first_unused unused (settings_of settings) ≡ None
   pub said : first_missing (needed (settings_of settings)) (settings_of settings) ≡ None
 
 -- the settings name the columns of prices
@@ -151,8 +173,8 @@ PricesRead settings text n = PricesReadBy prices_alone settings text n
 -- used, or one that is missing; want of memory isn't one
 abbrev pub SettingsFaultStands : (SettingsView → List Key) → List Key → List ℕ → SettingsFault → Type 0
 SettingsFaultStands needed unused text settings_fault.NoMemory = ⊥
-SettingsFaultStands needed unused text (settings_fault.Unused key) = AreSettings text × (first_said unused (settings_of text) ≡ Some key)
-SettingsFaultStands needed unused text (settings_fault.Missing key) = AreSettings text × (first_missing (needed (settings_of text)) (settings_of text) ≡ Some key) × (first_said unused (settings_of text) ≡ None)
+SettingsFaultStands needed unused text (settings_fault.Unused key) = AreSettings text × (first_unused unused (settings_of text) ≡ Some key)
+SettingsFaultStands needed unused text (settings_fault.Missing key) = AreSettings text × (first_missing (needed (settings_of text)) (settings_of text) ≡ Some key) × (first_unused unused (settings_of text) ≡ None)
 SettingsFaultStands needed unused text fault = ReadsSettings text (Err fault)
 
 -- the settings aren't read: their text is too long, or this fault of it stands

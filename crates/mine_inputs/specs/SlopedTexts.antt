@@ -4,9 +4,9 @@ use Rattle.std.specs.Prelude.{ℕ, Bool, List, [], ◌∷◌, map, Option, Some,
 use Rattle.std.specs.List.{range_with_len}
 use Rattle.blocks_file.specs.Denotes.{BlocksView}
 use Rattle.blocks_file.specs.Records as blocks
-use Rattle.settings_file.specs.Settings.{SettingsView, names_mill}
+use Rattle.settings_file.specs.Settings.{SettingsView, is_said, names_mill}
 use Rattle.settings_file.specs.declared.keys.Key.{Key}
-use Rattle.settings_file.specs.declared.keys.Key.TheVariants.{Slopes}
+use Rattle.settings_file.specs.declared.keys.Key.TheVariants.{Slopes, Ways}
 use Rattle.settings_file.specs.declared.up_sign.UpSign.{UpSign}
 use Rattle.settings_file.specs.declared.up_sign.UpSign.TheVariants.{Plus, Minus}
 use Rattle.slope.specs.Prelude.{GivePairs, Offset, RegionFaultStands, rests_by_slopes}
@@ -69,7 +69,7 @@ placed_in s text = model_in (region_columns s) text
 
 -- the keys that settings need which have both prices and slopes
 abbrev pub sloped_keys : SettingsView → List Key
-sloped_keys s = keys_by (names_mill s) (Slopes ∷ [])
+sloped_keys s = keys_by (is_said s Ways) (names_mill s) (Slopes ∷ [])
 
 -- the columns that are chosen of the blocks: those of prices, and last that of regions
 abbrev pub sloped_columns : SettingsView → List ℕ

@@ -19,7 +19,7 @@ nanos_at (Prices table) factor = worths_at table factor
 -- the price that a certificate names: values have one alone
 abbrev pub price_at : Worths → ℕ → Price
 price_at (Values upit) factor = Objective
-price_at (Prices table) factor = price_of table.costs factor
+price_at (Prices table) factor = price_of table factor
 
 -- the factor that a price names: 0 where it names none
 abbrev pub factor_at : Price → ℕ

@@ -8,9 +8,10 @@ ghost use Rattle.mine_inputs.specs.Mines.{priced_texts, price_wanted};
 ghost use Rattle.mine_inputs.specs.ReadMines.{AreRead, AreWorthsOf, IsMineRead};
 
 use crate::checked_mine::MineToCheck;
+use crate::columns_of_prices::price_columns;
 use crate::engine_fault::{EngineFault, Problem};
 use crate::inputs::{predecessors_from, unread};
-use crate::priced_inputs::{price_columns, priced_settings_from, prices_from};
+use crate::priced_inputs::{priced_settings_from, prices_from};
 use crate::sloped_mines::sloped_mine;
 use crate::worths::Worths;
 use certificate_file::Price;
@@ -80,14 +81,14 @@ fn worths_by_prices<D: CountedRead>(
 {
     let settings = priced_settings_from(alloc, settings)?;
     let columns = price_columns(&settings, &[])?;
-    let prices = prices_from(alloc, blocks, columns)?;
+    let prices = prices_from(alloc, blocks, &columns)?;
     // proof: no revenue of prices is negative
     let _blocks = prices.len();
     Ok(Worths::Prices(prices))
 }
 
 // The mine whose precedence is a text of its own.
-fn listed_mine<D: CountedRead>(
+pub(crate) fn listed_mine<D: CountedRead>(
     alloc: Global,
     worths: &mut WorthInputs<D>,
     prec: &mut D,

@@ -13,10 +13,9 @@ ghost use Rattle.mine_inputs.specs.ReadMines.{ArePairsBy, IsMineRead};
 ghost use Rattle.mine_inputs.specs.SlopedTexts.{SlopesRead, column_after, columns_for, rests_said, slopes_said};
 
 use crate::checked_mine::MineToCheck;
+use crate::columns_of_prices::{PriceColumns, place_beside, price_columns};
 use crate::engine_fault::EngineFault;
-use crate::priced_inputs::{
-    PriceColumns, place_beside, price_columns, priced_blocks_from, prices_of, settings_from,
-};
+use crate::priced_inputs::{priced_blocks_from, prices_of, settings_from};
 use crate::sloped_inputs::up_of;
 use crate::worths::Worths;
 use blocks_file::BlockModel;
@@ -29,14 +28,14 @@ use std::alloc::Global;
 // Settings that list slopes, the columns of prices that they name, and the blocks with these columns and with that of
 // regions.
 #[derive(Drop)]
-struct SlopedTexts {
-    settings: Settings,
-    columns: PriceColumns,
-    model: BlockModel,
+pub(crate) struct SlopedTexts {
+    pub(crate) settings: Settings,
+    pub(crate) columns: PriceColumns,
+    pub(crate) model: BlockModel,
 }
 
 // The settings and the blocks of a mine.
-fn sloped_texts_from<D: CountedRead>(
+pub(crate) fn sloped_texts_from<D: CountedRead>(
     alloc: Global,
     settings: &mut D,
     blocks: &mut D,
@@ -59,7 +58,7 @@ fn sloped_texts_from<D: CountedRead>(
 {
     let settings = settings_from(alloc, settings, &[])?;
     let columns = price_columns(&settings, &[Key::Slopes])?;
-    let model = regional_blocks_from(alloc, blocks, columns, settings.region())?;
+    let model = regional_blocks_from(alloc, blocks, &columns, settings.region())?;
     Ok(SlopedTexts {
         settings,
         columns,
@@ -74,15 +73,15 @@ fn sloped_texts_from<D: CountedRead>(
 pub fn regional_blocks_from<R: CountedRead>(
     alloc: Global,
     from: &mut R,
-    columns: PriceColumns,
+    columns: &PriceColumns,
     region: Option<u32>,
 ) -> Result<BlockModel, EngineFault>
     requires { R.failed from.old < 2 ^ 64 - 1 }
     ensures read { IfSome (R.remaining from.old) (λ text. MatchResult result
-        (ReadsBlocks (columns_beside columns (columns_for region)) text)
-        (BlocksReadFails (columns_beside columns (columns_for region)) text)) }
+        (ReadsBlocks (columns_beside columns.now (columns_for region)) text)
+        (BlocksReadFails (columns_beside columns.now (columns_for region)) text)) }
     ensures columns { IfOk result
-        (λ model. length model.columns ≡ length (columns_beside columns (columns_for region))) }
+        (λ model. length model.columns ≡ length (columns_beside columns.now (columns_for region))) }
     ensures device { IsErrOf result EngineFault.Device
         ↔ (R.failed from.new ≡ R.failed from.old + 1) }
     ensures kept { ¬ IsErrOf result EngineFault.Device → R.failed from.new ≡ R.failed from.old }
@@ -94,7 +93,7 @@ pub fn regional_blocks_from<R: CountedRead>(
 }
 
 // The place of the column of regions behind so many others, where there is one.
-fn column_after(others: u32, region: Option<u32>) -> Option<u32>
+pub(crate) fn column_after(others: u32, region: Option<u32>) -> Option<u32>
     ensures { result ≡ column_after others region }
 {
     match region {
@@ -104,7 +103,7 @@ fn column_after(others: u32, region: Option<u32>) -> Option<u32>
 }
 
 // The offsets of each region that settings list, and none where they list none.
-fn slopes_of(settings: &Settings) -> &[Vec<(i32, i32, i32)>]
+pub(crate) fn slopes_of(settings: &Settings) -> &[Vec<(i32, i32, i32)>]
     ensures { map (λ w. w.items) result.now ≡ slopes_said settings.now }
 {
     match settings.slopes() {
@@ -176,10 +175,10 @@ fn mine_of_texts(alloc: Global, read: SlopedTexts) -> Result<MineToCheck, Engine
         columns,
         model,
     } = read;
-    let prices = prices_of(alloc, &model, columns.charges)?;
+    let prices = prices_of(alloc, &model, &columns)?;
     // proof: no revenue of prices is negative
     let _blocks = prices.len();
-    let others = place_beside(columns.charges);
+    let others = place_beside(&columns);
     let predecessors = predecessors_by_slopes(alloc, &model, others, &settings)?;
     Ok(MineToCheck {
         worths: Worths::Prices(prices),

@@ -18,9 +18,9 @@ use engines::{EngineFault, Unwatched, Verdict, status, stored_check, write_fault
 use fixed_worth::Counted;
 use mine_inputs::Problem;
 use pit_commands::{
-    SolvingAsked, bound_files, check_files, effort_for_series, effort_over_periods, factor_asked,
+    SolveWay, bound_files, check_files, effort_for_series, effort_over_periods, factor_asked,
     listed_slopes_files, pattern_asked, replay_asked, replay_files, schedule_factor_asked,
-    schedule_files, slopes_file, solve_files, solve_plan_files, solving_asked, table_over_an_input,
+    schedule_files, slopes_file, solve_files, solve_plan_files, solve_way, table_over_an_input,
     up_asked, value_factor_asked, value_files,
 };
 use progress::{Meter, PROGRESS_ALONE, Tells};
@@ -43,21 +43,18 @@ const USAGE: u8 = 2;
 // The exit status where a design, periods, a schedule or nodes are wrong, as any other input.
 const FAULTY: u8 = 3;
 
-// How the program ends where no fault of another input than a design, periods, a schedule or their nodes stands.
+// How the program ends, but for a fault of a mine's own files.
 #[derive(Clone, Copy)]
 enum Ending {
     // An engine answered.
     Answered(Verdict),
-    // A design could not be judged.
-    Misdrawn(DesignProblem),
-    // Periods are wrong.
-    Unplanned(PeriodsProblem),
+    BadDesign(DesignProblem),
+    BadPeriods(PeriodsProblem),
     // The mine of blocks and periods can't be made.
-    Unexpanded(NodesProblem),
-    // A schedule is wrong.
-    Unscheduled(ScheduleProblem),
+    BadNodes(NodesProblem),
+    BadSchedule(ScheduleProblem),
     // Neither a precedence is given nor do settings list slopes, and this fault tells it.
-    Unsloped(EngineFault),
+    NoPrecedence(EngineFault),
     // A help text or the version was printed, or what is wrong with the arguments; with this exit status.
     Printed(u8),
 }
@@ -67,23 +64,23 @@ fn main(rt: HostRuntime) -> ExitCode {
     match run(&rt) {
         Ok(Ending::Answered(verdict)) => ExitCode::from(status(&Ok(verdict))),
         Ok(Ending::Printed(status)) => ExitCode::from(status),
-        Ok(Ending::Misdrawn(problem)) => {
+        Ok(Ending::BadDesign(problem)) => {
             let _ = write_problem(problem, &mut errors);
             ExitCode::from(FAULTY)
         }
-        Ok(Ending::Unplanned(problem)) => {
+        Ok(Ending::BadPeriods(problem)) => {
             let _ = write_periods_problem(problem, &mut errors);
             ExitCode::from(FAULTY)
         }
-        Ok(Ending::Unexpanded(problem)) => {
+        Ok(Ending::BadNodes(problem)) => {
             let _ = write_nodes_problem(problem, &mut errors);
             ExitCode::from(FAULTY)
         }
-        Ok(Ending::Unscheduled(problem)) => {
+        Ok(Ending::BadSchedule(problem)) => {
             let _ = write_schedule_problem(problem, &mut errors);
             ExitCode::from(FAULTY)
         }
-        Ok(Ending::Unsloped(fault)) => {
+        Ok(Ending::NoPrecedence(fault)) => {
             let _ = write_fault(&fault, &mut errors);
             ExitCode::from(USAGE)
         }
@@ -120,6 +117,7 @@ fn answered<R: Files + Print + Eprint + Clock + Threads + Wait + Sync + AllocGlo
     rt: &R,
     request: Request<'_>,
 ) -> Result<Ending, EngineFault> {
+    let verbose = is_verbose(&request);
     let answer = match request {
         Request::Bound(args) => bound(rt, args),
         Request::Check(args) => check(rt, args),
@@ -131,8 +129,28 @@ fn answered<R: Files + Print + Eprint + Clock + Threads + Wait + Sync + AllocGlo
         Request::Schedule(args) => schedule(rt, args),
     };
     match answer {
-        Err(fault) if is_want_of_slopes(fault) => Ok(Ending::Unsloped(fault)),
+        Err(fault) => {
+            tell_slope_reason(rt, verbose, fault);
+            if is_want_of_slopes(fault) {
+                return Ok(Ending::NoPrecedence(fault));
+            }
+            Err(fault)
+        }
         answer => answer,
+    }
+}
+
+// Whether more than the answer is asked for.
+fn is_verbose(request: &Request<'_>) -> bool {
+    match request {
+        Request::Bound(args) => args.verbose,
+        Request::Check(args) => args.verbose,
+        Request::Replay(args) => args.verbose,
+        Request::Solve(args) => args.verbose,
+        Request::Series(args) => args.verbose,
+        Request::Slopes(args) => args.verbose,
+        Request::Value(args) => args.verbose,
+        Request::Schedule(args) => args.verbose,
     }
 }
 
@@ -160,8 +178,8 @@ fn solve<R: Files + Print + Eprint + Clock + Threads + Wait + Sync + AllocGlobal
     if let Some(periods) = args.periods {
         return solve_plan(rt, args, periods);
     }
-    let solving = match solving_asked(args) {
-        Ok(solving) => solving,
+    let way = match solve_way(args) {
+        Ok(way) => way,
         Err(wrong) => return refused(rt, wrong),
     };
     tell_choice(
@@ -170,9 +188,9 @@ fn solve<R: Files + Print + Eprint + Clock + Threads + Wait + Sync + AllocGlobal
         args.method,
         args.steps,
     );
-    advise_on_workers(rt, args.verbose, solving);
+    advise_on_workers(rt, args.verbose, way);
     match factor_asked(Commanded::Solve, args.model, args.factor) {
-        Ok(factor) => Ok(Ending::Answered(solved(rt, args, solving, factor)?)),
+        Ok(factor) => Ok(Ending::Answered(solved(rt, args, way, factor)?)),
         Err(wrong) => refused(rt, wrong),
     }
 }
@@ -180,7 +198,7 @@ fn solve<R: Files + Print + Eprint + Clock + Threads + Wait + Sync + AllocGlobal
 fn solved<R: Files + Print + Eprint + Clock + Threads + Wait + Sync + AllocGlobal>(
     rt: &R,
     args: SolveArgs<'_>,
-    solving: SolvingAsked<'_>,
+    way: SolveWay<'_>,
     factor: Factor,
 ) -> Result<Verdict, EngineFault> {
     let tells = Tells {
@@ -188,10 +206,10 @@ fn solved<R: Files + Print + Eprint + Clock + Threads + Wait + Sync + AllocGloba
         outcome: args.verbose,
     };
     if args.progress || args.verbose {
-        let meter = Meter::new(rt, solving.steps(), tells);
-        solve_files(rt, args, solving, factor, &meter)
+        let meter = Meter::new(rt, way.steps(), tells);
+        solve_files(rt, args, way, factor, &meter)
     } else {
-        solve_files(rt, args, solving, factor, &Unwatched)
+        solve_files(rt, args, way, factor, &Unwatched)
     }
 }
 
@@ -241,7 +259,7 @@ fn value<R: Files + Print + Eprint + Threads + Sync + AllocGlobal>(
     };
     match value_files(rt, args, factor) {
         Ok(verdict) => Ok(Ending::Answered(verdict)),
-        Err(ValueFault::Design(problem)) => Ok(Ending::Misdrawn(problem)),
+        Err(ValueFault::Design(problem)) => Ok(Ending::BadDesign(problem)),
         Err(ValueFault::Engine(fault)) => Err(fault),
     }
 }
@@ -270,7 +288,7 @@ fn bound<R: Files + Print + Eprint + Threads + Sync + AllocGlobal>(
 fn bounded(answer: Result<Verdict, BoundFault>) -> Result<Ending, EngineFault> {
     match answer {
         Ok(verdict) => Ok(Ending::Answered(verdict)),
-        Err(BoundFault::Nodes(problem)) => Ok(Ending::Unexpanded(problem)),
+        Err(BoundFault::Nodes(problem)) => Ok(Ending::BadNodes(problem)),
         Err(BoundFault::Plan(fault)) => unplanned(fault),
     }
 }
@@ -278,8 +296,8 @@ fn bounded(answer: Result<Verdict, BoundFault>) -> Result<Ending, EngineFault> {
 // How the program ends at a fault of a plan.
 fn unplanned(fault: PlanFault) -> Result<Ending, EngineFault> {
     match fault {
-        PlanFault::Periods(problem) => Ok(Ending::Unplanned(problem)),
-        PlanFault::Schedule(problem) => Ok(Ending::Unscheduled(problem)),
+        PlanFault::Periods(problem) => Ok(Ending::BadPeriods(problem)),
+        PlanFault::Schedule(problem) => Ok(Ending::BadSchedule(problem)),
         PlanFault::Engine(fault) => Err(fault),
     }
 }

@@ -1,7 +1,7 @@
 //! What arguments and an answer leave open, told on standard error where that is asked for.
 
 use engines::{EngineFault, Method, SlopeProblem};
-use pit_commands::SolvingAsked;
+use pit_commands::SolveWay;
 use slope::{PatternFault, RegionFault, SlopeFault};
 
 /// Tells that steps have chosen push-relabel, where no method is given beside them.
@@ -14,8 +14,8 @@ pub fn tell_choice<R: Eprint>(rt: &R, is_asked: bool, method: Option<&str>, step
 }
 
 /// Tells that further workers have no effect where pseudoflow alone is to solve.
-pub fn advise_on_workers<R: Eprint>(rt: &R, is_asked: bool, solving: SolvingAsked<'_>) {
-    if let SolvingAsked::ByMethod { effort, .. } = solving {
+pub fn advise_on_workers<R: Eprint>(rt: &R, is_asked: bool, way: SolveWay<'_>) {
+    if let SolveWay::ByMethod { effort, .. } = way {
         if is_asked && effort.workers > 1 && effort.method == Method::Pseudoflow {
             let _ = rt.eprintln(
                 "advice: --workers has no effect with --method pseudoflow, which has one thread",

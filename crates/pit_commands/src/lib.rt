@@ -6,21 +6,31 @@
 //! answers.
 #![tactic(auto)]
 
-mod effort_args;
 mod files;
+mod replay_args;
 mod series_args;
 mod slopes_args;
-mod solve_options;
+mod solve_args;
 mod solving;
-mod solving_args;
+mod value_args;
 
-pub use effort_args::{effort_for_series, effort_over_periods};
+use command_line::{Commanded, NamedOption, WrongValue};
 pub use files::{
     bound_files, check_files, listed_slopes_files, replay_files, schedule_files, slopes_file,
     value_files,
 };
-pub use series_args::table_over_an_input;
+pub use replay_args::replay_asked;
+pub use series_args::{effort_for_series, table_over_an_input};
 pub use slopes_args::{pattern_asked, up_asked};
-pub use solve_options::{factor_asked, replay_asked, schedule_factor_asked, value_factor_asked};
+pub use solve_args::{SolveWay, effort_over_periods, factor_asked, solve_way};
 pub use solving::{solve_files, solve_plan_files};
-pub use solving_args::{SolvingAsked, solving_asked};
+pub use value_args::{schedule_factor_asked, value_factor_asked};
+
+// The value of an option of a command, which names nothing.
+fn wrong<'a>(command: Commanded, option: NamedOption<'a>, value: &'a str) -> WrongValue<'a> {
+    WrongValue {
+        command,
+        option,
+        value,
+    }
+}

@@ -3,7 +3,7 @@
 ghost use Rattle.std.specs.Prelude.{IfOk};
 ghost use Rattle.engines.specs.Slopes.{IsChoice};
 
-use crate::solve_options::wrong;
+use crate::wrong;
 use command_line::{Commanded, NamedOption, SlopesArgs, WrongValue};
 use engines::{PatternChoice, pattern_named, up_named};
 use slope::{Selection, Up};

@@ -2,7 +2,7 @@
 //! answer.
 
 use crate::files::uses_file;
-use crate::solving_args::SolvingAsked;
+use crate::solve_args::SolveWay;
 use bound_engines::{BoundFault, BoundInputs, PlanAsked, solve_plan_engine};
 use command_line::SolveArgs;
 use engines::{EngineFault, Outcome, SolveAsked, Verdict, solve_engine};
@@ -27,19 +27,19 @@ pub fn solve_files<
 >(
     rt: &R,
     args: SolveArgs<'_>,
-    solving: SolvingAsked<'_>,
+    way: SolveWay<'_>,
     factor: Factor,
     watch: &T,
 ) -> Result<Verdict, EngineFault> {
     let alloc = rt.alloc();
     let mut mine = open_mine(rt, args.verbose, args.prec, args.model)?;
     let mut out = Counted::new(output(rt, args.verbose, Some(advice_to_solve(args))));
-    match solving {
-        SolvingAsked::LockFree(effort) => {
+    match way {
+        SolveWay::LockFree(effort) => {
             let asked = LockFreeAsked { factor, effort };
             solve_lock_free_engine(rt, alloc, &mut mine, asked, watch, &mut out)
         }
-        SolvingAsked::ByMethod { group, effort } => {
+        SolveWay::ByMethod { group, effort } => {
             let asked = SolveAsked {
                 factor,
                 group,
@@ -47,7 +47,7 @@ pub fn solve_files<
             };
             solve_engine(rt, alloc, &mut mine, asked, watch, &mut out)
         }
-        SolvingAsked::Traced {
+        SolveWay::Traced {
             group,
             effort,
             trace,

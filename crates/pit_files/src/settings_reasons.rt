@@ -1,7 +1,7 @@
 //! Why settings are refused, told on standard error where the line of the fault doesn't say it.
 
 use command_line::Escaped;
-use settings_file::{Key, Settings, SettingsFault, read_settings};
+use settings_file::{Key, MOST_WAYS, Settings, SettingsFault, read_settings};
 use std::alloc::Global;
 use std::sync::atomic::{AtomicU64, Ordering};
 use toml::Table;
@@ -9,7 +9,7 @@ use toml::Table;
 // The most bytes of settings that are kept: more are hardly written by hand.
 const MOST_KEPT: usize = 1 << 20;
 
-const KEYS: [Key; 11] = [
+const KEYS: [Key; 12] = [
     Key::Revenue,
     Key::Cost,
     Key::Tonnes,
@@ -21,6 +21,7 @@ const KEYS: [Key; 11] = [
     Key::Slopes,
     Key::Region,
     Key::Up,
+    Key::Ways,
 ];
 
 /// What was read of settings so far, and where the number of offsets that they list is put.
@@ -61,9 +62,9 @@ impl<'a> KeptText<'a> {
         self.is_whole = is_kept;
     }
 
-    /// Tells what is wrong with the whole text of the settings with this name, if it is no TOML text or has a key that
-    /// settings haven't, or one that goes unused. The engine meets the same fault, and answers it. Where a slope is asked
-    /// for, it notes the offsets instead.
+    /// Tells what is wrong with the whole text of the settings with this name, if it is no TOML text, has a key that
+    /// settings haven't or one that goes unused, or its ways are none. The engine meets the same fault, and answers it.
+    /// Where a slope is asked for, it notes the offsets instead.
     pub fn tell<R: Eprint>(&self, rt: &R, alloc: Global, name: &str) {
         if !self.is_whole {
             return;
@@ -71,10 +72,12 @@ impl<'a> KeptText<'a> {
         match read_settings(alloc, &self.bytes) {
             Err(SettingsFault::NotToml) => tell_line(rt, alloc, name, &self.bytes),
             Err(SettingsFault::UnknownKey) => tell_key(rt, alloc, name, &self.bytes),
+            Err(SettingsFault::BadValue(Key::Ways)) => tell_ways(rt, name),
             Err(_) => {}
             Ok(settings) => match self.offsets {
+                _ if tell_replaced(rt, name, &settings) => {}
                 Some(number) => number.store(most_offsets(&settings), Ordering::SeqCst),
-                None if self.are_slopes_used => {}
+                None if self.are_slopes_used => tell_offsets_alone(rt, name, &settings),
                 None => tell_unused(rt, name, &settings),
             },
         }
@@ -95,6 +98,32 @@ fn most_offsets(settings: &Settings) -> u64 {
     most as u64
 }
 
+// Tells what ways have to be.
+fn tell_ways<R: Eprint>(rt: &R, name: &str) {
+    let name = Escaped { text: name };
+    let _ = rt.eprintln(format_args!(
+        "reason: ways in {name} have to be an array of 1 to {MOST_WAYS} tables with a column each of revenue and of processing, as ways = [{{ revenue = 0, processing = 3 }}]"
+    ));
+}
+
+// Tells the first key in whose place ways stand, and says whether there is one.
+fn tell_replaced<R: Eprint>(rt: &R, name: &str, settings: &Settings) -> bool {
+    if !settings.says(Key::Ways) {
+        return false;
+    }
+    for key in [Key::Revenue, Key::Cost, Key::Processing] {
+        if settings.says(key) {
+            let name = Escaped { text: name };
+            let key = key.name();
+            let _ = rt.eprintln(format_args!(
+                "reason: {name} has the key {key} beside ways, and each way names its own columns: leave out {key}, or ways"
+            ));
+            return true;
+        }
+    }
+    false
+}
+
 // Tells the first key of slopes by region, of which a command with a precedence file makes no use.
 fn tell_unused<R: Eprint>(rt: &R, name: &str, settings: &Settings) {
     for key in [Key::Slopes, Key::Region, Key::Up] {
@@ -106,6 +135,16 @@ fn tell_unused<R: Eprint>(rt: &R, name: &str, settings: &Settings) {
             ));
             return;
         }
+    }
+}
+
+// Tells that settings have the offsets of `pit slopes`, where slopes are needed.
+fn tell_offsets_alone<R: Eprint>(rt: &R, name: &str, settings: &Settings) {
+    if settings.says(Key::Offsets) && !settings.says(Key::Slopes) {
+        let name = Escaped { text: name };
+        let _ = rt.eprintln(format_args!(
+            "reason: {name} has offsets, which pit slopes reads, and no slopes: write the same list within one more pair of brackets, as slopes"
+        ));
     }
 }
 
@@ -136,7 +175,7 @@ fn tell_key<R: Eprint>(rt: &R, alloc: Global, name: &str, text: &[u8]) {
         let name = Escaped { text: name };
         let key = Escaped { text: key };
         let _ = rt.eprintln(format_args!(
-            "reason: {name} has the key {key}, and settings have revenue, cost, processing, mining, tonnes, factors, report, offsets, slopes, region and up"
+            "reason: {name} has the key {key}, and settings have revenue, cost, processing, mining, tonnes, factors, report, offsets, slopes, region, up and ways"
         ));
     }
 }

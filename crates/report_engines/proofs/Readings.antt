@@ -4,18 +4,18 @@ use Rattle.std.specs.Prelude.{option_map}
 use Rattle.blocks_file.specs.Records as blocks
 use Rattle.blocks_file.specs.Denotes.{BlocksView, narrowed}
 use Rattle.prec_file.specs.Rests.{RestsView}
-use Rattle.settings_file.specs.declared.keys.Key.TheVariants.{Tonnes, Factors, Slopes}
-use Rattle.settings_file.specs.Settings.{SettingsView, settings_of, names_mill, first_missing}
+use Rattle.settings_file.specs.declared.keys.Key.TheVariants.{Tonnes, Factors, Slopes, Ways}
+use Rattle.settings_file.specs.Settings.{SettingsView, settings_of, is_said, names_mill, first_missing}
 use Rattle.settings_file.proofs.Known.{settings_are}
 use Rattle.settings_file.proofs.MissingKeys.{none_missing, first_missing-append}
 use Rattle.shells.specs.Prices.{PricesView, PricesFaultStands, NoRevenueNegative, priced_count}
 use Rattle.mine_inputs.specs.declared.engine_fault.EngineFault.{EngineFault}
 use Rattle.mine_inputs.specs.declared.engine_fault.EngineFault.TheVariants as engine
 use Rattle.mine_inputs.specs.Prelude.{PrecedenceBy, by_slopes, by_text, is_sloped, price_keys, slope_keys, sloped_keys, others_by, unused_by, columns_for, columns_said, column_after, price_columns, place_beside, region_columns, sloped_columns, prices_and_slopes, first_columns, model_in, placed_in, rests_said, table_at, table_of, ReadsBlocks, BlocksFails, BlocksReadFails, ReadsSettingsText, SettingsReadFails, IsMissing, ReadsPrices, ReadsPrec, PrecReadFails, ModelPricesFail, PricesReadBy, SlopesRead, ArePairsBy, PairsSaidFail, ArePricesRead}
-use Rattle.mine_inputs.proofs.Priced.{first_columns_are, all_read}
+use Rattle.mine_inputs.proofs.Priced.{all_read, beside_is, first_columns_are}
 use Rattle.mine_inputs.proofs.PriceKeys.{prices_and_others, prices_with_others}
 use Rattle.mine_inputs.proofs.PricedAnswers.{key_missing, keys_said, prec_answer, settings_refused}
-use Rattle.mine_inputs.proofs.SlopedAnswers.{beside_is, regions_placed, slopes_refused, slopes_read}
+use Rattle.mine_inputs.proofs.SlopedAnswers.{regions_placed, slopes_refused, slopes_read}
 use Rattle.mine_inputs.proofs.MineDevices.{always, under}
 use Rattle.shell_engines.proofs.Readings.{slopes_known}
 use Rattle.shell_engines.specs.Prelude.{is_without, precedence_in, series_keys}
@@ -44,7 +44,7 @@ key_is_missing sloped (Some s) said e a m = subst (SaidFails sloped s) (sym m.1)
 
 -- none of the keys of prices is missing, nor of the others
 apart : (sloped : Bool) (said : SettingsView) → first_missing (report_keys sloped said) said ≡ None → (first_missing (price_keys said) said ≡ None) × (first_missing (others_by sloped (Tonnes ∷ Factors ∷ [])) said ≡ None)
-apart sloped said whole = prices_and_others said (names_mill said) (others_by sloped (Tonnes ∷ Factors ∷ [])) whole
+apart sloped said whole = prices_and_others said (is_said said Ways) (names_mill said) (others_by sloped (Tonnes ∷ Factors ∷ [])) whole
 
 pub prices_known : (sloped : Bool) (said : SettingsView) → first_missing (report_keys sloped said) said ≡ None → first_missing (price_keys said) said ≡ None
 prices_known sloped said whole = (apart sloped said whole).0
@@ -58,10 +58,10 @@ sloped_known said whole = slopes_known (Tonnes ∷ Factors ∷ []) said (apart t
 
 -- the keys of a series are among those of a report
 pub series_known : (sloped : Bool) (said : SettingsView) → first_missing (report_keys sloped said) said ≡ None → first_missing (series_keys sloped said) said ≡ None
-series_known false said whole = prices_with_others said (names_mill said) (Factors ∷ []) (prices_known false said whole) (others_known false said whole).1
+series_known false said whole = prices_with_others said (is_said said Ways) (names_mill said) (Factors ∷ []) (prices_known false said whole) (others_known false said whole).1
 series_known true said whole =
     let slopes = (none_missing said (Slopes ∷ []) (Tonnes ∷ Factors ∷ []) (apart true said whole).1).0 in
-    prices_with_others said (names_mill said) (Slopes ∷ Factors ∷ []) (prices_known true said whole) (first_missing-append said (Slopes ∷ []) (Factors ∷ []) slopes ∙ (others_known true said whole).1)
+    prices_with_others said (is_said said Ways) (names_mill said) (Slopes ∷ Factors ∷ []) (prices_known true said whole) (first_missing-append said (Slopes ∷ []) (Factors ∷ []) slopes ∙ (others_known true said whole).1)
 
 -- memory is refused: the factors are there
 pub factors_refused : (sloped : Bool) (o : Option (List ℕ)) (said : SettingsView) (e : EngineFault) → first_missing (report_keys sloped said) said ≡ None → (e ≡ engine.Memory) ⊎ IsMissing (Factors ∷ []) said e → IfSome o (λ s. SaidFails sloped s e)
@@ -94,13 +94,13 @@ pub blocks_fail : (o : Option (List ℕ)) (columns : ReportColumns) (e : EngineF
 blocks_fail None columns e h = tt
 blocks_fail (Some text) columns e h = blocks_fail_at columns text e h
 
-prices_fail_at : (columns : ReportColumns) (text : List ℕ) (m : BlocksView) (e : EngineFault) → ReadsBlocks (report_list columns) text m → ModelPricesFail columns.prices.charges m e → PricedModelFails columns text e
+prices_fail_at : (columns : ReportColumns) (text : List ℕ) (m : BlocksView) (e : EngineFault) → ReadsBlocks (report_list columns) text m → ModelPricesFail columns.prices m e → PricedModelFails columns text e
 prices_fail_at columns text m (engine.Prices fault) r h = (m, r, h)
 prices_fail_at columns text m engine.Memory r h = tt
 prices_fail_at columns text m engine.Device r h = tt
 prices_fail_at columns text m e r h = absurd h
 
-pub prices_fail : (o : Option (List ℕ)) (columns : ReportColumns) (m : BlocksView) (e : EngineFault) → IfSome o (λ text. ReadsBlocks (report_list columns) text m) → ModelPricesFail columns.prices.charges m e → IfSome o (λ text. PricedModelFails columns text e)
+pub prices_fail : (o : Option (List ℕ)) (columns : ReportColumns) (m : BlocksView) (e : EngineFault) → IfSome o (λ text. ReadsBlocks (report_list columns) text m) → ModelPricesFail columns.prices m e → IfSome o (λ text. PricedModelFails columns text e)
 prices_fail None columns m e r h = tt
 prices_fail (Some text) columns m e r h = prices_fail_at columns text m e r h
 
@@ -114,7 +114,7 @@ module _ (p : PrecedenceBy) (s t : List ℕ) (v : SettingsView) (columns : Repor
   model_read m r = subst (λ (cs : ReportColumns). ReadsBlocks (report_list cs) t m) said.columns_are r
 
   -- the first columns are those of prices
-  columns_price : (m : BlocksView) → ReadsBlocks (report_list columns) t m → first_columns columns.prices.charges m ≡ table_of s t
+  columns_price : (m : BlocksView) → ReadsBlocks (report_list columns) t m → first_columns columns.prices m ≡ table_of s t
   columns_price m r = first_columns_are columns.prices (columns.tonnes ∷ columns_for columns.region) t m r.2 ∙ ap (λ (cs : ReportColumns). table_at cs.prices t) said.columns_are
 
   model_fails : (e : EngineFault) → PricedModelFails columns t e → ReportMineFails s t p e
@@ -124,22 +124,22 @@ module _ (p : PrecedenceBy) (s t : List ℕ) (v : SettingsView) (columns : Repor
   model_fails engine.Device h = tt
   model_fails e h = absurd h
 
-  module _ (m : BlocksView) (prices : PricesView) (r : ReadsBlocks (report_list columns) t m) (priced : IsPricedModel columns.prices.charges m prices) where
+  module _ (m : BlocksView) (prices : PricesView) (r : ReadsBlocks (report_list columns) t m) (priced : IsPricedModel columns.prices m prices) where
     table : prices ≡ table_of s t
     table = priced.prices_are ∙ columns_price m r
 
-    report_read : (rests : RestsView) → ArePricesRead s t p prices rests → IsReportRead s t p prices rests factors m columns.prices.charges factor
+    report_read : (rests : RestsView) → ArePricesRead s t p prices rests → IsReportRead s t p prices rests factors m columns.prices factor
     report_read rests a = record {
       series = record { mine = a; keys = series_known (is_sloped p) (settings_of s) said.keys.said; factors_are = said.factors_are };
       keys = said.keys;
       blocks_are = model_read m r;
-      charges_are = ap (λ (cs : ReportColumns). cs.prices.charges) said.columns_are;
+      columns_are = ap (λ (cs : ReportColumns). cs.prices) said.columns_are;
       factor_is = said.factor_is;
     }
 
 -- a precedence of its own
 module _ (s t p : List ℕ) (v : SettingsView) (columns : ReportColumns) (factors : List ℕ) (factor : ℕ) (said : IsSaid false s v columns factors factor) (m : BlocksView) (prices : PricesView) (r : ReadsBlocks (report_list columns) t m)
-    (priced : IsPricedModel columns.prices.charges m prices) (n : ℕ) (size : n ≡ priced_count prices) (positive : NoRevenueNegative prices) where
+    (priced : IsPricedModel columns.prices m prices) (n : ℕ) (size : n ≡ priced_count prices) (positive : NoRevenueNegative prices) where
   settings_told : ReadsSettingsText slope_keys s (settings_of s)
   settings_told = (said.keys.within, said.keys.read, said.keys.used)
 
@@ -160,12 +160,12 @@ module _ (s t p : List ℕ) (v : SettingsView) (columns : ReportColumns) (factor
   prec_fails engine.Device h = tt
   prec_fails e h = absurd h
 
-  listed_read : (rests : RestsView) → ReadsPrec n p rests → IsReportRead s t (by_text p) prices rests factors m columns.prices.charges factor
+  listed_read : (rests : RestsView) → ReadsPrec n p rests → IsReportRead s t (by_text p) prices rests factors m columns.prices factor
   listed_read rests h = report_read (by_text p) s t v columns factors factor said m prices r priced rests (all_read s t p (settings_of s) prices rests n size positive columns_known settings_told prices_read h)
 
 -- slopes in its place
 module _ (s t : List ℕ) (v : SettingsView) (columns : ReportColumns) (factors : List ℕ) (factor : ℕ) (said : IsSaid true s v columns factors factor) (m : BlocksView) (prices : PricesView) (r : ReadsBlocks (report_list columns) t m)
-    (priced : IsPricedModel columns.prices.charges m prices) (positive : NoRevenueNegative prices) where
+    (priced : IsPricedModel columns.prices m prices) (positive : NoRevenueNegative prices) where
   same : prices ≡ table_of s t
   same = table by_slopes s t v columns factors factor said m prices r priced
 
@@ -182,25 +182,25 @@ module _ (s t : List ℕ) (v : SettingsView) (columns : ReportColumns) (factors 
     columns = record { within = said.keys.within; read = said.keys.read; used = said.keys.used; said = sloped_known (settings_of s) said.keys.said };
     within = r.0;
     read = blocks_fine;
-    count = sym r.2.count ∙ sym (priced_size columns.prices.charges m prices priced);
+    count = sym r.2.count ∙ sym (priced_size columns.prices m prices priced);
     revenues = subst NoRevenueNegative same positive;
   }
 
-  place : regions_among v columns.prices.charges m ≡ placed_in v t
+  place : regions_among v columns.prices m ≡ placed_in v t
   place =
       let region : columns.region ≡ v.region = ap (λ (cs : ReportColumns). cs.region) (said.columns_are ∙ ap columns_by said.said_is) in
-      subst (λ (o : Option ℕ). narrowed (column_after (place_beside columns.prices.charges + 1) o) m ≡ model_in (columns_for o) t) region (regions_placed columns.prices (columns.tonnes ∷ []) columns.region t m r.2)
+      subst (λ (o : Option ℕ). narrowed (column_after (place_beside columns.prices + 1) o) m ≡ model_in (columns_for o) t) region (regions_placed columns.prices (columns.tonnes ∷ []) columns.region t m r.2)
 
-  slopes_fail : (e : EngineFault) → PairsSaidFail v (regions_among v columns.prices.charges m) e → ReportMineFails s t by_slopes e
+  slopes_fail : (e : EngineFault) → PairsSaidFail v (regions_among v columns.prices m) e → ReportMineFails s t by_slopes e
   slopes_fail (engine.Slope fault) h =
-      (blocks_read by_slopes s t v columns factors factor said m r, λ k. slopes_refused s t v said.said_is prices worths_read same (regions_among v columns.prices.charges m) place k (engine.Slope fault) h)
+      (blocks_read by_slopes s t v columns factors factor said m r, λ k. slopes_refused s t v said.said_is prices worths_read same (regions_among v columns.prices m) place k (engine.Slope fault) h)
   slopes_fail engine.Memory h = tt
   slopes_fail e h = absurd h
 
-  sloped_read : (rests : RestsView) → (rests.blocks ≡ m.blocks) × SlopesRead v (regions_among v columns.prices.charges m) × ArePairsBy (rests_said v (regions_among v columns.prices.charges m)) rests.pairs
-      → IsReportRead s t by_slopes prices rests factors m columns.prices.charges factor
+  sloped_read : (rests : RestsView) → (rests.blocks ≡ m.blocks) × SlopesRead v (regions_among v columns.prices m) × ArePairsBy (rests_said v (regions_among v columns.prices m)) rests.pairs
+      → IsReportRead s t by_slopes prices rests factors m columns.prices factor
   sloped_read rests h = report_read by_slopes s t v columns factors factor said m prices r priced rests
-      (slopes_read s t v said.said_is prices worths_read same (regions_among v columns.prices.charges m) place rests (priced_size columns.prices.charges m prices priced ∙ sym h.0) h.1 h.2)
+      (slopes_read s t v said.said_is prices worths_read same (regions_among v columns.prices m) place rests (priced_size columns.prices m prices priced ∙ sym h.0) h.1 h.2)
 
 -- ---- readers that tell their bytes
 
@@ -242,7 +242,7 @@ module _ {D : Type 0} (o q : Option (List ℕ)) (d : Option D) (remaining : D �
         under q (λ b. PricedModelFails columns b e) (λ b. IfSome (precedence_in d remaining) (λ p. ReportMineFails s b p e)) h (λ b f.
         kind_told d remaining (λ k. IsSaid k s v columns factors factor) (λ p. ReportMineFails s b p e) g (λ p i. model_fails p s b v columns factors factor i e f)))
 
-    module _ (m : BlocksView) (prices : PricesView) (positive : NoRevenueNegative prices) (priced : IsPricedModel columns.prices.charges m prices) (b : IfSome q (λ t. ReadsBlocks (report_list columns) t m)) where
+    module _ (m : BlocksView) (prices : PricesView) (positive : NoRevenueNegative prices) (priced : IsPricedModel columns.prices m prices) (b : IfSome q (λ t. ReadsBlocks (report_list columns) t m)) where
       -- what follows where the readers tell their bytes from what was read of the settings, of the blocks and of who rests on whom
       told : (P : PrecedenceBy → Type 0) (Q : List ℕ → List ℕ → PrecedenceBy → Type 0) → IfSome (precedence_in d remaining) P
           → ((s t : List ℕ) (p : PrecedenceBy) → IsSaid (is_sloped p) s v columns factors factor → ReadsBlocks (report_list columns) t m → P p → Q s t p) → ForTold Q
@@ -251,20 +251,20 @@ module _ {D : Type 0} (o q : Option (List ℕ)) (d : Option D) (remaining : D �
           both_told (precedence_in d remaining) (λ p. IsSaid (is_sloped p) s v columns factors factor) P (λ p. Q s t p)
           (kind_told d remaining (λ k. IsSaid k s v columns factors factor) (λ p. IsSaid (is_sloped p) s v columns factors factor) g (λ p i. i)) h (λ p i j. f s t p i r j)))
 
-      rests_fail : (s t : List ℕ) (p : PrecedenceBy) (e : EngineFault) → IsSaid (is_sloped p) s v columns factors factor → ReadsBlocks (report_list columns) t m → RestsReadFail p v columns.prices.charges m (priced_count prices) e → ReportMineFails s t p e
+      rests_fail : (s t : List ℕ) (p : PrecedenceBy) (e : EngineFault) → IsSaid (is_sloped p) s v columns factors factor → ReadsBlocks (report_list columns) t m → RestsReadFail p v columns.prices m (priced_count prices) e → ReportMineFails s t p e
       rests_fail s t (by_text p) e i r j = prec_fails s t p v columns factors factor i m prices r priced (priced_count prices) refl positive e j
       rests_fail s t by_slopes e i r j = slopes_fail s t v columns factors factor i m prices r priced positive e j
 
-      rests_read : (s t : List ℕ) (p : PrecedenceBy) (rests : RestsView) → IsSaid (is_sloped p) s v columns factors factor → ReadsBlocks (report_list columns) t m → ReadsRests p v columns.prices.charges m (priced_count prices) rests
-          → IsReportRead s t p prices rests factors m columns.prices.charges factor
+      rests_read : (s t : List ℕ) (p : PrecedenceBy) (rests : RestsView) → IsSaid (is_sloped p) s v columns factors factor → ReadsBlocks (report_list columns) t m → ReadsRests p v columns.prices m (priced_count prices) rests
+          → IsReportRead s t p prices rests factors m columns.prices factor
       rests_read s t (by_text p) rests i r j = listed_read s t p v columns factors factor i m prices r priced (priced_count prices) refl positive rests j
       rests_read s t by_slopes rests i r j = sloped_read s t v columns factors factor i m prices r priced positive rests j
 
-      pub rests_unread : (e : EngineFault) → IfSome (precedence_in d remaining) (λ p. RestsReadFail p v columns.prices.charges m (priced_count prices) e) → ForTold (λ s t p. ReportMineFails s t p e)
-      rests_unread e h = told (λ p. RestsReadFail p v columns.prices.charges m (priced_count prices) e) (λ s t p. ReportMineFails s t p e) h (λ s t p i r j. rests_fail s t p e i r j)
+      pub rests_unread : (e : EngineFault) → IfSome (precedence_in d remaining) (λ p. RestsReadFail p v columns.prices m (priced_count prices) e) → ForTold (λ s t p. ReportMineFails s t p e)
+      rests_unread e h = told (λ p. RestsReadFail p v columns.prices m (priced_count prices) e) (λ s t p. ReportMineFails s t p e) h (λ s t p i r j. rests_fail s t p e i r j)
 
-      pub all_are_read : (rests : RestsView) → IfSome (precedence_in d remaining) (λ p. ReadsRests p v columns.prices.charges m (priced_count prices) rests) → ForTold (λ s t p. IsReportRead s t p prices rests factors m columns.prices.charges factor)
-      all_are_read rests h = told (λ p. ReadsRests p v columns.prices.charges m (priced_count prices) rests) (λ s t p. IsReportRead s t p prices rests factors m columns.prices.charges factor) h (λ s t p i r j. rests_read s t p rests i r j)
+      pub all_are_read : (rests : RestsView) → IfSome (precedence_in d remaining) (λ p. ReadsRests p v columns.prices m (priced_count prices) rests) → ForTold (λ s t p. IsReportRead s t p prices rests factors m columns.prices factor)
+      all_are_read rests h = told (λ p. ReadsRests p v columns.prices m (priced_count prices) rests) (λ s t p. IsReportRead s t p prices rests factors m columns.prices factor) h (λ s t p i r j. rests_read s t p rests i r j)
 
 -- what is read is as large as something else, where both are so large
 pub sized : {T E : Type 0} (r : Result T E) (size : T → ℕ) (P P' : T → Type 0) (Q : E → Type 0) (n m : ℕ) → m ≡ n → MatchResult r (λ v. (size v ≡ n) × P v × P' v) Q → IfOk r (λ v. size v ≡ m)

@@ -1,12 +1,13 @@
 -- Sums of tonnes and of worths don't overflow 128 bits.
-use Rattle.fixed_worth.proofs.Common.{◌≡◌, ℕ, zero, suc, ◌*◌, ◌^◌, ◌<◌, ◌≤◌, ℤ, pos, ◌-ℤ◌, ◌*ℤ◌, Bool, [], get_or, sym, ap, ◌∙◌, subst, arith, unsigned_abs, FitsSigned, w128, int_max, ints, clamps, fits_signed_from_abs, unsigned_abs-mul, mul-le, get_or-map-range_with_len, length-map-range_with_len, common_steps}
+use Rattle.fixed_worth.proofs.Common.{◌≡◌, ℕ, zero, suc, ◌+◌, ◌*◌, ◌^◌, ◌<◌, ◌≤◌, ℤ, pos, ◌-ℤ◌, ◌*ℤ◌, Bool, List, [], ◌∷◌, length, get_or, All, All-head, All-tail, All-map, sym, ap, ◌∙◌, subst, arith, unsigned_abs, FitsSigned, w128, ints, clamps, fits_signed_from_abs, unsigned_abs-mul, mul-le, get_or-map-range_with_len, length-map-range_with_len, common_steps}
 use Rattle.blocks_file.specs.Denotes.{BlocksView, IsSmall}
 use Rattle.fixed_worth.specs.declared.limits.TheConstants.{MOST_BLOCKS, MOST_FACTOR}
 use Rattle.ordered_group.specs.Sets.{worth_in}
-use Rattle.shells.specs.Prelude.{PricesView, priced_count, number_at, worth_after, worth_at, worths_at, SeriesView}
-use Rattle.mine_inputs.specs.declared.priced_inputs.ChargeColumns.{ChargeColumns}
-use Rattle.mine_inputs.specs.declared.priced_inputs.ChargeColumns.TheVariants.{Plain, Mill}
-use Rattle.mine_inputs.specs.PricedTexts.{place_beside, values_of, first_charges}
+use Rattle.shells.specs.Prelude.{PricesView, WayView, priced_count, number_at, left_at, worths_by, best_of, worth_at, worths_at, SeriesView}
+use Rattle.mine_inputs.specs.declared.columns_of_prices.PriceColumns.{PriceColumns}
+use Rattle.mine_inputs.specs.declared.columns_of_prices.PriceColumns.TheVariants.{Plain, Treated}
+use Rattle.mine_inputs.specs.PricedTexts.{place_beside, values_of, first_columns, way_from, ways_from}
+use Rattle.mine_inputs.proofs.Priced.{first_size}
 use Rattle.bench_report.specs.Prelude.{reported_blocks, blocks_at, SameLengths, AllSumsFit, SomeBenchSumOverflows}
 use Rattle.report_engines.specs.ReportParts.{IsPricedModel}
 
@@ -27,12 +28,19 @@ sum_fits v e n j few l h =
 product_bound : (k m : ℕ) (z : ℤ) → k ≤ m → unsigned_abs z ≤ 10 ^ 18 → unsigned_abs (pos k *ℤ z) ≤ m * 10 ^ 18
 product_bound k m z l h = rw (unsigned_abs-mul (pos k) z) (mul-le k (unsigned_abs z) m (10 ^ 18) l h)
 
--- what is left of what a block earns in the mill or as waste is small, where what is earned and charged is
-mill_bound : (x y z : ℤ) → unsigned_abs x ≤ 10000 * 10 ^ 18 → unsigned_abs y ≤ 1000 * 10 ^ 18 → unsigned_abs z ≤ 1000 * 10 ^ 18 → unsigned_abs (int_max (x -ℤ y) (pos 0) -ℤ z) ≤ most
-mill_bound x y z p q r = omega (arith, ints, clamps, p, q, r)
-
-difference_bound : (x y : ℤ) → unsigned_abs x ≤ 10000 * 10 ^ 18 → unsigned_abs y ≤ 1000 * 10 ^ 18 → unsigned_abs (x -ℤ y) ≤ most
+difference_bound : (x y : ℤ) → unsigned_abs x ≤ 10000 * 10 ^ 18 → unsigned_abs y ≤ 1000 * 10 ^ 18 → unsigned_abs (x -ℤ y) ≤ 11000 * 10 ^ 18
 difference_bound x y p q = omega (arith, ints, p, q)
+
+mined_bound : (x y : ℤ) → unsigned_abs x ≤ 11000 * 10 ^ 18 → unsigned_abs y ≤ 1000 * 10 ^ 18 → unsigned_abs (x -ℤ y) ≤ most
+mined_bound x y p q = omega (arith, ints, p, q)
+
+-- the greatest of small amounts is small
+best_bound : (ws : List ℤ) (n : ℕ) → All (λ w. unsigned_abs w ≤ n) ws → unsigned_abs (best_of ws) ≤ n
+best_bound [] n h = omega arith
+best_bound (w ∷ ws) n h =
+    let first = All-head (λ w. unsigned_abs w ≤ n) w ws h in
+    let others = best_bound ws n (All-tail (λ w. unsigned_abs w ≤ n) w ws h) in
+    omega (arith, ints, clamps, first, others)
 
 value_bound : (m : BlocksView) (i b : ℕ) → IsSmall m i → b < m.blocks → unsigned_abs (number_at (values_of m i) b) ≤ 10 ^ 18
 value_bound m i b h l = grind (arith, common_steps, pos, get_or-map-range_with_len, unsigned_abs)
@@ -40,20 +48,35 @@ value_bound m i b h l = grind (arith, common_steps, pos, get_or-map-range_with_l
 charge_bound : (m : BlocksView) (i b : ℕ) → IsSmall m i → b < m.blocks → unsigned_abs (pos 1000 *ℤ number_at (values_of m i) b) ≤ 1000 * 10 ^ 18
 charge_bound m i b h l = product_bound 1000 1000 (number_at (values_of m i) b) (omega arith) (value_bound m i b h l)
 
--- what is left of so much that is earned
-left_bound : (charges : ChargeColumns) (m : BlocksView) (b : ℕ) (earned : ℤ) → ((i : ℕ) → i ≤ place_beside charges → IsSmall m i) → b < m.blocks → unsigned_abs earned ≤ 10000 * 10 ^ 18 → unsigned_abs (worth_after (first_charges charges m) b earned) ≤ most
-left_bound (Plain cost) m b earned small l h = difference_bound earned (pos 1000 *ℤ number_at (values_of m 1) b) h (charge_bound m 1 b (small 1 (omega arith)) l)
-left_bound (Mill processing mining) m b earned small l h = mill_bound earned (pos 1000 *ℤ number_at (values_of m 1) b) (pos 1000 *ℤ number_at (values_of m 2) b) h (charge_bound m 1 b (small 1 (omega arith)) l) (charge_bound m 2 b (small 2 (omega arith)) l)
+-- what is left of a revenue less a charge, each a chosen column of a model
+left_bound : (m : BlocksView) (i j k b : ℕ) → IsSmall m i → IsSmall m j → b < m.blocks → k ≤ MOST_FACTOR → unsigned_abs (left_at (values_of m i) (values_of m j) k b) ≤ 11000 * 10 ^ 18
+left_bound m i j k b r c l few =
+    difference_bound (pos k *ℤ number_at (values_of m i) b) (pos 1000 *ℤ number_at (values_of m j) b) (product_bound k 10000 (number_at (values_of m i) b) few (value_bound m i b r l)) (charge_bound m j b c l)
 
-module _ (charges : ChargeColumns) (m : BlocksView) (prices : PricesView) (p : IsPricedModel charges m prices) where
+-- what is left by each way
+ways_bound : (n : ℕ) (m : BlocksView) (k b : ℕ) → ((i : ℕ) → i < 2 * n → IsSmall m i) → b < m.blocks → k ≤ MOST_FACTOR → All (λ w. unsigned_abs w ≤ 11000 * 10 ^ 18) (worths_by (ways_from n m) k b)
+ways_bound n m k b small l few =
+    let worth = λ (way : WayView). left_at way.revenue way.processing k b in
+    All-map (λ w. unsigned_abs w ≤ 11000 * 10 ^ 18) worth (ways_from n m) (λ i d h.
+    let inside : i < n = omega (arith, h, length-map-range_with_len (way_from m) 0 n) in
+    subst (λ (way : WayView). unsigned_abs (worth way) ≤ 11000 * 10 ^ 18) (sym (get_or-map-range_with_len (way_from m) 0 n i i d inside (omega arith)))
+    (left_bound m (2 * i) (2 * i + 1) k b (small (2 * i) (omega (arith, inside))) (small (2 * i + 1) (omega (arith, inside))) l few))
+
+-- what a block is worth by the first columns of a model
+first_bound : (priced_by : PriceColumns) (m : BlocksView) (k b : ℕ) → ((i : ℕ) → i ≤ place_beside priced_by → IsSmall m i) → b < m.blocks → k ≤ MOST_FACTOR → unsigned_abs (worth_at (first_columns priced_by m) k b) ≤ most
+first_bound (Plain revenue cost) m k b small l few = let left = left_bound m 0 1 k b (small 0 (omega arith)) (small 1 (omega arith)) l few in omega (arith, left)
+first_bound (Treated ways mining) m k b small l few =
+    let n = length ways in
+    let ws = worths_by (ways_from n m) k b in
+    let best = best_bound ws (11000 * 10 ^ 18) (ways_bound n m k b (λ i h. small i (omega (arith, h))) l few) in
+    mined_bound (best_of ws) (pos 1000 *ℤ number_at (values_of m (2 * n)) b) best (charge_bound m (2 * n) b (small (2 * n) (omega arith)) l)
+
+module _ (priced_by : PriceColumns) (m : BlocksView) (prices : PricesView) (p : IsPricedModel priced_by m prices) where
   pub priced_size : priced_count prices ≡ m.blocks
-  priced_size = ap priced_count p.prices_are ∙ length-map-range_with_len (λ b. get_or (get_or m.columns 0 []) b (pos 0)) 0 m.blocks
+  priced_size = first_size priced_by m prices p.prices_are
 
   worth_bound : (k b : ℕ) → k ≤ MOST_FACTOR → b < m.blocks → unsigned_abs (worth_at prices k b) ≤ most
-  worth_bound k b few l =
-      let revenue = number_at (values_of m 0) b in
-      let r = product_bound k 10000 revenue few (value_bound m 0 b (p.small 0 (omega arith)) l) in
-      subst (λ (t : PricesView). unsigned_abs (worth_at t k b) ≤ most) (sym p.prices_are) (left_bound charges m b (pos k *ℤ revenue) p.small l r)
+  worth_bound k b few l = subst (λ (t : PricesView). unsigned_abs (worth_at t k b) ≤ most) (sym p.prices_are) (first_bound priced_by m k b p.small l few)
 
   worths_bound : (k b : ℕ) → k ≤ MOST_FACTOR → b < m.blocks → unsigned_abs (get_or (worths_at prices k) b (pos 0)) ≤ most
   worths_bound k b few l =
@@ -67,12 +90,12 @@ module _ (charges : ChargeColumns) (m : BlocksView) (prices : PricesView) (p : I
     of_worths = length-map-range_with_len (worth_at prices k) 0 (priced_count prices) ∙ priced_size;
   }
 
-  pub sums_fit : (series : SeriesView) (k : ℕ) → m.blocks ≤ MOST_BLOCKS → k ≤ MOST_FACTOR → AllSumsFit (reported_blocks m series (place_beside charges) (worths_at prices k))
+  pub sums_fit : (series : SeriesView) (k : ℕ) → m.blocks ≤ MOST_BLOCKS → k ≤ MOST_FACTOR → AllSumsFit (reported_blocks m series (place_beside priced_by) (worths_at prices k))
   sums_fit series k few low z shell j l =
-      let r = reported_blocks m series (place_beside charges) (worths_at prices k) in (
-        sum_fits r.tonnes (blocks_at r z shell) m.blocks j few l (λ b k. let small = p.small (place_beside charges) (omega arith) b k in omega (arith, small)),
+      let r = reported_blocks m series (place_beside priced_by) (worths_at prices k) in (
+        sum_fits r.tonnes (blocks_at r z shell) m.blocks j few l (λ b k. let small = p.small (place_beside priced_by) (omega arith) b k in omega (arith, small)),
         sum_fits r.worth (blocks_at r z shell) m.blocks j few l (λ b h. worths_bound k b low h),
       )
 
-  pub none_overflows : (series : SeriesView) (k : ℕ) → m.blocks ≤ MOST_BLOCKS → k ≤ MOST_FACTOR → SomeBenchSumOverflows (reported_blocks m series (place_beside charges) (worths_at prices k)) → ⊥
+  pub none_overflows : (series : SeriesView) (k : ℕ) → m.blocks ≤ MOST_BLOCKS → k ≤ MOST_FACTOR → SomeBenchSumOverflows (reported_blocks m series (place_beside priced_by) (worths_at prices k)) → ⊥
   none_overflows series k few low o = o.4 (sums_fit series k few low o.0 o.1 o.2 o.3)

@@ -1,7 +1,6 @@
 -- The bench table of a series is that of the texts.
-use Rattle.fixed_worth.proofs.Common.{◌≡◌, ℕ, pos, ◌<◌, List, [], ◌∷◌, ◌++◌, length, get_or, Bool, refl, sym, ap, ◌∙◌, subst, arith, Result, unwrap_or, MatchResult, length-map-range_with_len, get_or-map-range_with_len}
+use Rattle.fixed_worth.proofs.Common.{◌≡◌, ℕ, pos, ◌<◌, List, [], ◌∷◌, ◌++◌, length, get_or, Bool, refl, sym, ap, ◌∙◌, subst, arith, Result, unwrap_or, MatchResult, length-append, get_or-append_seam, get_or-map-range_with_len}
 use Rattle.ordered_group.specs.Block.{scaled_block}
-use Rattle.blocks_file.specs.Records as blocks
 use Rattle.blocks_file.specs.declared.place.Place.{Place}
 use Rattle.blocks_file.specs.Denotes.{BlocksView}
 use Rattle.prec_file.specs.Rests.{RestsView}
@@ -14,35 +13,33 @@ use Rattle.bench_report.specs.Prelude.{reported_blocks, IsBenchTable, table_text
 use Rattle.engines.specs.declared.judgement.Verdict.TheVariants.{No}
 use Rattle.engines.specs.declared.effort.Effort.{Effort}
 use Rattle.mine_inputs.specs.declared.engine_fault.EngineFault.{EngineFault}
-use Rattle.mine_inputs.specs.declared.priced_inputs.ChargeColumns.{ChargeColumns}
-use Rattle.mine_inputs.specs.declared.priced_inputs.ChargeColumns.TheVariants.{Plain, Mill}
-use Rattle.mine_inputs.specs.Prelude.{PrecedenceBy, is_sloped, columns_said, charge_list, place_beside, region_columns, cell, table_of, of_model}
+use Rattle.mine_inputs.specs.declared.columns_of_prices.PriceColumns.{PriceColumns}
+use Rattle.mine_inputs.specs.Prelude.{PrecedenceBy, is_sloped, columns_said, column_list, place_beside, region_columns, cell, table_of, of_model}
 use Rattle.shell_engines.specs.declared.shell_rows.ShellRow.{ShellRow}
 use Rattle.shell_engines.specs.declared.no_series.NoSeries.{NoSeries}
 use Rattle.shell_engines.specs.Prelude.{IsSettled, NoSeriesStands, TellsWhy, IsFaultOf, DenoteSeries, ShellsFail}
 use Rattle.shell_engines.specs.declared.series_outputs.Answer.{Answer}
 use Rattle.shell_engines.proofs.Lifted.{nested, denoted, no_series_answer}
 use Rattle.shell_engines.proofs.BlockTables.{first_shell, best_is}
+use Rattle.mine_inputs.proofs.Priced.{price_places, priced_at}
 use Rattle.report_engines.specs.Prelude.{ReportBlocksRead, report_factor, report_blocks, IsReport, AnswersReport, ReportFails, IsReportRead}
 use Rattle.report_engines.proofs.SameBlocks.{AreAlike, table_same}
 
 -- the tonnes stand behind the columns of prices
-tonnes_chosen : (charges : ChargeColumns) (revenue tonnes : ℕ) (others : List ℕ) → get_or (revenue ∷ (charge_list charges ++ (tonnes ∷ others))) (place_beside charges) 0 ≡ tonnes
-tonnes_chosen (Plain cost) revenue tonnes others = refl
-tonnes_chosen (Mill processing mining) revenue tonnes others = refl
+tonnes_chosen : (priced_by : PriceColumns) (tonnes : ℕ) (others : List ℕ) → get_or (column_list priced_by ++ (tonnes ∷ others)) (place_beside priced_by) 0 ≡ tonnes
+tonnes_chosen priced_by tonnes others = ap (λ i. get_or (column_list priced_by ++ (tonnes ∷ others)) i 0) (sym (price_places priced_by)) ∙ get_or-append_seam (column_list priced_by) tonnes others 0
 
-pub tonnes_within : (charges : ChargeColumns) (revenue tonnes : ℕ) (others : List ℕ) → place_beside charges < length (revenue ∷ (charge_list charges ++ (tonnes ∷ others)))
-tonnes_within (Plain cost) revenue tonnes others = omega arith
-tonnes_within (Mill processing mining) revenue tonnes others = omega arith
+pub tonnes_within : (priced_by : PriceColumns) (tonnes : ℕ) (others : List ℕ) → place_beside priced_by < length (column_list priced_by ++ (tonnes ∷ others))
+tonnes_within priced_by tonnes others = omega (arith, price_places priced_by, length-append (column_list priced_by) (tonnes ∷ others))
 
-module _ (s t : List ℕ) (p : PrecedenceBy) (prices : PricesView) (rests : RestsView) (factors : List ℕ) (m : BlocksView) (charges : ChargeColumns) (factor : ℕ) (read : IsReportRead s t p prices rests factors m charges factor) where
+module _ (s t : List ℕ) (p : PrecedenceBy) (prices : PricesView) (rests : RestsView) (factors : List ℕ) (m : BlocksView) (priced_by : PriceColumns) (factor : ℕ) (read : IsReportRead s t p prices rests factors m priced_by factor) where
   blocks_read : ReportBlocksRead (is_sloped p) s t
   blocks_read = record { keys = read.keys; within = read.blocks_are.0; read = read.blocks_are.1 }
 
   size_is : rests.blocks ≡ m.blocks
   size_is =
       sym read.series.mine.size ∙ ap priced_count read.series.mine.table
-      ∙ length-map-range_with_len (cell t (unwrap_or (settings_of s).revenue 0)) 0 (blocks.record_count_of t) ∙ sym read.blocks_are.2.count
+      ∙ priced_at (columns_said (settings_of s)) t ∙ sym read.blocks_are.2.count
 
   module _ (series : SeriesView) (shell_rows : List ShellRow) (settled : IsSettled rests.pairs prices factors series shell_rows) (is : IsSeries series) where
     worth_is : (b : ℕ) → b < m.blocks → worth_at (table_of s t) (report_factor s) b ≡ get_or (worths_at series.prices factor) b (pos 0)
@@ -52,16 +49,15 @@ module _ (s t : List ℕ) (p : PrecedenceBy) (prices : PricesView) (rests : Rest
         sym (ap (λ (v : PricesView). get_or (worths_at v factor) b (pos 0)) settled.same_prices ∙ at ∙ ap (λ (v : PricesView). worth_at v factor b) read.series.mine.table ∙ ap (λ k. worth_at (table_of s t) k b) read.factor_is)
 
     -- the tonnes of a block are those of its record
-    tonnes_are : (b : ℕ) → b < m.blocks → get_or (get_or m.columns (place_beside charges) []) b (pos 0) ≡ cell t (unwrap_or (settings_of s).tonnes 0) b
+    tonnes_are : (b : ℕ) → b < m.blocks → get_or (get_or m.columns (place_beside priced_by) []) b (pos 0) ≡ cell t (unwrap_or (settings_of s).tonnes 0) b
     tonnes_are b l =
         let said = settings_of s in
-        let kind = (columns_said said).charges in
+        let kind = columns_said said in
         let Q : ℕ → Type 0 = λ i. get_or (get_or m.columns i []) b (pos 0) ≡ cell t (unwrap_or said.tonnes 0) b in
-        let revenue = unwrap_or said.revenue 0 in
         let tonnes = unwrap_or said.tonnes 0 in
-        subst Q (sym (ap place_beside read.charges_are)) (read.blocks_are.2.value (place_beside kind) b (tonnes_within kind revenue tonnes (region_columns said)) l ∙ ap (λ i. cell t i b) (tonnes_chosen kind revenue tonnes (region_columns said)))
+        subst Q (sym (ap place_beside read.columns_are)) (read.blocks_are.2.value (place_beside kind) b (tonnes_within kind tonnes (region_columns said)) l ∙ ap (λ i. cell t i b) (tonnes_chosen kind tonnes (region_columns said)))
 
-    alike : AreAlike (reported_blocks m series (place_beside charges) (worths_at series.prices factor)) (report_blocks rests.blocks s t (upto series.shells))
+    alike : AreAlike (reported_blocks m series (place_beside priced_by) (worths_at series.prices factor)) (report_blocks rests.blocks s t (upto series.shells))
     alike = record {
       blocks = size_is;
       height = λ b l. sym (ap (λ (q : Place). q.z) (read.blocks_are.2.place b l));
@@ -70,7 +66,7 @@ module _ (s t : List ℕ) (p : PrecedenceBy) (prices : PricesView) (rests : Rest
       worth = worth_is;
     }
 
-    pub is_report : BestPitsAreNested → (rows : List BenchRow) → IsBenchTable (reported_blocks m series (place_beside charges) (worths_at series.prices factor)) rows → (text : List ℕ) → text ≡ table_text rows → IsReport s t p text
+    pub is_report : BestPitsAreNested → (rows : List BenchRow) → IsBenchTable (reported_blocks m series (place_beside priced_by) (worths_at series.prices factor)) rows → (text : List ℕ) → text ≡ table_text rows → IsReport s t p text
     is_report law rows table text spelled = record {
       size = rests.blocks;
       mine = read.series.mine.mine;

@@ -6,26 +6,26 @@ use Rattle.settings_file.specs.Settings.{SettingsView, settings_of}
 use Rattle.shells.specs.Prices.{PricesView, PricesFaultStands}
 use Rattle.mine_inputs.specs.declared.engine_fault.EngineFault.{EngineFault}
 use Rattle.mine_inputs.specs.declared.engine_fault.EngineFault.TheVariants as engine
-use Rattle.mine_inputs.specs.declared.priced_inputs.ChargeColumns.{ChargeColumns}
+use Rattle.mine_inputs.specs.declared.columns_of_prices.PriceColumns.{PriceColumns}
 use Rattle.mine_inputs.specs.Prelude.{PrecedenceBy, by_slopes, by_text, is_sloped, columns_for, columns_said, column_after, column_list, place_beside, first_columns, rests_said, unused_by, SettingsFails, ReadsBlocks, BlocksFails, ReadsPrec, PrecReadFails, SlopesRead, ArePairsBy, PairsSaidFail}
 use Rattle.shell_engines.specs.SeriesTexts.{factors_said, IsSeriesRead}
 use Rattle.report_engines.specs.declared.report_inputs.ReportColumns.{ReportColumns}
 use Rattle.report_engines.specs.ReportTexts.{report_keys, ReportKeysKnown, report_columns, report_factor}
 
--- The prices, the pairs and the factors that were read, the blocks with their places and columns, the kind of the charges, and
+-- The prices, the pairs and the factors that were read, the blocks with their places and columns, the columns of the prices, and
 -- the factor of the report are those of the texts.
-pub record IsReportRead (settings blocks : List ℕ) (precedence : PrecedenceBy) (prices : PricesView) (rests : RestsView) (factors : List ℕ) (model : BlocksView) (charges : ChargeColumns) (factor : ℕ) : Type 0 where
+pub record IsReportRead (settings blocks : List ℕ) (precedence : PrecedenceBy) (prices : PricesView) (rests : RestsView) (factors : List ℕ) (model : BlocksView) (priced_by : PriceColumns) (factor : ℕ) : Type 0 where
   pub series : IsSeriesRead settings blocks precedence prices rests factors
   pub keys : ReportKeysKnown (is_sloped precedence) settings
   pub blocks_are : ReadsBlocks (report_columns (settings_of settings)) blocks model
-  pub charges_are : charges ≡ (columns_said (settings_of settings)).charges
+  pub columns_are : priced_by ≡ columns_said (settings_of settings)
   pub factor_is : factor ≡ report_factor settings
 
 -- The prices are the first columns of a model, one more has tonnes, and no value of these is large.
-pub record IsPricedModel (charges : ChargeColumns) (m : BlocksView) (prices : PricesView) : Type 0 where
-  pub columns : place_beside charges < length m.columns
-  pub prices_are : prices ≡ first_columns charges m
-  pub small : (i : ℕ) → i ≤ place_beside charges → IsSmall m i
+pub record IsPricedModel (priced_by : PriceColumns) (m : BlocksView) (prices : PricesView) : Type 0 where
+  pub columns : place_beside priced_by < length m.columns
+  pub prices_are : prices ≡ first_columns priced_by m
+  pub small : (i : ℕ) → i ≤ place_beside priced_by → IsSmall m i
 
 -- the columns that settings name, and their list
 abbrev pub columns_by : SettingsView → ReportColumns
@@ -50,23 +50,23 @@ SaidFails sloped settings engine.Device = Unit {0}
 SaidFails sloped settings _ = ⊥
 
 -- the blocks with the column of regions alone, which stands behind those of prices and of tonnes
-abbrev pub regions_among : SettingsView → ChargeColumns → BlocksView → BlocksView
-regions_among said charges m = narrowed (column_after (place_beside charges + 1) said.region) m
+abbrev pub regions_among : SettingsView → PriceColumns → BlocksView → BlocksView
+regions_among said priced_by m = narrowed (column_after (place_beside priced_by + 1) said.region) m
 
 -- who rests on whom among n blocks, as a text of its own lists it or as the slopes of settings say, was read
-abbrev pub ReadsRests : PrecedenceBy → SettingsView → ChargeColumns → BlocksView → ℕ → RestsView → Type 0
-ReadsRests (by_text precedence) said charges m n rests = ReadsPrec n precedence rests
-ReadsRests by_slopes said charges m n rests = (rests.blocks ≡ m.blocks) × SlopesRead said (regions_among said charges m) × ArePairsBy (rests_said said (regions_among said charges m)) rests.pairs
+abbrev pub ReadsRests : PrecedenceBy → SettingsView → PriceColumns → BlocksView → ℕ → RestsView → Type 0
+ReadsRests (by_text precedence) said priced_by m n rests = ReadsPrec n precedence rests
+ReadsRests by_slopes said priced_by m n rests = (rests.blocks ≡ m.blocks) × SlopesRead said (regions_among said priced_by m) × ArePairsBy (rests_said said (regions_among said priced_by m)) rests.pairs
 
 -- why it isn't read
-abbrev pub RestsReadFail : PrecedenceBy → SettingsView → ChargeColumns → BlocksView → ℕ → EngineFault → Type 0
-RestsReadFail (by_text precedence) said charges m n = PrecReadFails n precedence
-RestsReadFail by_slopes said charges m n = PairsSaidFail said (regions_among said charges m)
+abbrev pub RestsReadFail : PrecedenceBy → SettingsView → PriceColumns → BlocksView → ℕ → EngineFault → Type 0
+RestsReadFail (by_text precedence) said priced_by m n = PrecReadFails n precedence
+RestsReadFail by_slopes said priced_by m n = PairsSaidFail said (regions_among said priced_by m)
 
 -- why blocks with these columns, and their prices, aren't read
 abbrev pub PricedModelFails : ReportColumns → List ℕ → EngineFault → Type 0
 PricedModelFails columns text (engine.Blocks p) = BlocksFails (report_list columns) text p
-PricedModelFails columns text (engine.Prices fault) = (m : BlocksView) × ReadsBlocks (report_list columns) text m × PricesFaultStands (first_columns columns.prices.charges m) fault
+PricedModelFails columns text (engine.Prices fault) = (m : BlocksView) × ReadsBlocks (report_list columns) text m × PricesFaultStands (first_columns columns.prices m) fault
 PricedModelFails columns text engine.Memory = Unit {0}
 PricedModelFails columns text engine.Device = Unit {0}
 PricedModelFails columns text _ = ⊥

@@ -4,8 +4,8 @@ use Rattle.std.specs.Prelude.{◌≡◌, ℕ, ◌-◌, Bool, List, [], ◌∷◌
 use Rattle.std.specs.List.{find}
 use Rattle.blocks_file.specs.Records as blocks
 use Rattle.settings_file.specs.declared.keys.Key.{Key}
-use Rattle.settings_file.specs.declared.keys.Key.TheVariants.{Tonnes, Factors}
-use Rattle.settings_file.specs.Settings.{SettingsView, settings_of, names_mill}
+use Rattle.settings_file.specs.declared.keys.Key.TheVariants.{Tonnes, Factors, Ways}
+use Rattle.settings_file.specs.Settings.{SettingsView, settings_of, is_said, names_mill}
 use Rattle.shells.specs.Prices.{PricesFaultStands, worth_at}
 use Rattle.bench_report.specs.Benches.{ReportedBlocks}
 use Rattle.mine_inputs.specs.declared.engine_fault.EngineFault.{EngineFault}
@@ -15,7 +15,7 @@ use Rattle.shell_engines.specs.SeriesTexts.{factors_said}
 
 -- the keys that a report needs, where settings list slopes and where they don't
 abbrev pub report_keys : Bool → SettingsView → List Key
-report_keys sloped s = keys_by (names_mill s) (others_by sloped (Tonnes ∷ Factors ∷ []))
+report_keys sloped s = keys_by (is_said s Ways) (names_mill s) (others_by sloped (Tonnes ∷ Factors ∷ []))
 
 -- the text of settings has no fault, and says something at each of these keys
 abbrev pub ReportKeysKnown : Bool → List ℕ → Type 0

@@ -9,7 +9,7 @@ ghost use Rattle.report_engines.specs.ReportParts.{IsPricedModel};
 
 use bench_report::{BenchRow, ReportFault, rows};
 use blocks_file::BlockModel;
-use mine_inputs::{ChargeColumns, place_beside};
+use mine_inputs::{PriceColumns, place_beside};
 use shells::{Factor, Series};
 use std::alloc::{AllocError, Global};
 use std::thread::Threads;
@@ -23,13 +23,13 @@ pub fn rows_at(
     rt: &(impl Threads + Sync),
     alloc: Global,
     model: &BlockModel,
-    charges: ChargeColumns,
+    priced_by: &PriceColumns,
     series: &Series,
     factor: Factor,
 ) -> Result<Vec<BenchRow>, AllocError>
-    requires { IsPricedModel charges model.now series.now.prices }
+    requires { IsPricedModel priced_by.now model.now series.now.prices }
     ensures rows { IfOk result (λ rows. IsBenchTable (reported_blocks model.now series.now
-        (place_beside charges) (worths_at series.now.prices factor)) rows.items) }
+        (place_beside priced_by.now) (worths_at series.now.prices factor)) rows.items) }
     ensures series { OnOk result (IsSeries series.now) }
 {
     // proof: at each factor the blocks with a shell of at most that factor are the best pit
@@ -42,7 +42,7 @@ pub fn rows_at(
         alloc,
         model,
         series,
-        place_beside(charges),
+        place_beside(priced_by),
         worths.as_slice(),
     ) {
         Ok(rows) => Ok(rows),

@@ -17,8 +17,8 @@ use blocks_file::BlockModel;
 use engines::EngineFault;
 use fixed_worth::CountedRead;
 use mine_inputs::{
-    ChargeColumns, PriceColumns, place_beside, predecessors_by_slopes, predecessors_from,
-    price_columns, priced_blocks_from, priced_settings_from, prices_of, settings_from,
+    PriceColumns, place_beside, predecessors_by_slopes, predecessors_from, price_columns,
+    priced_blocks_from, priced_settings_from, prices_of, settings_from,
 };
 use prec_file::Predecessors;
 use settings_file::{Key, Settings};
@@ -33,15 +33,15 @@ pub struct ReportMine {
     pub series: SeriesMine,
     /// Its blocks, with the columns of their prices and their tonnes.
     pub model: BlockModel,
-    /// The columns of their charges.
-    pub charges: ChargeColumns,
+    /// The columns of their prices.
+    pub priced_by: PriceColumns,
     /// The factor at which blocks are worth what the report says.
     pub factor: Factor,
-    ghost priced: { IsPricedModel charges model series.prices },
+    ghost priced: { IsPricedModel priced_by model series.prices },
 }
 
 // The columns of blocks that a report reads: last that of regions, where the settings name it.
-#[derive(Clone, Copy)]
+#[derive(Drop)]
 struct ReportColumns {
     prices: PriceColumns,
     tonnes: u32,
@@ -161,22 +161,22 @@ fn said_from<S: CountedRead>(
 fn report_blocks_from<B: CountedRead>(
     alloc: Global,
     blocks: &mut B,
-    columns: ReportColumns,
+    columns: &ReportColumns,
 ) -> Result<BlockModel, EngineFault>
     requires { B.failed blocks.old < 2 ^ 64 - 1 }
     ensures read { IfSome (B.remaining blocks.old) (λ text. MatchResult result
-        (ReadsBlocks (report_list columns) text)
-        (BlocksReadFails (report_list columns) text)) }
-    ensures columns { IfOk result (λ model. length model.columns ≡ length (report_list columns)) }
+        (ReadsBlocks (report_list columns.now) text)
+        (BlocksReadFails (report_list columns.now) text)) }
+    ensures columns { IfOk result (λ model. length model.columns ≡ length (report_list columns.now)) }
     ensures device { IsErrOf result EngineFault.Device
         ↔ (B.failed blocks.new ≡ B.failed blocks.old + 1) }
     ensures kept { ¬ IsErrOf result EngineFault.Device → B.failed blocks.new ≡ B.failed blocks.old }
 {
     match columns.region {
         Some(region) => {
-            priced_blocks_from(alloc, blocks, columns.prices, &[columns.tonnes, region])
+            priced_blocks_from(alloc, blocks, &columns.prices, &[columns.tonnes, region])
         }
-        None => priced_blocks_from(alloc, blocks, columns.prices, &[columns.tonnes]),
+        None => priced_blocks_from(alloc, blocks, &columns.prices, &[columns.tonnes]),
     }
 }
 
@@ -184,9 +184,9 @@ fn report_blocks_from<B: CountedRead>(
 #[derive(Drop)]
 struct PricedModel {
     model: BlockModel,
-    charges: ChargeColumns,
+    priced_by: PriceColumns,
     prices: Prices,
-    ghost priced: { IsPricedModel charges model prices },
+    ghost priced: { IsPricedModel priced_by model prices },
 }
 
 // The blocks of a text with these columns, and their prices.
@@ -199,21 +199,22 @@ fn priced_model_from<B: CountedRead>(
     ensures read { IfSome (B.remaining blocks.old) (λ text. MatchResult result
         (λ read. ReadsBlocks (report_list columns) text read.model)
         (PricedModelFails columns text)) }
-    ensures charges { IfOk result (λ read. read.charges ≡ columns.prices.charges) }
+    ensures priced_by { IfOk result (λ read. read.priced_by ≡ columns.prices) }
     ensures columns { IfOk result
         (λ read. length read.model.columns ≡ length (report_list columns)) }
     ensures device { IsErrOf result EngineFault.Device
         ↔ (B.failed blocks.new ≡ B.failed blocks.old + 1) }
     ensures kept { ¬ IsErrOf result EngineFault.Device → B.failed blocks.new ≡ B.failed blocks.old }
 {
-    let model = report_blocks_from(alloc, blocks, columns)?;
-    let charges = columns.prices.charges;
+    let model = report_blocks_from(alloc, blocks, &columns)?;
+    let ReportColumns { prices, .. } = columns;
+    let priced_by = prices;
     // proof: none of the values of these columns is above 10^18 millionths either way
     let _columns = model.columns();
-    let prices = prices_of(alloc, &model, charges)?;
+    let prices = prices_of(alloc, &model, &priced_by)?;
     Ok(PricedModel {
         model,
-        charges,
+        priced_by,
         prices,
     })
 }
@@ -226,11 +227,11 @@ fn rests_from<D: CountedRead>(
     settings: &Settings,
 ) -> Result<Predecessors, EngineFault>
     requires room { failures_in prec.old D.failed < 2 ^ 64 - 1 }
-    requires columns { IfSome (column_after (place_beside read.now.charges + 1) settings.now.region)
+    requires columns { IfSome (column_after (place_beside read.now.priced_by + 1) settings.now.region)
         (λ i. i < length read.now.model.columns) }
     ensures read { IfSome (precedence_in prec.old D.remaining) (λ p. MatchResult result
-        (ReadsRests p settings.now read.now.charges read.now.model (priced_count read.now.prices))
-        (RestsReadFail p settings.now read.now.charges read.now.model
+        (ReadsRests p settings.now read.now.priced_by read.now.model (priced_count read.now.prices))
+        (RestsReadFail p settings.now read.now.priced_by read.now.model
         (priced_count read.now.prices))) }
     ensures revenues { NoRevenueNegative read.now.prices }
     ensures size { IfOk result (λ rests. rests.blocks ≡ priced_count read.now.prices) }
@@ -244,7 +245,9 @@ fn rests_from<D: CountedRead>(
     match prec {
         Some(prec) => predecessors_from(alloc, prec, n),
         None => {
-            let others = place_beside(read.charges) + 1;
+            // proof: few columns are chosen
+            let _columns = read.model.columns();
+            let others = place_beside(&read.priced_by) + 1;
             predecessors_by_slopes(alloc, &read.model, others, settings)
         }
     }
@@ -263,7 +266,7 @@ pub fn report_mine_from<D: CountedRead>(
     requires { InputsCanCount inputs.old D.failed }
     ensures read { ForSeries inputs.old D.remaining (λ s b p. MatchResult result
         (λ mine. IsReportRead s b p mine.series.prices mine.series.predecessors
-        mine.series.factors.items mine.model mine.charges mine.factor)
+        mine.series.factors.items mine.model mine.priced_by mine.factor)
         (ReportMineFails s b p)) }
     ensures device { IsErrOf result EngineFault.Device
         → input_failures inputs.new D.failed ≡ input_failures inputs.old D.failed + 1 }
@@ -282,7 +285,7 @@ pub fn report_mine_from<D: CountedRead>(
     Ok(ReportMine {
         series,
         model: read.model,
-        charges: read.charges,
+        priced_by: read.priced_by,
         factor: said.factor,
     })
 }

@@ -94,7 +94,7 @@ fn answer_of<R: Threads + Wait + Sync, T: Gate + Progress + SeriesProgress>(
 ) -> Result<Answer, EngineFault>
     ensures answer { (s b : List ℕ) (p : PrecedenceBy)
         → IsReportRead s b p mine.series.prices mine.series.predecessors
-        mine.series.factors.items mine.model mine.charges mine.factor
+        mine.series.factors.items mine.model mine.priced_by mine.factor
         → MatchResult result
         (λ a. AnswersReport s b p effort is_asked a.verdict a.table.items a.text.items)
         (λ e. ReportFails s b p e) }
@@ -105,14 +105,14 @@ fn answer_of<R: Threads + Wait + Sync, T: Gate + Progress + SeriesProgress>(
     let ReportMine {
         series,
         model,
-        charges,
+        priced_by,
         factor,
     } = mine;
     let shells = match settle(rt, alloc, series, effort, gate) {
         Ok(shells) => shells,
         Err(none) => return no_series(alloc, none),
     };
-    let rows = rows_at(rt, alloc, &model, charges, &shells.series, factor)?;
+    let rows = rows_at(rt, alloc, &model, &priced_by, &shells.series, factor)?;
     Ok(Answer {
         verdict: Verdict::Done,
         table: table_if_asked(alloc, is_asked, &shells.series)?,

@@ -1,3 +1,4 @@
 pub mod ReadArrays
 pub mod Known
 pub mod MissingKeys
+pub mod FewWays

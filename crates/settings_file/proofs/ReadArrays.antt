@@ -4,7 +4,7 @@ use Rattle.toml.specs.Data.{Data}
 use Rattle.toml.specs.View.{view, items_view, members_view}
 use Rattle.toml.specs.declared.value.Value.{Value}
 use Rattle.toml.proofs.Views.{items_view-drop}
-use Rattle.settings_file.specs.Prelude.{put_first, all_read, offset_of_items, is_below_first, are_ascending, is_known, all_known}
+use Rattle.settings_file.specs.Prelude.{put_first, all_read, offset_of_items, is_below_first, are_ascending, all_named}
 
 -- what follows those already read
 abbrev pub after : {V : Type 0} → List V → Option (List V) → Option (List V)
@@ -73,11 +73,11 @@ unfolding are_ascending
 none-ascending [] e = refl
 none-ascending (a ∷ ns) e = absurd (omega (arith, e))
 
--- whether every name is a key, over the names of a table
-abbrev pub known_names : List (String Global) → Bool
-known_names [] = true
-known_names (k ∷ ks) = is_known (string_bytes k) && known_names ks
+-- whether every name passes a test, over the names of a table
+abbrev pub names_pass : (List ℕ → Bool) → List (String Global) → Bool
+names_pass test [] = true
+names_pass test (k ∷ ks) = test (string_bytes k) && names_pass test ks
 
-pub known_names-table : (es : List (String Global × Value)) → known_names (keys_of es) ≡ all_known (members_view es)
-known_names-table [] = refl
-known_names-table (e ∷ es) = ap (λ b. is_known (string_bytes e.0) && b) (known_names-table es)
+pub names_pass-table : (test : List ℕ → Bool) (es : List (String Global × Value)) → names_pass test (keys_of es) ≡ all_named test (members_view es)
+names_pass-table test [] = refl
+names_pass-table test (e ∷ es) = ap (λ b. test (string_bytes e.0) && b) (names_pass-table test es)

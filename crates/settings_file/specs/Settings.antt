@@ -4,12 +4,13 @@ use Rattle.toml.specs.Parse.{parse_document}
 use Rattle.toml.specs.Data.{Data, Members, get_member}
 use Rattle.fixed_worth.specs.declared.limits.TheConstants.{MOST_FACTOR}
 use Rattle.settings_file.specs.declared.keys.Key.{Key}
-use Rattle.settings_file.specs.declared.keys.Key.TheVariants.{Revenue, Cost, Tonnes, Factors, Report, Offsets, Processing, Mining, Slopes, Region, Up}
+use Rattle.settings_file.specs.declared.keys.Key.TheVariants.{Revenue, Cost, Tonnes, Factors, Report, Offsets, Processing, Mining, Slopes, Region, Up, Ways}
 use Rattle.settings_file.specs.declared.settings_fault.SettingsFault.{SettingsFault}
 use Rattle.settings_file.specs.declared.settings_fault.SettingsFault.TheVariants.{NotToml, UnknownKey, BadValue, Unused, Missing, NoMemory}
 use Rattle.settings_file.specs.Keys.{key_name, all_known}
 use Rattle.settings_file.specs.declared.up_sign.UpSign.{UpSign}
-use Rattle.settings_file.specs.Values.{whole_value_within, factors_of, offsets_of, slopes_of, sign_of, AreFactors}
+use Rattle.settings_file.specs.declared.ways.WayColumns.{WayColumns}
+use Rattle.settings_file.specs.Values.{whole_value_within, factors_of, offsets_of, slopes_of, sign_of, ways_of, AreFactors, AreWays}
 
 -- What the type shows: the value of each key, where the text has the key.
 pub record SettingsView : Type 0 where
@@ -24,6 +25,7 @@ pub record SettingsView : Type 0 where
   pub slopes : Option (List (List (ℤ × ℤ × ℤ)))
   pub region : Option ℕ
   pub up : Option UpSign
+  pub ways : Option (List WayColumns)
 
 -- What settings say of slopes that differ by region: the offsets of each, the column of the block's own, and which way is up.
 pub record RegionsView : Type 0 where
@@ -32,8 +34,8 @@ pub record RegionsView : Type 0 where
   pub up : Option UpSign
 
 -- what the type shows, by the values of the keys
-abbrev pub settings_view : (revenue cost tonnes : Option ℕ) (factors : Option (List ℕ)) (report : Option ℕ) (offsets : Option (List (ℤ × ℤ × ℤ))) (processing mining : Option ℕ) (slopes : Option (List (List (ℤ × ℤ × ℤ)))) (region : Option ℕ) (up : Option UpSign) → SettingsView
-settings_view revenue cost tonnes factors report offsets processing mining slopes region up = record {
+abbrev pub settings_view : (revenue cost tonnes : Option ℕ) (factors : Option (List ℕ)) (report : Option ℕ) (offsets : Option (List (ℤ × ℤ × ℤ))) (processing mining : Option ℕ) (slopes : Option (List (List (ℤ × ℤ × ℤ)))) (region : Option ℕ) (up : Option UpSign) (ways : Option (List WayColumns)) → SettingsView
+settings_view revenue cost tonnes factors report offsets processing mining slopes region up ways = record {
   revenue = revenue;
   cost = cost;
   tonnes = tonnes;
@@ -45,9 +47,10 @@ settings_view revenue cost tonnes factors report offsets processing mining slope
   slopes = slopes;
   region = region;
   up = up;
+  ways = ways;
 }
 
--- What is known of settings that were read: columns are numbered from 0 to 65,535, and factors are from 0 to 10,000.
+-- What is known of settings that were read: columns are numbered from 0 to 65,535, factors are from 0 to 10,000, and ways are 1 to 8.
 pub record IsSettings (s : SettingsView) : Type 0 where
   pub revenue : IfSome s.revenue (λ column. column ≤ 65535)
   pub cost : IfSome s.cost (λ column. column ≤ 65535)
@@ -57,6 +60,7 @@ pub record IsSettings (s : SettingsView) : Type 0 where
   pub processing : IfSome s.processing (λ column. column ≤ 65535)
   pub mining : IfSome s.mining (λ column. column ≤ 65535)
   pub region : IfSome s.region (λ column. column ≤ 65535)
+  pub ways : IfSome s.ways AreWays
 
 -- What a value at a key reads as; one that doesn't read is bad.
 abbrev pub or_bad : {V : Type 0} → Key → Option V → Result (Option V) SettingsFault
@@ -114,7 +118,8 @@ values_in ms =
     then_with (said_at Processing (whole_value_within 65535) ms) (λ processing.
     then_with (said_at Mining (whole_value_within 65535) ms) (λ mining.
     then_with (regions_in ms) (λ by.
-    Ok (settings_view revenue cost tonnes factors report offsets processing mining by.slopes by.region by.up))))))))))
+    then_with (said_at Ways ways_of ms) (λ ways.
+    Ok (settings_view revenue cost tonnes factors report offsets processing mining by.slopes by.region by.up ways)))))))))))
 
 -- What a table says at each key, or its first fault: a name that is no key comes before all bad values.
 abbrev pub settings_in : Members → Result SettingsView SettingsFault
@@ -142,7 +147,7 @@ ReadsSettings text (Err fault) = Says text (λ ms. settings_in ms ≡ Err fault)
 -- what settings say, or nothing at any key where there is a fault
 abbrev pub said_or_nothing : Result SettingsView SettingsFault → SettingsView
 said_or_nothing (Ok s) = s
-said_or_nothing (Err e) = settings_view None None None None None None None None None None None
+said_or_nothing (Err e) = settings_view None None None None None None None None None None None None
 
 -- what the table of a document says as settings; nothing at any key where there is no document, or a fault in it
 abbrev pub settings_by : Option Members → SettingsView
@@ -170,6 +175,7 @@ is_said s Mining = is_some s.mining
 is_said s Slopes = is_some s.slopes
 is_said s Region = is_some s.region
 is_said s Up = is_some s.up
+is_said s Ways = is_some s.ways
 
 -- whether settings name a charge of a mill
 abbrev pub names_mill : SettingsView → Bool

@@ -1,11 +1,16 @@
 -- What one value of a TOML document reads as.
 use Rattle.std.specs.Bool.{nat_le, nat_lt}
-use Rattle.std.specs.Prelude.{ℕ, ◌<◌, ◌≤◌, ◌&&◌, Bool, true, cond, ℤ, pos, negsuc, List, [], ◌∷◌, length, slice_index, Option, Some, None, codes, bytes_eq}
+use Rattle.std.specs.Prelude.{ℕ, ◌<◌, ◌≤◌, ◌&&◌, ◌||◌, Bool, true, cond, ℤ, pos, negsuc, List, [], ◌∷◌, length, slice_index, Option, Some, None, codes, bytes_eq}
 use Rattle.std.specs.List.{All}
-use Rattle.toml.specs.Data.{Data, Items, no_items, item, as_integer, as_array, as_str}
+use Rattle.toml.specs.Data.{Data, Items, no_items, item, Members, get_member, as_integer, as_array, as_table, as_str}
 use Rattle.fixed_worth.specs.declared.limits.TheConstants.{MOST_FACTOR, MOST_FACTORS}
+use Rattle.settings_file.specs.declared.keys.Key.{Key}
+use Rattle.settings_file.specs.declared.keys.Key.TheVariants.{Revenue, Processing}
 use Rattle.settings_file.specs.declared.up_sign.UpSign.{UpSign}
 use Rattle.settings_file.specs.declared.up_sign.UpSign.TheVariants.{Plus, Minus}
+use Rattle.settings_file.specs.declared.ways.WayColumns.{WayColumns}
+use Rattle.settings_file.specs.declared.ways.TheConstants.{MOST_WAYS}
+use Rattle.settings_file.specs.Keys.{key_name, all_named}
 
 -- A whole number from 0 to the most, and nothing else.
 abbrev pub whole_upto : ℕ → Option ℤ → Option ℕ
@@ -100,6 +105,57 @@ sign_of_text None = None
 -- What a value reads as that has to say which way is up: the text "plus" or "minus".
 abbrev pub sign_of : Data → Option UpSign
 sign_of d = sign_of_text (as_str d)
+
+-- whether a name is one of the two that a way's table has
+abbrev pub is_way_key : List ℕ → Bool
+is_way_key name = bytes_eq name (key_name Revenue) || bytes_eq name (key_name Processing)
+
+-- What a value reads as, where there is one.
+abbrev pub read_if : {V : Type 0} → (Data → Option V) → Option Data → Option V
+read_if reads (Some d) = reads d
+read_if reads None = None
+
+-- The number of a column at a key of a table; nothing where the key isn't there, or its value is no such number.
+abbrev pub column_at : Key → Members → Option ℕ
+column_at key ms = read_if (whole_value_within 65535) (get_member (key_name key) ms)
+
+-- The columns of a way, and nothing where one of them didn't read.
+abbrev pub two_columns : Option ℕ → Option ℕ → Option WayColumns
+two_columns (Some r) (Some p) = Some (record { revenue = r; processing = p })
+two_columns _ _ = None
+
+-- The way that the members of a table are: its column of revenues and that of processing, and nothing else.
+abbrev pub way_of_members : Option Members → Option WayColumns
+way_of_members (Some ms) = cond (all_named is_way_key ms) (two_columns (column_at Revenue ms) (column_at Processing ms)) None
+way_of_members None = None
+
+-- What a value reads as that has to be a way: a table `{ revenue = COLUMN, processing = COLUMN }`, with columns from 0 to 65,535.
+abbrev pub way_of : Data → Option WayColumns
+way_of d = way_of_members (as_table d)
+
+-- Ways that were read, where they are 1 to 8.
+abbrev pub if_ways : Option (List WayColumns) → Option (List WayColumns)
+if_ways (Some ws) = cond (nat_le 1 (length ws) && nat_le (length ws) MOST_WAYS) (Some ws) None
+if_ways None = None
+
+-- The ways that the items of an array are, in order.
+abbrev pub ways_of_items : Option Items → Option (List WayColumns)
+ways_of_items (Some ds) = if_ways (all_read way_of ds)
+ways_of_items None = None
+
+-- What a value reads as that has to be ways: an array of 1 to 8 of them.
+abbrev pub ways_of : Data → Option (List WayColumns)
+ways_of d = ways_of_items (as_array d)
+
+-- what is known of the columns of a way that was read
+abbrev pub IsWay : WayColumns → Type 0
+IsWay w = (w.revenue ≤ 65535) × (w.processing ≤ 65535)
+
+-- What is known of ways that were read.
+pub record AreWays (ws : List WayColumns) : Type 0 where
+  pub some : 1 ≤ length ws
+  pub few : length ws ≤ MOST_WAYS
+  pub columns : All IsWay ws
 
 -- What is known of factors that were read.
 pub record AreFactors (ns : List ℕ) : Type 0 where

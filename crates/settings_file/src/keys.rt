@@ -28,6 +28,8 @@ pub enum Key {
     Region,
     /// Which way is up.
     Up,
+    /// The columns of each way to treat blocks.
+    Ways,
 }
 
 impl Key {
@@ -47,6 +49,7 @@ impl Key {
             Key::Slopes => "slopes",
             Key::Region => "region",
             Key::Up => "up",
+            Key::Ways => "ways",
         }
     }
 }
@@ -86,6 +89,9 @@ pub(crate) fn is_key(text: &str) -> bool
         return true;
     }
     if text == Key::Up.name() {
+        return true;
+    }
+    if text == Key::Ways.name() {
         return true;
     }
     false

@@ -1,5 +1,6 @@
-//! Reads settings: the TOML text that says which columns of a block model hold revenue, cost and tonnes, or a mill's
-//! charges in place of cost, at which factors shells are drawn, and which offsets a slope has, or that of each region.
+//! Reads settings: the TOML text that says which columns of a block model hold revenue, cost and tonnes, or in place of
+//! cost a mill's charges or those of several ways to treat blocks, at which factors shells are drawn, and which offsets a
+//! slope has, or that of each region.
 //!
 //! It stands on the kit's `toml`, which parses the text into a table of values, and on `fixed_worth` for the limits.
 //!
@@ -16,9 +17,11 @@ mod settings;
 mod settings_fault;
 mod up_sign;
 mod values;
+mod ways;
 
 pub use keys::Key;
 pub use reading::read_settings;
 pub use settings::Settings;
 pub use settings_fault::SettingsFault;
 pub use up_sign::UpSign;
+pub use ways::{MOST_WAYS, WayColumns};

@@ -5,7 +5,7 @@ ghost use Rattle.std.specs.Prelude.{◌≡◌, ◌≤◌, ◌⊎◌, Ok, Err, If
 ghost use Rattle.toml.specs.Data.{get_member};
 ghost use Rattle.toml.specs.View.{table_view};
 ghost use Rattle.settings_file.specs.Keys.{key_name, all_known};
-ghost use Rattle.settings_file.specs.Values.{factors_of, offsets_of, slopes_of, AreFactors};
+ghost use Rattle.settings_file.specs.Values.{factors_of, offsets_of, slopes_of, ways_of, AreFactors, AreWays};
 ghost use Rattle.settings_file.specs.GoodTables.{IsGoodUpToFactors, IsOfTable};
 ghost use Rattle.settings_file.specs.Settings.{said_at, has_mill, cost_in, offsets_in, regions_in, settings_in, ReadsSettings};
 
@@ -14,6 +14,7 @@ use crate::keys::{Key, is_key};
 use crate::settings::{Columns, RegionKeys, Settings, SlopeKeys};
 use crate::settings_fault::SettingsFault;
 use crate::values::{MOST_COLUMN, number_at, sign_at};
+use crate::ways::{WayColumns, ways_in};
 use fixed_worth::MOST_FACTOR;
 use std::alloc::Global;
 use toml::Table;
@@ -154,6 +155,26 @@ fn regions_at(alloc: Global, table: &Table) -> Result<RegionKeys, SettingsFault>
     Ok(RegionKeys { slopes, region, up })
 }
 
+// The ways to treat blocks of the table.
+fn ways_at(alloc: Global, table: &Table) -> Result<Option<Vec<WayColumns>>, SettingsFault>
+    ensures value { MatchResult result
+        (λ o. said_at Key.Ways ways_of (table_view table.now) ≡ Ok (option_map (λ v. v.items) o))
+        (λ e. ¬ (e ≡ SettingsFault.NoMemory)
+        → said_at Key.Ways ways_of (table_view table.now) ≡ Err e) }
+    ensures form { IfOk result (λ o. IfSome o (λ v. AreWays v.items)) }
+    ensures fault { IfErr result (λ e. (e ≡ SettingsFault.BadValue Key.Ways)
+        ⊎ (e ≡ SettingsFault.NoMemory)) }
+{
+    match table.get(Key::Ways.name()) {
+        Some(value) => match ways_in(alloc, value) {
+            Ok(Some(ways)) => Ok(Some(ways)),
+            Ok(None) => Err(SettingsFault::BadValue(Key::Ways)),
+            Err(_) => Err(SettingsFault::NoMemory),
+        },
+        None => Ok(None),
+    }
+}
+
 // What the table says, or its first fault.
 fn settings_of(alloc: Global, table: &Table) -> Result<Settings, SettingsFault>
     ensures value { MatchResult result
@@ -175,6 +196,7 @@ fn settings_of(alloc: Global, table: &Table) -> Result<Settings, SettingsFault>
     let processing = number_at(table, Key::Processing, MOST_COLUMN)?;
     let mining = number_at(table, Key::Mining, MOST_COLUMN)?;
     let regions = regions_at(alloc, table)?;
+    let ways = ways_at(alloc, table)?;
     let columns = Columns {
         revenue,
         cost,
@@ -183,7 +205,7 @@ fn settings_of(alloc: Global, table: &Table) -> Result<Settings, SettingsFault>
         mining,
     };
     let slopes = SlopeKeys { offsets, regions };
-    Ok(Settings::of(columns, factors, report, slopes))
+    Ok(Settings::of(columns, factors, report, slopes, ways))
 }
 
 /// What a text says as settings.

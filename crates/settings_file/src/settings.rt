@@ -1,12 +1,13 @@
-//! What settings say: the columns of revenue, costs and tonnes, the factors of the shells and of the report, and the
-//! offsets of a slope or of the slope of each region, each where its key is there.
+//! What settings say: the columns of revenue, costs and tonnes, or of each way to treat blocks, the factors of the shells
+//! and of the report, and the offsets of a slope or of the slope of each region, each where its key is there.
 
 ghost use Rattle.std.specs.Prelude.{◌≡◌, ◌≤◌, IfSome, map, option_map};
-ghost use Rattle.settings_file.specs.Values.{AreFactors};
+ghost use Rattle.settings_file.specs.Values.{AreFactors, AreWays};
 ghost use Rattle.settings_file.specs.Settings.{SettingsView, settings_view, IsSettings, is_said, names_mill};
 
 use crate::keys::Key;
 use crate::up_sign::UpSign;
+use crate::ways::WayColumns;
 use fixed_worth::MOST_FACTOR;
 use std::marker::Model;
 
@@ -49,6 +50,7 @@ pub struct Settings {
     slopes: Option<Vec<Vec<(i32, i32, i32)>>>,
     region: Option<u32>,
     up: Option<UpSign>,
+    ways: Option<Vec<WayColumns>>,
 }
 
 impl Model for Settings {
@@ -60,12 +62,14 @@ impl Model for Settings {
     ghost view = { λ s. settings_view s.revenue s.cost s.tonnes
         (option_map (λ v. v.items) s.factors) s.report
         (option_map (λ v. v.items) s.offsets) s.processing s.mining
-        (option_map (λ v. map (λ w. w.items) v.items) s.slopes) s.region s.up };
+        (option_map (λ v. map (λ w. w.items) v.items) s.slopes) s.region s.up
+        (option_map (λ v. v.items) s.ways) };
 
     ghost invariant = { λ s. IsSettings
         (settings_view s.revenue s.cost s.tonnes (option_map (λ v. v.items) s.factors) s.report
         (option_map (λ v. v.items) s.offsets) s.processing s.mining
-        (option_map (λ v. map (λ w. w.items) v.items) s.slopes) s.region s.up) };
+        (option_map (λ v. map (λ w. w.items) v.items) s.slopes) s.region s.up
+        (option_map (λ v. v.items) s.ways)) };
 }
 
 impl Settings {
@@ -74,6 +78,7 @@ impl Settings {
         factors: Option<Vec<u32>>,
         report: Option<u32>,
         slopes: SlopeKeys,
+        ways: Option<Vec<WayColumns>>,
     ) -> Settings
         requires revenue { IfSome columns.revenue (λ column. column ≤ 65535) }
         requires cost { IfSome columns.cost (λ column. column ≤ 65535) }
@@ -83,11 +88,12 @@ impl Settings {
         requires processing { IfSome columns.processing (λ column. column ≤ 65535) }
         requires mining { IfSome columns.mining (λ column. column ≤ 65535) }
         requires region { IfSome slopes.regions.region (λ column. column ≤ 65535) }
+        requires ways { IfSome ways (λ v. AreWays v.items) }
         ensures { result ≡ settings_view columns.revenue columns.cost columns.tonnes
             (option_map (λ v. v.items) factors) report
             (option_map (λ v. v.items) slopes.offsets) columns.processing columns.mining
             (option_map (λ v. map (λ w. w.items) v.items) slopes.regions.slopes)
-            slopes.regions.region slopes.regions.up }
+            slopes.regions.region slopes.regions.up (option_map (λ v. v.items) ways) }
     {
         let Columns {
             revenue,
@@ -110,6 +116,7 @@ impl Settings {
             slopes,
             region,
             up,
+            ways,
         }
     }
 
@@ -207,6 +214,17 @@ impl Settings {
         self.up
     }
 
+    /// The columns of each way to treat blocks: 1 to 8 of them.
+    pub fn ways(&self) -> Option<&[WayColumns]>
+        ensures value { option_map (λ s. s.now) result ≡ self.now.ways }
+        ensures form { IfSome result (λ s. AreWays s.now) }
+    {
+        match &self.ways {
+            Some(ways) => Some(ways.as_slice()),
+            None => None,
+        }
+    }
+
     /// Whether a charge of a mill is named: processing or mining.
     pub fn names_mill(&self) -> bool
         ensures { result ≡ names_mill self.now }
@@ -230,6 +248,7 @@ impl Settings {
             Key::Slopes => self.slopes.is_some(),
             Key::Region => self.region.is_some(),
             Key::Up => self.up.is_some(),
+            Key::Ways => self.ways.is_some(),
         }
     }
 }

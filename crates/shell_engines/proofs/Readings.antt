@@ -1,14 +1,13 @@
 -- From the parts of the reading of a mine with its factors to what was read, where the readers tell their bytes.
-use Rattle.fixed_worth.proofs.Common.{pos, get_or, length-map-range_with_len}
 use Rattle.std.proofs.Common.{◌≡◌, ◌⊎◌, ℕ, Bool, true, false, List, [], ◌∷◌, sym, ap, ◌∙◌, subst, Option, Some, None, inl, inr, IfSome, unwrap_or}
 use Rattle.std.specs.Prelude.{option_map}
 use Rattle.blocks_file.specs.Denotes.{BlocksView, narrowed}
 use Rattle.prec_file.specs.Rests.{RestsView}
 use Rattle.settings_file.specs.declared.keys.Key.{Key}
-use Rattle.settings_file.specs.declared.keys.Key.TheVariants.{Factors, Slopes}
+use Rattle.settings_file.specs.declared.keys.Key.TheVariants.{Factors, Slopes, Ways}
 use Rattle.settings_file.specs.declared.settings_fault.SettingsFault.{SettingsFault}
 use Rattle.settings_file.specs.declared.settings_fault.SettingsFault.TheVariants as settings_fault
-use Rattle.settings_file.specs.Settings.{SettingsView, settings_of, names_mill, first_missing}
+use Rattle.settings_file.specs.Settings.{SettingsView, settings_of, is_said, names_mill, first_missing}
 use Rattle.settings_file.proofs.Known.{settings_are}
 use Rattle.settings_file.proofs.MissingKeys.{none_missing}
 use Rattle.shells.specs.Prices.{PricesView, NoRevenueNegative, priced_count}
@@ -16,8 +15,7 @@ use Rattle.mine_inputs.specs.declared.engine_fault.EngineFault.{EngineFault}
 use Rattle.mine_inputs.specs.declared.engine_fault.EngineFault.TheVariants as engine
 use Rattle.mine_inputs.specs.declared.engine_fault.Problem.{Problem}
 use Rattle.mine_inputs.specs.declared.engine_fault.Problem.TheVariants as problem
-use Rattle.mine_inputs.specs.declared.priced_inputs.ChargeColumns.{ChargeColumns}
-use Rattle.mine_inputs.specs.declared.priced_inputs.PriceColumns.{PriceColumns}
+use Rattle.mine_inputs.specs.declared.columns_of_prices.PriceColumns.{PriceColumns}
 use Rattle.mine_inputs.specs.Prelude.{PrecedenceBy, by_slopes, by_text, is_sloped, texts_by, price_keys, unused_by, SettingsFails, ReadsSettingsText, SettingsReadFails, BlocksReadFails, IsMissing, ReadsBlocks, ModelPricesFail, PairsSaidFail, SlopesRead, ArePairsBy, MineFails, PricedMineFails, ArePricesRead, AreSlopedTexts, column_after, columns_beside, columns_said, first_columns, place_beside, region_columns, rests_said, sloped_keys, sloped_texts}
 use Rattle.shell_engines.specs.SeriesTexts.{series_keys, KeysKnown, IsSeriesRead, SeriesMineFails}
 use Rattle.mine_inputs.proofs.MineDevices.{always, under, under2}
@@ -30,9 +28,9 @@ use Rattle.engines.proofs.Unread.{never}
 
 -- none of the keys of prices is missing, nor the factors
 keys_apart : (sloped : Bool) (said : SettingsView) → first_missing (series_keys sloped said) said ≡ None → (first_missing (price_keys said) said ≡ None) × (first_missing (Factors ∷ []) said ≡ None)
-keys_apart false said whole = prices_and_others said (names_mill said) (Factors ∷ []) whole
+keys_apart false said whole = prices_and_others said (is_said said Ways) (names_mill said) (Factors ∷ []) whole
 keys_apart true said whole =
-    let apart = prices_and_others said (names_mill said) (Slopes ∷ Factors ∷ []) whole in
+    let apart = prices_and_others said (is_said said Ways) (names_mill said) (Slopes ∷ Factors ∷ []) whole in
     (apart.0, (none_missing said (Slopes ∷ []) (Factors ∷ []) apart.1).1)
 
 pub prices_known : (sloped : Bool) (said : SettingsView) → first_missing (series_keys sloped said) said ≡ None → first_missing (price_keys said) said ≡ None
@@ -40,10 +38,10 @@ prices_known sloped said whole = (keys_apart sloped said whole).0
 
 -- nor the slopes, where they are needed
 pub slopes_known : (others : List Key) (said : SettingsView) → (first_missing (price_keys said) said ≡ None) × (first_missing (Slopes ∷ others) said ≡ None) → first_missing (sloped_keys said) said ≡ None
-slopes_known others said apart = prices_with_others said (names_mill said) (Slopes ∷ []) apart.0 (none_missing said (Slopes ∷ []) others apart.1).0
+slopes_known others said apart = prices_with_others said (is_said said Ways) (names_mill said) (Slopes ∷ []) apart.0 (none_missing said (Slopes ∷ []) others apart.1).0
 
 sloped_known : (said : SettingsView) → first_missing (series_keys true said) said ≡ None → first_missing (sloped_keys said) said ≡ None
-sloped_known said whole = slopes_known (Factors ∷ []) said (prices_and_others said (names_mill said) (Slopes ∷ Factors ∷ []) whole)
+sloped_known said whole = slopes_known (Factors ∷ []) said (prices_and_others said (is_said said Ways) (names_mill said) (Slopes ∷ Factors ∷ []) whole)
 
 keys_known : (p : PrecedenceBy) (s : List ℕ) (said : SettingsView) → ReadsSettingsText (unused_by (is_sloped p)) s said → first_missing (series_keys (is_sloped p) said) said ≡ None → KeysKnown (is_sloped p) s
 keys_known p s said a whole = (keys_said (series_keys (is_sloped p)) (unused_by (is_sloped p)) s said a whole).said
@@ -161,10 +159,10 @@ module _ (o q : Option (List ℕ)) where
           texts : ForSloped (λ s b. AreSlopedTexts s b said columns m)
           texts = texts_read o q 0 said a (sloped_known said whole) columns are m h
 
-          pub sloped_prices_refused : (e : EngineFault) → ModelPricesFail columns.charges m e → ForSloped (λ s b. SeriesMineFails s b by_slopes e)
+          pub sloped_prices_refused : (e : EngineFault) → ModelPricesFail columns m e → ForSloped (λ s b. SeriesMineFails s b by_slopes e)
           sloped_prices_refused e f = under2 o q (λ s b. AreSlopedTexts s b said columns m) (λ s b. SeriesMineFails s b by_slopes e) texts (λ s b t. sloped_fails_at s b e (known_of s b m t) (λ k. prices_refused s b said columns m t k e f))
 
-          module _ (prices : PricesView) (is : prices ≡ first_columns columns.charges m) (positive : NoRevenueNegative prices) (others : ℕ) (at : others ≡ place_beside columns.charges) where
+          module _ (prices : PricesView) (is : prices ≡ first_columns columns m) (positive : NoRevenueNegative prices) (others : ℕ) (at : others ≡ place_beside columns) where
             abbrev placed : ℕ → BlocksView
             placed i = narrowed (column_after i said.region) m
 
@@ -177,14 +175,9 @@ module _ (o q : Option (List ℕ)) where
                 → ForSloped (λ s b. IsSeriesRead s b by_slopes prices rests factors)
             sloped_series_read rests factors same found =
                 let F : ℕ → Type 0 = λ i. (rests.blocks ≡ m.blocks) × SlopesRead said (placed i) × ArePairsBy (rests_said said (placed i)) rests.pairs in
-                let g : F (place_beside columns.charges) = subst F at found in
+                let g : F (place_beside columns) = subst F at found in
                 under2 o q (λ s b. AreSlopedTexts s b said columns m) (λ s b. IsSeriesRead s b by_slopes prices rests factors) texts (λ s b t.
                 mine_read_at s b by_slopes said prices rests factors t.settings_read (known_of s b m t) same (pairs_found s b said columns m t prices is positive rests g.0 g.1 g.2))
-
--- ---- how many blocks have prices
-
-pub first_size : (charges : ChargeColumns) (m : BlocksView) (prices : PricesView) → prices ≡ first_columns charges m → priced_count prices ≡ m.blocks
-first_size charges m prices is = ap priced_count is ∙ length-map-range_with_len (λ c. get_or (get_or m.columns 0 []) c (pos 0)) 0 m.blocks
 
 -- ---- either
 

@@ -3,8 +3,8 @@
 use Rattle.std.specs.Prelude.{◌≡◌, ℕ, Bool, List, [], ◌∷◌, None, unwrap_or}
 use Rattle.prec_file.specs.Rests.{RestsView}
 use Rattle.settings_file.specs.declared.keys.Key.{Key}
-use Rattle.settings_file.specs.declared.keys.Key.TheVariants.{Factors}
-use Rattle.settings_file.specs.Settings.{SettingsView, settings_of, names_mill, first_missing}
+use Rattle.settings_file.specs.declared.keys.Key.TheVariants.{Factors, Ways}
+use Rattle.settings_file.specs.Settings.{SettingsView, settings_of, is_said, names_mill, first_missing}
 use Rattle.shells.specs.Prices.{PricesView}
 use Rattle.mine_inputs.specs.declared.engine_fault.EngineFault.{EngineFault}
 use Rattle.mine_inputs.specs.declared.engine_fault.EngineFault.TheVariants as engine
@@ -12,7 +12,7 @@ use Rattle.mine_inputs.specs.Prelude.{PrecedenceBy, is_sloped, texts_by, keys_by
 
 -- the keys that a series of shells needs, where settings list slopes and where they don't
 abbrev pub series_keys : Bool → SettingsView → List Key
-series_keys sloped s = keys_by (names_mill s) (others_by sloped (Factors ∷ []))
+series_keys sloped s = keys_by (is_said s Ways) (names_mill s) (others_by sloped (Factors ∷ []))
 
 -- the settings have all of them
 abbrev pub KeysKnown : Bool → List ℕ → Type 0

@@ -117,7 +117,7 @@ fn listed_series<D: CountedRead>(
     let settings = priced_settings_from(alloc, settings)?;
     let columns = price_columns(&settings, &[Key::Factors])?;
     let factors = factors_of(alloc, &settings)?;
-    let prices = prices_from(alloc, blocks, columns)?;
+    let prices = prices_from(alloc, blocks, &columns)?;
     let predecessors = predecessors_from(alloc, prec, prices.len())?;
     Ok(SeriesMine {
         prices,
@@ -148,11 +148,11 @@ fn sloped_series<D: CountedRead>(
     let settings = settings_from(alloc, settings, &[])?;
     let columns = price_columns(&settings, &[Key::Slopes, Key::Factors])?;
     let factors = factors_of(alloc, &settings)?;
-    let model = regional_blocks_from(alloc, blocks, columns, settings.region())?;
-    let prices = prices_of(alloc, &model, columns.charges)?;
+    let model = regional_blocks_from(alloc, blocks, &columns, settings.region())?;
+    let prices = prices_of(alloc, &model, &columns)?;
     // proof: no revenue of prices is negative
     let _blocks = prices.len();
-    let others = place_beside(columns.charges);
+    let others = place_beside(&columns);
     let predecessors = predecessors_by_slopes(alloc, &model, others, &settings)?;
     Ok(SeriesMine {
         prices,

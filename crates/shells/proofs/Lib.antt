@@ -1,3 +1,4 @@
+pub mod Greatest
 pub mod Rising
 pub mod Factors
 pub mod Pushes

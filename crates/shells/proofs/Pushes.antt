@@ -3,7 +3,7 @@ use Rattle.fixed_worth.proofs.Common.{◌≡◌, ℕ, ◌<◌, ◌≤◌, Bool, 
 use Rattle.prec_file.specs.Prelude.{IsRests, has_pair}
 use Rattle.closure_net.specs.Mine.{IsBest, RestsWithin}
 use Rattle.closure_net.proofs.BestPits.{best_of_same}
-use Rattle.shells.specs.Prelude.{PricesView, mine_at, SeriesView, shell_at, is_upto, upto, IsSeries, IsAboveAll, with_shell, IsPushed}
+use Rattle.shells.specs.Prelude.{PricesView, priced_count, mine_at, SeriesView, shell_at, is_upto, upto, IsSeries, IsAboveAll, with_shell, IsPushed}
 use Rattle.shells.proofs.Rising.{best_is_nested}
 use Rattle.shells.proofs.Factors.{one_last, rising_more}
 
@@ -25,7 +25,7 @@ at_old o t j k l = refl
 module _ (s t : SeriesView) (k : ℕ) (e : ℕ → Bool) (h : IsSeries s) (above : IsAboveAll s.factors k) (best : IsBest (mine_at s.pairs s.prices k) e)
     (own : RestsWithin (mine_at s.pairs s.prices k)) (pushed : IsPushed s t k e) where
   -- a block with a shell is in the best pit at the higher factor
-  pub has_shell : (b x : ℕ) → b < length s.prices.revenue → shell_at s.shells b ≡ Some x → (x ≤ k) × (e b ≡ true)
+  pub has_shell : (b x : ℕ) → b < priced_count s.prices → shell_at s.shells b ≡ Some x → (x ≤ k) × (e b ≡ true)
   has_shell b x l is =
       let known = h.known b x is in
       let lower : x < k = above x known in
@@ -33,7 +33,7 @@ module _ (s t : SeriesView) (k : ℕ) (e : ℕ → Bool) (h : IsSeries s) (above
       let held : IsTrue (upto s.shells x b) = ap (λ o. is_upto o x) is ∙ le-leb x x (omega arith) in
       (le, best_is_nested (has_pair s.pairs) s.prices x k (upto s.shells x) e h.prices.revenues le (h.best x known) best b l held)
 
-  inside : (b : ℕ) → b < length s.prices.revenue → b < length s.shells
+  inside : (b : ℕ) → b < priced_count s.prices → b < length s.shells
   inside b l = rw h.shells l
 
   pub new_is_best : IsBest (mine_at s.pairs s.prices k) (upto t.shells k)
@@ -46,7 +46,7 @@ module _ (s t : SeriesView) (k : ℕ) (e : ℕ → Bool) (h : IsSeries s) (above
 
 -- ---- the parts of what a series is
 
-pub mine_is_own : (pairs : List (ℕ × ℕ)) (table : PricesView) (k : ℕ) → IsRests (record { blocks = length table.revenue; pairs = pairs }) → RestsWithin (mine_at pairs table k)
+pub mine_is_own : (pairs : List (ℕ × ℕ)) (table : PricesView) (k : ℕ) → IsRests (record { blocks = priced_count table; pairs = pairs }) → RestsWithin (mine_at pairs table k)
 mine_is_own pairs table k r = grind (arith, common_steps, Any-from_list_any, and_parts, eqb-true)
 
 shell_known : (o : Option ℕ) (t : Bool) (k x : ℕ) (factors : List ℕ) → ((y : ℕ) → o ≡ Some y → Contains factors y) → with_shell o t k ≡ Some x → Contains (factors ++ k ∷ []) x

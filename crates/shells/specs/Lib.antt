@@ -1,5 +1,6 @@
--- prices, and series of nested pits
+-- prices, what a table in memory shows of them, and series of nested pits
 pub mod Prices
+pub mod Shown
 pub mod Series
 pub mod Nesting
 -- how faults print

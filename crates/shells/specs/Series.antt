@@ -7,9 +7,7 @@ use Rattle.ordered_group.specs.Prelude.{Amount, amount_at}
 use Rattle.closure_net.specs.Prelude.{IsAscending, NetView, Mine, IsBest}
 use Rattle.shells.specs.declared.series_fault.SeriesFault.{SeriesFault}
 use Rattle.shells.specs.declared.series_fault.SeriesFault.TheVariants.{NotHigher, WrongModel, Full, NoMemory}
-use Rattle.shells.specs.Prices.{PricesView, priced_count, worth_at, IsTable, CostsView, plain_costs, mill_costs}
-use Rattle.shells.specs.declared.costs.Costs.{Costs}
-use Rattle.shells.specs.declared.costs.Costs.TheVariants.{Plain, Mill}
+use Rattle.shells.specs.Prices.{PricesView, priced_count, worth_at, IsTable}
 
 -- the mine of these prices at so many thousandths of the revenues, whose blocks rest on each other in this way
 abbrev pub mine_of_prices : (ℕ → ℕ → Bool) → PricesView → ℕ → Mine
@@ -104,11 +102,6 @@ PushFaultStands block s k net NotHigher = ¬ (IsAboveAll s.factors k)
 PushFaultStands block s k net WrongModel = IsAboveAll s.factors k × ¬ (IsOver block s.pairs s.prices k net)
 PushFaultStands block s k net Full = IsAboveAll s.factors k × IsOver block s.pairs s.prices k net × (length s.factors ≡ MOST_FACTORS)
 PushFaultStands block s k net NoMemory = ⊥
-
--- what the type of the charges shows
-abbrev pub shown_costs : Costs → CostsView
-shown_costs (Plain cost) = plain_costs cost.items
-shown_costs (Mill processing mining) = mill_costs processing.items mining.items
 
 -- what a series in memory is: there is room for 64 factors, and its pairs are of so many blocks
 pub record IsHeldSeries (s : SeriesView) (room blocks : ℕ) : Type 0 where

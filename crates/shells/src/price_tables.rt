@@ -1,14 +1,15 @@
-//! The revenue and the charges of each block, and what a block is worth at a factor of the price. Tables of different
-//! lengths and negative revenues are refused.
+//! What a block is worth at a factor of the price, and which way it is treated. Lists of different lengths and negative
+//! revenues are no table.
 
-ghost use Rattle.std.specs.Prelude.{◌≡◌, ◌≢◌, ◌<◌, ◌≤◌, ◌≤ℤ◌, ℕ, pos, length, IfOk, MatchOption, MatchResult};
+ghost use Rattle.std.specs.Prelude.{◌≡◌, ◌≢◌, ◌<◌, ◌≤◌, ◌≤ℤ◌, ℕ, pos, All, IfOk, MatchOption, MatchResult};
 ghost use Rattle.certificate_file.specs.ReadBack.{IsPrice};
-ghost use Rattle.shells.specs.Prices.{plain_costs, mill_costs, priced_count, price_of, worth_at, worths_at, number_at, IsTable, IsFirstNegative, PricesFaultStands};
-ghost use Rattle.shells.specs.Series.{shown_costs};
+ghost use Rattle.shells.specs.Prices.{AreListed, plain_prices, treated_prices, priced_count, price_of, revenues_at, way_at, worth_at, worths_at, IsTable, IsFirstNegative, PricesFaultStands};
+ghost use Rattle.shells.specs.Shown.{shown_table};
 
-use crate::costs::{Costs, thousandths_of};
 use crate::factor::Factor;
 use crate::prices_fault::PricesFault;
+use crate::tables::Table;
+use crate::ways::Way;
 use check_pit::Price;
 use fixed_worth::{MOST_BLOCKS, MOST_FACTOR, Micros};
 use rayon::prelude::*;
@@ -16,53 +17,54 @@ use std::alloc::{AllocError, Global};
 use std::marker::Model;
 use std::thread::Threads;
 
-/// The revenue of each block and what is charged for it: its cost; or, where a block goes to the mill or to waste,
-/// whichever is worth more, what it costs to process it and to mine it. No revenue is negative.
+/// What blocks earn and what is charged for them: the revenue and the cost of each; or, where a block goes one of several
+/// ways or to waste, whichever is worth most, its revenue and its processing by each way and what it costs to mine it. No
+/// revenue is negative.
 #[derive(Drop)]
 pub struct Prices {
-    revenue: Vec<Micros>,
-    costs: Costs,
+    table: Table,
 }
 
 impl Model for Prices {
     ghost use Rattle.shells.specs.Prices.{PricesView, IsTable};
-    ghost use Rattle.shells.specs.Series.{shown_costs};
+    ghost use Rattle.shells.specs.Shown.{shown_table};
 
     ghost Value = { PricesView };
 
-    ghost view = { λ p. record { revenue = p.revenue.items; costs = shown_costs p.costs } };
+    ghost view = { λ p. shown_table p.table };
 
-    ghost invariant = { λ p. IsTable
-        (record { revenue = p.revenue.items; costs = shown_costs p.costs }) };
+    ghost invariant = { λ p. IsTable (shown_table p.table) };
 }
 
 // The first block with a negative revenue.
-fn first_negative(revenue: &[Micros]) -> Option<u32>
-    requires { length revenue.now ≤ MOST_BLOCKS }
+fn first_negative(table: &Table) -> Option<u32>
+    requires listed { AreListed (shown_table table.now) }
+    requires few { priced_count (shown_table table.now) ≤ MOST_BLOCKS }
     ensures { MatchOption result
-        ((b : ℕ) → b < length revenue.now → pos 0 ≤ℤ number_at revenue.now b)
-        (IsFirstNegative revenue.now) }
+        ((b : ℕ) → b < priced_count (shown_table table.now)
+        → All (λ r. pos 0 ≤ℤ r) (revenues_at (shown_table table.now) b))
+        (IsFirstNegative (shown_table table.now)) }
 {
-    for b in 0..revenue.len() {
-        if revenue[b].get() < 0 {
+    for b in 0..table.len() {
+        if table.is_negative(b) {
             return Some(b as u32);
         }
     }
     None
 }
 
-// The table of these revenues and charges.
-fn table_of(revenue: Vec<Micros>, costs: Costs) -> Result<Prices, PricesFault>
+// The prices of a table.
+fn prices_of(table: Table) -> Result<Prices, PricesFault>
     ensures { MatchResult result
-        (λ p. p ≡ record { revenue = revenue.items; costs = shown_costs costs })
-        (PricesFaultStands (record { revenue = revenue.items; costs = shown_costs costs })) }
+        (λ p. p ≡ shown_table table)
+        (PricesFaultStands (shown_table table)) }
 {
-    if !costs.are_of(revenue.len()) || revenue.len() > MOST_BLOCKS as usize {
+    if !table.are_listed() || table.len() > MOST_BLOCKS as usize {
         return Err(PricesFault::WrongLength);
     }
-    match first_negative(&revenue) {
+    match first_negative(&table) {
         Some(b) => Err(PricesFault::NegativeRevenue(b)),
-        None => Ok(Prices { revenue, costs }),
+        None => Ok(Prices { table }),
     }
 }
 
@@ -74,29 +76,26 @@ impl Prices {
     /// 2^24 of them; `NegativeRevenue` with the first block whose revenue is negative.
     pub fn new(revenue: Vec<Micros>, cost: Vec<Micros>) -> Result<Prices, PricesFault>
         ensures { MatchResult result
-            (λ p. p ≡ record { revenue = revenue.items; costs = plain_costs cost.items })
-            (PricesFaultStands
-            (record { revenue = revenue.items; costs = plain_costs cost.items })) }
+            (λ p. p ≡ plain_prices revenue.items cost.items)
+            (PricesFaultStands (plain_prices revenue.items cost.items)) }
     {
-        table_of(revenue, Costs::Plain(cost))
+        prices_of(Table::Plain { revenue, cost })
     }
 
-    /// The prices of blocks that go to the mill or to waste, whichever is worth more. In the mill a block earns its
-    /// revenue and is charged for processing; as waste it earns nothing; for mining it is charged either way.
+    /// The prices of blocks that are treated in one of these ways or go to waste, whichever is worth most. By a way a
+    /// block earns that way's revenue and is charged for that way's processing; as waste it earns nothing; for mining it
+    /// is charged wherever it goes.
     ///
     /// # Errors
-    /// Those of `new`, where `WrongLength` speaks of both charges.
-    pub fn mill(
-        revenue: Vec<Micros>,
-        processing: Vec<Micros>,
-        mining: Vec<Micros>,
-    ) -> Result<Prices, PricesFault>
+    /// In this order: `WrongLength` where a list has more or fewer numbers than that of mining, where this has more
+    /// than 2^24, or where there is no way or there are more than 8; `NegativeRevenue` with the first block that has a
+    /// negative revenue by any way.
+    pub fn ways(ways: Vec<Way>, mining: Vec<Micros>) -> Result<Prices, PricesFault>
         ensures { MatchResult result
-            (λ p. p
-            ≡ record { revenue = revenue.items; costs = mill_costs processing.items mining.items })
-            (PricesFaultStands (record { revenue = revenue.items; costs = mill_costs processing.items mining.items })) }
+            (λ p. p ≡ treated_prices ways.items mining.items)
+            (PricesFaultStands (treated_prices ways.items mining.items)) }
     {
-        table_of(revenue, Costs::Mill { processing, mining })
+        prices_of(Table::Treated { ways, mining })
     }
 
     /// How many blocks there are.
@@ -104,32 +103,32 @@ impl Prices {
         ensures is { result ≡ priced_count self.now }
         ensures table { IsTable self.now }
     {
-        self.revenue.len() as u32
+        self.table.len() as u32
     }
 
-    /// The price that certificates over this table name at a factor: one of a mill where blocks may go to it.
+    /// The price that certificates over this table name at a factor: one of a mill where they are treated.
     pub fn price_at(&self, factor: Factor) -> Price
-        ensures is { result ≡ price_of self.now.costs factor }
+        ensures is { result ≡ price_of self.now factor }
         ensures bound { IsPrice result }
     {
-        self.costs.price_at(factor.get())
+        self.table.price_at(factor.get())
     }
 
     /// The factor that a certificate's price names over this table: none where it is a price of another kind of model.
     pub fn factor_of(&self, price: Price) -> Option<Factor>
         ensures { MatchOption result ((k : ℕ) → k ≤ MOST_FACTOR
-            → price ≢ price_of self.now.costs k)
-            (λ factor. price ≡ price_of self.now.costs factor) }
+            → price ≢ price_of self.now k)
+            (λ factor. price ≡ price_of self.now factor) }
     {
-        match (&self.costs, price) {
-            (Costs::Plain(_), Price::Factor(thousandths)) => Factor::new(thousandths),
-            (Costs::Mill { .. }, Price::Mill(thousandths)) => Factor::new(thousandths),
+        match (&self.table, price) {
+            (Table::Plain { .. }, Price::Factor(thousandths)) => Factor::new(thousandths),
+            (Table::Treated { .. }, Price::Mill(thousandths)) => Factor::new(thousandths),
             _ => None,
         }
     }
 
-    /// What block b is worth at a factor, in billionths: the factor times its revenue, less its cost. Where there is a
-    /// mill: the greater of the factor times its revenue less its processing, and zero; less its mining.
+    /// What block b is worth at a factor, in billionths: the factor times its revenue, less its cost. Where there are
+    /// ways: the greatest of zero and, over the ways, the factor times its revenue less its processing; less its mining.
     pub fn worth(&self, b: u32, factor: Factor) -> i128
         requires { b < priced_count self.now }
         ensures { result ≡ worth_at self.now factor b }
@@ -142,8 +141,16 @@ impl Prices {
         requires { b < priced_count self.now }
         ensures { result ≡ worth_at self.now factor b }
     {
-        let earned = thousandths_of(factor.get(), self.revenue[b].get());
-        self.costs.left_of(earned, b, self.revenue.len())
+        self.table.worth(b, factor.get())
+    }
+
+    /// Which way block b goes at a factor, by its place in the order of the ways: the first of those by which it is worth
+    /// most. None where it goes to waste, since no way is worth more than zero, and none where there are no ways.
+    pub fn way_of(&self, b: u32, factor: Factor) -> Option<u32>
+        requires { b < priced_count self.now }
+        ensures { result ≡ way_at self.now factor b }
+    {
+        self.table.way_of(b as usize, factor.get())
     }
 
     /// What each block is worth at a factor, in billionths and in the order of the blocks: for each
@@ -159,7 +166,7 @@ impl Prices {
     ) -> Result<Vec<i128>, AllocError>
         ensures { IfOk result (λ v. v.items ≡ worths_at self.now factor) }
     {
-        let blocks = self.revenue.len();
+        let blocks = self.table.len();
         (0..blocks)
             .into_par_iter()
             .map(

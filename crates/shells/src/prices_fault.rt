@@ -1,4 +1,4 @@
-//! Why revenues and charges are no table of prices: their lengths differ, or a block's revenue is
+//! Why lists are no table of prices: their lengths differ, there are no ways or too many, or a block's revenue is
 //! negative.
 
 ghost use Rattle.std.specs.Prelude.{Some};
@@ -7,12 +7,12 @@ ghost use Rattle.shells.specs.FaultText.{prices_fault_text};
 use std::error::Error;
 use std::fmt;
 
-/// Why revenues and charges are no table of prices.
+/// Why lists are no table of prices.
 #[derive(Clone, Copy, Debug, PartialEq, Eq)]
 pub enum PricesFault {
-    /// There are more or fewer of a charge than revenues, or more than 2^24 of them.
+    /// A list has more or fewer numbers than another, or more than 2^24; or there are no ways, or more than 8.
     WrongLength,
-    /// The first block whose revenue is negative.
+    /// The first block with a negative revenue.
     NegativeRevenue(u32),
 }
 

@@ -34,6 +34,7 @@ from typing import IO, cast
 
 LINE, WHOLE_128 = 65536, 1 << 127
 MOST_BLOCKS, MOST_PAIRS, MOST_OFFSETS, MOST_REGIONS = 1 << 24, 1 << 27, 4096, 64
+MOST_WAYS = 8  # to treat a block
 MICRO, NANO = 10**6, 10**9
 SPLIT = re.compile(rb"[ \t:\r]+")
 WHOLE = re.compile(rb"[0-9]{1,39}")
@@ -41,6 +42,7 @@ SIGNED = re.compile(rb"[+-]?[0-9]{1,39}")
 DECIMAL = re.compile(rb"([+-]?)(?=\.?[0-9])([0-9]*)(?:\.([0-9]*))?(?:[eE]([+-]?[0-9]+))?")
 SPELLED = re.compile(rb"0|-?[1-9][0-9]*")
 SETTING = re.compile(r"\s*(\w+)\s*=\s*(\d+)\s*(?:#.*)?")
+WAYS, WAY = re.compile(r"^[ \t]*ways[ \t]*=\s*\[([^\]]*)\]", re.M), re.compile(r"\{([^{}]*)\}")
 SLOPES, UP = re.compile(r"^[ \t]*slopes[ \t]*=", re.M), re.compile(r'\s*up\s*=\s*"(\w+)"\s*')
 KINDS = (b"PIT", b"SOURCE", b"REST", b"SINK", b"END")
 
@@ -129,10 +131,15 @@ class Settings:
         at = SLOPES.search(text)
         self.slopes = None if at is None else self.listed(text[at.end() :])
         self.region = found.get("region")
-        self.columns = self.prices(found)
+        self.columns = self.prices(found, WAYS.search(text))
 
-    def prices(self, found: dict[str, int]) -> list[int]:
-        """The columns of prices."""
+    def prices(self, found: dict[str, int], ways: re.Match[str] | None) -> list[int]:
+        """The columns of prices: revenue and processing of each way to treat a block, and behind
+        them mining; or revenue and cost."""
+        if ways is not None:
+            if {"revenue", "processing", "cost"} & set(found) or "mining" not in found:
+                raise Wrong("%s names ways beside other columns, or no mining" % self.name)
+            return [*self.listed_ways(ways[1]), found["mining"]]
         if "revenue" in found and "cost" in found and not {"processing", "mining"} & set(found):
             return [found["revenue"], found["cost"]]
         if {"revenue", "processing", "mining"} <= set(found) and "cost" not in found:
@@ -140,6 +147,21 @@ class Settings:
         raise Wrong(
             "%s names neither revenue and cost nor revenue, processing and mining" % self.name
         )
+
+    def listed_ways(self, text: str) -> list[int]:
+        """The columns of each way, of tables as { revenue = 0, processing = 1 }."""
+        columns: list[int] = []
+        tables = [
+            [SETTING.fullmatch(part) for part in table.split(",")] for table in WAY.findall(text)
+        ]
+        for table in tables:
+            named = {part[1]: int(part[2]) for part in table if part}
+            if len(table) != 2 or set(named) != {"revenue", "processing"}:
+                raise Wrong("%s: a way has other keys than revenue and processing" % self.name)
+            columns += [named["revenue"], named["processing"]]
+        if not 1 <= len(tables) <= MOST_WAYS or re.sub(r"[\s,]", "", WAY.sub("", text)):
+            raise Wrong("%s: ways are no list of 1 to %d tables" % (self.name, MOST_WAYS))
+        return columns
 
     def listed(self, text: str) -> list[list[tuple[int, ...]]]:
         """The list of lists that a text begins with, each offset of three whole numbers."""
@@ -194,7 +216,7 @@ class Blocks:
                     raise Wrong(where + ": a coordinate is no whole number of 32 bits")
             places[block] = tuple(map(int, fields[1:4]))
             kept[block] = [millionths(fields[4 + column], where) for column in wanted]
-            if kept[block][0] < 0:
+            if any(revenue < 0 for revenue in kept[block][: len(columns) // 2 * 2 : 2]):
                 raise Wrong(where + ": a revenue below 0")
         if any(block >= len(kept) for block in kept):
             raise Wrong("%s: the blocks aren't numbered from 0 to %d" % (name, len(kept) - 1))
@@ -307,14 +329,17 @@ def worths_of(price: list[bytes], table: list[list[int]], values: list[int] | No
         if price != [b"OBJECTIVE"]:
             raise Fault("WrongPrice")
         return [1000 * value for value in values]
-    if len(table) == 3:
+    if len(table) >= 3:
         if len(price) != 2:
             raise Fault("WrongPrice")
-        k = int(price[1])
-        return [
-            max(k * revenue - 1000 * treating, 0) - 1000 * digging
-            for revenue, treating, digging in zip(*table)
-        ]
+        k, (*ways, mining) = int(price[1]), table
+        best = [0] * len(mining)
+        for revenues, costs in zip(ways[::2], ways[1::2]):
+            best = [
+                max(most, k * revenue - 1000 * treating)
+                for most, revenue, treating in zip(best, revenues, costs)
+            ]
+        return [most - 1000 * digging for most, digging in zip(best, mining)]
     if len(price) != 1 or price == [b"OBJECTIVE"]:
         raise Fault("WrongPrice")
     k = int(price[0])

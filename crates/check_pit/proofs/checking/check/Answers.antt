@@ -23,6 +23,6 @@ new-on_graph-requires-clause-greatest g c =
     let sum = rw c.in_ok-worth.ensures.ok_part at c.pit_worth.ensures.sum in
     let room = rw c.in_ok-room.ensures.ok_part at c.residual_of_source.ensures in
     let P : NetView → Type 0 = λ net. IsGreatest net (holds_of c.args.pit.now) in
-    λ κs le. subst P (sym c.graph.ensures)
+    λ κs le. subst P (sym c.of_net.ensures)
     (greatest_from_tight c.args.net.now c.args.flow.now (holds_of c.args.pit.now) c.pit_worth.ensures.net.rests.known is c.in_default.ensures
     (sym sum.0 ∙ c.same.ensures.0 c.if-not-same.false ∙ room.0))

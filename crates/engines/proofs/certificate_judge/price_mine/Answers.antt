@@ -1,14 +1,12 @@
-use Rattle.std.proofs.Common.{◌∙◌}
-use Rattle.engines.proofs.StreamAnswers.{priced, price_unjudged}
+use Rattle.std.proofs.Common.{ℕ, sym, subst}
+use Rattle.check_pit.specs.CertStreams.{IsReadFor}
 use Rattle.engines.proofs.certificate_judge.price_mine.Goals as goal
 
-pub returns-in_default-clause-priced : goal.returns-in_default-clause-priced
-returns-in_default-clause-priced g c =
-    let remaining = g.C.Read.remaining in
-    price_unjudged remaining c.header_for.new.stream.lines (remaining c.args.stream.now.lines.from) c.args.mine.worths c.args.mine.predecessors c.in_ok-header.header (c.in_ok-header.ensures.blocks.0 ∙ c.len.ensures.is) c.in_default.ensures c.in_ok-header.ensures.read
+pub returns-in-Ok-clause-priced : goal.returns-in-Ok-clause-priced
+returns-in-Ok-clause-priced g c = c.in-Ok.ensures.priced c.args.mine.predecessors (sym c.len.ensures.is)
 
-pub returns-clause-priced : goal.returns-clause-priced
-returns-clause-priced g c =
-    let remaining = g.C.Read.remaining in
-    let mine = c.args.mine in
-    priced remaining c.header_for.new.stream.lines (remaining c.args.stream.now.lines.from) mine.worths mine.predecessors c.in_ok-header.header c.in-Some.factor c.in_ok-nanos.nanos.items (c.in_ok-header.ensures.blocks.0 ∙ c.len.ensures.is) c.in-Some.ensures.0 c.in-Some.ensures.1 c.in_ok-nanos.ensures c.in_ok-header.ensures.read
+pub returns-in-Err-clause-priced : goal.returns-in-Err-clause-priced
+returns-in-Err-clause-priced g c = c.in-Err.ensures.priced c.args.mine.predecessors (sym c.len.ensures.is)
+
+pub returns-in-Ok-clause-header : goal.returns-in-Ok-clause-header
+returns-in-Ok-clause-header g c = subst (λ (n : ℕ). IsReadFor n c.in-Ok.priced.group c.price_blocks.new.stream.header c.price_blocks.new.stream.fault) c.len.ensures.is c.in-Ok.ensures.header

@@ -44,14 +44,14 @@ returns-clause-complete g c =
 
 pub returns-in_err-mine-clause-device : goal.returns-in_err-mine-clause-device
 returns-in_err-mine-clause-device g c = λ d.
-    mine_once c.args.inputs.now c.mine_to_check.new.inputs g.D.CountedRead.failed _ _ (raised c.from_residual.result c.in_err-mine.field-0.0 c.from_residual.ensures.1 c.in_err-mine.ensures.device d) refl
+    mine_once c.args.inputs.now c.held_mine.new.inputs g.D.CountedRead.failed _ _ (raised c.from_residual.result c.in_err-mine.field-0.0 c.from_residual.ensures.1 c.in_err-mine.ensures.device d) refl
 
 pub returns-in_err-mine-clause-kept : goal.returns-in_err-mine-clause-kept
 returns-in_err-mine-clause-kept g c = λ n. (stayed c.from_residual.result c.in_err-mine.field-0.0 c.from_residual.ensures.1 c.in_err-mine.ensures.kept n, refl, refl)
 
 pub returns-in_err-judgement-clause-device : goal.returns-in_err-judgement-clause-device
 returns-in_err-judgement-clause-device g c = λ d.
-    other_once c.args.inputs.now c.mine_to_check.new.inputs g.D.CountedRead.failed (g.C.CountedRead.failed c.args.certificate.now + g.W.CountedWrite.failed c.args.out.now) (g.C.CountedRead.failed c.replace_with.new.dest + g.W.CountedWrite.failed c.args.out.now) (went c.in_ok-mine.mine c.in_ok-mine.ensures.kept)
+    other_once c.args.inputs.now c.held_mine.new.inputs g.D.CountedRead.failed (g.C.CountedRead.failed c.args.certificate.now + g.W.CountedWrite.failed c.args.out.now) (g.C.CountedRead.failed c.replace_with.new.dest + g.W.CountedWrite.failed c.args.out.now) (went c.in_ok-mine.mine c.in_ok-mine.ensures.kept)
     (first_of_two (g.C.CountedRead.failed c.args.certificate.now) (g.W.CountedWrite.failed c.args.out.now) (g.C.CountedRead.failed c.replace_with.new.dest) (g.W.CountedWrite.failed c.args.out.now) (raised c.from_residual-in_err-judgement.result c.in_err-judgement.field-0.0 c.from_residual-in_err-judgement.ensures.1 c.in_err-judgement.ensures.1.0 d) refl)
 
 pub returns-in_err-judgement-clause-kept : goal.returns-in_err-judgement-clause-kept
@@ -59,7 +59,7 @@ returns-in_err-judgement-clause-kept g c = λ n. (went c.in_ok-mine.mine c.in_ok
 
 pub returns-in_err-write_judgement-clause-device : goal.returns-in_err-write_judgement-clause-device
 returns-in_err-write_judgement-clause-device g c = λ d.
-    other_once c.args.inputs.now c.mine_to_check.new.inputs g.D.CountedRead.failed (g.C.CountedRead.failed c.args.certificate.now + g.W.CountedWrite.failed c.args.out.now) (g.C.CountedRead.failed c.replace_with.new.dest + g.W.CountedWrite.failed c.write_judgement.new.out) (went c.in_ok-mine.mine c.in_ok-mine.ensures.kept)
+    other_once c.args.inputs.now c.held_mine.new.inputs g.D.CountedRead.failed (g.C.CountedRead.failed c.args.certificate.now + g.W.CountedWrite.failed c.args.out.now) (g.C.CountedRead.failed c.replace_with.new.dest + g.W.CountedWrite.failed c.write_judgement.new.out) (went c.in_ok-mine.mine c.in_ok-mine.ensures.kept)
     (second_of_two (g.C.CountedRead.failed c.args.certificate.now) (g.W.CountedWrite.failed c.args.out.now) (g.C.CountedRead.failed c.replace_with.new.dest) (g.W.CountedWrite.failed c.write_judgement.new.out) (went c.in_ok-judgement.judgement c.in_ok-judgement.ensures.1.1) (raised c.from_residual-in_err-write_judgement.result c.in_err-write_judgement.field-0.0 c.from_residual-in_err-write_judgement.ensures.1 c.in_err-write_judgement.ensures.device.0 d))
 
 pub returns-in_err-write_judgement-clause-kept : goal.returns-in_err-write_judgement-clause-kept

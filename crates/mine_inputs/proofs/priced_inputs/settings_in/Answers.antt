@@ -10,4 +10,4 @@ returns-in_err-settings-clause-read c =
 
 pub returns-in-Some-clause-read : goal.returns-in-Some-clause-read
 returns-in-Some-clause-read c =
-    unused_told c.args.unused.now c.args.text.now c.in_ok-settings.settings c.in-Some.key c.requires c.in_ok-settings.ensures (sym c.first_said.ensures ∙ c.in-Some.is)
+    unused_told c.args.unused.now c.args.text.now c.in_ok-settings.settings c.in-Some.key c.requires c.in_ok-settings.ensures (sym c.first_unused.ensures ∙ c.in-Some.is)

@@ -20,7 +20,7 @@ returns-in_err-answer-clause-answer g c =
     let outputs = c.args.outputs.now in
     let mine = c.in_ok-mine.mine in
     rw (p.1, p.2) (unanswered (g.D.Read.remaining inputs.settings) (g.D.Read.remaining inputs.blocks) (precedence_in inputs.prec g.D.Read.remaining)
-    (λ s b p. AnswersReport s b p c.args.effort (is_asked outputs.by_block)) ReportFails (λ s b p. IsReportRead s b p mine.series.prices mine.series.predecessors mine.series.factors.items mine.model mine.charges mine.factor) c.in_ok-mine.ensures.read
+    (λ s b p. AnswersReport s b p c.args.effort (is_asked outputs.by_block)) ReportFails (λ s b p. IsReportRead s b p mine.series.prices mine.series.predecessors mine.series.factors.items mine.model mine.priced_by mine.factor) c.in_ok-mine.ensures.read
     (contents_in outputs.by_block g.V.Write.contents) (g.W.Write.contents outputs.out) c.in_err-answer.field-0.0 c.in_err-answer.ensures.answer)
 
 pub returns-clause-answer : goal.returns-clause-answer
@@ -30,8 +30,8 @@ returns-clause-answer g c =
     let new = c.send.new.outputs in
     let mine = c.in_ok-mine.mine in
     let a = c.in_ok-answer.answer in
-    let P : Bool → Type 0 = λ k. (s b : List ℕ) (p : PrecedenceBy) → IsReportRead s b p mine.series.prices mine.series.predecessors mine.series.factors.items mine.model mine.charges mine.factor → AnswersReport s b p c.args.effort k a.verdict a.table.items a.text.items in
+    let P : Bool → Type 0 = λ k. (s b : List ℕ) (p : PrecedenceBy) → IsReportRead s b p mine.series.prices mine.series.predecessors mine.series.factors.items mine.model mine.priced_by mine.factor → AnswersReport s b p c.args.effort k a.verdict a.table.items a.text.items in
     sent (g.D.Read.remaining inputs.settings) (g.D.Read.remaining inputs.blocks) (precedence_in inputs.prec g.D.Read.remaining)
-    (λ s b p. AnswersReport s b p c.args.effort (is_asked old.by_block)) ReportFails (λ s b p. IsReportRead s b p mine.series.prices mine.series.predecessors mine.series.factors.items mine.model mine.charges mine.factor) c.in_ok-mine.ensures.read
+    (λ s b p. AnswersReport s b p c.args.effort (is_asked old.by_block)) ReportFails (λ s b p. IsReportRead s b p mine.series.prices mine.series.predecessors mine.series.factors.items mine.model mine.priced_by mine.factor) c.in_ok-mine.ensures.read
     (contents_in old.by_block g.V.Write.contents) (contents_in new.by_block g.V.Write.contents) (g.W.Write.contents old.out) (g.W.Write.contents new.out) a.verdict a.table.items a.text.items
     (subst P c.has_table-is_asked.ensures c.in_ok-answer.ensures.answer) (λ s b p. tt) c.send.result c.send.ensures.sent c.send.ensures.cut

@@ -1,5 +1,6 @@
 use Rattle.fixed_worth.proofs.Common.{◌∙◌, List, [], ◌∷◌, ◌++◌, All, length, sym, ap, subst, arith, All-append}
 use Rattle.prec_file.specs.Rests.{numbers_passing}
+use Rattle.shells.specs.Prices.{priced_count}
 use Rattle.sub_mines.specs.Parts.{every_block}
 use Rattle.shell_engines.specs.declared.best_pits.BestPit.{BestPit}
 use Rattle.shell_engines.specs.declared.mine_parts.Part.{Part}
@@ -20,7 +21,7 @@ loop-init g c =
     let all = c.in_ok-all.all in
     let e = c.in_ok-all.ensures in
     let left : Q all = record {
-      lies = part_of pairs prices factors all 0 (length factors) [] (numbers_passing every_block (length prices.revenue)) (e.0, e.1 ∙ c.len-count.ensures ∙ m.factors.ok.0, e.2, e.3 ∙ ap (numbers_passing every_block) c.len-blocks.ensures.is) (whole_part pairs prices factors);
+      lies = part_of pairs prices factors all 0 (length factors) [] (numbers_passing every_block (priced_count prices)) (e.0, e.1 ∙ c.len-count.ensures ∙ m.factors.ok.0, e.2, e.3 ∙ ap (numbers_passing every_block) c.len-blocks.ensures.is) (whole_part pairs prices factors);
       some = omega (arith, e.0, e.1, c.len-count.ensures, m.factors.ok.0, m.form.some);
     } in (
       subst (All P) (sym c.new-found.ensures.items) (all_nothing P),

@@ -1,4 +1,5 @@
 use Rattle.fixed_worth.proofs.Common.{false, err_from_is_err_and}
+use Rattle.mine_inputs.proofs.Failed.{stayed, went}
 use Rattle.mine_inputs.proofs.PricedAnswers.{prices_said, prices_unsaid, prices_answer, prec_answer, mine_answer}
 use Rattle.shell_engines.proofs.Readings.{prices_known, settings_unread, columns_missing, factors_refused, mine_fails, mine_read}
 use Rattle.shell_engines.proofs.series_inputs.listed_series.Goals as goal
@@ -52,3 +53,7 @@ returns-clause-read g c =
     mine_read o q r said c.in_ok-prices.prices c.in_ok-predecessors.predecessors c.in_ok-factors.factors.items c.in_ok-settings.ensures.read columns.1 c.in_ok-factors.ensures.factors.0
     (mine_answer o q r said c.in_ok-prices.prices c.in_ok-predecessors.predecessors c.len.result c.len.ensures.is c.len.ensures.table.revenues (prices_known false said columns.1) c.in_ok-settings.ensures.read
     (prices_said q c.in_ok-columns.columns said c.in_ok-prices.prices columns.0 c.in_ok-prices.ensures.read) c.in_ok-predecessors.ensures.read)
+
+pub returns-in_err-predecessors-clause-kept : goal.returns-in_err-predecessors-clause-kept
+returns-in_err-predecessors-clause-kept g c = λ n.
+    (went c.in_ok-settings.settings c.in_ok-settings.ensures.kept, went c.in_ok-prices.prices c.in_ok-prices.ensures.kept, stayed c.from_residual-in_err-predecessors.result c.in_err-predecessors.field-0.0 c.from_residual-in_err-predecessors.ensures.1 c.in_err-predecessors.ensures.kept n)

@@ -1,7 +1,8 @@
 use Rattle.fixed_worth.proofs.Common.{ℕ, [], Option, IfSome, length, subst, arith, sym, ap, ◌∙◌, err_from_is_err_and}
 use Rattle.mine_inputs.specs.Prelude.{BlocksReadFails, ReadsBlocks, columns_beside, columns_for}
 use Rattle.mine_inputs.proofs.SlopedAnswers.{regions_within}
-use Rattle.shell_engines.proofs.Readings.{first_size, sloped_settings_unread, sloped_columns_missing, sloped_factors_refused, sloped_blocks_unread, sloped_prices_refused, sloped_pairs_refused, sloped_series_read}
+use Rattle.mine_inputs.proofs.Priced.{first_size}
+use Rattle.shell_engines.proofs.Readings.{sloped_settings_unread, sloped_columns_missing, sloped_factors_refused, sloped_blocks_unread, sloped_prices_refused, sloped_pairs_refused, sloped_series_read}
 use Rattle.shell_engines.proofs.series_inputs.sloped_series.Goals as goal
 
 pub predecessors_by_slopes-requires : goal.predecessors_by_slopes-requires
@@ -13,7 +14,7 @@ predecessors_by_slopes-requires g c =
 
 pub invariant_of-result-clause-sizes : goal.invariant_of-result-clause-sizes
 invariant_of-result-clause-sizes g c =
-    c.in_ok-predecessors.ensures.pairs.0 ∙ sym (first_size c.in_ok-columns.columns.charges c.in_ok-model.model c.in_ok-prices.prices c.in_ok-prices.ensures.prices)
+    c.in_ok-predecessors.ensures.pairs.0 ∙ sym (first_size c.in_ok-columns.columns c.in_ok-model.model c.in_ok-prices.prices c.in_ok-prices.ensures.prices)
 
 pub returns-in_err-settings-clause-read : goal.returns-in_err-settings-clause-read
 returns-in_err-settings-clause-read g c =

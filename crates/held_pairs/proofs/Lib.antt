@@ -1,0 +1,2 @@
+pub mod FewWays
+pub mod ByRegion

@@ -1,0 +1,2 @@
+-- the region of each block
+pub mod OwnRegions

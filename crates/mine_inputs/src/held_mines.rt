@@ -1,0 +1,163 @@
+//! Reads the inputs of a mine for a check: who rests on whom is held by a list, or by the places of the blocks where settings list
+//! slopes, so that no list is made of them.
+
+ghost use Rattle.std.specs.Prelude.{◌≡◌, ◌+◌, ◌-◌, ◌^◌, ◌<◌, ℕ, List, length, IfSome, MatchResult, IsErrOf};
+ghost use Rattle.blocks_file.specs.Denotes.{narrowed};
+ghost use Rattle.mine_inputs.specs.FaultStands.{MineFails};
+ghost use Rattle.mine_inputs.specs.Inputs.{AreSlopedTexts, PairsSaidFail};
+ghost use Rattle.mine_inputs.specs.MineInputs.{ForTexts, CanCount, NoneFailed, OneFailed};
+ghost use Rattle.mine_inputs.specs.Mines.{sloped_texts};
+ghost use Rattle.mine_inputs.specs.PricedTexts.{columns_beside};
+ghost use Rattle.mine_inputs.specs.ReadMines.{ArePairsBy, IsMineRead};
+ghost use Rattle.mine_inputs.specs.SlopedTexts.{SlopesRead, column_after, columns_for, rests_said};
+
+use crate::checked_mine::{HeldMine, MineToCheck};
+use crate::columns_of_prices::place_beside;
+use crate::engine_fault::EngineFault;
+use crate::mines::{MineInputs, listed_mine};
+use crate::priced_inputs::prices_of;
+use crate::sloped_inputs::up_of;
+use crate::sloped_mines::{SlopedTexts, column_after, sloped_texts_from, slopes_of};
+use crate::worths::Worths;
+use blocks_file::BlockModel;
+use fixed_worth::CountedRead;
+use held_pairs::{HeldPairs, held_by_region};
+use settings_file::Settings;
+use std::alloc::Global;
+
+// Who rests on whom by the slopes that settings list.
+fn held_said(
+    alloc: Global,
+    model: &BlockModel,
+    settings: &Settings,
+) -> Result<HeldPairs, EngineFault>
+    ensures pairs { MatchResult result
+        (λ rests. (rests.blocks ≡ model.now.blocks) × SlopesRead settings.now model.now
+        × ArePairsBy (rests_said settings.now model.now) rests.pairs)
+        (PairsSaidFail settings.now model.now) }
+    ensures no_device { ¬ IsErrOf result EngineFault.Device }
+{
+    let slopes = slopes_of(settings);
+    let up = up_of(settings.up());
+    match held_by_region(alloc, model, slopes, up) {
+        Ok(found) => Ok(found),
+        Err(fault) => Err(EngineFault::from(fault)),
+    }
+}
+
+// Who rests on whom by the slopes that settings list, among blocks of which the column behind so many others says in which
+// region each is, where the settings name it.
+fn held_by_slopes(
+    alloc: Global,
+    model: &BlockModel,
+    others: u32,
+    settings: &Settings,
+) -> Result<HeldPairs, EngineFault>
+    requires { IfSome (column_after others settings.now.region)
+        (λ i. i < length model.now.columns) }
+    ensures pairs { MatchResult result
+        (λ rests. (rests.blocks ≡ model.now.blocks)
+        × SlopesRead settings.now
+        (narrowed (column_after others settings.now.region) model.now)
+        × ArePairsBy (rests_said settings.now
+        (narrowed (column_after others settings.now.region) model.now)) rests.pairs)
+        (PairsSaidFail settings.now
+        (narrowed (column_after others settings.now.region) model.now)) }
+    ensures no_device { ¬ IsErrOf result EngineFault.Device }
+{
+    let placed = model.narrowed(alloc, column_after(others, settings.region()))?;
+    held_said(alloc, &placed, settings)
+}
+
+// The mine of the blocks that were read.
+fn held_of_texts(alloc: Global, read: SlopedTexts) -> Result<HeldMine, EngineFault>
+    requires { length read.model.columns
+        ≡ length (columns_beside read.columns (columns_for read.settings.region)) }
+    ensures read { (factor : ℕ) (s b : List ℕ)
+        → AreSlopedTexts s b read.settings read.columns read.model
+        → MatchResult result
+        (λ mine. IsMineRead (sloped_texts s b factor) factor mine.worths mine.predecessors)
+        (MineFails (sloped_texts s b factor)) }
+    ensures no_device { ¬ IsErrOf result EngineFault.Device }
+{
+    let SlopedTexts {
+        settings,
+        columns,
+        model,
+    } = read;
+    let prices = prices_of(alloc, &model, &columns)?;
+    // proof: no revenue of prices is negative
+    let _blocks = prices.len();
+    let others = place_beside(&columns);
+    let predecessors = held_by_slopes(alloc, &model, others, &settings)?;
+    Ok(HeldMine {
+        worths: Worths::Prices(prices),
+        predecessors,
+    })
+}
+
+// The mine that settings and blocks denote by themselves.
+fn held_sloped<D: CountedRead>(
+    alloc: Global,
+    settings: &mut D,
+    blocks: &mut D,
+) -> Result<HeldMine, EngineFault>
+    requires settings_room { D.failed settings.old < 2 ^ 64 - 1 }
+    requires blocks_room { D.failed blocks.old < 2 ^ 64 - 1 }
+    ensures read { (factor : ℕ)
+        → IfSome (D.remaining settings.old) (λ s. IfSome (D.remaining blocks.old) (λ b.
+        MatchResult result
+        (λ mine. IsMineRead (sloped_texts s b factor) factor mine.worths mine.predecessors)
+        (MineFails (sloped_texts s b factor)))) }
+    ensures device { IsErrOf result EngineFault.Device
+        → D.failed settings.new + D.failed blocks.new
+        ≡ D.failed settings.old + D.failed blocks.old + 1 }
+    ensures kept { ¬ IsErrOf result EngineFault.Device
+        → (D.failed settings.new ≡ D.failed settings.old)
+        × (D.failed blocks.new ≡ D.failed blocks.old) }
+{
+    let read = sloped_texts_from(alloc, settings, blocks)?;
+    held_of_texts(alloc, read)
+}
+
+// The mine that a list of pairs was read for, as one that holds them.
+fn held_listed(mine: MineToCheck) -> HeldMine
+    ensures worths { result.worths ≡ mine.worths }
+    ensures pairs { result.predecessors ≡ mine.predecessors }
+{
+    let MineToCheck {
+        worths,
+        predecessors,
+    } = mine;
+    HeldMine {
+        worths,
+        predecessors: HeldPairs::of_list(predecessors),
+    }
+}
+
+/// The mine that its texts denote, as a check of a certificate needs it: where slopes say who rests on whom, no list of pairs
+/// is made, if a grid holds the places.
+///
+/// # Errors
+/// Those of [`crate::mine_to_check`].
+pub fn held_mine<D: CountedRead>(
+    alloc: Global,
+    inputs: &mut MineInputs<D>,
+) -> Result<HeldMine, EngineFault>
+    requires { CanCount inputs.old D.failed }
+    ensures read { (factor : ℕ)
+        → ForTexts inputs.old D.remaining factor (λ texts. MatchResult result
+        (λ mine. IsMineRead texts factor mine.worths mine.predecessors)
+        (MineFails texts)) }
+    ensures device { IsErrOf result EngineFault.Device
+        → OneFailed inputs.old inputs.new D.failed 0 0 }
+    ensures kept { ¬ IsErrOf result EngineFault.Device → NoneFailed inputs.old inputs.new D.failed }
+{
+    match inputs {
+        MineInputs::Listed { worths, prec } => match listed_mine(alloc, worths, prec) {
+            Ok(mine) => Ok(held_listed(mine)),
+            Err(fault) => Err(fault),
+        },
+        MineInputs::Sloped { settings, blocks } => held_sloped(alloc, settings, blocks),
+    }
+}
