@@ -175,7 +175,7 @@ fn mine_of_regions(alloc: Global, mut seed: u32) -> Result<BlockModel, Fail> {
             block = block.saturating_add(1);
         }
     }
-    Ok(read_blocks(alloc, text.as_bytes(), &[4])?)
+    Ok(read_blocks(alloc, text.as_bytes(), &[0])?)
 }
 
 // Whether the pairs that are held are just those of the list.
@@ -225,18 +225,18 @@ fn held_pairs_are_those_of_lists(rt: HostRuntime) -> Result<(), Fail> {
 fn faults_of_held_pairs_are_those_of_lists(rt: HostRuntime) -> Result<(), Fail> {
     let alloc: Global = rt.alloc();
     let slopes = two_regions(alloc)?;
-    let twice = read_blocks(alloc, b"0 0 0 0 0\n1 1 0 0 1\n2 1 0 0 7\n", &[4])?;
+    let twice = read_blocks(alloc, b"0 0 0 0 0\n1 1 0 0 1\n2 1 0 0 7\n", &[0])?;
     assert_eq!(rt;
         held_by_region(alloc, &twice, &slopes, Up::PlusZ).err(),
         Some(RegionFault::SamePlace(1, 2))
     );
-    let outside = read_blocks(alloc, b"0 0 0 0 0\n1 1 0 0 2\n", &[4])?;
+    let outside = read_blocks(alloc, b"0 0 0 0 0\n1 1 0 0 2\n", &[0])?;
     assert_eq!(rt;
         held_by_region(alloc, &outside, &slopes, Up::PlusZ).err(),
         Some(RegionFault::UnknownRegion(1))
     );
     // a box that is too wide for a grid: the pairs are listed
-    let apart = read_blocks(alloc, b"0 -2147483648 0 0 0\n1 2147483647 0 1 0\n", &[4])?;
+    let apart = read_blocks(alloc, b"0 -2147483648 0 0 0\n1 2147483647 0 1 0\n", &[0])?;
     let held = held_by_region(alloc, &apart, &slopes, Up::PlusZ)?;
     assert!(rt; matches!(held.as_ref(), HeldRef::Listed(_)));
     let list = predecessors_by_region(alloc, &apart, &slopes, Up::PlusZ, Selection::Every)?;
