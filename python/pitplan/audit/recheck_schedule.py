@@ -674,7 +674,10 @@ def is_line(
             line.word("strip") == ""
             if not found.ore
             else math.isclose(
-                line.number("strip"), (found.rock - found.ore) / found.ore, rel_tol=1e-6
+                line.number("strip"),
+                (found.rock - found.ore) / found.ore,
+                rel_tol=1e-6,
+                abs_tol=1e-9,  # 0 where all is ore, of which each process has a part
             )
         )
     )

@@ -63,6 +63,11 @@ def init(
     say(f"  grades: {', '.join(look.grades) or 'none found'}")
     if look.region:
         say(f"  regions of slopes, if you want them: {look.region} ({', '.join(look.regions)})")
+    if look.oxides:
+        say(
+            f"  processes, if you want them: {', '.join(look.oxides)} to a mill or a leach,"
+            f" {', '.join(look.sulphides)} to the mill"
+        )
     if look.size:
         say(
             f"  blocks of {' x '.join(f'{v:g}' for v in look.size)}"

@@ -423,7 +423,8 @@ def is_change(value: Any) -> bool:
         isinstance(value, list)
         and len(value) == 2
         and isinstance(value[0], str)
-        and value[0].partition(":")[0] in (_OF_A_METAL if ":" in value[0] else (*WHAT, SINK))
+        and value[0].partition(":")[0]
+        in ((*_OF_A_METAL, *_OF_A_PROCESS) if ":" in value[0] else (*WHAT, SINK))
         and kept_json.is_number(value[1])
         and value[1] != 0
         and value[1] > -100

@@ -1,16 +1,21 @@
 """Tables that tell tonnes, grades and metal by process: added up again from the planner's own table, by two_ways.py alone."""
 import numpy as np
+import pandas as pd
 import pytest
 
 import pitplan as pp
 import two_ways
-from pitplan.plans import compare, design, phases, vary
+from pitplan.plans import compare, design, phases, risk, vary
 from pitplan.study import pit_by_pit
 from pitplan.base.units_shown import factor_text
 from pitplan.study.reserves import reserves
 from pitplan.study.shells import Shells
 from pitplan.study.study_file import read_study_file
-from pitplan.views import page_views
+from pitplan.views import page_views, pictures
+from pitplan.views.export import csv, gpkg, vtu
+from pitplan.views.report import contents
+from pitplan.tasks.task import Tasks
+from realisations import done
 from two_ways import COLUMNS, NAMES, added_up, rows_at
 
 
@@ -193,3 +198,109 @@ def test_what_ifs_of_a_process_change_it_alone(shells):
                 vary.refuse_other_rate(change, list(rates.processes))
             else:
                 vary.changed(economics, told.slopes, change, model)
+
+
+def test_exported_files_say_where_blocks_go(shells, rows, tmp_path):
+    """As a table, for GIS and for ParaView."""
+    to = {row["IJK"]: row["to"] for row in rows}
+    table = csv.table_of(shells).set_index("id")
+    assert (table["to"] == pd.Series(to)[table.index]).all()
+    assert set(table["to"]) == {"mill", "leach", "waste"}
+    benches, _ = gpkg.features(shells, [2])
+    for line in benches:
+        level = (line["toe"] + line["crest"]) / 2
+        wanted = added_up([r for r in rows if r["shell"] <= 2 and r["ZC"] == level])
+        for name in NAMES:
+            column = f"process_{name}_ore_t"
+            assert line[column] == pytest.approx(wanted[column])
+    mesh, words = vtu.mesh_of(shells)
+    words = words[words.column == "to"]
+    names = dict(zip(words.number, words.word))
+    ids = shells.study.model.blocks.id.to_numpy()[mesh.cell_data["block"][0]]
+    assert [names[code] for code in mesh.cell_data["to"][0].tolist()] == [to[each] for each in ids]
+
+
+def test_a_picture_has_a_colour_for_each_process(shells):
+    paint = pictures.paint(shells, "to")
+    words = {number: word for number, word in paint.ticks}
+    goes = [words[each] for each in paint.values.tolist()]
+    assert goes == shells.study.priced.destinations(1000).tolist()
+    assert len(set(goes)) == 3
+    figure = pictures.pit_by_pit(shells.table(process_rates=dict.fromkeys(NAMES)))
+    (axes, *_) = figure.axes
+    heights = [
+        [bar.get_height() for bar in held] for held in axes.containers if len(held.patches) == 4
+    ]
+    assert [held.get_label() for held in axes.containers] == [
+        "Ore to mill",
+        "Ore to leach",
+        "Waste",
+    ]
+    table = shells.table(process_rates=dict.fromkeys(NAMES))
+    for i in range(4):
+        assert heights[0][i] / heights[1][i] == pytest.approx(
+            table.process_mill_ore_t[i] / table.process_leach_ore_t[i]
+        )
+
+
+def test_the_report_has_a_table_by_process(shells, rows):
+    (table,) = contents.of_processes(shells)
+    columns = {column.name: column.values for column in table.columns}
+    shown = dict(zip(zip(columns["Pit at factor"], columns["To"]), columns["Ore in place"]))
+    for i, factor in enumerate(shells.factors):
+        for name in NAMES:
+            here = [row for row in rows if row["shell"] <= i and row["to"] == name]
+            ore = sum(row["ore_t"] for row in here)
+            assert shown[factor / 1000, name] == pytest.approx(ore)
+
+
+def test_likelihoods_have_the_means_of_each_process(tmp_path):
+    """Two realisations of the grades: what each process gets of a pit is the mean over them, each by its own choice."""
+    told = read_study_file(two_ways.written(tmp_path))
+    study = pp.Study.create(
+        tmp_path, told.read_model(), told.economics, told.slopes, keys=told.digest
+    )
+    frame = two_ways.frame()
+    grades = np.stack([frame.CU * 0.7, frame.CU * 1.4]).astype(np.float32)
+    np.save(tmp_path / "sims.npy", grades)
+    risk.prepare(study, told.economics, tmp_path / "sims.npy", (1000,))
+    found = done(study)
+    line = found.pits(1000).iloc[4]
+    held = dict(zip(study.model.blocks.id, found.pit(0.5, 1000).tolist()))
+    sums = []
+    for each in grades:
+        rows = rows_at(frame.assign(CU=each.astype(float)))
+        sums.append(added_up([row for row in rows if held[row["IJK"]]]))
+    for name in NAMES:
+        ore = [one[f"process_{name}_ore_t"] for one in sums]
+        assert line[f"process_{name}_ore_t"] == pytest.approx(sum(ore) / 2)
+        for metal in ("copper", "gold"):
+            column = f"process_{name}_metal_{metal}"
+            assert line[column] == pytest.approx(sum(one[column] for one in sums) / 2)
+            graded = sum(one[f"process_{name}_grade_{metal}"] * t for one, t in zip(sums, ore))
+            assert line[f"process_{name}_grade_{metal}"] == pytest.approx(graded / sum(ore))
+    assert sums[0]["process_leach_ore_t"] != sums[1]["process_leach_ore_t"]
+
+
+def test_what_ifs_tell_what_each_process_gets(tmp_path):
+    """Of the study itself and of each change, at its own costs and rates: by hand."""
+    told = read_study_file(two_ways.written(tmp_path))
+    study = pp.Study.create(
+        tmp_path, told.read_model(), told.economics, told.slopes, keys=told.digest
+    )
+    rates = pit_by_pit.Rates(600e3, None, 0.08, told.rates["process_rates"])
+    changes = vary.changes_of(["processing:leach=30", "rate:leach=-50", "rate=-50"])
+    vary.prepare(study, told.economics, told.slopes, changes, 1000, rates)
+    tasks = Tasks(study.folder, study.program)
+    for task in vary.tasks(study):
+        tasks.do(task)
+    found = vary.table(study, rates)
+    assert found.what.tolist() == ["base", "processing:leach", "rate:leach", "rate"]
+    rows = rows_at(two_ways.frame())
+    held = dict(zip(study.model.blocks.id, study.mask(1000).tolist()))
+    wanted = added_up([row for row in rows if held[row["IJK"]]])
+    for column in (f"process_{name}_{column}" for name in NAMES for column in COLUMNS):
+        assert found[column][0] == pytest.approx(wanted[column]), column
+    assert found.process_leach_ore_t[1] < found.process_leach_ore_t[0]
+    assert found.process_mill_ore_t[1] > found.process_mill_ore_t[0]
+    assert found.npv[3] < found.npv[2] <= found.npv[0] == found.npv.max()
