@@ -31,6 +31,7 @@ if TYPE_CHECKING:
         Economics as Economics,
         Grid as Grid,
         Metal as Metal,
+        Process as Process,
         Model as Model,
         read_table as read_table,
     )
@@ -52,7 +53,7 @@ else:
         __name__,
         {
             "base": "Disagreement MachineError NotAccepted PlanError",
-            "model": "Economics Grid Metal Model read_table",
+            "model": "Economics Grid Metal Model Process read_table",
             "pit": "Accepted Pit Stated",
             "plans": "Comparison Design Phases Risk Task",
             "slopes": "Slopes",

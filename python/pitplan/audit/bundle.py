@@ -15,7 +15,7 @@ from .. import __version__
 from ..base.digests import sha256
 from ..base.errors import PlanError
 from ..base.next_command import command
-from ..study.building import COLUMNS
+from ..study.building import columns
 from ..study.folder import READ
 from ..base.files import made_whole, sweep
 from ..table.csv_text import Dialect
@@ -39,7 +39,8 @@ study.toml           prices, recoveries, costs, slopes and factors, as the plann
 table/               the planner's table of blocks, byte for byte
 model/               what pit was given. A line of mine.blocks: a block's number, its place along x, y and z, what it brings, what
                      treating and digging it cost, its tonnes, and its region where slopes differ. settings.toml: which column
-                     is which, and the slopes. A block rests on those at the offsets (x, y, z) that slopes lists for its region
+                     is which, and the slopes. A block rests on those at the offsets (x, y, z) that slopes lists for its region.
+                     Where settings.toml lists ways, a block brings and costs so much by each process of study.toml, in its order
 certificates/        for each factor the pit, and the flow that proves it
 verdicts.json        what pit check said of each, when and where
 tables/              pit by pit, bench by bench, and the row and the shell of each block
@@ -191,7 +192,7 @@ def facts_of(study: Study, name: str, dialect: Dialect) -> dict[str, Any]:
         "depth": model.depth,
         "blocks": len(model),
         "currency": study.currency,
-        "settings": list(COLUMNS),
+        "settings": columns(len(study.priced.ways)),
         "has_sub_blocks": model.has_sub_blocks,
         "grid": {
             "origin": list(model.grid.origin),

@@ -200,6 +200,9 @@ SLOPES = Kind(
     lambda value: is_list(value, OFFSETS.holds, 1, 64),
 )
 
+KEPT = Kind("a number above 0 and at most 1", lambda value: is_number(value, 0, 1) and value > 0)
+MOST_WAYS = 8  # to treat a block
+
 # The keys of each section of study.toml that are looked at, and what each may be; likewise of the other files.
 STUDY: dict[str, dict[str, Kind]] = {
     "model": {
@@ -229,10 +232,12 @@ STUDY: dict[str, dict[str, Kind]] = {
         "mining": AMOUNT,
         "processing": AMOUNT,
         "mill": WORDS,
-        "dilution": SHARE,
-        "mining_recovery": Kind(
-            "a number above 0 and at most 1", lambda value: is_number(value, 0, 1) and value > 0
+        "processes": Kind(
+            f"a list of 1 to {MOST_WAYS} processes",
+            lambda value: is_list(value, lambda each: isinstance(each, dict), 1, MOST_WAYS),
         ),
+        "dilution": SHARE,
+        "mining_recovery": KEPT,
         "rounding": Kind("a number of at least 0.000001, with at most six decimals", is_rounding),
         "currency": WORD,
         "exchange": Kind(
@@ -274,7 +279,17 @@ METAL = {
     "selling": COST,
     "currency": WORD,
 }
-NEEDED = ("metals", "mining", "processing", "name", "grade", "price")
+PROCESS = {
+    "name": WORD,
+    "rocks": WORDS,
+    "cost": AMOUNT,
+    "recovery": Kind("a table of amounts", lambda value: is_table(value, AMOUNT.holds)),
+    "payable": Kind("a table of shares", lambda value: is_table(value, SHARE.holds)),
+    "dilution": SHARE,
+    "mining_recovery": KEPT,
+    "rate": COST,
+}
+NEEDED = ("metals", "mining", "name", "grade", "price", "cost")
 GRID = {
     "origin": Kind("three numbers", lambda value: is_list(value, is_number, 3, 3)),
     "size": SIZES,
@@ -334,8 +349,14 @@ PART, ORE = (
     "ore",
 )
 AT = Kind("a whole number from 0 to 65,535", lambda value: is_whole(value, 0, 65_535))
-COLUMNS = {"revenue": AT, "processing": AT, "mining": AT, "tonnes": AT}
-SETTINGS = {**COLUMNS, "slopes": SLOPES, "region": AT, "up": one_of("plus")}
+WAY, COLUMNS = {"revenue": AT, "processing": AT}, {"mining": AT, "tonnes": AT}
+WAYS = Kind(
+    f"a list of 1 to {MOST_WAYS} tables of revenue and processing",
+    lambda value: is_list(
+        value, lambda way: is_table(way, AT.holds) and set(way) == set(WAY), 1, MOST_WAYS
+    ),
+)
+SETTINGS = {**WAY, **COLUMNS, "ways": WAYS, "slopes": SLOPES, "region": AT, "up": one_of("plus")}
 
 
 def is_encoding(name: str) -> bool:
@@ -540,12 +561,25 @@ def millionths(text: str) -> int:
     return int(found)
 
 
+class Amounts(NamedTuple):
+    """What a block brings and what treating it costs, for each way to treat it, and what digging
+    it costs: in millionths."""
+
+    ways: tuple[tuple[int, int], ...]
+    mining: int
+
+    def worths(self, factor: int) -> list[int]:
+        """What each way is worth at a factor in thousandths, in billionths."""
+        return [factor * revenue - THOUSAND * processing for revenue, processing in self.ways]
+
+
 class Blocks:
     """model/mine.blocks: places, what each block brings and costs, and by the slopes of
     model/settings.toml what it rests on.
 
     Attributes
     ----------
+    amounts : list of Amounts
     slopes : list
         The offsets of each region, from region 0 on.
     column : int or None
@@ -561,7 +595,8 @@ class Blocks:
         )
         self.slopes: list[list[list[int]]] = told["slopes"]
         self.column: int | None = told.get("region")
-        revenue, processing, mining, tonnes = (3 + told[name] for name in COLUMNS)
+        listed = ways_in(told)
+        mining, tonnes = (3 + told[name] for name in COLUMNS)
         rows: dict[int, list[str]] = {}
         with open(within("model/mine.blocks"), encoding="ascii", errors="replace") as file:
             for n, line in enumerate(file, 1):
@@ -574,7 +609,7 @@ class Blocks:
         self.rows = rows
         self.places, self.amounts, self.tonnes = (
             list[tuple[int, ...]](),
-            list[tuple[int, int, int]](),
+            list[Amounts](),
             list[float](),
         )
         for b in range(len(rows)):
@@ -582,9 +617,8 @@ class Blocks:
             try:
                 x, y, z = map(int, row[:3])
                 self.places.append((x, y, z))
-                self.amounts.append(
-                    (millionths(row[revenue]), millionths(row[processing]), millionths(row[mining]))
-                )
+                each = ((millionths(row[a]), millionths(row[b])) for a, b in listed)
+                self.amounts.append(Amounts(tuple(each), millionths(row[mining])))
                 self.tonnes.append(float(row[tonnes]))
             except (ArithmeticError, IndexError, ValueError):
                 raise Bad(
@@ -628,8 +662,25 @@ class Blocks:
 
     def worth(self, block: int, factor: int) -> int:
         """What a block is worth at a factor in thousandths, in billionths."""
-        revenue, processing, mining = self.amounts[block]
-        return max(factor * revenue - THOUSAND * processing, 0) - THOUSAND * mining
+        amounts = self.amounts[block]
+        return max(0, *amounts.worths(factor)) - THOUSAND * amounts.mining
+
+    def way(self, block: int, factor: int) -> int:
+        """Which way a block goes at a factor: the number, from 1, of the first of those that are
+        worth most; 0 where none is worth more than 0, and it is waste."""
+        worths = self.amounts[block].worths(factor)
+        best = max(worths)
+        return worths.index(best) + 1 if best > 0 else 0
+
+
+def ways_in(told: dict[str, Any]) -> list[tuple[int, int]]:
+    """Where a row of mine.blocks, without its number, has revenue and processing of each way."""
+    ways = told.get("ways")
+    if ways is None:
+        ways = [looked_at("model/settings.toml:", told, WAY, list(WAY))]
+    elif set(WAY) & set(told):
+        raise Bad("model/settings.toml has ways, and revenue or processing beside them")
+    return [(3 + way["revenue"], 3 + way["processing"]) for way in ways]
 
 
 def spelled(nanos: int) -> str:
@@ -820,6 +871,51 @@ def economics_of() -> dict[str, Any]:
     found = study_of("economics", *STUDY["economics"])
     for i, metal in enumerate(found["metals"], 1):
         looked_at(f"study.toml: [economics] metals, number {i},", metal, METAL, NEEDED)
+    for i, process in enumerate(found.get("processes", ()), 1):
+        looked_at(f"study.toml: [economics] processes, number {i},", process, PROCESS, NEEDED)
+    both = [key for key in ("processing", "mill") if key in found]
+    if "processes" in found and both:
+        raise Bad(f"study.toml: [economics] has processes, and {both[0]} beside them")
+    if "processes" not in found and "processing" not in found:
+        raise Bad("study.toml: [economics] has neither processing nor processes")
+    return found
+
+
+class Treatment(NamedTuple):
+    """A way to treat blocks, by study.toml: which rocks it takes (None of all but air), what a
+    tonne of feed costs, the share of the ore that gets there, the feed for each tonne of ore, and
+    of each metal what is recovered and what share of the price is paid."""
+
+    name: str
+    rocks: list[str] | None
+    cost: Any
+    kept: float
+    feed: float
+    recovery: dict[str, Any]
+    payable: dict[str, float]
+
+
+def treatments_of(economics: dict[str, Any]) -> list[Treatment]:
+    """The processes of [economics], or its mill."""
+    listed = economics.get("processes")
+    if listed is None:
+        mill = {"name": "mill", "cost": economics["processing"], "rocks": economics.get("mill")}
+        listed = [mill]
+    found = []
+    for each in listed:
+        kept, more = (
+            each.get(key, economics.get(key, usual))
+            for key, usual in (("mining_recovery", 1.0), ("dilution", 0.0))
+        )
+        shares = [
+            {
+                metal["name"]: each.get(key, {}).get(metal["name"], metal.get(key, 1.0))
+                for metal in economics["metals"]
+            }
+            for key in ("recovery", "payable")
+        ]
+        rocks = each.get("rocks")
+        found.append(Treatment(each["name"], rocks, each["cost"], kept, kept * (1 + more), *shares))
     return found
 
 
@@ -1211,17 +1307,24 @@ def yes_or_no(value: Any) -> bool:
 
 
 class Worked(NamedTuple):
-    """What the table and [economics] make of a block: what it brings if it is treated, what
-    treating and what digging it cost, its tonnes, those of its ore, and of each metal of a block
-    that the mill takes the grade in place and what is recovered.
+    """What the table and [economics] make of a block: what becomes of it by each way to treat it,
+    what digging it costs, its tonnes, those of its ore, and of each metal of a block that one of
+    the ways takes the grade in place.
     """
 
-    revenue: float
-    processing: float
+    ways: list[Treated]
     mining: float
     tonnes: float
     ore: float
     grades: dict[str, float]
+
+
+class Treated(NamedTuple):
+    """What a block brings if it is treated by one way, what that costs, and of each metal what is
+    recovered."""
+
+    revenue: float
+    processing: float
     metals: dict[str, float]
 
 
@@ -1377,45 +1480,30 @@ class Economics:
     def of_row(self, row: int) -> Worked:
         """What the block of a row comes to."""
         plan, tonnes = self.plan, self.tonnes(row)
-        ore = tonnes * self.part(row, ORE)
-        grades, metals = dict[str, float](), dict[str, float]()
-        takes = (
-            plan.get("mill") is None or self.rock(row) in plan["mill"]
-        ) and not self.is_of_waste(row)
-        kept = plan.get("mining_recovery", 1.0)
-        revenue = selling = 0.0
-        for metal in plan["metals"] if takes else ():
+        ore, grades = tonnes * self.part(row, ORE), dict[str, float]()
+        ways = [self.treated(row, ore, way, grades) for way in treatments_of(plan)]
+        mining = tonnes * self.amount("mining", plan["mining"], row)
+        return Worked(ways, mining, tonnes, ore, grades)
+
+    def treated(self, row: int, ore: float, way: Treatment, grades: dict[str, float]) -> Treated:
+        """What the block of a row comes to by one way to treat it, nothing where it may not go
+        there; keeps the grades that it asks for."""
+        takes = (way.rocks is None or self.rock(row) in way.rocks) and not self.is_of_waste(row)
+        metals, revenue, selling = dict[str, float](), 0.0, 0.0
+        if not takes:
+            return Treated(0.0, 0.0, metals)
+        for metal in self.plan["metals"]:
+            name = metal["name"]
             content = GRADES[metal.get("grade_unit", "%")] / PRICES[metal.get("price_unit", "t")]
             content *= self.in_tonnes
-            grades[metal["name"]] = grade = self.table.number(row, metal["grade"])
-            metals[metal["name"]] = units = (
-                ore
-                * kept
-                * grade
-                * content
-                * self.amount("recovery", metal.get("recovery", 1.0), row)
-            )
+            grades[name] = grade = self.table.number(row, metal["grade"])
+            share = self.amount("recovery", way.recovery[name], row)
+            metals[name] = units = ore * way.kept * grade * content * share
             rate = self.rate_of(metal)
-            revenue += units * (metal["price"] * rate) * metal.get("payable", 1.0)
+            revenue += units * (metal["price"] * rate) * way.payable[name]
             selling += units * (metal.get("selling", 0.0) * rate)
-        treating = (
-            ore
-            * kept
-            * (1 + plan.get("dilution", 0.0))
-            * self.amount("processing", plan["processing"], row)
-            + selling
-            if takes
-            else 0.0
-        )
-        return Worked(
-            revenue,
-            treating,
-            tonnes * self.amount("mining", plan["mining"], row),
-            tonnes,
-            ore,
-            grades,
-            metals,
-        )
+        treating = ore * way.feed * self.amount("processing", way.cost, row) + selling
+        return Treated(revenue, treating, metals)
 
     def rate_of(self, metal: dict[str, Any]) -> float:
         """What a unit of a metal's currency is worth in that of the study."""
@@ -1459,11 +1547,9 @@ def codes_of(economics: dict[str, Any], by: str | None) -> set[str]:
             # a column whose name is no plain word, or no formula, which is told where it is worked out
             return ast.Constant(0)
 
-    amounts = [
-        economics["mining"],
-        economics["processing"],
-        *(metal.get("recovery") for metal in economics["metals"]),
-    ]
+    amounts = [economics["mining"], *(metal.get("recovery") for metal in economics["metals"])]
+    for way in treatments_of(economics):
+        amounts += [way.cost, *way.recovery.values()]
     compared = [
         node
         for text in amounts
@@ -1605,7 +1691,8 @@ def added_without_need(blocks: Blocks, rows: list[int]) -> list[int]:
         if row < 0
         and (
             blocks.tonnes[b]
-            or any(blocks.amounts[b])
+            or any(map(any, blocks.amounts[b].ways))
+            or blocks.amounts[b].mining
             or place[2] <= ground.get(place[:2], place[2])
         )
     ]
@@ -1730,16 +1817,20 @@ def check_amounts(
     """What each block brings and costs, by the table and [economics]; gives it, None of blocks
     without a row. Those of `fenced` may not be dug, and digging one costs more than the mine
     brings."""
-    bad, most = [], 2 * sum(amounts[0] for amounts in blocks.amounts)
+    bad, most = [], 2 * sum(max(way[0] for way in each.ways) for each in blocks.amounts)
     worked = [economics.of_row(row) if row >= 0 else None for row in rows]
     for b, (row, ours) in enumerate(zip(rows, worked)):
-        revenue, processing, mining = blocks.amounts[b]
+        ways, mining = blocks.amounts[b]
         if ours is None:
-            is_right = revenue == processing == 0 <= mining
+            is_right = not any(map(any, ways)) and 0 <= mining
         else:
             is_right = (
-                economics.is_near(ours.revenue, revenue)
-                and economics.is_near(ours.processing, processing)
+                len(ways) == len(ours.ways)
+                and all(
+                    economics.is_near(way.revenue, revenue)
+                    and economics.is_near(way.processing, processing)
+                    for way, (revenue, processing) in zip(ours.ways, ways)
+                )
                 and (mining > most if b in fenced else economics.is_near(ours.mining, mining))
             )
         if not is_right:
@@ -1814,56 +1905,91 @@ def is_placed(table: Table, row: int, place: tuple[int, ...], facts: dict[str, A
     )
 
 
-class Sum:
-    """What some blocks of a pit add up to, at the full price."""
+class Part:
+    """What some blocks of a pit that go one way add up to: tonnes of ore, of each metal these times
+    their grade, and what is recovered."""
 
     def __init__(self) -> None:
-        self.blocks, self.worth, self.rock, self.ore = 0, 0, 0.0, 0.0
-        # of each metal tonnes of ore times their grade, and what is recovered
+        self.ore = 0.0
         self.graded, self.metal = defaultdict[str, float](float), defaultdict[str, float](float)
+
+    def join(self, other: Part) -> None:
+        """Counts in what others add up to."""
+        self.ore += other.ore
+        for name in other.graded:
+            self.graded[name] += other.graded[name]
+            self.metal[name] += other.metal[name]
+
+    def by_ore(self, metals: list[str]) -> dict[str, float]:
+        """Of each metal the tonnes of ore times their grade, by the column of the grade."""
+        return {f"grade_{name}": self.graded[name] for name in metals}
+
+
+class Sum:
+    """What some blocks of a pit add up to, at the full price: all, and by the number of the way
+    that they go."""
+
+    def __init__(self) -> None:
+        self.blocks, self.worth, self.rock = 0, 0, 0.0
+        self.ways = defaultdict[int, Part](Part)
+
+    @property
+    def all(self) -> Part:
+        """What goes any way."""
+        found = Part()
+        for number in sorted(self.ways):
+            found.join(self.ways[number])
+        return found
+
+    @property
+    def ore(self) -> float:
+        """Tonnes that are treated."""
+        return self.all.ore
+
+    def fed(self, ways: list[Treatment]) -> list[float]:
+        """The feed that each way gets."""
+        return [self.ways[number].ore * way.feed for number, way in enumerate(ways, 1)]
 
     def add(self, blocks: Blocks, b: int, worked: Worked | None) -> None:
         """Counts a block in."""
-        revenue, processing, _ = blocks.amounts[b]
         self.blocks, self.worth, self.rock = (
             self.blocks + 1,
             self.worth + blocks.worth(b, THOUSAND),
             self.rock + blocks.tonnes[b],
         )
-        if revenue > processing:
-            self.ore += blocks.tonnes[b] * (
-                worked.ore / worked.tonnes if worked and worked.tonnes else 1.0
-            )
-            if worked:
-                for name, grade in worked.grades.items():
-                    self.graded[name] += grade * worked.ore
-                    self.metal[name] += worked.metals[name]
+        number = blocks.way(b, THOUSAND)
+        if not number:
+            return
+        part = self.ways[number]
+        share = worked.ore / worked.tonnes if worked and worked.tonnes else 1.0
+        part.ore += blocks.tonnes[b] * share
+        if worked:
+            for name, units in worked.ways[number - 1].metals.items():
+                part.graded[name] += worked.grades[name] * worked.ore
+                part.metal[name] += units
 
     def join(self, other: Sum) -> None:
         """Counts in what others add up to."""
-        self.blocks, self.worth, self.rock, self.ore = (
+        self.blocks, self.worth, self.rock = (
             self.blocks + other.blocks,
             self.worth + other.worth,
             self.rock + other.rock,
-            self.ore + other.ore,
         )
-        for name in other.graded:
-            self.graded[name] += other.graded[name]
-            self.metal[name] += other.metal[name]
+        for number, part in other.ways.items():
+            self.ways[number].join(part)
 
-    def is_line(self, line: Line, is_pit: bool, feed: float, metals: list[str]) -> bool:
+    def is_line(self, line: Line, is_pit: bool, ways: list[Treatment], metals: list[str]) -> bool:
         """Whether a line of a table, of a pit or of a bench, has these blocks, tonnes and worth, of
-        these metals the amounts and the grades, and of a pit the mill's feed and the strip ratio.
-        `mine.blocks` has tonnes to three decimals.
+        these metals the amounts and the grades, of a pit the feed and the strip ratio, and of
+        several processes what goes to each. `mine.blocks` has tonnes to three decimals.
         """
-        off = 6e-4 * self.blocks
+        off, found = 6e-4 * self.blocks, self.all
+        feed, most = sum(self.fed(ways)), max(way.feed for way in ways)
         sums = {
             "rock_t": (self.rock, off),
-            "ore_t": (self.ore, off),
-            "waste_t": (self.rock - self.ore, 2 * off),
+            "waste_t": (self.rock - found.ore, 2 * off),
             **({} if is_pit else {"worth": (self.worth / NANO, 1e-3)}),
-            **{f"metal_{name}": (self.metal[name], 0.0) for name in metals},
-            **({"feed_t": (self.ore * feed, off * feed)} if is_pit else {}),
+            **({"feed_t": (feed, off * most)} if is_pit else {}),
         }
         if (
             not all(is_close(line.number(name), *of) for name, of in sums.items())
@@ -1872,16 +1998,33 @@ class Sum:
             and line.number("worth_at_base") != self.worth / NANO
         ):
             return False
-        by_ore = {f"grade_{name}": self.graded[name] for name in metals} | (
-            {"strip": self.rock - self.ore} if is_pit else {}
+        strip = {"strip": self.rock - found.ore} if is_pit else {}
+        return self.has_part(line, found, "", (metals, strip)) and (
+            len(ways) == 1
+            or all(
+                self.has_part(line, self.ways[number], f"process_{way.name}_", (metals, {}))
+                and is_close(line.number(f"process_{way.name}_feed_t"), fed, off * most)
+                for (number, way), fed in zip(enumerate(ways, 1), self.fed(ways))
+            )
         )
-        if not self.ore:
-            return all(line.word(name) == "" for name in by_ore)
+
+    def has_part(
+        self, line: Line, part: Part, before: str, of: tuple[list[str], dict[str, float]]
+    ) -> bool:
+        """Whether a line has the ore, the metals and the grades of what goes one way, in columns
+        that begin so, and what else is told by tonnes of ore."""
+        off, (metals, more) = 6e-4 * self.blocks, of
+        sums = {"ore_t": (part.ore, off)} | {f"metal_{it}": (part.metal[it], 0.0) for it in metals}
+        if not all(is_close(line.number(before + it), *found) for it, found in sums.items()):
+            return False
+        by_ore = part.by_ore(metals) | more
+        if not part.ore:
+            return all(line.word(before + name) == "" for name in by_ore)
         return all(
             is_close(
-                line.number(name),
-                value / self.ore,
-                3 * off * (1 + (self.rock + value) / self.ore) / self.ore,
+                line.number(before + name),
+                value / part.ore,
+                3 * off * (1 + (self.rock + value) / part.ore) / part.ore,
             )
             for name, value in by_ore.items()
         )
@@ -1978,14 +2121,14 @@ def check_tables(
                 found.join(part)
     economics = economics_of()
     metals = [metal["name"] for metal in economics["metals"]] if worked else []
-    feed = economics.get("mining_recovery", 1.0) * (1 + economics.get("dilution", 0.0))
+    ways = treatments_of(economics)
     lines = read_table("pit_by_pit.csv")
     bad = [
         n
         for n, (line, verdict) in enumerate(zip(lines, verdicts), 2)
         if round(line.number("factor") * THOUSAND) != verdict["factor"]
         or line.exact("worth_at_factor") != Decimal(verdict["worth"])
-        or not pits[verdict["factor"]].is_line(line, True, feed, metals)
+        or not pits[verdict["factor"]].is_line(line, True, ways, metals)
     ]
     of = ", the grades and the metals" if worked else ""
     report.check(
@@ -2000,7 +2143,7 @@ def check_tables(
     bad = [
         n
         for n, (key, line) in enumerate(zip(keys, lines), 2)
-        if key not in benches or not benches[key].is_line(line, False, feed, metals)
+        if key not in benches or not benches[key].is_line(line, False, ways, metals)
     ]
     report.check(
         sorted(keys) == sorted(benches) and not bad,

@@ -37,7 +37,6 @@ else:
 THOUSAND, MILLION = 1000, 10**6
 FULL = 0.995  # of a capacity, from which on it is said to bind
 WHEN = {"start": Decimal(0), "mid": Decimal("0.5"), "end": Decimal(1)}
-RESOURCES = ("mining", "mill")
 CUTOFFS = ("fixed", "by year")
 RATE = recheck.Kind(
     "a number above 0, or a list of such numbers",
@@ -87,6 +86,7 @@ class Mine(NamedTuple):
     blocks: recheck.Blocks
     costs: list[int]
     gains: list[int]
+    ways: list[int]
     is_rock: list[bool]
     above: Rows
 
@@ -130,14 +130,15 @@ def words_of(path: Path) -> Iterator[list[str]]:
 def read_mine() -> Mine:
     """The model as pit was given it."""
     blocks, costs, gains = recheck.Blocks(), list[int](), list[int]()
-    for number, (revenue, processing, mining) in enumerate(blocks.amounts):
-        gain = max(revenue - processing, 0)
+    for number, (each, mining) in enumerate(blocks.amounts):
+        gain = max(0, *(revenue - processing for revenue, processing in each))
         is_whole = gain % MILLION == 0 and mining % MILLION == 0
         need(is_whole, f"block {number} isn't worth whole units of currency")
         costs.append(mining // MILLION)
         gains.append(gain // MILLION)
     above = [blocks.above(number) for number in range(len(costs))]
-    return Mine(blocks, costs, gains, [tonnes > 0 for tonnes in blocks.tonnes], above)
+    ways = [blocks.way(number, THOUSAND) for number in range(len(costs))]
+    return Mine(blocks, costs, gains, ways, [tonnes > 0 for tonnes in blocks.tonnes], above)
 
 
 def read_periods(mine: Mine) -> Periods:
@@ -145,18 +146,22 @@ def read_periods(mine: Mine) -> Periods:
     told = tomllib.loads((HERE / "schedule/periods.toml").read_text())
     terms = json.loads((HERE / "schedule/terms.json").read_text())
     weights, count = told["weights"], len(told["weights"])
+    resources = 1 + len(mine.blocks.amounts[0].ways)
     need(all(a >= b for a, b in zip(weights, weights[1:])), "weights don't fall")
     need(min(weights) >= 0, "a weight is below 0")
     for name in ("capacities", "multipliers"):
         rows = told[name]
-        need([len(row) for row in rows] == [count, count], f"{name} aren't of two resources")
+        need(
+            [len(row) for row in rows] == [count] * resources,
+            f"{name} aren't of {resources} resources",
+        )
         need(min(min(row) for row in rows) >= 0, f"one of the {name} is below 0")
-    uses: Rows = [[], []]
+    uses: Rows = [[] for _ in range(resources)]
     for number, words in enumerate(words_of(HERE / "schedule/uses.blocks")):
         need(int(words[0]) == number, "uses.blocks isn't in the order of its blocks")
-        for row, word in zip(uses, words[4:6]):
+        for row, word in zip(uses, words[4 : 4 + resources]):
             row.append(int(word))
-    need(len(uses[0]) == len(mine.costs), "uses.blocks isn't of this model")
+    need({len(row) for row in uses} == {len(mine.costs)}, "uses.blocks isn't of this model")
     need(min(min(row) for row in uses) >= 0, "a use is below 0")
     unit = {int(b): int(u) for b, u in words_of(HERE / "schedule/units.txt")}
     return Periods(
@@ -236,9 +241,10 @@ def check_schedule(mine: Mine, periods: Periods, lagged: Rows, when: dict[int, i
         periods.sent is None or periods.sent <= gaining,
         "a block is sent that isn't dug, or gains nothing by the mill",
     )
-    milled = {block for block in when if periods.takes_feed(mine, block)}
-    for uses, rooms, taking in zip(periods.uses, periods.capacities, (set(when), milled)):
-        used = [0] * never
+    treated = {block for block in when if periods.takes_feed(mine, block)}
+    for resource, (uses, rooms) in enumerate(zip(periods.uses, periods.capacities)):
+        of_way = {block for block in treated if mine.ways[block] == resource}
+        used, taking = [0] * never, of_way if resource else set(when)
         for block in taking:
             used[when[block]] += uses[block]
         for period, (amount, room) in enumerate(zip(used, rooms)):
@@ -397,14 +403,15 @@ def left_by_units(mine: Mine, periods: Periods, units: int, grain: int) -> Rows:
     mill and waste for each block where a schedule may choose."""
     values, more = [0] * units, [[0] * len(periods.weights) for _ in range(units)]
     uses = [[0] * units for _ in periods.uses]
-    rock, feed = periods.uses
+    rock, feed = periods.uses[:2]
     for block, unit in periods.unit.items():
-        gain = mine.gains[block]
+        gain, way = mine.gains[block], mine.ways[block]
         values[unit] -= mine.costs[block]
         uses[0][unit] += rock[block]
         if periods.sent is None:
             values[unit] += gain
-            uses[1][unit] += feed[block]
+            if way:
+                uses[way][unit] += periods.uses[way][block]
         elif gain:
             for t, (weight, price) in enumerate(zip(periods.weights, periods.multipliers[1])):
                 paid = feed[block] * price // grain * grain
@@ -488,7 +495,15 @@ class Asked(NamedTuple):
         need(not strange, f"[schedule] has {', '.join(strange)}, which this script doesn't know")
         of_shells = recheck.looked_at("study.toml: [shells]", plan.get("shells", {}), TERMS, ())
         both = {**{name: of_shells[name] for name in TERMS if name in of_shells}, **terms}
-        found = [both.get(f"{name}_rate", []) for name in RESOURCES]
+        processes = plan["economics"].get("processes")
+        if processes is not None:
+            need("mill_rate" not in both, "there are processes, and a mill_rate beside them")
+        own = (
+            [both.get("mill_rate", [])]
+            if processes is None
+            else [each.get("rate", []) for each in recheck.economics_of()["processes"]]
+        )
+        found = [both.get("mining_rate", []), *own]
         rates = [rate if isinstance(rate, list) else [rate] for rate in found]
         return cls(
             terms,
@@ -559,7 +574,8 @@ def check_terms(mine: Mine, periods: Periods, asked: Asked) -> None:
     wanted = asked.weights(count)
     for t, (weight, ours) in enumerate(zip(periods.weights, wanted)):
         need(weight == ours, f"period {t + 1} weighs {weight}, and by study.toml {ours}")
-    for resource, (name, row) in enumerate(zip(RESOURCES, periods.capacities)):
+    names = resources_of(recheck.treatments_of(recheck.economics_of()))
+    for resource, (name, row) in enumerate(zip(names, periods.capacities)):
         for t, room in enumerate(row):
             ours = asked.room(resource, t) if asked.rates[resource] else totals[resource]
             need(room == ours, f"period {t + 1} has {room} of {name}, and by study.toml {ours}")
@@ -575,32 +591,24 @@ def check_terms(mine: Mine, periods: Periods, asked: Asked) -> None:
     )
 
 
-def feed_of(economics: dict[str, Any]) -> float:
-    """The tonnes that the mill gets for each tonne of ore in place."""
-    share: float = economics.get("mining_recovery", 1.0) * (1 + economics.get("dilution", 0.0))
-    return share
-
-
-def ore_of(mine: Mine, block: int, worked: recheck.Worked | None) -> float:
-    """The tonnes of a block that go to the mill at the full price."""
-    found = recheck.Sum()
-    found.add(mine.blocks, block, worked)
-    return found.ore
+def resources_of(ways: list[recheck.Treatment]) -> list[str]:
+    """What rates are of: digging, and the mill or each process."""
+    return ["mining", *(way.name for way in ways)]
 
 
 def check_uses(mine: Mine, periods: Periods, worked: list[recheck.Worked | None]) -> None:
-    """What the pit's blocks use is the nearest to what their rows of the planner's table say."""
-    feed = feed_of(recheck.economics_of())
+    """What the pit's blocks use is the nearest to what their rows of the planner's table say: a
+    block takes the feed of the process that it goes to, and of no other."""
+    ways = recheck.treatments_of(recheck.economics_of())
     for block in periods.unit:
-        row = worked[block]
-        is_mill = row is not None and ore_of(mine, block, row) > 0
+        row, goes = worked[block], mine.ways[block]
+        fed = [
+            row.ore * way.feed if row and goes == number else 0.0
+            for number, way in enumerate(ways, 1)
+        ]
+        rock = row.tonnes if row else mine.blocks.tonnes[block]
         for name, told, ours in zip(
-            ("rock", "feed"),
-            (uses[block] for uses in periods.uses),
-            (
-                row.tonnes if row else mine.blocks.tonnes[block],
-                row.ore * feed if row and is_mill else 0.0,
-            ),
+            resources_of(ways), (uses[block] for uses in periods.uses), [rock, *fed]
         ):
             off = 0.5 + 1e-6 + 1e-9 * ours * THOUSAND
             need(
@@ -640,27 +648,36 @@ def as_dug(mine: Mine, periods: Periods) -> recheck.Blocks:
     """The blocks, of which those that go to waste bring nothing."""
     found = copy.copy(mine.blocks)
     found.amounts = [
-        amounts if periods.takes_feed(mine, block) else (0, 0, amounts[2])
+        amounts
+        if periods.takes_feed(mine, block)
+        else amounts._replace(ways=((0, 0),) * len(amounts.ways))
         for block, amounts in enumerate(mine.blocks.amounts)
     ]
     return found
 
 
 def is_line(
-    line: recheck.Line, found: recheck.Sum, metals: list[str], feed: float, fixed: int = 0
+    line: recheck.Line,
+    found: recheck.Sum,
+    metals: list[str],
+    ways: list[recheck.Treatment],
+    fixed: int = 0,
 ) -> bool:
     """Whether a line of a table has these blocks, its cash flow less a fixed cost."""
     worth = str(Decimal(line.word("cash_flow")) + fixed)
     told = line._replace(cells={**line.cells, "worth": worth})
     off = 6e-4 * (1 + found.blocks)
     return (
-        found.is_line(told, False, feed, metals)
-        and recheck.is_close(line.number("feed_t"), found.ore * feed, off * feed)
+        found.is_line(told, False, ways, metals)
+        and recheck.is_close(line.number("feed_t"), sum(found.fed(ways)), 2 * off)
         and (
             line.word("strip") == ""
             if not found.ore
             else math.isclose(
-                line.number("strip"), (found.rock - found.ore) / found.ore, rel_tol=1e-6
+                line.number("strip"),
+                (found.rock - found.ore) / found.ore,
+                rel_tol=1e-6,
+                abs_tol=1e-9,  # 0 where all is ore, of which each process has a part
             )
         )
     )
@@ -675,7 +692,8 @@ def check_tables(
 ) -> None:
     """tables/schedule.csv and tables/schedule_benches.csv say what the schedule does."""
     economics, facts = recheck.economics_of(), recheck.facts_of()
-    metals, feed = [metal["name"] for metal in economics["metals"]], feed_of(economics)
+    metals = [metal["name"] for metal in economics["metals"]]
+    ways = recheck.treatments_of(economics)
     sums, npv = Sums.of(mine, periods, when, worked, facts["grid"]), 0.0
     kept = kept_by_sink(mine, periods, sinking(mine, periods), when)
     lines = recheck.read_table("schedule.csv")
@@ -685,7 +703,7 @@ def check_tables(
         found = sums.periods.get(t, recheck.Sum())
         need((line.whole("period"), line.whole("year")) == (t + 1, t // asked.per_year + 1), what)
         fixed = periods.fixed_cost if found.rock else 0
-        need(is_line(line, found, metals, feed, fixed), what)
+        need(is_line(line, found, metals, ways, fixed), what)
         flow, weight = found.worth / recheck.NANO - fixed, periods.weights[t] / MILLION
         npv += flow * weight
         for name, ours in (("weight", weight), ("discounted", flow * weight), ("npv", npv)):
@@ -693,7 +711,8 @@ def check_tables(
         is_sunk = periods.sink is not None and check_sink(
             line, what, kept.get(t, []), facts["grid"]
         )
-        check_binding(line, what, asked, t, (found.rock, found.ore * feed), is_sunk)
+        used = list(zip(resources_of(ways), [found.rock, *found.fed(ways)]))
+        check_binding(line, what, asked, t, used, is_sunk)
         dug = [bench for period, bench, _ in sums.benches if period == t]
         toe = min(dug) - facts["grid"]["size"][2] / 2 if dug else None
         need(is_bottom(line.word("bottom"), toe), f"{what}: bottom")
@@ -705,7 +724,7 @@ def check_tables(
     for place, line in benches.items():
         what = f"tables/schedule_benches.csv, line {line.at}, isn't what its blocks come to"
         need(line.whole("year") == place[0] // asked.per_year + 1, what)
-        need(is_line(line, sums.benches[place], metals, feed), what)
+        need(is_line(line, sums.benches[place], metals, ways), what)
 
 
 def is_bottom(word: str, toe: float | None) -> bool:
@@ -750,14 +769,14 @@ def check_binding(
     what: str,
     asked: Asked,
     period: int,
-    used: tuple[float, float],
+    used: list[tuple[str, float]],
     is_sunk: bool,
 ) -> None:
     """The shares of the rates that a line says a period uses, and which rates it says bind, the sink
     rate among them."""
     binds = []
-    for resource, (name, tonnes) in enumerate(zip(RESOURCES, used)):
-        cell = f"{name}_used"
+    for resource, (name, tonnes) in enumerate(used):
+        cell = f"process_{name}_used" if resource and len(used) > 2 else f"{name}_used"
         room = asked.room(resource, period) if asked.rates[resource] else 0
         if not room:
             need(line.word(cell) == "", f"{what}: {cell}")

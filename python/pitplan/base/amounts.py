@@ -46,37 +46,73 @@ def rounding_of(rounding: float | str | Decimal) -> Decimal:
 
 
 @dataclass
-class Priced:
-    """What each block brings and costs, in whole multiples of `rounding` units of currency.
+class Way:
+    """How blocks are treated by one process.
 
     Attributes
     ----------
-    revenue, processing, mining : int arrays of shape (blocks,)
-        At factor 1000: what a block brings if it is treated, what treating it costs, and what
-        digging it costs.
-    rounding : Decimal
+    name : str
+        "mill" of a study without processes.
+    revenue, processing : int arrays of shape (blocks,)
+        In whole multiples of the rounding: what a block brings at factor 1000 if it is treated so,
+        and what that costs. Both are 0 where it can't be.
     metal : dict of float arrays
-        The metal that is recovered of each block if it is treated, in the unit of its price.
+        The metal that is recovered of each block then, in the unit of its price.
+    feed : float
+        Tonnes that the process gets for each tonne of ore in place.
+    """
+
+    name: str
+    revenue: Ints
+    processing: Ints
+    metal: dict[str, Floats] = field(default_factory=dict)
+    feed: float = 1.0
+
+    def first(self, count: int) -> Way:
+        """That of the first blocks."""
+        return replace(
+            self,
+            revenue=self.revenue[:count],
+            processing=self.processing[:count],
+            metal={name: amounts[:count] for name, amounts in self.metal.items()},
+        )
+
+    def gain(self, part: slice, factor: int) -> Ints:
+        """What treating each block brings at a factor, in thousandths of the rounding."""
+        found: Ints = self.revenue[part] * factor
+        found -= self.processing[part] * THOUSAND
+        return found
+
+
+@dataclass
+class Priced:
+    """What each block brings and costs, in whole multiples of `rounding` units of currency.
+
+    A block goes the first way, in their order, by which it is worth most at a factor, and to waste
+    where no way is worth more than 0. What digging it costs is paid wherever it goes.
+
+    Attributes
+    ----------
+    ways : tuple of Way
+        At least one.
+    mining : int array of shape (blocks,)
+        What digging a block costs.
+    rounding : Decimal
     grade : dict of float arrays
         The grade of each block in place, in its own unit.
-    feed : float
-        Tonnes that the mill gets for each tonne of ore in place.
     forbidden : bool array of shape (blocks,)
         Which blocks may not be dug: `mining` has a price for them that keeps them from every pit.
         Default: none.
     unfenced : int array of shape (forbidden blocks,), or empty
         What digging each of these would cost. Empty where a study was built before this was kept.
     part : float array of shape (blocks,), or None
-        The part of each block's tonnes that is ore and may go to the mill. Default: all of it.
+        The part of each block's tonnes that is ore and may be treated. Default: all of it.
     """
 
-    revenue: Ints
-    processing: Ints
+    ways: tuple[Way, ...]
     mining: Ints
     rounding: Decimal = Decimal(1)
-    metal: dict[str, Floats] = field(default_factory=dict)
     grade: dict[str, Floats] = field(default_factory=dict)
-    feed: float = 1.0
     forbidden: Bools = field(default_factory=lambda: np.zeros(0, bool))
     unfenced: Ints = field(default_factory=lambda: np.zeros(0, np.int64))
     part: Floats | None = None
@@ -86,16 +122,54 @@ class Priced:
             self.forbidden = np.zeros(len(self), bool)
 
     def __len__(self) -> int:
-        return len(self.revenue)
+        return len(self.mining)
+
+    @property
+    def only(self) -> Way:
+        """The one way of a study that has no more. Raises ValueError where it has."""
+        (found,) = self.ways
+        return found
+
+    @property
+    def revenue(self) -> Ints:
+        """Of the only way."""
+        return self.only.revenue
+
+    @property
+    def processing(self) -> Ints:
+        """Likewise."""
+        return self.only.processing
+
+    @property
+    def metal(self) -> dict[str, Floats]:
+        """Likewise."""
+        return self.only.metal
+
+    @property
+    def feed(self) -> float:
+        """Likewise."""
+        return self.only.feed
+
+    @property
+    def names(self) -> list[str]:
+        """Those of the processes, where there are several; else none: then tables don't tell them
+        apart."""
+        return [way.name for way in self.ways] if len(self.ways) > 1 else []
+
+    @property
+    def most_revenue(self) -> Ints:
+        """What each block brings at most, by any way."""
+        found = self.ways[0].revenue
+        for way in self.ways[1:]:
+            found = np.maximum(found, way.revenue)
+        return found
 
     def first(self, count: int) -> Priced:
         """Those of the first blocks: of a table's, without the air that was added after them."""
         return replace(
             self,
-            revenue=self.revenue[:count],
-            processing=self.processing[:count],
+            ways=tuple(way.first(count) for way in self.ways),
             mining=self.mining[:count],
-            metal={name: amounts[:count] for name, amounts in self.metal.items()},
             grade={name: grades[:count] for name, grades in self.grade.items()},
             forbidden=self.forbidden[:count],
             part=None if self.part is None else self.part[:count],
@@ -120,8 +194,8 @@ class Priced:
     def check_room(self, factor: int) -> None:
         """Raises PlanError where a product at a factor doesn't fit 64 bits."""
         largest = max(
-            _furthest(self.revenue) * max(factor, THOUSAND),
-            _furthest(self.processing) * THOUSAND,
+            max(_furthest(way.revenue) for way in self.ways) * max(factor, THOUSAND),
+            max(_furthest(way.processing) for way in self.ways) * THOUSAND,
             _furthest(self.mining) * THOUSAND,
         )
         if largest >= 1 << 61:
@@ -138,11 +212,41 @@ class Priced:
 
     def of_part(self, part: slice, factor: int) -> Ints:
         """`thousandths` of some of the blocks, where `check_room` has passed."""
-        worth: Ints = self.revenue[part] * factor
-        worth -= self.processing[part] * THOUSAND
+        worth = self.ways[0].gain(part, factor)
+        for way in self.ways[1:]:
+            np.maximum(worth, way.gain(part, factor), out=worth)
         np.maximum(worth, 0, out=worth)
         worth -= self.mining[part] * THOUSAND
         return worth
+
+    def way_of(self, factor: int) -> Ints:
+        """Which way each block goes at a factor (in thousandths), once it is dug: the number, from
+        1, of the first of those by which it is worth most; 0 where it is waste."""
+        best = self.ways[0].gain(slice(None), factor)
+        found: Ints = (best > 0).astype(np.int64)
+        np.maximum(best, 0, out=best)
+        for number, way in enumerate(self.ways[1:], 2):
+            worth = way.gain(slice(None), factor)
+            better = worth > best  # of as much the first counts
+            found[better], best[better] = number, worth[better]
+        return found
+
+    def by_way(self, factor: int) -> list[tuple[Way, Bools]]:
+        """Each way with the blocks that go there at a factor, once they are dug."""
+        goes = self.way_of(factor)
+        return [(way, goes == number) for number, way in enumerate(self.ways, 1)]
+
+    def goes(self, factor: int) -> dict[str, Bools]:
+        """The blocks that go to each process at a factor, by its name, and those that are waste."""
+        way = self.way_of(factor)
+        found = {each.name: way == number for number, each in enumerate(self.ways, 1)}
+        return found | {"waste": way == 0}
+
+    def destinations(self, factor: int) -> npt.NDArray[np.object_]:
+        """Where each block goes at a factor, in words: the name of its process, or "waste"."""
+        names = np.array(["waste", *(way.name for way in self.ways)], object)
+        found: npt.NDArray[np.object_] = names[self.way_of(factor)]
+        return found
 
     def worth(self, factor: int) -> Floats:
         """What each block is worth at a factor (in thousandths), in units of currency, of shape
@@ -166,15 +270,34 @@ class Priced:
         return found
 
     def milled(self, factor: int) -> Bools:
-        """Whether a block, once it is dug, goes to the mill at a factor (in thousandths)."""
-        milled: Bools = self.revenue * factor > self.processing * THOUSAND
+        """Whether a block, once it is dug, is treated at a factor (in thousandths)."""
+        milled: Bools = self.way_of(factor) > 0
         return milled
 
     def ore_of(self, tonnes: Floats, factor: int) -> Floats:
-        """The tonnes of each block that go to the mill at a factor (in thousandths), once it is
-        dug; `tonnes` are those of the blocks."""
+        """The tonnes of each block that are treated at a factor (in thousandths), once it is dug;
+        `tonnes` are those of the blocks."""
         found: Floats = tonnes * self.milled(factor)
         return found if self.part is None else found * self.part
+
+    def feeds_of(self, tonnes: Floats, factor: int) -> list[Floats]:
+        """The tonnes that each process gets of each block, likewise."""
+        whole = tonnes if self.part is None else tonnes * self.part
+        return [whole * here * way.feed for way, here in self.by_way(factor)]
+
+    def metal_of(self, factor: int) -> dict[str, Floats]:
+        """The metal that is recovered of each block at a factor, once it is dug."""
+        found: dict[str, Floats] = {}
+        for way, here in self.by_way(factor):
+            for name, units in way.metal.items():
+                found[name] = found[name] + units * here if name in found else units * here
+        return found
+
+    def gains(self, factor: int) -> Ints:
+        """What treating each block by the way that it goes brings at a factor, in thousandths of
+        `rounding`; 0 of waste."""
+        found: Ints = self.thousandths(factor) + self.mining * THOUSAND
+        return found
 
     def worth_of(self, blocks: Bools, factor: int) -> str:
         """What a set of blocks is worth at a factor, exactly, spelled as `pit` spells a worth.

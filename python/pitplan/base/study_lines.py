@@ -8,6 +8,15 @@ from typing import Any
 from .errors import KeyPath
 
 _MARK = "\u241e"  # what no study.toml has
+# what a document raises of a path that leads nowhere
+_NOT_THERE = (
+    LookupError,
+    TypeError,
+    ValueError,
+    AttributeError,
+    StopIteration,
+    NotImplementedError,
+)
 
 
 def line_of(text: str, path: KeyPath) -> tuple[int, str] | None:
@@ -36,7 +45,7 @@ def line_of(text: str, path: KeyPath) -> tuple[int, str] | None:
             at = _header_line(lines, path[:end], document) or _marked_line(
                 lines, path[:end], document
             )
-        except (TOMLKitError, LookupError, TypeError, ValueError, AttributeError, StopIteration):
+        except (*_NOT_THERE, TOMLKitError):
             continue
         if at is not None:
             return at, lines[at - 1].rstrip()
@@ -61,20 +70,25 @@ def _line_by_words(lines: Sequence[str], path: KeyPath) -> tuple[int, str] | Non
     return start + 1, lines[start].rstrip()
 
 
-def _is_header(line: str, path: KeyPath) -> bool:
-    """Whether a line is the header [name] of a table."""
+def _is_header(line: str, path: KeyPath, is_listed: bool = False) -> bool:
+    """Whether a line is the header [name] of a table, or [[name]] of one of a list."""
     names = r"\s*\.\s*".join(rf"[\"']?{re.escape(str(step))}[\"']?" for step in path)
-    return re.match(rf"\s*\[\s*{names}\s*\]", line) is not None
+    bracket = r"\[" * (1 + is_listed)
+    return re.match(rf"\s*{bracket}\s*{names}\s*\]", line) is not None
 
 
 def _header_line(lines: Sequence[str], path: KeyPath, document: Any) -> int | None:
-    """The number of the line [name] of a table that has one."""
-    is_there = isinstance(value_at(document, path), Mapping)
-    return (
-        next((i for i, line in enumerate(lines, 1) if _is_header(line, path)), None)
-        if is_there
-        else None
-    )
+    """The number of the line [name] of a table that has one, or [[name]] of one of a list, or of
+    the first of such a list."""
+    value, above = value_at(document, path), value_at(document, path[:-1])
+    if isinstance(above, list):
+        path, at, is_listed = path[:-1], int(step_of(above, path[-1])), True
+    else:
+        at, is_listed = 0, isinstance(value, list)
+    if not isinstance(value, (Mapping, list)):
+        return None
+    found = [i for i, line in enumerate(lines, 1) if _is_header(line, path, is_listed)]
+    return found[at] if at < len(found) else None
 
 
 def _marked_line(lines: Sequence[str], path: KeyPath, document: Any) -> int | None:

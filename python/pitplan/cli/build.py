@@ -63,6 +63,11 @@ def init(
     say(f"  grades: {', '.join(look.grades) or 'none found'}")
     if look.region:
         say(f"  regions of slopes, if you want them: {look.region} ({', '.join(look.regions)})")
+    if look.oxides:
+        say(
+            f"  processes, if you want them: {', '.join(look.oxides)} to a mill or a leach,"
+            f" {', '.join(look.sulphides)} to the mill"
+        )
     if look.size:
         say(
             f"  blocks of {' x '.join(f'{v:g}' for v in look.size)}"
@@ -136,7 +141,7 @@ def build(folder: Path = STUDY) -> None:
     for note in study.model.notes[len(model.notes) :]:
         say("  " + note)
     print_tonnage(by_rock(study.model, study.priced, study.manifest["metals"]))
-    print_classes(study, {"": np.ones(len(study.model), bool)}, "in place, by resource class")
+    print_kinds(study, {"": np.ones(len(study.model), bool)}, "in place,")
     if plan.economics.forbid:
         part = int(plan.economics.partly_forbidden(model).sum())
         say(
@@ -174,19 +179,23 @@ def print_tonnage(lines: pd.DataFrame) -> None:
     _print_lines(TITLE, lines, 1)
 
 
-def print_classes(
-    study: Study, sets: Mapping[str, Bools], title: str, base: int | None = None
+def print_kinds(
+    study: Study, sets: Mapping[str, Bools], what: str, base: int | None = None
 ) -> None:
-    """What each set of blocks has of each resource class, where the table has classes; a set alone needs no name."""
+    """What of each set of blocks goes to each process, where there are several, and what it has of each resource class, where the table has
+    classes; a set alone needs no name."""
     from ..base.amounts import THOUSAND
-    from ..model.tonnage import by_class
+    from ..model.tonnage import by_class, by_process
 
-    if study.classes is None:
-        return
-    lines = by_class(
-        study.model, study.priced, study.manifest["metals"], study.classes, sets, base or THOUSAND
-    )
-    _print_lines(title, lines if any(sets) else lines.drop(columns="of"), 2 if any(sets) else 1)
+    given, factor = (study.model, study.priced, study.manifest["metals"]), base or THOUSAND
+    found = []
+    if study.priced.names:
+        found.append(("by process", by_process(*given, sets, factor)))
+    if study.classes is not None:
+        found.append(("by resource class", by_class(*given, study.classes, sets, factor)))
+    for kind, lines in found:
+        title, shown = f"{what} {kind}".strip(), lines if any(sets) else lines.drop(columns="of")
+        _print_lines(title, shown, 2 if any(sets) else 1)
 
 
 def print_rock_of_classes(

@@ -8,7 +8,7 @@ from typing import TYPE_CHECKING, Any, List, Optional
 import typer
 from ..base.errors import PlanError
 from ..base.units_shown import length_text, printed_scale, share_text
-from .build import print_classes
+from .build import print_kinds
 from .console import STUDY, app, described, err, open_study, results, say
 
 if TYPE_CHECKING:
@@ -161,9 +161,9 @@ def _tell(study: Study, found: Comparison) -> None:
     )
     for line in lines:
         say(line)
-    print_classes(
+    print_kinds(
         study,
         {found.design.name: held, "best pit": found.optimum},
-        "by resource class",
+        "",
         found.factor,
     )

@@ -258,7 +258,7 @@ def open_study(folder: Path) -> Study:
     return study
 
 
-def shells_of(folder: Path) -> tuple[Shells, dict[str, float]]:
+def shells_of(folder: Path) -> tuple[Shells, dict[str, Any]]:
     """The shells at all factors of study.toml, and the rates for `Shells.table`; nothing is run.
 
     Raises

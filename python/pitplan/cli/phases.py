@@ -16,7 +16,7 @@ from ..base.units_shown import (
     printed_scale,
     share_text,
 )
-from .build import print_classes
+from .build import print_kinds
 from .console import and_study, app, err, print_columns, results, say, study_and, warn
 
 if TYPE_CHECKING:
@@ -78,10 +78,10 @@ def phases(
         write_table(frame, target / name)
     keep(found, target)
     _show(found, table)
-    print_classes(
+    print_kinds(
         found.shells.study,
         {f"pushback {k}": found.pushback == k for k in range(1, len(found) + 1)},
-        "pushbacks by resource class",
+        "pushbacks",
     )
     if found.mines is not None:
         _tell_widened(found)

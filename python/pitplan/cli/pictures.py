@@ -3,7 +3,7 @@ from __future__ import annotations
 
 import re
 from pathlib import Path
-from typing import TYPE_CHECKING, List, Optional
+from typing import TYPE_CHECKING, Any, List, Optional
 
 import typer
 from ..base.errors import PlanError
@@ -37,7 +37,7 @@ def plot(
     ),
     colour: str = typer.Option(
         "shell",
-        help="What colours the blocks: shell, value (worth at factor 1), or a column of the table.",
+        help="What colours the blocks: shell, value (worth at factor 1), to (which process gets it, where there are several), or a column of the table.",
     ),
     pit: Optional[float] = typer.Option(
         None,
@@ -88,7 +88,7 @@ def _named(what: str, at: float) -> str:
     return f"{what}-{length_text(at, '')}"
 
 
-def _graph_of(shells: Shells, rates: dict[str, float]) -> Figure:
+def _graph_of(shells: Shells, rates: dict[str, Any]) -> Figure:
     """The pit-by-pit graph, in the study's own units."""
     from ..views import pictures
 

@@ -231,6 +231,7 @@ def _print_years(found: Schedule, years: pd.DataFrame) -> None:
 
     study = found.shells.study
     metals, has_width = study.manifest["metals"], "narrow_share" in years
+    processes = study.priced.names
     rock = printed_scale(years["rock_t"], study.model.units.weight)
     money = printed_scale(years[["cash_flow", "npv"]], study.currency)
     names = (
@@ -239,6 +240,7 @@ def _print_years(found: Schedule, years: pd.DataFrame) -> None:
         f"ore {rock.unit}",
         "strip",
         f"feed {rock.unit}",
+        *(f"{name} {rock.unit}" for name in processes),
         *(f"{name} {unit['grade_unit']}" for name, unit in metals.items()),
         "cash flow",
         "discounted",
@@ -261,6 +263,7 @@ def _print_years(found: Schedule, years: pd.DataFrame) -> None:
             rock.text(row["ore_t"]),
             text(row["strip"]),
             rock.text(row["feed_t"]),
+            *(rock.text(row[f"process_{name}_feed_t"]) for name in processes),
             *(text(row[f"grade_{name}"], 3) for name in metals),
             *(money.text(row[name]) for name in ("cash_flow", "discounted", "npv")),
             "" if row["bottom"] != row["bottom"] else f"{row['bottom']:,.10g}",

@@ -14,7 +14,7 @@ from ..base import events
 from ..base.errors import PlanError
 from ..base.next_command import command
 from ..base.units_shown import counted, grade_places, printed_scale, share_text
-from .build import print_classes, tell_strange
+from .build import print_kinds, tell_strange
 from .console import (
     STUDY,
     app,
@@ -64,10 +64,10 @@ def shells(
     write_tables(found, table, plan.keys.decimal)
     _print_table(found, table)
     at = found.factors.index(THOUSAND) if THOUSAND in found.factors else len(found) - 1
-    print_classes(
+    print_kinds(
         found.study,
         {"": found.holds(at)},
-        f"the pit at factor {share_text(found.factors[at])} by resource class",
+        f"the pit at factor {share_text(found.factors[at])}",
     )
     tell_strange(list(of_rates(study.model, study.priced, plan.rates)))
     warn_of_edges(found)

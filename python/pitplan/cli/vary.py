@@ -27,7 +27,7 @@ _APART = {True: "larger", False: "within the gaps"}
 _WORDS: Any = typer.Argument(
     None,
     metavar="[STUDY] [CHANGES]...",
-    help="The folder of the study (default: this one), and changes, as price=-20..20 price:gold=-10..10 recovery=-5..5 recovery:gold=-5..5 mining=-10..10 processing=-10..10 mining_rate=-10..10 mill_rate=-10..10 (percent of themselves) slope=-3..3 (degrees) discount=-2..2 (points: from 8 % to 10 % a year are 2); with --schedule also sink=-1..1 (benches). Default: the changes of the last run.",
+    help="The folder of the study (default: this one), and changes, as price=-20..20 price:gold=-10..10 recovery=-5..5 recovery:gold=-5..5 mining=-10..10 processing=-10..10 mining_rate=-10..10 mill_rate=-10..10, or of processes processing:leach=-10..10 rate:leach=-10..10 (percent of themselves) slope=-3..3 (degrees) discount=-2..2 (points: from 8 % to 10 % a year are 2); with --schedule also sink=-1..1 (benches). Default: the changes of the last run.",
 )
 
 
@@ -182,7 +182,10 @@ def _rates_of(plan: StudyFile) -> Rates:
 
     found = plan.rates
     return Rates(
-        found.get("mining_rate"), found.get("mill_rate"), found.get("discount", Rates().discount)
+        found.get("mining_rate"),
+        found.get("mill_rate"),
+        found.get("discount", Rates().discount),
+        found.get("process_rates", {}),
     )
 
 

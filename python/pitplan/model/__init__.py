@@ -6,11 +6,15 @@ from typing import TYPE_CHECKING
 from ..base.door import door
 
 if TYPE_CHECKING:
-    from .economics import Economics as Economics, Metal as Metal
+    from .economics import Economics as Economics, Metal as Metal, Process as Process
     from .grid import Grid as Grid
     from .model import Model as Model, TableKeys as TableKeys, read_table as read_table
 else:
     __getattr__, __dir__, __all__ = door(
         __name__,
-        {"economics": "Economics Metal", "grid": "Grid", "model": "Model TableKeys read_table"},
+        {
+            "economics": "Economics Metal Process",
+            "grid": "Grid",
+            "model": "Model TableKeys read_table",
+        },
     )

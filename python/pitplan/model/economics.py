@@ -13,7 +13,7 @@ import numpy as np
 import pandas as pd
 
 from ..base.arrays import Bools, Floats, Ints
-from ..base.amounts import LARGEST_FACTOR, MOST, THOUSAND, Priced, exact_sum, rounding_of
+from ..base.amounts import LARGEST_FACTOR, MOST, THOUSAND, Priced, Way, exact_sum, rounding_of
 from ..base.errors import (
     MOST_CELLS,
     Cell,
@@ -32,13 +32,22 @@ from ..base.units import metal_in_a_tonne
 from ..table.column_names import AIR
 from ..table.csv_text import not_estimated
 from ..table.formula import names_in, worked_out
-from ..table.study_keys import METALS, of_percent, refuse_wrong
+from ..table.study_keys import (
+    METALS,
+    MOST_PROCESSES,
+    PROCESSES,
+    missing_in,
+    of_percent,
+    refuse_wrong,
+)
 from .classes import of_waste
 from .model import Model
 from .subblocks import coded
 from .weights import ore_part
 
 _BARE = re.compile(r"[A-Za-z0-9_-]+")  # a key of TOML that needs no quotes
+_WASTE = ("", "waste", "forbidden")  # where a block goes that no process gets
+_MILL = "mill"  # the name of the way of a study without processes
 # A number, a column of the table, a formula over columns, or a number by rock with "other" for the rest.
 Amount = Union[float, str, Mapping[str, float]]
 
@@ -89,14 +98,103 @@ class Metal:
 
 
 @dataclass(frozen=True)
-class _Read:
-    """What the keys of [economics] say of each block, in arrays of shape (blocks,): grades and
-    recoveries by metal, costs a tonne."""
+class Process:
+    """A way to treat blocks.
 
-    to_mill: Bools
-    grade: dict[str, Floats]
+    Parameters
+    ----------
+    name : str
+        None of `_WASTE`, which say where other blocks go.
+    cost : number, column, formula, or mapping by rock
+        What treating a tonne of its feed costs.
+    rocks : sequence of str, optional
+        The rocks that it takes. Default: all but air.
+    recovery : mapping of str to the same
+        Of metals, by name, the share that is recovered. Default: that of the metal.
+    payable : mapping of str to float
+        Of metals, by name, the share of the price that is paid. Default: that of the metal.
+    dilution, mining_recovery : float, optional
+        As of `Economics`. Default: those that it has.
+    rate : float, optional
+        Tonnes of its feed a year.
+    """
+
+    name: str
+    cost: Amount
+    rocks: Sequence[str] | None = None
+    recovery: Mapping[str, Amount] = field(default_factory=dict)
+    payable: Mapping[str, float] = field(default_factory=dict)
+    dilution: float | None = None
+    mining_recovery: float | None = None
+    rate: float | None = None
+
+    def __post_init__(self) -> None:
+        at = ("economics", PROCESSES, self.name)
+        refuse_wrong(PROCESSES, vars(self), f"[economics] process {self.name}", at)
+        if self.name in _WASTE or not self.name.isprintable():
+            raise PlanError(
+                f"[economics] a process is called {self.name!r}, and tables need another name for it",
+                try_this='name = "leach"',
+                key=(*at, "name"),
+            )
+
+
+@dataclass(frozen=True)
+class _Treatment:
+    """A way to treat blocks as it is worked out: a process, or the one mill of a study without any.
+
+    Attributes
+    ----------
+    name : str
+    rocks : sequence of str or None
+    cost : Amount
+    recovery : dict
+        Of each metal, by name.
+    payable : dict
+        Likewise.
+    mining_recovery, feed : float
+        The share of the ore that gets there, and tonnes of feed for each tonne of ore in place.
+    said : str
+        What an error calls it: "" of the mill.
+    """
+
+    name: str
+    rocks: Sequence[str] | None
+    cost: Amount
+    recovery: dict[str, Amount]
+    payable: dict[str, float]
+    mining_recovery: float
+    feed: float
+    said: str = ""
+
+    def key(self, name: str) -> KeyPath:
+        """Where one of its keys stands in study.toml, as the mill calls it."""
+        if not self.said:
+            return ("economics", name)
+        return ("economics", PROCESSES, self.name, {"processing": "cost", "mill": "rocks"}[name])
+
+    def what(self, name: str) -> str:
+        """How an error begins that concerns such a key."""
+        return f"[economics] {self.said and f'{self.said} '}{self.key(name)[-1]}"
+
+
+@dataclass(frozen=True)
+class _Treated:
+    """What the keys say of each block by one way: whether it may go there, what is recovered, and
+    what a tonne of feed costs."""
+
+    takes: Bools
     recovery: dict[str, Floats]
-    processing: Floats
+    cost: Floats
+
+
+@dataclass(frozen=True)
+class _Read:
+    """What the keys of [economics] say of each block, in arrays of shape (blocks,): grades by
+    metal, what is said of each way to treat it, and what a tonne of rock costs."""
+
+    grade: dict[str, Floats]
+    ways: tuple[_Treated, ...]
     mining: Floats
     forbidden: Bools
 
@@ -110,8 +208,8 @@ class Economics:
     metals : sequence of Metal
     mining : number, column, formula, or mapping by rock
         What digging a tonne costs, be it ore or waste.
-    processing : the same
-        What treating a tonne of the mill's feed costs.
+    processing : the same, optional
+        What treating a tonne of the mill's feed costs. Needed where there are no `processes`.
     mill : sequence of str, optional
         The rocks that the mill takes. Default: all but air.
     dilution : float
@@ -129,11 +227,13 @@ class Economics:
         Resource classes whose blocks are never ore, by the column `class` of [model].
     exchange : mapping
         What a unit of another currency is worth in `currency`, for metals that are sold in it.
+    processes : sequence of Process
+        Several ways to treat blocks, in place of `processing` and `mill`: at most 8.
     """
 
     metals: Sequence[Metal]
     mining: Amount
-    processing: Amount
+    processing: Amount | None = None
     mill: Sequence[str] | None = None
     dilution: float = 0.0
     mining_recovery: float = 1.0
@@ -142,6 +242,7 @@ class Economics:
     forbid: Sequence[str] = field(default_factory=tuple)
     waste_classes: Sequence[str] = field(default_factory=tuple)
     exchange: Mapping[str, float] = field(default_factory=dict)
+    processes: Sequence[Process] = field(default_factory=tuple)
 
     def __post_init__(self) -> None:
         if not self.metals:
@@ -158,13 +259,83 @@ class Economics:
             )
         refuse_wrong(
             "economics",
-            {name: value for name, value in vars(self).items() if name not in (METALS, "rounding")},
+            {
+                name: value
+                for name, value in vars(self).items()
+                if name not in (METALS, PROCESSES, "rounding")
+            },
         )
+        self._refuse_processes()
         for metal in self.metals:
             with about("economics", METALS, metal.name, "currency"):
                 self.rate_of(metal)
         with about("economics", "rounding"):
             rounding_of(self.rounding)
+
+    def _refuse_processes(self) -> None:
+        """Refuses processes beside the keys of one mill, two of a name, too many, and what they say
+        of metals that aren't sold; and an [economics] with neither."""
+        wrong, names = Gathered(), [process.name for process in self.processes]
+        sold = [metal.name for metal in self.metals]
+        if not self.processes and self.processing is None:
+            wrong.add(missing_in("economics", {**vars(self), PROCESSES: None}))
+        for name in ("processing", "mill") if self.processes else ():
+            if getattr(self, name) is not None:
+                wrong.add([_twice(name)])
+        for name in sorted({name for name in names if names.count(name) > 1}):
+            said = f"[economics] two processes are called {name}"
+            wrong.add([PlanError(said, key=("economics", PROCESSES))])
+        if len(names) > MOST_PROCESSES:
+            said = (
+                f"[economics] there are {len(names)} processes, and at most {MOST_PROCESSES} may be"
+            )
+            wrong.add([PlanError(said, key=("economics", PROCESSES))])
+        for process in self.processes:
+            for key, table in (("recovery", process.recovery), ("payable", process.payable)):
+                wrong.add(
+                    PlanError(
+                        f"[economics] process {process.name}: {key} names {name!r}, and no metal is called so{meant(name, sold)}",
+                        try_this=", ".join(sold),
+                        key=("economics", PROCESSES, process.name, key),
+                    )
+                    for name in table
+                    if name not in sold
+                )
+        wrong.tell()
+
+    @property
+    def rates(self) -> dict[str, dict[str, float | None]]:
+        """What each process gets a year at most, as `Shells.table` asks for it; nothing where there
+        are no processes."""
+        found = {process.name: process.rate for process in self.processes}
+        return {"process_rates": found} if found else {}
+
+    @property
+    def treatments(self) -> list[_Treatment]:
+        """The ways to treat blocks, in the order of study.toml."""
+        of_metals = {m.name: m.recovery for m in self.metals}, {
+            m.name: m.payable for m in self.metals
+        }
+        if not self.processes:
+            cost = 0.0 if self.processing is None else self.processing
+            return [_Treatment(_MILL, self.mill, cost, *of_metals, self.mining_recovery, self.feed)]
+        found = []
+        for each in self.processes:
+            kept = self.mining_recovery if each.mining_recovery is None else each.mining_recovery
+            more = self.dilution if each.dilution is None else each.dilution
+            found.append(
+                _Treatment(
+                    each.name,
+                    each.rocks,
+                    each.cost,
+                    of_metals[0] | dict(each.recovery),
+                    of_metals[1] | dict(each.payable),
+                    kept,
+                    kept * (1 + more),
+                    f"process {each.name}",
+                )
+            )
+        return found
 
     def rate_of(self, metal: Metal) -> float:
         """What a unit of the currency that a metal is sold in is worth in that of the study.
@@ -192,7 +363,8 @@ class Economics:
         over="ignore", invalid="ignore"
     )  # in_whole refuses what is no number, with its row
     def priced(self, model: Model) -> Priced:
-        """Revenue, processing and mining of each block, in whole multiples of `rounding`.
+        """What each block brings and costs by each way to treat it, and what digging it costs, in
+        whole multiples of `rounding`.
 
         Raises
         ------
@@ -202,49 +374,53 @@ class Economics:
         """
         model = coded(model, self.codes())
         tonnes, read = model.blocks.tonnes.to_numpy(float), self.read_of(model)
-        part = ore_part(model)
+        rounding = rounding_of(self.rounding)
+        ways = tuple(
+            self._way_of(model, read.grade, *each) for each in zip(self.treatments, read.ways)
+        )
+        found = Priced(
+            ways,
+            _in_whole("mining", tonnes * read.mining, rounding, model),
+            rounding,
+            read.grade,
+            read.forbidden,
+            part=ore_part(model),
+        )
+        if found.forbidden.any():
+            found.unfenced = found.mining[found.forbidden]
+            found.mining[found.forbidden] = fence_price(found, rounding)
+        return found
+
+    def _way_of(
+        self, model: Model, grade: dict[str, Floats], way: _Treatment, read: _Treated
+    ) -> Way:
+        """What each block brings and costs by one way to treat it: nothing where it may not go."""
+        part, tonnes = ore_part(model), model.blocks.tonnes.to_numpy(float)
         ore = tonnes if part is None else tonnes * part
         revenue, selling = np.zeros(len(model)), np.zeros(len(model))
         metal: dict[str, Floats] = {}
         for m in self.metals:
             units = (
                 ore
-                * self.mining_recovery
-                * read.grade[m.name]
+                * way.mining_recovery
+                * grade[m.name]
                 * (m.content() * model.units.tonnes)
                 * read.recovery[m.name]
-                * read.to_mill
+                * read.takes
             )
             metal[m.name] = units
             rate = self.rate_of(m)
-            revenue += units * (m.price * rate) * m.payable
+            revenue += units * (m.price * rate) * way.payable[m.name]
             selling += units * (m.selling * rate)
-        processing = ore * self.feed * read.processing * read.to_mill + selling
-        mining = tonnes * read.mining
+        processing = ore * way.feed * read.cost * read.takes + selling
         rounding = rounding_of(self.rounding)
-        whole = [
-            _in_whole(name, values, rounding, model)
-            for name, values in (
-                ("revenue", revenue),
-                ("processing", processing),
-                ("mining", mining),
-            )
-        ]
-        found = Priced(
-            whole[0],
-            whole[1],
-            whole[2],
-            rounding,
+        return Way(
+            way.name,
+            _in_whole("revenue", revenue, rounding, model),
+            _in_whole("processing", processing, rounding, model, way.key("processing")),
             metal,
-            read.grade,
-            self.feed,
-            read.forbidden,
-            part=part,
+            way.feed,
         )
-        if found.forbidden.any():
-            found.unfenced = found.mining[found.forbidden]
-            found.mining[found.forbidden] = fence_price(found, rounding)
-        return found
 
     def read_of(self, model: Model) -> _Read:
         """What the keys say of each block.
@@ -254,45 +430,63 @@ class Economics:
         PlanError
             With each error that hangs on no other one.
         """
-        wrong, grade, recovery, costs = (
-            Gathered(),
-            dict[str, Floats](),
-            dict[str, Floats](),
-            dict[str, Floats](),
-        )
-        to_mill = forbidden = np.zeros(len(model), bool)
-        with wrong.part("economics", "mill"):
-            to_mill = self.to_mill(model)
+        wrong, grade, ways = Gathered(), dict[str, Floats](), list[_Treated]()
+        mining, forbidden = np.zeros(len(model)), np.zeros(len(model), bool)
         for m in self.metals:
-            at, what = ("economics", METALS, m.name), f"[economics] recovery of {m.name}"
-            with wrong.part(*at, "grade"):
+            with wrong.part("economics", METALS, m.name, "grade"):
                 grade[m.name] = _grades_of(m, model)
-            with wrong.part(*at, "recovery"):
-                _refuse_shares(what, m.recovery, (*at, "recovery"))
-                recovery[m.name] = _share(what, amount(what, m.recovery, model), model)
-        for name in ("processing", "mining"):
-            with wrong.part("economics", name):
-                costs[name] = _cost(f"[economics] {name}", getattr(self, name), model)
+        known: dict[KeyPath, Floats] = {}
+        for way in self.treatments:
+            ways.append(self._treated(model, way, known, wrong))
+        with wrong.part("economics", "mining"):
+            mining = _cost("[economics] mining", self.mining, model)
         with wrong.part("economics", "forbid"):
             forbidden = self.forbidden(model)
         wrong.tell()
-        return _Read(to_mill, grade, recovery, costs["processing"], costs["mining"], forbidden)
+        return _Read(grade, tuple(ways), mining, forbidden)
 
-    def to_mill(self, model: Model) -> Bools:
-        """Whether a block may go to the mill: its rock is one that the mill takes, its class none
-        of waste, and it is a block of the table."""
+    def _treated(
+        self, model: Model, way: _Treatment, known: dict[KeyPath, Floats], wrong: Gathered
+    ) -> _Treated:
+        """What the keys say of each block by one way to treat it; what is wrong is gathered.
+        `known` has the recoveries that were read, by their keys: a metal's are those of several."""
+        takes, cost = np.zeros(len(model), bool), np.zeros(len(model))
+        with wrong.part(*way.key("mill")):
+            takes = self._taken(model, way)
+        own: Mapping[str, Amount] = next(
+            (each.recovery for each in self.processes if each.name == way.name), {}
+        )
+        at: dict[str, KeyPath] = {}
+        for name, share in way.recovery.items():
+            at[name] = ("economics", METALS, name, "recovery")
+            what = f"[economics] recovery of {name}"
+            if name in own:
+                at[name] = ("economics", PROCESSES, way.name, "recovery", name)
+                what = f"[economics] {way.said} recovery of {name}"
+            if at[name] not in known:
+                known[at[name]] = np.zeros(len(model))
+                with wrong.part(*at[name]):
+                    _refuse_shares(what, share, at[name])
+                    known[at[name]] = _share(what, amount(what, share, model), model)
+        with wrong.part(*way.key("processing")):
+            cost = _cost(way.what("processing"), way.cost, model)
+        return _Treated(takes, {name: known[key] for name, key in at.items()}, cost)
+
+    def _taken(self, model: Model, way: _Treatment) -> Bools:
+        """Whether a block may go a way: its rock is one that it takes, its class none of waste, and
+        it is a block of the table."""
         rock, kinds = model.blocks.rock, [str(kind) for kind in model.blocks.rock.unique()]
         wrong = Gathered()
         wrong.add(
             PlanError(
-                f"[economics] mill: no block is of rock {name!r}{meant(name, kinds)}",
-                key=("economics", "mill"),
+                f"{way.what('mill')}: no block is of rock {name!r}{meant(name, kinds)}",
+                key=way.key("mill"),
             ).with_swap(swap_of(name, kinds))
-            for name in self.mill or ()
+            for name in way.rocks or ()
             if name not in kinds
         )
         wrong.tell()
-        takes = rock.isin(list(self.mill)) if self.mill is not None else rock != AIR
+        takes = rock.isin(list(way.rocks)) if way.rocks is not None else rock != AIR
         found: Bools = takes.to_numpy() & (model.blocks["row"].to_numpy() >= 0)
         return found & ~of_waste(model, self.waste_classes)
 
@@ -317,7 +511,9 @@ class Economics:
         """The columns that stand for codes: those that a comparison or `forbid` names. A metal's
         grade isn't one, whatever is asked of it: of sub-blocks its mean is what the metal in the
         block comes to."""
-        amounts = [self.mining, self.processing, *(metal.recovery for metal in self.metals)]
+        amounts = [self.mining, *(metal.recovery for metal in self.metals)]
+        for way in self.treatments:
+            amounts += [way.cost, *way.recovery.values()]
         compared = [names_in(text, is_compared=True) for text in amounts if isinstance(text, str)]
         return set().union(*compared, *(names_in(str(text)) for text in self.forbid)) - {
             metal.grade for metal in self.metals
@@ -341,6 +537,16 @@ class Economics:
             > 0
         )
         return found & free
+
+
+def _twice(name: str) -> PlanError:
+    """The error of a key of one mill beside processes."""
+    own = {"processing": "cost", "mill": "rocks"}[name]
+    return PlanError(
+        f"[economics] has {name}, which is of one mill, and processes: each of these has its own {own}",
+        try_this=f"take {name} out, or the processes",
+        key=("economics", name),
+    )
 
 
 def _number(what: str, value: object, least: float, most: float = math.inf) -> None:
@@ -557,15 +763,16 @@ def _share(what: str, values: Floats, model: Model) -> Floats:
 
 def _cost(what: str, given: Amount, model: Model) -> Floats:
     """What a tonne costs, at least 0."""
+    said = what.removesuffix(" cost")  # a process costs so much, and not its cost
     for value in given.values() if isinstance(given, Mapping) else [given]:
         if isinstance(value, (int, float)) and value < 0:
-            raise PlanError(f"{what} costs {value:g} a tonne, less than nothing")
+            raise PlanError(f"{said} costs {value:g} a tonne, less than nothing")
     values = amount(what, given, model)
     wrong = values < 0
     if wrong.any():
         at = int(np.argmax(wrong))
         raise PlanError(
-            f"{what} costs {values[at]:g} a tonne here, less than nothing"
+            f"{said} costs {values[at]:g} a tonne here, less than nothing"
             + (f", and so for {int(wrong.sum()):,} blocks" if wrong.sum() > 1 else ""),
             table=model.table,
             row=_row_at(model, at),
@@ -581,8 +788,11 @@ def _row_at(model: Model, block: int) -> int | None:
     return row if row >= 0 else None
 
 
-def _in_whole(name: str, values: Floats, rounding: Decimal, model: Model) -> Ints:
-    """Amounts in whole multiples of `rounding`, half to even."""
+def _in_whole(
+    name: str, values: Floats, rounding: Decimal, model: Model, key: KeyPath = ()
+) -> Ints:
+    """Amounts in whole multiples of `rounding`, half to even; `key` is where they are said, unless
+    it is the key of that name."""
     most = float(MOST)
     if not np.abs(values).max(initial=0.0) <= most:  # so also where a product is no number
         at = int(np.argmax(np.abs(values)))
@@ -590,7 +800,7 @@ def _in_whole(name: str, values: Floats, rounding: Decimal, model: Model) -> Int
             f"a {name} of {values[at]:g} for one block: is a unit wrong?",
             table=model.table,
             row=_row_at(model, at),
-            key=("economics", METALS if name == "revenue" else name),
+            key=key or ("economics", METALS if name == "revenue" else name),
         )
     whole: Ints = np.rint(values / float(rounding)).astype(np.int64)
     return whole
@@ -606,10 +816,11 @@ def fence_price(priced: Priced, rounding: Decimal) -> int:
     PlanError
         Where the mine brings more than half of that at the full price.
     """
-    price = exact_sum(priced.revenue) * LARGEST_FACTOR // THOUSAND + 1
+    most = exact_sum(priced.most_revenue)
+    price = most * LARGEST_FACTOR // THOUSAND + 1
     if price * rounding > MOST:
         price = int(MOST / rounding)
-        if price <= 2 * exact_sum(priced.revenue):
+        if price <= 2 * most:
             raise PlanError(
                 "[economics] forbid: the mine brings too much for an amount that keeps blocks from being dug",
                 try_this="prices and costs in thousands",

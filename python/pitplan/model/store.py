@@ -15,7 +15,7 @@ from typing import Any
 import numpy as np
 import pandas as pd
 
-from ..base.amounts import Priced, rounding_of
+from ..base.amounts import Priced, Way, rounding_of
 from ..base.arrays import Array, Bools, Floats, Ints
 from ..base.errors import PlanError
 from ..base.units import Units
@@ -52,11 +52,35 @@ def bytes_as_words(data: Array, count: int) -> Array:
     return np.array(bytes(data).decode().split("\n") if count else [], dtype=object)
 
 
+def _arrays_of(ways: Sequence[Way]) -> dict[str, Array]:
+    """The arrays of each way to treat blocks; of the second and further ones with its number."""
+    arrays: dict[str, Array] = {}
+    for number, way in enumerate(ways):
+        before = f"{number} " if number else ""
+        arrays |= {f"{before}revenue": way.revenue, f"{before}processing": way.processing}
+        arrays |= {f"{before}{_METAL}{name}": units for name, units in way.metal.items()}
+    return arrays
+
+
+def _ways_in(file: Any, facts: dict[str, Any]) -> tuple[Way, ...]:
+    """The ways that `_arrays_of` made arrays of; one mill in files that name none."""
+    found = []
+    for number, (name, feed) in enumerate(facts.get("processes", [["mill", facts["feed"]]])):
+        before = f"{number} " if number else ""
+        metal = {
+            each.removeprefix(before + _METAL): file[each]
+            for each in file.files
+            if each.startswith(before + _METAL)
+        }
+        revenue, processing = file[f"{before}revenue"], file[f"{before}processing"]
+        found.append(Way(str(name), revenue, processing, metal, float(feed)))
+    return tuple(found)
+
+
 def save(path: Path, model: Model, priced: Priced, region: Ints) -> None:
     """Writes a model, what its blocks bring and cost, and the region of slopes of each block."""
     arrays: dict[str, Array] = {
-        "revenue": priced.revenue,
-        "processing": priced.processing,
+        **_arrays_of(priced.ways),
         "mining": priced.mining,
         "forbidden": priced.forbidden,
         "unfenced": priced.unfenced,
@@ -69,7 +93,6 @@ def save(path: Path, model: Model, priced: Priced, region: Ints) -> None:
         weights = np.zeros(len(model.row_block))
         weights[model.parts.frame["row"].to_numpy()] = model.parts.frame["tonnes"].to_numpy(float)
         arrays["row_tonnes"] = weights
-    arrays |= {_METAL + name: units for name, units in priced.metal.items()}
     arrays |= {_GRADE + name: grade for name, grade in priced.grade.items()}
     for name in model.blocks.columns:
         values = model.blocks[name]
@@ -93,7 +116,8 @@ def save(path: Path, model: Model, priced: Priced, region: Ints) -> None:
         "order": list(map(str, model.blocks.columns)),
         "blocks": len(model),
         "rounding": str(priced.rounding),
-        "feed": priced.feed,
+        "feed": priced.ways[0].feed,
+        "processes": [[way.name, way.feed] for way in priced.ways],
     }
     np.savez(path, told=np.frombuffer(json.dumps(facts).encode(), np.uint8), **arrays)
 
@@ -176,16 +200,12 @@ def load_priced(path: Path) -> Priced:
     """What the blocks bring and cost; the planner's own columns aren't read."""
     with _open_kept(path) as file:
         facts = facts_of(file)
-        metal = {name[len(_METAL) :]: file[name] for name in file.files if name.startswith(_METAL)}
         grade = {name[len(_GRADE) :]: file[name] for name in file.files if name.startswith(_GRADE)}
         return Priced(
-            file["revenue"],
-            file["processing"],
+            _ways_in(file, facts),
             file["mining"],
             rounding_of(facts["rounding"]),
-            metal,
             grade,
-            facts["feed"],
             file["forbidden"],
             file["unfenced"] if "unfenced" in file.files else np.zeros(0, np.int64),
             file["part"] if "part" in file.files else None,

@@ -327,8 +327,9 @@ def by_bench(study: Study, held: Bools, optimum: Bools, factor: int) -> pd.DataF
     DataFrame
         ``bench`` (elevation of the blocks' centres), ``design_t`` and ``best_t`` (tonnes of each),
         ``left_t`` (in the best pit and not in the design), ``over_t`` (in the design and not in the
-        best pit), ``left_ore_t`` and ``over_ore_t`` (of these what would go to the mill),
-        ``left_worth`` and ``over_worth`` (without blocks that may not be dug).
+        best pit), ``left_ore_t`` and ``over_ore_t`` (of these what would be treated),
+        ``left_worth`` and ``over_worth`` (without blocks that may not be dug); and where there are
+        several processes ``left_process_<name>_ore_t`` and ``over_process_<name>_ore_t``.
     """
     grid, priced = study.model.grid, study.priced
     level, tonnes = study.model.blocks.iz.to_numpy(), study.model.blocks.tonnes.to_numpy(float)
@@ -351,6 +352,12 @@ def by_bench(study: Study, held: Bools, optimum: Bools, factor: int) -> pd.DataF
             "over_ore_t": summed(over, ore),
             "left_worth": summed(left, worth),
             "over_worth": summed(over, worth),
+            **{
+                f"{what}_process_{name}_ore_t": summed(mask & goes[name], ore)
+                for goes in [priced.goes(factor)]
+                for name in priced.names
+                for what, mask in (("left", left), ("over", over))
+            },
         }
     )
     there = np.bincount(level[held | optimum], minlength=grid.shape[2])[::-1] > 0

@@ -19,6 +19,7 @@ from ..study.shells import Shells
 from . import widths
 
 _CLASSED = ("rock_t", "ore_t")  # of each resource class
+_TREATED = ("ore_t", "feed_t")  # of each process
 _SUMMED = ("blocks", "rock_t", "ore_t", "waste_t", "feed_t", "worth")
 
 
@@ -132,7 +133,8 @@ class Phases:
             by ore), ``feed_t`` (what the mill gets), ``worth``; for each metal ``grade_<metal>``
             and ``metal_<metal>``; ``width`` (the thinnest, see `widths.widths`), and with a mining
             width ``narrow_blocks`` and ``narrow_t``: what lies where it is less. Where the table
-            has resource classes, the columns of `Cells.by_class`.
+            has resource classes, the columns of `Cells.by_class`, and where there are several
+            processes, those of `Cells.by_process`.
         """
         shells = self.shells
         grid, cells = shells.study.model.grid, Cells.of(shells, base, None, self.shell)
@@ -151,7 +153,7 @@ class Phases:
             rock = {name: found.pop(name) for name in ("blocks", "rock_t", "ore_t", "waste_t")}
             mill = {
                 "strip": rock["waste_t"] / rock["ore_t"] if rock["ore_t"] else np.nan,
-                "feed_t": rock["ore_t"] * shells.study.priced.feed,
+                "feed_t": sum(cells.fed((i, down))),
             }
             row = {
                 "pushback": i + 1,
@@ -231,7 +233,10 @@ class Phases:
             row |= {
                 name: part[name].sum() for name in ("narrow_blocks", "narrow_t") if name in part
             }
-            rows.append(row | _of_classes(part, classes.names if classes else (), names))
+            processes = [f"process_{name}_" for name in self.shells.study.priced.names]
+            row |= _of_kinds(part, processes, _TREATED, names)
+            kinds = [f"class_{name}_" for name in (classes.names if classes else ())]
+            rows.append(row | _of_kinds(part, kinds, _CLASSED, names))
         return pd.DataFrame(rows)
 
     def reserves(self, base: int = THOUSAND) -> pd.DataFrame:
@@ -270,14 +275,15 @@ class Mines(Shells):
         return np.where(self.dug < len(self), self.dug + 1, 0).astype(np.int16)
 
 
-def _of_classes(
-    part: pd.DataFrame, kinds: Sequence[str], metals: Sequence[str]
+def _of_kinds(
+    part: pd.DataFrame, kinds: Sequence[str], summed: Sequence[str], metals: Sequence[str]
 ) -> dict[str, float]:
-    """The columns of classes of some benches added up: grades by tonnes of ore of the class."""
+    """The columns of processes or classes of some benches added up, by what these columns begin
+    with: grades by tonnes of ore of the kind."""
     found: dict[str, float] = {}
-    for before in (f"class_{kind}_" for kind in kinds):
+    for before in kinds:
         ore = part[f"{before}ore_t"]
-        found |= {f"{before}{name}": float(part[f"{before}{name}"].sum()) for name in _CLASSED}
+        found |= {f"{before}{name}": float(part[f"{before}{name}"].sum()) for name in summed}
         for metal in metals:
             graded = float((part[f"{before}grade_{metal}"].fillna(0) * ore).sum())
             found[f"{before}grade_{metal}"] = graded / float(ore.sum()) if ore.sum() else np.nan

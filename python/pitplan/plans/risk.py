@@ -51,6 +51,7 @@ from ..study.study_file import economics_of, refuse_digits
 from ..table.column_names import PLACES, columns_with
 from ..table.csv_text import dialect_beside, number_column, numbers_among, read_frame
 from ..table.formula import names_in
+from ..table.study_keys import PROCESSES
 from .task_line import Task
 
 if TYPE_CHECKING:
@@ -227,10 +228,16 @@ def prepare(
             checked(_without_marks(grades[r], absent), r, realisations)
         digests = [digest_of(grades[r]) for r in range(len(grades))]
         found = Setup(
-            study.key, file, column, digests, sorted(set(factors)), asdict(economics), absent
+            study.key, file, column, digests, sorted(set(factors)), _said_of(economics), absent
         )
         (work / "risk.json").write_text(json.dumps(asdict(found), indent=1))
     return found
+
+
+def _said_of(economics: Economics) -> dict[str, Any]:
+    """What is kept of [economics]; of processes nothing where there are none."""
+    found = asdict(economics)
+    return found if economics.processes else {k: v for k, v in found.items() if k != PROCESSES}
 
 
 def _column_of(economics: Economics, metal: str | None) -> str:
@@ -760,19 +767,26 @@ class Risk:
     def pits(self, factor: int = THOUSAND) -> pd.DataFrame:
         """The pits of likelihood 0.1 to 0.9: blocks, tonnes, and what each is worth on the mean and
         at least over all realisations, beside what the realisations' own best pits are worth on the
-        mean; and the tonnes of each resource class, where the table has classes."""
+        mean; of several processes what each gets on the mean, in the columns of
+        `pit_by_pit.Cells.by_process`; and the tonnes of each resource class, where the table has
+        classes."""
         masks = [self.pit(share, factor) for share in TENTHS]
         worths = np.zeros((len(TENTHS), self.count))
-        best = np.zeros(self.count)
+        best, treated = np.zeros(self.count), [_Treated(self.count) for _ in masks]
         for r in range(self.count):
             one = Realisation(self.study, self.setup, r)
             worths[:, r] = [float(one.priced.worth_of(mask, factor)) for mask in masks]
+            for each, mask in zip(treated, masks):
+                each.add(one, mask, factor)
             verdict = one.verdict(factor)
             assert verdict is not None
             best[r] = float(verdict["worth"])
         tonnes = lean_model(self.study, self.setup.economics).blocks.tonnes.to_numpy(float)
         classes = self.study.classes
-        by_class = [classes.rock_of(mask, tonnes) if classes else {} for mask in masks]
+        by_class = [
+            {**each.means(), **(classes.rock_of(mask, tonnes) if classes else {})}
+            for each, mask in zip(treated, masks)
+        ]
         found = pd.DataFrame(
             {
                 "likelihood": TENTHS,
@@ -793,6 +807,45 @@ class Risk:
             f"likelihood_{spelled_factor(f)}": self.likelihood(f) for f in self.factors
         }
         return pd.DataFrame({"id": model.blocks["id"].to_numpy(), "row": model.table_row, **found})
+
+
+class _Treated:
+    """What each of several processes gets of a pit, added up over realisations: ore in place, feed,
+    and of each metal tonnes of ore times their grade and what is recovered.
+
+    Parameters
+    ----------
+    count : int
+        Of the realisations.
+    """
+
+    def __init__(self, count: int) -> None:
+        self.count, self.sums = count, dict[tuple[str, str], float]()
+
+    def add(self, one: Realisation, mask: Bools, factor: int) -> None:
+        """Counts a realisation in; it sends each block where that is worth most by its own grades."""
+        priced, tonnes = one.priced, one.model.blocks.tonnes.to_numpy(float)
+        if not priced.names:
+            return
+        ore = priced.ore_of(tonnes, factor)
+        for way, goes in priced.by_way(factor):
+            here = goes & mask
+            of_ore = float(ore[here].sum())
+            found = {"ore_t": of_ore, "feed_t": of_ore * way.feed}
+            for name, units in way.metal.items():
+                found[f"grade_{name}"] = float((priced.grade[name] * ore)[here].sum())
+                found[f"metal_{name}"] = float(units[here].sum())
+            for what, amount in found.items():
+                self.sums[way.name, what] = self.sums.get((way.name, what), 0.0) + amount
+
+    def means(self) -> dict[str, float]:
+        """On the mean over the realisations; grades by tonnes of ore."""
+        found = {}
+        for (process, what), amount in self.sums.items():
+            is_grade = what.startswith("grade_")
+            over = self.sums[process, "ore_t"] if is_grade else float(self.count)
+            found[f"process_{process}_{what}"] = amount / over if over else np.nan
+        return found
 
 
 @dataclass(frozen=True)

@@ -36,9 +36,10 @@ if TYPE_CHECKING:
     from matplotlib.figure import Figure
 
 _OF_A_METAL = ("price", "recovery")  # of all metals, or of one of them: price:gold
+_OF_A_PROCESS = ("processing", "rate")  # of all processes, or of one of them: processing:leach
 _PERCENT = (*_OF_A_METAL, "mining", "processing")  # of what stands in study.toml
 _SLOPE = "slope"  # in degrees
-RATES = ("mining_rate", "mill_rate")  # in percent; they leave the pit as it is
+RATES = ("mining_rate", "mill_rate", "rate")  # in percent; they leave the pit as it is
 DISCOUNT = "discount"  # in points: from 8 % to 10 % a year are 2
 WHAT = (*_PERCENT, _SLOPE, *RATES, DISCOUNT)
 SINK = "sink"  # in benches; of schedules alone
@@ -60,7 +61,8 @@ class Change:
     Attributes
     ----------
     what : str
-        One of `WHAT`, or `SINK`; or one of `_OF_A_METAL`, a colon, and the metal's name.
+        One of `WHAT`, or `SINK`; or one of `_OF_A_METAL` or `_OF_A_PROCESS`, a colon, and the name of
+        a metal or a process.
     by : float
     """
 
@@ -69,12 +71,12 @@ class Change:
 
     @property
     def kind(self) -> str:
-        """What is changed, without the metal."""
+        """What is changed, without the metal or the process."""
         return self.what.partition(":")[0]
 
     @property
-    def metal(self) -> str:
-        """The metal that alone is changed; "" where all are."""
+    def of(self) -> str:
+        """The metal or the process that alone is changed; "" where all are."""
         return self.what.partition(":")[2]
 
     @property
@@ -94,14 +96,14 @@ class Change:
 
     @property
     def name(self) -> str:
-        """Of its folder. Of a metal with other letters in its name a digest says which.
+        """Of its folder. Of a name with other letters in it a digest says which.
 
         >>> Change("recovery", -5).name, Change("price:gold", 10).name
         ('recovery-5', 'price_gold+10')
         """
-        word = re.sub(r"[^A-Za-z0-9]+", "_", self.metal)[:40]
-        if word != self.metal:
-            word += "_" + hashlib.sha256(self.metal.encode()).hexdigest()[:8]
+        word = re.sub(r"[^A-Za-z0-9]+", "_", self.of)[:40]
+        if word != self.of:
+            word += "_" + hashlib.sha256(self.of.encode()).hexdigest()[:8]
         return f"{self.kind}{'_' + word if word else ''}{self.by:+g}"
 
     @property
@@ -163,7 +165,7 @@ def changes_of(words: Iterable[str], known: Sequence[str] = WHAT) -> list[Change
                 f"{word!r}: {kind!r} isn't among what can be varied{meant(kind, known)}",
                 try_this=", ".join(known),
             )
-        if metal and kind not in _OF_A_METAL:
+        if metal and kind not in (*_OF_A_METAL, *_OF_A_PROCESS):
             raise PlanError(
                 f"{word!r}: {kind} isn't a metal's",
                 try_this=f"{kind}={parts[2]}, or one of {', '.join(_OF_A_METAL)} with a metal",
@@ -249,7 +251,7 @@ def _make(
     if change.is_factor:
         price_factor(factor, change)
     elif change.keeps_pit:
-        _other_rates(rates.over(1.0, 1.0), change)
+        _other_rates(rates.over(1.0, [1.0] * len(rates.named)), change)
     else:
         e, s = changed(economics, slopes, change, study.model)
         Study.create(place(study, change.name), study.model, e, s, study.program)
@@ -261,8 +263,40 @@ def _other_rates(rates: Rates, change: Change | None) -> Rates:
         return rates
     if change.kind == DISCOUNT:
         return replace(rates, discount=round(rates.discount + change.by / 100, 12))
-    name = change.kind.removesuffix("_rate")
-    return replace(rates, **{name: getattr(rates, name) * (1 + change.by / 100)})
+    share = 1 + change.by / 100
+    if change.kind == "mining_rate":
+        return replace(rates, mining=(rates.mining or 0.0) * share)
+    refuse_other_rate(change, list(rates.processes))
+    if change.kind == "mill_rate":
+        return replace(rates, mill=(rates.mill or 0.0) * share)
+    of = {
+        name: (rate or 0.0) * (share if change.of in ("", name) else 1.0)
+        for name, rate in rates.processes.items()
+    }
+    return replace(rates, processes=of)
+
+
+def refuse_other_rate(change: Change, processes: Sequence[str]) -> None:
+    """Refuses the rate of a mill where there are processes, that of processes where there is one
+    mill, and that of a process that isn't there.
+
+    Raises
+    ------
+    PlanError
+        With what may be asked for.
+    """
+    if change.kind == "mill_rate" and processes:
+        raise PlanError(
+            "there is no mill_rate: each process has its own",
+            try_this=f"rate={change.by:g}, or rate:{processes[0]}={change.by:g}",
+        )
+    if change.kind == "rate" and not processes:
+        raise PlanError(
+            "there are no processes, and the mill has mill_rate",
+            try_this=f"mill_rate={change.by:g}",
+        )
+    if change.of and change.of not in processes:
+        raise PlanError(f"no process is called {change.of!r}{meant(change.of, processes)}")
 
 
 def changed(
@@ -279,20 +313,47 @@ def changed(
         )
         return economics, replace(slopes, angles=_turned(slopes.angles, change.by), regions=regions)
     if change.kind in _OF_A_METAL:
-        names = [metal.name for metal in economics.metals]
-        if change.metal and change.metal not in names:
-            raise PlanError(f"no metal is called {change.metal!r}{meant(change.metal, names)}")
-        metals = (
-            replace(metal, **{change.kind: _times(getattr(metal, change.kind), share, model)})
-            if change.metal in ("", metal.name)
-            else metal
-            for metal in economics.metals
-        )
-        return replace(economics, metals=tuple(metals)), slopes
+        return _of_metals(economics, change, model), slopes
+    if change.kind == "processing" and (economics.processes or change.of):
+        names = [process.name for process in economics.processes]
+        if change.of and change.of not in names:
+            raise PlanError(f"no process is called {change.of!r}{meant(change.of, names)}")
+        processes = [
+            replace(each, cost=_times(each.cost, share, model))
+            if change.of in ("", each.name)
+            else each
+            for each in economics.processes
+        ]
+        return replace(economics, processes=tuple(processes)), slopes
     return (
         replace(economics, **{change.what: _times(getattr(economics, change.what), share, model)}),
         slopes,
     )
+
+
+def _of_metals(economics: Economics, change: Change, model: Model) -> Economics:
+    """The economics with another price or recovery of all metals, or of one; the recoveries that
+    processes have of their own change with it."""
+    share, names = 1 + change.by / 100, [metal.name for metal in economics.metals]
+    if change.of and change.of not in names:
+        raise PlanError(f"no metal is called {change.of!r}{meant(change.of, names)}")
+    metals = tuple(
+        replace(metal, **{change.kind: _times(getattr(metal, change.kind), share, model)})
+        if change.of in ("", metal.name)
+        else metal
+        for metal in economics.metals
+    )
+    found = replace(economics, metals=metals)
+    if change.kind != "recovery":
+        return found
+    processes = []
+    for each in economics.processes:
+        recovery = {
+            name: _times(of, share, model) if change.of in ("", name) else of
+            for name, of in each.recovery.items()
+        }
+        processes.append(replace(each, recovery=recovery))
+    return replace(found, processes=tuple(processes))
 
 
 def _times(amount: Amount, share: float, model: Model) -> Amount:
@@ -362,7 +423,8 @@ def is_change(value: Any) -> bool:
         isinstance(value, list)
         and len(value) == 2
         and isinstance(value[0], str)
-        and value[0].partition(":")[0] in (_OF_A_METAL if ":" in value[0] else (*WHAT, SINK))
+        and value[0].partition(":")[0]
+        in ((*_OF_A_METAL, *_OF_A_PROCESS) if ":" in value[0] else (*WHAT, SINK))
         and kept_json.is_number(value[1])
         and value[1] != 0
         and value[1] > -100
@@ -426,7 +488,8 @@ def table(study: Study, rates: Rates = Rates()) -> pd.DataFrame:
         (bench after bench, discounted as `pit_by_pit.discounted`), npv_difference, how many blocks
         of the pit ask for a place beside the model (side_blocks) and are the lowest of their column
         (floor_blocks), see `edges`; and where the table has resource classes the tonnes of each,
-        class_<name>_rock_t.
+        class_<name>_rock_t; where there are several processes the columns of
+        `pit_by_pit.Cells.by_process`.
 
     Raises
     ------
@@ -447,7 +510,8 @@ def table(study: Study, rates: Rates = Rates()) -> pd.DataFrame:
             one = study if of.name == BASE else scenario(study, of.name)
             pits[of] = _OnePit.of(one, of.factors[0], study)
         if change is None:
-            rates = rates.over(float(pits[of].rock.sum()), float(pits[of].feed.sum()))
+            feeds = [float(feed.sum()) for feed in pits[of].feeds]
+            rates = rates.over(float(pits[of].rock.sum()), feeds)
         rows.append(
             {
                 "what": change.what if change else BASE,
@@ -467,12 +531,12 @@ def table(study: Study, rates: Rates = Rates()) -> pd.DataFrame:
 
 @dataclass(frozen=True)
 class _OnePit:
-    """The pit of a what-if: what the table says of it, and its rock, feed and worth bench by bench
-    from the top."""
+    """The pit of a what-if: what the table says of it, and its rock, the feed of each process and its
+    worth, bench by bench from the top."""
 
     said: dict[str, Any]
     rock: Floats
-    feed: Floats
+    feeds: list[Floats]
     worth: Floats
 
     @classmethod
@@ -488,18 +552,19 @@ class _OnePit:
             "worth": float(shells.verdicts[0]["worth"]),
             "side_blocks": int((held & edges.touching(study)).sum()),
             "floor_blocks": int((held & edges.on_floor(study.model)).sum()),
+            **cells.by_process(()),
             **(base.classes.rock_of(mask, tonnes) if base.classes else {}),
         }
         return cls(
             said,
             by_bench(cells.rock),
-            by_bench(cells.ore) * study.priced.feed,
+            [by_bench(ore) * feed for ore, feed in zip(cells.ores, cells.feed_by_ore)],
             by_bench(cells.worth),
         )
 
     def npv(self, rates: Rates) -> float:
         """Its worth bench after bench, discounted."""
-        return discounted(self.rock, self.feed, self.worth, rates)[0]
+        return discounted(self.rock, self.feeds, self.worth, rates)[0]
 
 
 def tornado(found: pd.DataFrame, currency: str = "$") -> Figure:

@@ -98,7 +98,7 @@ class Expanded:
 
         Parameters
         ----------
-        multipliers : int array of shape (2, periods)
+        multipliers : int array of shape (resources, periods)
             In billionths of a unit of currency for a thousandth of a tonne, none below 0.
         """
         made = self.production

@@ -18,7 +18,7 @@ from ..pit.program import Texts
 from ..pit.scheduled import Scheduled
 from ..study.building import write_numbers
 from .periods_text import periods_text
-from .production import Production, feed_of
+from .production import Production, feeds_of
 from .sending import Timetable
 from .terms import GRAIN, MILLION
 
@@ -39,15 +39,15 @@ def write_texts(folder: Path, study: Study, production: Production, of_blocks: I
         The period of each block, -1 where it isn't dug.
     """
     b = study.model.blocks
-    uses = np.zeros((2, production.size), np.int64)
-    uses[:, production.blocks] = block_uses(study, production.blocks)
+    own = block_uses(study, production.blocks)
+    uses = np.zeros((len(own), production.size), np.int64)
+    uses[:, production.blocks] = own
     table = {
         "b": np.arange(len(b)),
         "x": b.ix,
         "y": b.iy,
         "z": b.iz,
-        "rock": uses[0],
-        "feed": uses[1],
+        **{f"uses {number}": each for number, each in enumerate(uses)},
     }
     with whole_file(folder / TEXTS[0]) as part:
         write_numbers(part, {name: np.asarray(each) for name, each in table.items()})
@@ -59,9 +59,10 @@ def write_texts(folder: Path, study: Study, production: Production, of_blocks: I
 
 
 def block_uses(study: Study, blocks: Ints) -> Ints:
-    """Rock and feed of some blocks, in thousandths of a tonne, of shape (2, blocks)."""
-    both = study.model.blocks.tonnes.to_numpy(float), feed_of(study)
-    return np.stack([np.rint(each[blocks] * GRAIN).astype(np.int64) for each in both])
+    """Rock of some blocks, and the feed of the mill or of each process, in thousandths of a tonne,
+    of shape (resources, blocks)."""
+    found = study.model.blocks.tonnes.to_numpy(float), *feeds_of(study)
+    return np.stack([np.rint(each[blocks] * GRAIN).astype(np.int64) for each in found])
 
 
 def judged(study: Study, production: Production, plan: Timetable, folder: Path) -> Scheduled:

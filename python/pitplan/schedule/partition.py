@@ -74,7 +74,7 @@ class Relaxed:
     worth : float
         Its optimum in units of currency: no more than that of the relaxation itself.
     shares : float array of shape (clusters,)
-    multipliers : int array of shape (2, periods)
+    multipliers : int array of shape (resources, periods)
         As `Expanded` takes them.
     """
 
@@ -148,9 +148,11 @@ class Program(NamedTuple):
         count, periods, millable = cluster.size, production.periods, production.millable
         worths = _by_period(cluster, millable.unit, production.values, millable.gains) / _MILLION
         nothing = np.zeros(len(millable.feeds))
+        feeds_by_row: list[Array] = [nothing for _ in production.uses]
+        feeds_by_row[1] = millable.feeds  # those that may be sent take feed of the mill
         rows = [
             _by_period(cluster, millable.unit, uses, feeds) / GRAINS
-            for uses, feeds in zip(production.uses, (nothing, millable.feeds))
+            for uses, feeds in zip(production.uses, feeds_by_row)
         ]
         order = _differences(_cluster_pairs(production, cluster, count), count)
         gains = worths.T @ (production.weights / _MILLION)
@@ -161,7 +163,7 @@ class Program(NamedTuple):
             gains = np.append(gains, -costs)
             none = csr_matrix((order.shape[0], periods))
             opened = vstack([*(-diags(each) for each in limits), none])
-            table, limits = hstack([table, opened]), np.zeros((2, periods))
+            table, limits = hstack([table, opened]), np.zeros(limits.shape)
         return cls(gains, table.tocsr(), np.append(limits.ravel(), np.zeros(order.shape[0])))
 
 
@@ -175,7 +177,7 @@ def relax(
     MachineError
         Where it ends without an answer.
     """
-    program, periods = Program.of(production, cluster), production.periods
+    program = Program.of(production, cluster)
     found = linprog(
         -program.gains,
         A_ub=program.table,
@@ -188,7 +190,8 @@ def relax(
         return None
     if found.status != 0:
         raise MachineError(f"HiGHS gives no relaxation of the schedule: {found.message}")
-    prices = np.maximum(-found.ineqlin.marginals[: 2 * periods], 0).reshape(2, periods)
+    shape = production.capacities.shape
+    prices = np.maximum(-found.ineqlin.marginals[: shape[0] * shape[1]], 0).reshape(shape)
     return Relaxed(
         -float(found.fun) * _MILLION,
         np.asarray(found.x)[: cluster.size],

@@ -18,7 +18,7 @@ from ..base.next_command import command
 from ..pit.scheduled import Scheduled
 from .ends import End
 from .judged import judged
-from .production import Production, feed_of, production_of
+from .production import Production, feeds_of, production_of
 from .search import Search, Told
 from .sending import Timetable
 from .terms import MILLION, terms_of
@@ -100,7 +100,7 @@ class Schedule:
         cls,
         shells: Shells,
         values: Mapping[str, Any],
-        rates: Mapping[str, float],
+        rates: Mapping[str, Any],
         limits: tuple[float, float],
         listener: Told | None = None,
         folder: Path | None = None,
@@ -143,7 +143,7 @@ class Schedule:
         cls,
         shells: Shells,
         values: Mapping[str, Any],
-        rates: Mapping[str, float],
+        rates: Mapping[str, Any],
         folder: Path | None = None,
     ) -> Schedule | None:
         """What was found last by these terms; None where nothing was. Nothing is searched, and
@@ -233,9 +233,10 @@ class Schedule:
 
     @property
     def ways(self) -> Array:
-        """Where each block of the model goes: "mill" or "waste"; "" where it isn't dug, and of
-        air."""
-        return np.where(self.periods > 0, np.where(self.sent, "mill", "waste"), "")
+        """Where each block of the model goes: "mill", or the name of a process, or "waste"; ""
+        where it isn't dug, and of air."""
+        there = self.shells.study.priced.destinations(THOUSAND).astype(str)
+        return np.where(self.periods > 0, np.where(self.sent, there, "waste"), "")
 
     def left(self) -> tuple[int, float, float]:
         """What of the pit stays in the ground: blocks of rock, tonnes, and what they are worth."""
@@ -262,7 +263,7 @@ def _sent_of(study: Study, production: Production, plan: Timetable) -> Bools:
 
 
 def production_for(
-    shells: Shells, values: Mapping[str, Any], rates: Mapping[str, float]
+    shells: Shells, values: Mapping[str, Any], rates: Mapping[str, Any]
 ) -> Production:
     """What the schedule of a study is made of.
 
@@ -281,5 +282,6 @@ def production_for(
     at = shells.factors.index(THOUSAND)
     held = shells.holds(at)
     tonnes = study.model.blocks.tonnes.to_numpy(float)
-    terms = terms_of(values, rates, float(tonnes[held].sum()), float(feed_of(study)[held].sum()))
+    feeds = [float(each[held].sum()) for each in feeds_of(study)]
+    terms = terms_of(values, rates, float(tonnes[held].sum()), feeds)
     return production_of(shells, terms, at)

@@ -21,7 +21,7 @@ from ..base.next_command import command
 from ..base.units_shown import counted
 from .pairs import Pairs
 from .sending import Millable, Timetable
-from .terms import GRAIN, RESOURCES, Terms, refuse_missing
+from .terms import GRAIN, Terms, refuse_missing
 from .units import Units, gated, of_units, pairs_of, rows_of, units_of
 
 if TYPE_CHECKING:
@@ -47,8 +47,8 @@ class Production:
         Of the model, in blocks.
     values : int array of shape (units,)
         What a unit brings at the full price, in whole units of currency.
-    uses : int array of shape (2, units)
-        Rock and feed, in thousandths of a tonne.
+    uses : int array of shape (resources, units)
+        Rock, and the feed of the mill or of each process, in thousandths of a tonne.
     level : int array of shape (units,)
         The bench, from the bottom.
     shell : int array of shape (units,)
@@ -102,10 +102,11 @@ class Production:
 
     @cached_property
     def capacities(self) -> Ints:
-        """Of shape (2, periods); what nothing limits has room for all."""
-        found = np.zeros((len(RESOURCES), self.periods), np.int64)
+        """Of shape (resources, periods); what nothing limits has room for all."""
+        found = np.zeros((len(self.uses), self.periods), np.int64)
         feed = int(self.millable.feeds.sum())
-        for row, (told, more) in enumerate(zip(self.terms.capacities, (0, feed))):
+        for row, told in enumerate(self.terms.capacities):
+            more = feed if row == 1 else 0  # those that may be sent take feed of the mill
             found[row] = told if told else int(self.uses[row].sum()) + more
         return found
 
@@ -174,10 +175,10 @@ class Production:
         return found
 
     def used(self, plan: Timetable) -> Ints:
-        """What a schedule uses, of shape (2, periods)."""
+        """What a schedule uses, of shape (resources, periods)."""
         dug = plan.period < self.periods
-        found = np.zeros((len(RESOURCES), self.periods), np.int64)
-        for row in range(len(RESOURCES)):
+        found = np.zeros((len(self.uses), self.periods), np.int64)
+        for row in range(len(self.uses)):
             np.add.at(found[row], plan.period[dug], self.uses[row][dug])
         sent = self.period_sent(plan)
         np.add.at(found[1], sent[sent < self.periods], self.millable.feeds[sent < self.periods])
@@ -209,7 +210,8 @@ class Production:
             if count:
                 found.append(f"{counted(count, 'pair')} break{'s' * (count == 1)} the {what}")
         over = self.used(plan) > self.capacities
-        found += [f"{RESOURCES[r]} in period {t + 1} is exceeded" for r, t in np.argwhere(over)]
+        names = self.terms.resources
+        found += [f"{names[r]} in period {t + 1} is exceeded" for r, t in np.argwhere(over)]
         return found
 
     def of_blocks(self, plan: Timetable) -> Indices:
@@ -256,7 +258,7 @@ def production_of(shells: Shells, terms: Terms, at: int) -> Production:
             key=("schedule",),
         )
     uses = [
-        np.rint(each * GRAIN).astype(np.int64) for each in (_model_tonnes(study), feed_of(study))
+        np.rint(each * GRAIN).astype(np.int64) for each in (_model_tonnes(study), *feeds_of(study))
     ]
     worth = priced.thousandths(THOUSAND) // THOUSAND * int(priced.rounding)
     millable = Millable.none()
@@ -311,10 +313,10 @@ def _model_tonnes(study: Study) -> Floats:
     return found
 
 
-def feed_of(study: Study) -> Floats:
-    """The tonnes of each block that the mill gets where the block is sent."""
-    found: Floats = study.priced.ore_of(_model_tonnes(study), THOUSAND) * study.priced.feed
-    return found
+def feeds_of(study: Study) -> list[Floats]:
+    """The tonnes of each block that the mill gets where the block is sent, or each process of the
+    blocks that are worth most there."""
+    return study.priced.feeds_of(_model_tonnes(study), THOUSAND)
 
 
 def _millable_of(study: Study, blocks: Ints, unit: Ints, feeds: Ints) -> Millable:
@@ -323,5 +325,5 @@ def _millable_of(study: Study, blocks: Ints, unit: Ints, feeds: Ints) -> Millabl
     priced = study.priced
     is_so = priced.milled(THOUSAND)[blocks]
     found = blocks[is_so]
-    gains = (priced.revenue - priced.processing)[found] * int(priced.rounding)
+    gains = (priced.gains(THOUSAND) // THOUSAND)[found] * int(priced.rounding)
     return Millable(found, unit[is_so], gains, feeds[found])

@@ -32,7 +32,7 @@ from ..plans.task_line import REALISED, Task
 from ..study.shells import Shells
 from ..study.study import Study
 from .terms import MILLION
-from .what_ifs import MINUTE, PERCENT, is_term
+from .what_ifs import MINUTE, PERCENT, are_rates, is_term
 
 if TYPE_CHECKING:
     from .plan import Schedule
@@ -48,7 +48,7 @@ _FOUND: dict[str, kept_json.Holds] = {
 _ASKED: dict[str, kept_json.Holds] = {
     "study": kept_json.is_word,
     "values": kept_json.is_table(is_term),
-    "rates": kept_json.is_table(kept_json.is_number),
+    "rates": are_rates,
     "gap": kept_json.is_number,
     "minutes": kept_json.is_number,
     "schedule": kept_json.is_digest,
@@ -74,7 +74,7 @@ class _Asked:
 
     period: Indices
     values: dict[str, Any]
-    rates: dict[str, float]
+    rates: dict[str, Any]
     gap: float
     minutes: float
     key: str
@@ -89,7 +89,7 @@ def prepare(
     base: Study,
     found: Schedule,
     values: dict[str, Any],
-    rates: dict[str, float],
+    rates: dict[str, Any],
     gap: float,
     minutes: float,
 ) -> None:

@@ -123,7 +123,7 @@ class Sorting:
     def is_wanted(self, sent: Bools) -> Bools:
         """Whether a unit is dug for itself: it brings something, or has feed."""
         mine = self.mine_of(sent)
-        found: Bools = (mine.values > 0) | (mine.uses[1] > 0)
+        found: Bools = (mine.values > 0) | (mine.uses[1:] > 0).any(axis=0)
         return found
 
     def by_shells(self) -> Timetable:

@@ -13,7 +13,7 @@ from ..base.amounts import THOUSAND
 from ..base.arrays import Bools, Floats, Indices, Ints
 from ..model import outlines
 from ..plans import widths
-from .terms import MILLION, RESOURCES
+from .terms import MILLION
 
 if TYPE_CHECKING:
     from .plan import Schedule
@@ -51,17 +51,24 @@ class Tables:
         study, sent = self.schedule.shells.study, self.schedule.sent
         priced, tonnes = study.priced, study.model.blocks.tonnes.to_numpy(float)
         ore = priced.ore_of(tonnes, THOUSAND) * sent
-        gain = (priced.revenue - priced.processing) * float(priced.rounding)
+        gain = priced.gains(THOUSAND) // THOUSAND * float(priced.rounding)
+        feeds = [feed * sent for feed in priced.feeds_of(tonnes, THOUSAND)]
         found = {
             "rock_t": tonnes,
             "ore_t": ore,
             "waste_t": tonnes - ore,
-            "feed_t": ore * priced.feed,
+            "feed_t": sum(feeds[1:], feeds[0]),
             "cash_flow": priced.worth(THOUSAND) - gain * (priced.milled(THOUSAND) & ~sent),
         }
-        for name in priced.metal:
+        for name, metal in priced.metal_of(THOUSAND).items():
             found[f"grade_{name}"] = priced.grade[name] * ore
-            found[f"metal_{name}"] = priced.metal[name] * sent
+            found[f"metal_{name}"] = metal * sent
+        for (way, here), feed in zip(priced.by_way(THOUSAND) if priced.names else (), feeds):
+            before = f"process_{way.name}_"
+            found |= {f"{before}ore_t": ore * here, f"{before}feed_t": feed}
+            for name, metal in way.metal.items():
+                found[f"{before}grade_{name}"] = priced.grade[name] * ore * here
+                found[f"{before}metal_{name}"] = metal * sent * here
         return found
 
     def summed(self, here: Bools) -> dict[str, Any]:
@@ -70,8 +77,12 @@ class Tables:
         row |= {name: float(each[here].sum()) for name, each in self.amounts.items()}
         ore = row["ore_t"]
         strip = {"strip": row["waste_t"] / ore if ore else np.nan}
-        for name in self.schedule.shells.study.priced.metal:
-            row[f"grade_{name}"] = row[f"grade_{name}"] / ore if ore else np.nan
+        priced = self.schedule.shells.study.priced
+        for before in ("", *(f"process_{name}_" for name in priced.names)):
+            of_kind = row[f"{before}ore_t"]
+            for name in priced.grade:
+                graded = row[f"{before}grade_{name}"]
+                row[f"{before}grade_{name}"] = graded / of_kind if of_kind else np.nan
         return row | strip
 
     def years(self) -> pd.DataFrame:
@@ -82,10 +93,11 @@ class Tables:
         DataFrame
             ``period`` and ``year`` (from 1), ``blocks``; ``rock_t``, ``ore_t``, ``waste_t``,
             ``strip``, ``feed_t``; for each metal ``grade_<metal>`` (of the ore in place) and
-            ``metal_<metal>`` (recovered); ``fixed_cost`` where there is one, ``cash_flow``
+            ``metal_<metal>`` (recovered), and where there are several processes the columns of
+            `pit_by_pit.Cells.by_process`; ``fixed_cost`` where there is one, ``cash_flow``
             (undiscounted, less the fixed cost), ``weight`` (what money of
             the period is worth today), ``discounted``, ``npv`` (so far); ``mining_used`` and
-            ``mill_used`` (shares of the capacities), ``binds`` (which of ``mining``, ``mill`` and
+            ``mill_used`` (shares of the capacities; of several processes ``process_<name>_used``), ``binds`` (which of ``mining``, ``mill`` and
             ``sink`` do), with a sink rate ``sink_columns`` (of blocks in which it binds),
             ``sink_x``, ``sink_y`` and ``sink_bench`` (centre of the lowest block that it keeps out
             of the period), ``bottom`` (the toe of its lowest bench), and with a mining width
@@ -113,15 +125,20 @@ class Tables:
         """What share of each capacity a period uses, which of them binds, and where the sink rate
         does."""
         terms, amounts = self.schedule.production.terms, self.amounts
+        names = self.schedule.shells.study.priced.names
+        columns = ["rock_t", *([f"process_{name}_feed_t" for name in names] or ["feed_t"])]
         shares = {}
-        for name, room, column in zip(RESOURCES, terms.capacities, ("rock_t", "feed_t")):
+        for name, room, column in zip(terms.resources, terms.capacities, columns):
             used = float(amounts[column][here].sum()) * THOUSAND
             shares[name] = used / room[t] if room and room[t] else np.nan
         tight = [name for name, share in shares.items() if share >= _FULL]
         sunk = self.sunk(t) if terms.sink is not None else {}
         tight += ["sink"] if sunk.get("sink_columns") else []
         return (
-            {f"{name}_used": share for name, share in shares.items()}
+            {
+                f"{'process_' if name in names else ''}{name}_used": share
+                for name, share in shares.items()
+            }
             | {"binds": " ".join(tight)}
             | sunk
         )

@@ -19,7 +19,8 @@ _MOST_PERIODS = 200
 _MOST_CAPACITY = 10**12  # of a period, that `pit` reads
 _WHEN = {"start": Decimal(0), "mid": Decimal("0.5"), "end": Decimal(1)}
 _CUTOFFS = ("fixed", "by year")
-RESOURCES = ("mining", "mill")  # in the order of the rows of capacities
+_RESOURCES = ("mining", "mill")  # in the order of the rows of capacities, where there is one mill
+_MOST_RESOURCES = 8  # that `pit` reads
 
 
 @dataclass(frozen=True)
@@ -30,9 +31,9 @@ class Terms:
     ----------
     weights : tuple of int
         What money of each period is worth today, in millionths.
-    capacities : tuple of two tuples of int
-        Rock that may be dug and feed that may be milled in each period, in thousandths of a tonne;
-        an empty one where nothing limits it.
+    capacities : tuple of tuples of int
+        Rock that may be dug in each period, and the feed that the mill or each process may get, in
+        thousandths of a tonne; an empty one where nothing limits it.
     per_year : int
         Periods in a year.
     sink : int, optional
@@ -48,6 +49,8 @@ class Terms:
         Benches that a pushback is ahead of those after it.
     fixed_cost : int
         Whole units of currency that each period costs in which rock is dug.
+    resources : tuple of str
+        What capacities are of: digging, and the mill or each process by its name.
     """
 
     weights: tuple[int, ...]
@@ -59,6 +62,7 @@ class Terms:
     pushbacks: tuple[int, ...] = ()
     lead: int = 0
     fixed_cost: int = 0
+    resources: tuple[str, ...] = _RESOURCES
 
     @property
     def periods(self) -> int:
@@ -67,7 +71,7 @@ class Terms:
 
 
 def terms_of(
-    values: Mapping[str, Any], rates: Mapping[str, float], rock: float, feed: float
+    values: Mapping[str, Any], rates: Mapping[str, Any], rock: float, feed: float | Sequence[float]
 ) -> Terms:
     """The terms of a schedule.
 
@@ -76,9 +80,11 @@ def terms_of(
     values : mapping
         The values of [schedule], None where it says nothing.
     rates : mapping
-        Those that [shells] gives of ``mining_rate``, ``mill_rate`` and ``discount``.
+        Those that [shells] gives of ``mining_rate``, ``mill_rate`` and ``discount``, and
+        ``process_rates``, of each process by its name, where there are some.
     rock, feed : float
-        Tonnes of the pit, which say how many years there are where nothing else does.
+        Tonnes of the pit, which say how many years there are where nothing else does; of several
+        processes the feed of each.
 
     Raises
     ------
@@ -86,18 +92,23 @@ def terms_of(
         Where neither rate is given, a list has other years than `years`, or a number is out of
         range.
     """
-    yearly = [
-        _by_year(values.get(name) or rates.get(name)) for name in ("mining_rate", "mill_rate")
-    ]
+    processes: Mapping[str, float | None] = (
+        values.get("process_rates") or rates.get("process_rates") or {}
+    )
+    _refuse_processes(processes, values.get("cutoff") == _CUTOFFS[1])
+    mills = list(processes.values()) or [values.get("mill_rate") or rates.get("mill_rate")]
+    yearly = list(map(_by_year, [values.get("mining_rate") or rates.get("mining_rate"), *mills]))
     if not any(yearly):
+        of_mill = "mill_rate" if not processes else "a process that has a rate"
         raise PlanError(
-            "[schedule] has neither mining_rate nor mill_rate, and [shells] hasn't either",
+            f"[schedule] has neither mining_rate nor {of_mill}, and [shells] hasn't either",
             try_this="mining_rate = 20e6 in [schedule]: tonnes of rock a year",
             key=("schedule",),
         )
     per_year = int(values.get("per_year") or 1)
     years = values.get("years")
-    years = int(years) if years is not None else _years_for(yearly, (rock, feed))
+    feeds = [feed] if isinstance(feed, (int, float)) else list(feed)
+    years = int(years) if years is not None else _years_for(yearly, [rock, *feeds])
     _refuse_lists(yearly, years)
     if years * per_year > _MOST_PERIODS:
         raise PlanError(
@@ -120,7 +131,10 @@ def terms_of(
             _WHEN[str(values.get("when") or "mid")],
             per_year,
         ),
-        tuple(_capacities(name, rate, years, per_year) for name, rate in zip(RESOURCES, yearly)),
+        tuple(
+            _capacities(name, rate, years, per_year)
+            for name, rate in zip(["mining_rate", *_keys_of(processes)], yearly)
+        ),
         per_year,
         values.get("sink"),
         int(values.get("panel") or 1),
@@ -128,7 +142,37 @@ def terms_of(
         pushbacks_of(values.get("pushbacks") or ()),
         int(values.get("lead") or 0),
         _fixed_cost_of(values.get("fixed_cost") or 0, per_year),
+        ("mining", *processes) if processes else _RESOURCES,
     )
+
+
+def _keys_of(processes: Mapping[str, float | None]) -> list[str]:
+    """How errors call the rate of the mill, or of each process."""
+    return [f"rate of process {name}" for name in processes] or ["mill_rate"]
+
+
+def _refuse_processes(processes: Mapping[str, float | None], is_by_year: bool) -> None:
+    """Refuses more processes than `pit` reads the uses of, and a cut-off by year beside several.
+
+    Raises
+    ------
+    PlanError
+        With what to try.
+    """
+    if is_by_year and len(processes) > 1:
+        raise PlanError(
+            '[schedule] cutoff = "by year" chooses between one mill and waste, and there are'
+            f" {len(processes)} processes",
+            try_this='cutoff = "fixed": each block goes where it is worth most at the full price',
+            key=("schedule", "cutoff"),
+        )
+    if len(processes) >= _MOST_RESOURCES:
+        raise PlanError(
+            f"a plan by years counts rock and the feed of {_MOST_RESOURCES - 1} processes at most,"
+            f" and there are {len(processes)}",
+            try_this="fewer [[economics.processes]]",
+            key=("economics", "processes"),
+        )
 
 
 def _fixed_cost_of(a_year: float, per_year: int) -> int:
@@ -216,7 +260,7 @@ def _by_year(rate: Any) -> list[float]:
     return [float(rate)] if isinstance(rate, (int, float)) else [float(each) for each in rate]
 
 
-def _years_for(yearly: list[list[float]], tonnes: tuple[float, float]) -> int:
+def _years_for(yearly: list[list[float]], tonnes: Sequence[float]) -> int:
     """As many years as the rates need for these tonnes, and one more: what binds alternates."""
     return 1 + max(_years_of(rates, total) for rates, total in zip(yearly, tonnes) if rates)
 
@@ -242,16 +286,17 @@ def _refuse_lists(yearly: list[list[float]], years: int) -> None:
 
 
 def _capacities(name: str, rates: list[float], years: int, per_year: int) -> tuple[int, ...]:
-    """What each period has, in thousandths of a tonne, rounded down; the last rate stays."""
+    """What each period has, in thousandths of a tonne, rounded down; the last rate stays. The name
+    is what errors call the rate."""
     if not rates:
         return ()
     found = [int(Decimal(str(rate)) * GRAIN / per_year) for rate in rates]
     if max(found) > _MOST_CAPACITY:
         raise PlanError(
-            f"[schedule] {name}_rate = {max(rates):g} is more than {_MOST_CAPACITY / GRAIN:,.0f}"
+            f"[schedule] {name} = {max(rates):g} is more than {_MOST_CAPACITY / GRAIN:,.0f}"
             " tonnes in a period",
-            try_this=f"{name}_rate in tonnes a year",
-            key=("schedule", f"{name}_rate"),
+            try_this=f"{name} in tonnes a year",
+            key=("schedule", name),
         )
     found += [found[-1]] * (years - len(found))
     return tuple(each for each in found for _ in range(per_year))

@@ -76,4 +76,4 @@ class UnitTexts:
             file.write("EOF\n")
         none = np.zeros_like(units)
         rows = (units, none, none, units, *made.uses)
-        write_numbers(mine.uses, dict(zip("bxyzrf", rows)))
+        write_numbers(mine.uses, {f"{i}": each for i, each in enumerate(rows)})

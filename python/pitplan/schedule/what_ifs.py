@@ -23,7 +23,7 @@ from ..base.files import whole_file
 from ..base.next_command import command
 from ..plans import vary
 from ..plans.task_line import BASE, SCHEDULE, Task
-from ..plans.vary import DISCOUNT, RATES, SINK, WHAT, Change
+from ..plans.vary import DISCOUNT, RATES, SINK, WHAT, Change, refuse_other_rate
 from ..study.shells import Shells
 from ..study.study import Study
 from .terms import pushbacks_of
@@ -57,7 +57,7 @@ class Asked:
     study: str
     changes: list[tuple[str, float]]
     values: dict[str, Any]
-    rates: dict[str, float]
+    rates: dict[str, Any]
     gap: float
     minutes: float
 
@@ -83,11 +83,20 @@ def is_term(value: Any) -> bool:
     )
 
 
+def are_rates(value: Any) -> bool:
+    """Whether these may be the rates of [shells], and those of processes."""
+    is_rate = kept_json.is_none_or(kept_json.is_number)
+    return isinstance(value, dict) and all(
+        kept_json.is_table(is_rate)(each) if name == "process_rates" else kept_json.is_number(each)
+        for name, each in value.items()
+    )
+
+
 _ASKED: dict[str, kept_json.Holds] = {
     "study": kept_json.is_word,
     "changes": kept_json.is_list(vary.is_change),
     "values": kept_json.is_table(is_term),
-    "rates": kept_json.is_table(kept_json.is_number),
+    "rates": are_rates,
     "gap": kept_json.is_number,
     "minutes": kept_json.is_number,
 }
@@ -149,7 +158,7 @@ def must_be_asked(study: Study) -> Asked:
 
 
 def _changed_terms(
-    values: Mapping[str, Any], rates: Mapping[str, float], change: Change | None
+    values: Mapping[str, Any], rates: Mapping[str, Any], change: Change | None
 ) -> dict[str, Any]:
     """The values of [schedule] with a change.
 
@@ -168,7 +177,10 @@ def _changed_terms(
         found["discount"] = round(float(planned) + change.by / PERCENT, 12)
         if not 0 <= found["discount"] < 1:
             raise PlanError(f"a discount of {found['discount']:g} isn't from 0 to below 1")
+    elif change.kind in RATES and change.kind != "mining_rate" and rates.get("process_rates"):
+        found["process_rates"] = _changed_rates(rates["process_rates"], change)
     elif change.kind in RATES:
+        refuse_other_rate(change, ())
         rate = values.get(change.kind) or rates.get(change.kind)
         if rate is None:
             raise PlanError(f"study.toml has no {change.kind}")
@@ -187,6 +199,25 @@ def _changed_terms(
             )
         found[SINK] = int(sink + change.by)
     return found
+
+
+def _changed_rates(
+    processes: Mapping[str, float | None], change: Change
+) -> dict[str, float | None]:
+    """The rates of processes with a change. Raises PlanError where none of those that it is of has
+    one."""
+    refuse_other_rate(change, list(processes))
+    share = 1 + change.by / PERCENT
+    concerned = [name for name in processes if change.of in ("", name)]
+    if all(processes[name] is None for name in concerned):
+        raise PlanError(
+            f"{' and '.join(concerned)} {'has' if len(concerned) == 1 else 'have'} no rate",
+            try_this="rate = 8e6 in [[economics.processes]]",
+        )
+    return {
+        name: rate * share if rate is not None and name in concerned else rate
+        for name, rate in processes.items()
+    }
 
 
 def study_named(base: Study, name: str) -> Study:

@@ -40,12 +40,15 @@ class YearEnds(Shells):
     @cached_property
     def priced(self) -> Priced:
         """What each block is worth where it goes as the schedule sends it."""
-        priced = self.study.priced
-        amounts = {
-            name: np.where(self.wasted, 0, getattr(priced, name))
-            for name in ("revenue", "processing")
-        }
-        return replace(priced, **amounts)
+        ways = tuple(
+            replace(
+                way,
+                revenue=np.where(self.wasted, 0, way.revenue),
+                processing=np.where(self.wasted, 0, way.processing),
+            )
+            for way in self.study.priced.ways
+        )
+        return replace(self.study.priced, ways=ways)
 
     def mark(self, i: int) -> int:
         """The year."""

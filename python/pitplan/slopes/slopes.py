@@ -182,11 +182,11 @@ class Slopes:
         """The offsets (dx, dy, dz) of each region, "default" first."""
         return {name: list(pattern.offsets) for name, pattern in self.patterns(grid).items()}
 
-    def settings(self, grid: Grid) -> str:
+    def settings(self, grid: Grid, column: int = _REGION) -> str:
         """The settings that list the offsets of each region, as `pit` reads them beside a `.blocks`
-        file; its column after those of amounts and tonnes is that of regions, where there are
-        several. Raises PlanError as `patterns`."""
-        return slopes_text(self.patterns(grid), _REGION if self.regions else None)
+        file, which has regions in that column, where there are several. Raises PlanError as
+        `patterns`."""
+        return slopes_text(self.patterns(grid), column if self.regions else None)
 
     def outlines(self, grid: Grid) -> dict[str, Outline]:
         """The walls that each region's offsets make, "default" first; the offsets are read back

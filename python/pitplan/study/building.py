@@ -25,7 +25,8 @@ from ..slopes.slopes import Slopes
 from ..slopes.steep_ground import with_air
 from .folder import READ
 
-COLUMNS = ("revenue", "processing", "mining", "tonnes")
+_WAY = ("revenue", "processing")  # the columns of each way to treat a block
+_AFTER = ("mining", "tonnes")  # those behind them
 ROWS = 1 << 16  # that are text at a time
 
 
@@ -75,8 +76,8 @@ class Building:
         with made_whole(self.folder / "model") as work:
             write_blocks(work / "mine.blocks", model, priced, region if len(names) > 1 else None)
             (work / "settings.toml").write_text(
-                "".join(f"{name} = {i}\n" for i, name in enumerate(COLUMNS))
-                + slopes.settings(model.grid)
+                _settings_text(len(priced.ways))
+                + slopes.settings(model.grid, _column_of_regions(len(priced.ways)))
             )
             store.save(work / "blocks.npz", model, priced, region)
             files = {path.name: sha256(path) for path in sorted(work.iterdir())}
@@ -132,10 +133,36 @@ def _key_of(files: dict[str, str]) -> str:
     return hashlib.sha256("".join(files[name] for name in READ).encode()).hexdigest()
 
 
+def _column_of_regions(ways: int) -> int:
+    """The column of `mine.blocks` that has regions, of a mine whose blocks may go so many ways."""
+    return len(_WAY) * ways + len(_AFTER)
+
+
+def columns(ways: int) -> list[str]:
+    """What the columns of `mine.blocks` are, likewise, in their order."""
+    numbers = [""] if ways == 1 else [f" {number}" for number in range(1, ways + 1)]
+    return [*(f"{name}{number}" for number in numbers for name in _WAY), *_AFTER]
+
+
+def _settings_text(ways: int) -> str:
+    """Which columns of `mine.blocks` hold prices and tonnes, as `pit` reads it: of one way as of a
+    mill, of several a table for each."""
+    if ways == 1:
+        return "".join(f"{name} = {i}\n" for i, name in enumerate(columns(1)))
+    each = (f"{{ revenue = {2 * i}, processing = {2 * i + 1} }}" for i in range(ways))
+    after = "".join(f"{name} = {2 * ways + i}\n" for i, name in enumerate(_AFTER))
+    return f"ways = [{', '.join(each)}]\n{after}"
+
+
 def write_blocks(path: Path, model: Model, priced: Priced, region: Ints | None = None) -> None:
-    """`.blocks`: number, place, the four columns of `COLUMNS`, amounts as exact decimals, and each
-    block's region of slopes, where there are several."""
+    """`.blocks`: number, place, revenue and processing of each way, mining, all exact decimals,
+    tonnes, and each block's region of slopes, where there are several."""
     b = model.blocks
+    amounts = {
+        f"{name} {number}": as_text(getattr(way, name), priced.rounding)
+        for number, way in enumerate(priced.ways)
+        for name in _WAY
+    }
     write_numbers(
         path,
         {
@@ -143,7 +170,8 @@ def write_blocks(path: Path, model: Model, priced: Priced, region: Ints | None =
             "x": b.ix.to_numpy(),
             "y": b.iy.to_numpy(),
             "z": b.iz.to_numpy(),
-            **{name: as_text(getattr(priced, name), priced.rounding) for name in COLUMNS[:3]},
+            **amounts,
+            "mining": as_text(priced.mining, priced.rounding),
             "tonnes": np.round(b.tonnes.to_numpy(), 3),
             **({} if region is None else {"region": region}),
         },

@@ -4,6 +4,7 @@ from __future__ import annotations
 
 import math
 import re
+import tomllib
 from collections.abc import Mapping, Sequence
 from dataclasses import dataclass, field
 from keyword import iskeyword
@@ -78,6 +79,9 @@ _MOST_LIMITS = 20
 _MOST_REGIONS = 12  # of slopes: a column with more words than that names something else
 # how a rock is called that is none
 _AIRS = re.compile(r"air|aire|ar|airblock|void|vacio|vacío|vazio", re.IGNORECASE)
+# how oxide and sulphide are called
+_OXIDE = re.compile(r"(?:.*[^a-z])?ox(?:i|id\w*|yd\w*)?(?:[^a-z].*)?", re.IGNORECASE)
+_SULPHIDE = re.compile(r"(?:.*[^a-z])?sul(?:f\w*|ph\w*)?(?:[^a-z].*)?", re.IGNORECASE)
 _SAMPLE = 1500  # blocks that the grid is looked for in
 _PLACES_OFF = 0.02  # in the unit of the coordinates: how far their rounding may put two blocks off
 
@@ -128,6 +132,19 @@ class _Look:
     airs: list[str] = field(default_factory=list)
     columns: list[str] = field(default_factory=list)
     notes: list[str] = field(default_factory=list)
+
+    @property
+    def oxides(self) -> list[str]:
+        """The rocks that may go to a leach, where others are called sulphide; else none."""
+        found = [rock for rock in self.rocks if _OXIDE.fullmatch(rock)]
+        return found if self.sulphides else []
+
+    @property
+    def sulphides(self) -> list[str]:
+        """The rocks that are called sulphide, and not oxide too."""
+        return [
+            rock for rock in self.rocks if _SULPHIDE.fullmatch(rock) and not _OXIDE.fullmatch(rock)
+        ]
 
 
 def look_at(
@@ -444,7 +461,7 @@ def written(look: _Look, table: str) -> str:
     by_rock = ", ".join(f"{key(rock)} = 2.50" for rock in look.rocks[:3]) + (
         ", other = 2.50" if len(look.rocks) > 3 else ""
     )
-    return aligned(
+    text = aligned(
         template().substitute(
             table=_quoted(table),
             columns=", ".join(f"{name} = {_quoted(column)}" for name, column in look.names.items()),
@@ -468,6 +485,23 @@ def written(look: _Look, table: str) -> str:
             or "NORTH = 38, SOUTH = [[0, 44], [180, 50]]",
         )
     )
+    return text.replace("\n\n[slopes]\n", f"\n{_processes(look)}\n[slopes]\n", 1)
+
+
+def _processes(look: _Look) -> str:
+    """Lines of comment with a mill and a leach, where rocks are called oxide and sulphide."""
+    if not look.oxides:
+        return ""
+    of_metal = tomllib.loads(f"metals = [{metals(look)}]")["metals"][0]["name"]
+    listed: tuple[tuple[str, list[str], str, list[str]], ...] = (
+        ("mill", look.oxides + look.sulphides, "9.00", []),
+        ("leach", look.oxides, "4.00", [f"recovery = {{ {key(of_metal)} = 0.6 }}"]),
+    )
+    lines = ["where oxide may go to a leach too, say this in place of processing and mill:"]
+    for name, rocks, cost, more in listed:
+        lines += ["[[economics.processes]]", f'name = "{name}"']
+        lines += [f"rocks = [{', '.join(map(_quoted, rocks))}]", f"cost = {cost}", *more]
+    return "".join(f"# {line}\n" for line in lines)
 
 
 def metals(look: _Look) -> str:

@@ -24,7 +24,7 @@ from ..model.model import Model, TableKeys
 from .plausible import strange
 from ..table.column_names import AIR, columns_with, misnamed, said_of_misnamed
 from ..table.parts_of_blocks import is_part, remedy_of_part
-from ..table.study_keys import METALS, has_ramp
+from ..table.study_keys import METALS, PROCESSES, has_ramp
 from ..slopes.offsets import MEAN, WORST, Outline, Pattern
 from ..slopes.ramps import ramp_of
 from ..slopes.slopes import Slopes
@@ -99,7 +99,7 @@ def looks(model: Model, priced: Priced, plan: _Says) -> list[Strange]:
         *_of_density(model),
         *_of_cells(model, plan.economics),
         *of_unread(model, plan),
-        *_of_costs(priced, rock),
+        *_of_costs(priced, rock, plan.economics),
         *_of_prices(plan.economics),
         *_of_selling(plan.economics),
         *of_rates(model, priced, plan.rates),
@@ -190,10 +190,11 @@ def _of_weightless(model: Model, plan: _Says) -> Iterator[Strange]:
         graded |= model.numbers(metal.grade, f"metal {metal.name}") > 0
     for kind in sorted(set(kinds) - set(kinds[tonnes > 0]) - {AIR}):
         here = (kinds == kind).to_numpy()
-        is_milled = kind in (plan.economics.mill or ())
+        is_milled = any(kind in (way.rocks or ()) for way in plan.economics.treatments)
         if is_milled or graded[here].any():
             count = int(here.sum())
-            why = "is in mill" if is_milled else f"has grades in {int(graded[here].sum()):,}"
+            where = "the rocks of a process" if plan.economics.processes else "mill"
+            why = f"is in {where}" if is_milled else f"has grades in {int(graded[here].sum()):,}"
             yield Strange(
                 f"{kind} weighs nothing in any of its {count:,} blocks by the formula of tonnes,"
                 f" and {why}",
@@ -297,9 +298,9 @@ def _words_in(value: Any) -> list[str]:
     return [word for part in parts for word in _words_in(part)]
 
 
-def _of_costs(priced: Priced, rock: Bools) -> Iterator[Strange]:
+def _of_costs(priced: Priced, rock: Bools, economics: Economics) -> Iterator[Strange]:
     """Work that costs nothing."""
-    dug, ore = rock & ~priced.forbidden, priced.milled(THOUSAND)
+    dug = rock & ~priced.forbidden
     if dug.any() and (priced.mining[dug] == 0).mean() > 0.5:
         yield Strange(
             (
@@ -310,13 +311,15 @@ def _of_costs(priced: Priced, rock: Bools) -> Iterator[Strange]:
             "mining in [economics]",
             ("economics", "mining"),
         )
-    if ore.any() and (priced.processing[ore] == 0).mean() > 0.5:
-        yield Strange(
-            "treating the ore costs nothing",
-            "it costs something a tonne",
-            "processing in [economics]",
-            ("economics", "processing"),
-        )
+    for (way, ore), said in zip(priced.by_way(THOUSAND), economics.treatments):
+        if ore.any() and (way.processing[ore] == 0).mean() > 0.5:
+            key = said.key("processing")
+            yield Strange(
+                f"treating the ore {f'by {way.name} ' if said.said else ''}costs nothing",
+                "it costs something a tonne",
+                f"cost of {said.said}" if said.said else "processing in [economics]",
+                key,
+            )
 
 
 def _of_prices(economics: Economics) -> Iterator[Strange]:
@@ -392,32 +395,39 @@ def _of_selling(economics: Economics) -> Iterator[Strange]:
             )
 
 
-def of_rates(model: Model, priced: Priced, rates: Mapping[str, float]) -> Iterator[Strange]:
+def of_rates(model: Model, priced: Priced, rates: Mapping[str, Any]) -> Iterator[Strange]:
     """Rates that are swapped, or by which the mine takes centuries or days."""
     tonnes = model.blocks.tonnes.to_numpy(float)
     dug, treated = rates.get("mining_rate"), rates.get("mill_rate")
-    if dug and treated and treated > dug * max(priced.feed, 1.0):
+    feeds = [float(each.sum()) for each in priced.feeds_of(tonnes, THOUSAND)]
+    of_processes = list((rates.get("process_rates") or {}).items())
+    if dug and treated and treated > dug * max(priced.ways[0].feed, 1.0):
         yield Strange(
             f"the mill takes {treated:,.6g} tonnes a year, and {dug:,.6g} are dug",
             "no more is milled than is dug",
             "mining_rate and mill_rate in [shells], the other way round",
             ("shells", "mill_rate"),
         )
-    for name, rate, amount in (
-        ("mining_rate", dug, float(tonnes.sum())),
-        ("mill_rate", treated, float(priced.ore_of(tonnes, THOUSAND).sum()) * priced.feed),
-    ):
+    asked: list[tuple[str, float | None, float, str, KeyPath]] = [
+        ("rock", dug, float(tonnes.sum()), "mining_rate in [shells]", ("shells", "mining_rate"))
+    ]
+    if not of_processes:
+        ore = float(priced.ore_of(tonnes, THOUSAND).sum()) * priced.ways[0].feed
+        asked.append(("ore", treated, ore, "mill_rate in [shells]", ("shells", "mill_rate")))
+    for (name, rate), feed in zip(of_processes, feeds):
+        key: KeyPath = ("economics", PROCESSES, name, "rate")
+        asked.append((f"feed of {name}", rate, feed, f"rate of process {name}", key))
+    for what, rate, amount, said, key in asked:
         years = amount / rate if rate else 1.0
         if amount and not _SHORTEST <= years <= _LONGEST:
             yield Strange(
                 (
-                    f"at {rate:,.6g} tonnes a year the"
-                    f" {'rock' if name == 'mining_rate' else 'ore'} of the whole model takes"
+                    f"at {rate:,.6g} tonnes a year the {what} of the whole model takes"
                     f" {rounded(years)} years"
                 ),
                 "a mine takes some tens of years",
-                f"{name} in [shells] in tonnes a year, as 4e6",
-                ("shells", name),
+                f"{said} in tonnes a year, as 4e6",
+                key,
             )
 
 

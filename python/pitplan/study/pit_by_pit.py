@@ -1,7 +1,8 @@
 """The planner's tables of the shells: pit by pit, and bench by bench."""
 from __future__ import annotations
 
-from dataclasses import dataclass
+from collections.abc import Mapping, Sequence
+from dataclasses import dataclass, field
 from decimal import Decimal
 from typing import TYPE_CHECKING, Any
 
@@ -32,11 +33,14 @@ class Rates:
         Tonnes of the mill's feed a year; likewise.
     discount : float
         A year, as a share: 0.08 is 8 %.
+    processes : mapping of str to float or None
+        In place of `mill` tonnes of the feed of each process a year, by its name; likewise.
     """
 
     mining: float | None = None
     mill: float | None = None
     discount: float = 0.10
+    processes: Mapping[str, float | None] = field(default_factory=dict)
 
     def __post_init__(self) -> None:
         refuse_wrong(
@@ -44,22 +48,36 @@ class Rates:
             {"mining_rate": self.mining, "mill_rate": self.mill, "discount": self.discount},
         )
 
-    def over(self, rock: float, feed: float) -> Rates:
-        """The rates, with those that weren't told for this much rock and feed. Raises PlanError
-        where that takes more than `_MOST_YEARS`."""
-        for name, rate, tonnes in (
-            ("mining_rate", self.mining, rock),
-            ("mill_rate", self.mill, feed),
+    @property
+    def named(self) -> list[tuple[str, float | None]]:
+        """The rate of each process by its name, or that of the mill."""
+        return list(self.processes.items()) if self.processes else [("mill", self.mill)]
+
+    def over(self, rock: float, feeds: Sequence[float]) -> Rates:
+        """The rates, with those that weren't told for this much rock, and feed of each process.
+        Raises PlanError where that takes more than `_MOST_YEARS`."""
+        said = [
+            (f"[economics] process {name}: rate", "rate", rate)
+            if self.processes
+            else ("[shells] mill_rate", "mill_rate", rate)
+            for name, rate in self.named
+        ]
+        for (what, key, rate), tonnes in zip(
+            [("[shells] mining_rate", "mining_rate", self.mining), *said], [rock, *feeds]
         ):
             if rate and tonnes > _MOST_YEARS * rate:
                 raise PlanError(
-                    f"[shells] {name} = {rate:g}: the largest pit's {tonnes:,.0f} tonnes would take {min(tonnes / rate, 1e9):,.0f} years",
-                    try_this=f"{name} in tonnes a year, as {max(tonnes / _YEARS, 1):.2g}; the pits stand, and aren't found again",
+                    f"{what} = {rate:g}: the largest pit's {tonnes:,.0f} tonnes would take {min(tonnes / rate, 1e9):,.0f} years",
+                    try_this=f"{key} in tonnes a year, as {max(tonnes / _YEARS, 1):.2g}; the pits stand, and aren't found again",
                 )
+        found = [
+            (name, rate or max(feed / _YEARS, 1.0)) for (name, rate), feed in zip(self.named, feeds)
+        ]
         return Rates(
             self.mining or max(rock / _YEARS, 1.0),
-            self.mill or max(feed / _YEARS, 1.0),
+            None if self.processes else found[0][1],
             self.discount,
+            dict(found) if self.processes else {},
         )
 
 
@@ -74,19 +92,21 @@ class Cells:
     graded: dict[str, Floats]  # ore tonnes times their grade
     blocks: Floats
     classes: dict[str, Cells]  # of each resource class alone, where the table has classes
+    processes: dict[str, Cells]  # of what goes to each process alone, where there are several
+    feed_by_ore: list[float]  # of each process, or of the mill
 
     @classmethod
     def of(
         cls, shells: Shells, base: int, only: Bools | None = None, shell: Shorts | None = None
     ) -> Cells:
-        """Adds up the blocks of each shell on each bench; ore is what goes to the mill at the
-        factor `base` (in thousandths).
+        """Adds up the blocks of each shell on each bench; ore is what is treated at the factor
+        `base` (in thousandths).
 
         Parameters
         ----------
         shells, base
         only : bool array of shape (blocks,), optional
-            The blocks that count, of one class; default: all.
+            The blocks that count, of one class or process; default: all.
         shell : int array of shape (blocks,), optional
             The shell of each block, where it isn't that of the pits.
         """
@@ -95,7 +115,7 @@ class Cells:
         nz = m.grid.shape[2]
         cell = shell.astype(np.int64) * nz + (nz - 1 - m.blocks.iz.to_numpy())
         tonnes = m.blocks.tonnes.to_numpy(float)
-        ore, milled = p.ore_of(tonnes, base), p.milled(base)
+        ore = p.ore_of(tonnes, base)
 
         def summed(values: Array) -> Floats:
             counted = values if only is None else values * only
@@ -110,13 +130,31 @@ class Cells:
             summed(tonnes),
             summed(ore),
             summed(p.worth(base)),
-            {k: summed(v * milled) for k, v in p.metal.items()},
+            {k: summed(v) for k, v in p.metal_of(base).items()},
             {k: summed(v * ore) for k, v in p.grade.items()},
             summed(np.ones(len(m))),
             {k: cls.of(shells, base, held, shell) for k, held in kinds.masks().items()}
             if kinds
             else {},
+            {way.name: cls.of(shells, base, here, shell) for way, here in p.by_way(base)}
+            if only is None and p.names
+            else {},
+            [way.feed for way in p.ways],
         )
+
+    @property
+    def ores(self) -> list[Floats]:
+        """The ore in place that each process gets, or the mill."""
+        return [part.ore for part in self.processes.values()] or [self.ore]
+
+    @property
+    def feeds(self) -> list[Floats]:
+        """The feed that each process gets, or the mill."""
+        return [ore * feed for ore, feed in zip(self.ores, self.feed_by_ore)]
+
+    def fed(self, place: tuple[Any, ...]) -> list[float]:
+        """The feed that each process gets of some cells, or the mill; `place` as of `by_class`."""
+        return [float(ore[place].sum()) * feed for ore, feed in zip(self.ores, self.feed_by_ore)]
 
     def at(self, i: int, down: int) -> dict[str, Any]:
         """What lies in shell i (from 0) on the bench so far down from the top, in the columns of
@@ -132,7 +170,27 @@ class Cells:
         for name in self.metal:
             found[f"grade_{name}"] = float(self.graded[name][i, down]) / ore if ore else np.nan
             found[f"metal_{name}"] = float(self.metal[name][i, down])
-        return found | self.by_class((i, down))
+        return found | self.by_process((i, down)) | self.by_class((i, down))
+
+    def by_process(self, place: tuple[Any, ...]) -> dict[str, Any]:
+        """Of each process what it gets of some cells: ``process_<name>_`` and ``ore_t`` (in place),
+        ``feed_t``, ``grade_<metal>``, ``metal_<metal>``. Nothing where there is one.
+
+        Parameters
+        ----------
+        place
+            As of `by_class`.
+        """
+        found: dict[str, Any] = {}
+        for (name, part), feed in zip(self.processes.items(), self.fed(place)):
+            ore, before = float(part.ore[place].sum()), f"process_{name}_"
+            found |= {f"{before}ore_t": ore, f"{before}feed_t": feed}
+            for metal, graded in part.graded.items():
+                found[f"{before}grade_{metal}"] = (
+                    float(graded[place].sum()) / ore if ore else np.nan
+                )
+                found[f"{before}metal_{metal}"] = float(part.metal[metal][place].sum())
+        return found
 
     def by_class(self, place: tuple[Any, ...]) -> dict[str, Any]:
         """Of each class what lies in some cells: ``class_<name>_`` and ``rock_t``, ``ore_t``,
@@ -169,22 +227,23 @@ def table(shells: Shells, base: int, rates: Rates) -> pd.DataFrame:
     -------
     DataFrame
         ``factor`` (share of the price), ``blocks``; ``rock_t``, ``ore_t``, ``waste_t`` (tonnes in
-        place; ore is what goes to the mill at the base factor), ``strip`` (waste by ore),
-        ``feed_t`` (what the mill gets), ``worth_at_factor`` (text: what `pit` proved),
+        place; ore is what is treated at the base factor), ``strip`` (waste by ore),
+        ``feed_t`` (what the mill gets, or all processes), ``worth_at_factor`` (text: what `pit` proved),
         ``worth_at_base`` (exact, rounded to a float at the end), ``npv_best`` (dug shell by shell),
         ``npv_worst`` (the pit bench by bench), ``years``; and for each metal ``grade_<metal>`` (of
         the ore in place, in its own unit) and ``metal_<metal>`` (recovered, in the unit of its
-        price); where the table has resource classes, the columns of `Cells.by_class`.
+        price); where there are several processes, the columns of `Cells.by_process`, and where the
+        table has resource classes, those of `Cells.by_class`.
     """
     p, c = shells.study.priced, Cells.of(shells, base)
-    rates = rates.over(float(c.rock.sum()), float(c.ore.sum()) * p.feed)
+    rates = rates.over(float(c.rock.sum()), c.fed(()))
     rows, worths = [], _worths_of(shells, base)
     for i, factor in enumerate(shells.factors):
         rock, ore = float(c.rock[: i + 1].sum()), float(c.ore[: i + 1].sum())
         best, worst = (
             discounted(
                 order(c.rock[: i + 1]),
-                order(c.ore[: i + 1]) * p.feed,
+                [order(ore[: i + 1]) * feed for ore, feed in zip(c.ores, c.feed_by_ore)],
                 order(c.worth[: i + 1]),
                 rates,
             )
@@ -197,17 +256,17 @@ def table(shells: Shells, base: int, rates: Rates) -> pd.DataFrame:
             "ore_t": ore,
             "waste_t": rock - ore,
             "strip": (rock - ore) / ore if ore else np.nan,
-            "feed_t": ore * p.feed,
+            "feed_t": sum(c.fed((slice(i + 1),))),
             "worth_at_factor": shells.verdicts[i]["worth"],
             "worth_at_base": float(Decimal(worths[i])),
             "npv_best": best[0],
             "npv_worst": worst[0],
             "years": best[1],
         }
-        for name in p.metal:
+        for name in c.metal:
             row[f"grade_{name}"] = float(c.graded[name][: i + 1].sum()) / ore if ore else np.nan
             row[f"metal_{name}"] = float(c.metal[name][: i + 1].sum())
-        rows.append(row | c.by_class((slice(i + 1),)))
+        rows.append(row | c.by_process((slice(i + 1),)) | c.by_class((slice(i + 1),)))
     return pd.DataFrame(rows)
 
 
@@ -233,17 +292,24 @@ def by_bench(values: Floats) -> Floats:
     return summed
 
 
-def discounted(rock: Floats, feed: Floats, worth: Floats, rates: Rates) -> tuple[float, float]:
-    """The worth of pieces that are dug one after the other, each as quickly as digging and milling
-    allow, discounted to the middle of its time; and how many years all of them take.
+def discounted(
+    rock: Floats, feeds: Sequence[Floats], worth: Floats, rates: Rates
+) -> tuple[float, float]:
+    """The worth of pieces that are dug one after the other, each as quickly as digging and each
+    process allow, discounted to the middle of its time; and how many years all of them take.
 
     Parameters
     ----------
-    rock, feed, worth : arrays of one shape
-        Tonnes, tonnes, and units of currency of each piece.
+    rock, worth : arrays of one shape
+        Tonnes, and units of currency, of each piece.
+    feeds : sequence of arrays of that shape
+        Tonnes that each process gets.
     """
-    assert rates.mining and rates.mill
-    takes = np.maximum(rock / rates.mining, feed / rates.mill)
+    assert rates.mining
+    takes = rock / rates.mining
+    for feed, (_, rate) in zip(feeds, rates.named):
+        assert rate
+        takes = np.maximum(takes, feed / rate)
     ends = np.cumsum(takes)
     with np.errstate(over="ignore"):  # after some ten thousand years nothing is worth anything
         return (
@@ -260,7 +326,8 @@ def benches(shells: Shells, base: int) -> pd.DataFrame:
     DataFrame
         ``bench`` (elevation of its blocks' centres), ``shell`` (share of the price), ``blocks``,
         ``rock_t``, ``ore_t``, ``waste_t``, ``worth`` (at the base factor), and for each metal
-        ``grade_<metal>`` and ``metal_<metal>``, and the columns of classes, as in `table`.
+        ``grade_<metal>`` and ``metal_<metal>``, and the columns of processes and classes, as in
+        `table`.
     """
     g, c = shells.study.model.grid, Cells.of(shells, base)
     return pd.DataFrame(

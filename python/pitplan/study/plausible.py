@@ -78,11 +78,12 @@ def _of_worths(priced: Priced, economics: Economics) -> list[Strange]:
                 key,
             )
         ]
+    ways = priced.by_way(THOUSAND)
     costs = float(
-        priced.processing[ore].sum(dtype=float)
+        sum(way.processing[here].sum(dtype=float) for way, here in ways)
         + priced.mining[ore & ~priced.forbidden].sum(dtype=float)
     )
-    times = float(priced.revenue[ore].sum(dtype=float)) / max(costs, 1.0)
+    times = sum(float(way.revenue[here].sum(dtype=float)) for way, here in ways) / max(costs, 1.0)
     found = (
         [
             Strange(
@@ -96,10 +97,13 @@ def _of_worths(priced: Priced, economics: Economics) -> list[Strange]:
         else []
     )
     brings = {
-        metal.name: float(priced.metal[metal.name].sum())
-        * metal.price
-        * economics.rate_of(metal)
-        * metal.payable
+        metal.name: max(
+            float(way.metal[metal.name].sum())
+            * metal.price
+            * economics.rate_of(metal)
+            * said.payable[metal.name]
+            for way, said in zip(priced.ways, economics.treatments)
+        )
         for metal in economics.metals
     }
     return found + [

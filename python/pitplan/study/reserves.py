@@ -31,8 +31,8 @@ def reserves(study: Study, parts: Mapping[str, Array], base: int = THOUSAND) -> 
     -------
     DataFrame
         The columns of `parts`; ``bench`` (elevation of the blocks' centres), ``rock``, ``class``
-        where the table has classes, ``to`` ("mill" or "waste"); ``blocks``, ``rock_t`` (tonnes in
-        place), ``feed_t`` (what the mill gets), ``worth``; and for each metal ``grade_<metal>`` (of
+        where the table has classes, ``to`` (the name of a process, "mill" where there are none, or
+        "waste"); ``blocks``, ``rock_t`` (tonnes in place), ``feed_t`` (what is treated), ``worth``; and for each metal ``grade_<metal>`` (of
         these tonnes in place, whatever becomes of them) and ``metal_<metal>`` (recovered). Where a
         part of a block's tonnes is ore, its rest is waste without metal, and the block counts where
         its ore goes.
@@ -40,6 +40,7 @@ def reserves(study: Study, parts: Mapping[str, Array], base: int = THOUSAND) -> 
     model, priced = study.model, study.priced
     held: Bools = model.is_rock & np.logical_and.reduce([part != 0 for part in parts.values()])
     tonnes, milled = model.blocks["tonnes"].to_numpy(float), priced.milled(base)
+    feed = np.array([0.0, *(way.feed for way in priced.ways)])[priced.way_of(base)]
     graded = tonnes if priced.part is None else tonnes * priced.part
     keys: dict[str, Array] = {
         **parts,
@@ -49,15 +50,16 @@ def reserves(study: Study, parts: Mapping[str, Array], base: int = THOUSAND) -> 
     classes = study.classes
     if classes:
         keys["class"] = classes.of_block  # by which they are sorted
-    keys["to"] = np.where(milled, "mill", "waste").astype(object)
+    keys["to"] = priced.destinations(base)
     amounts = {
         "blocks": np.ones(len(model), np.int64),
         "rock_t": np.where(milled, graded, tonnes),
-        "feed_t": graded * milled * priced.feed,
+        "feed_t": graded * feed,
         "worth": priced.worth(base),
     }
+    metal = priced.metal_of(base)
     for name, grade in priced.grade.items():
-        amounts |= {f"grade_{name}": grade * graded, f"metal_{name}": priced.metal[name] * milled}
+        amounts |= {f"grade_{name}": grade * graded, f"metal_{name}": metal[name]}
     frame = pd.DataFrame({name: values[held] for name, values in {**keys, **amounts}.items()})
     if priced.part is not None:
         frame = pd.concat([frame, _rests(frame, (tonnes - graded)[held])])
@@ -72,8 +74,8 @@ def reserves(study: Study, parts: Mapping[str, Array], base: int = THOUSAND) -> 
 
 
 def _rests(frame: pd.DataFrame, rests: Floats) -> pd.DataFrame:
-    """What is dug with the ore of blocks that go to the mill: rows that count as no block."""
-    is_split = (frame["to"] == "mill").to_numpy() & (rests > 0)
+    """What is dug with the ore of blocks that are treated: rows that count as no block."""
+    is_split = (frame["to"] != "waste").to_numpy() & (rests > 0)
     found = frame[is_split].assign(to="waste", rock_t=rests[is_split])
     nothing = {name: 0 for name in found if name in ("blocks", "feed_t", "worth")}
     nothing |= {name: 0.0 for name in found if name.startswith(("grade_", "metal_"))}

@@ -1,7 +1,7 @@
 """The pits of a series of factors, one within the next, and what is asked of them."""
 from __future__ import annotations
 
-from collections.abc import Iterable
+from collections.abc import Iterable, Mapping
 from functools import cached_property
 from typing import TYPE_CHECKING
 
@@ -244,9 +244,11 @@ class Shells:
         mining_rate: float | None = None,
         mill_rate: float | None = None,
         discount: float = 0.10,
+        process_rates: Mapping[str, float | None] | None = None,
     ) -> pd.DataFrame:
         """Pit by pit: a row for each factor. See `pit_by_pit.table`."""
-        return pit_by_pit.table(self, int(base), pit_by_pit.Rates(mining_rate, mill_rate, discount))
+        rates = pit_by_pit.Rates(mining_rate, mill_rate, discount, process_rates or {})
+        return pit_by_pit.table(self, int(base), rates)
 
     def benches(self, base: int = THOUSAND) -> pd.DataFrame:
         """Bench by shell. See `pit_by_pit.benches`."""

@@ -9,7 +9,6 @@ from collections.abc import Iterable, Iterator, Mapping, Sequence
 from contextlib import contextmanager
 from dataclasses import dataclass, field, fields
 from pathlib import Path
-from types import MappingProxyType
 from typing import Any
 
 from ..base.errors import (
@@ -24,7 +23,7 @@ from ..base.errors import (
     spelled,
 )
 from ..base.next_command import command
-from ..model.economics import Economics, Metal
+from ..model.economics import Economics, Metal, Process
 from ..model.grid import Grid
 from ..model.model import Model, TableKeys, read_with
 from ..slopes.slopes import Slopes
@@ -42,6 +41,12 @@ _NOTHING = {
     "processing": 0,
 }
 _STAND_IN = "-"  # for the name of a column or of a region
+_CALLED = {study_keys.METALS: "metal", study_keys.PROCESSES: "process"}  # in errors
+# for what a metal or a process needs and hasn't
+_STAND_INS: dict[str, dict[str, Any]] = {
+    study_keys.METALS: {"grade": _STAND_IN, "price": 0},
+    study_keys.PROCESSES: {"cost": 0},
+}
 _FAR = 10**100  # how far from 0 a whole number may be
 
 
@@ -60,8 +65,8 @@ class StudyFile:
     factors : list of int
         In thousandths.
     rates : dict
-        Of ``mining_rate``, ``mill_rate``, ``discount`` those that are given: words for
-        `Shells.table`.
+        Of ``mining_rate``, ``mill_rate``, ``discount`` those that are given, and
+        ``process_rates`` where there are processes: words for `Shells.table`.
     digest : str
         Of the sections [model], [economics] and [slopes]: what a built model rests on.
     values : dict of dict
@@ -74,7 +79,7 @@ class StudyFile:
     economics: Economics
     slopes: Slopes
     factors: list[int]
-    rates: dict[str, float]
+    rates: dict[str, Any]
     digest: str = ""
     values: dict[str, dict[str, Any]] = field(default_factory=dict)
 
@@ -189,14 +194,15 @@ class _Partly:
         The keys that have such a value, or that may be meant by one that isn't known: no error that
         concerns one of them is told.
     unnamed : dict
-        The place in the list of each metal that has no name, by the one that errors call it.
+        The place in its list of each metal or process that has no name, by the list and by the name
+        that errors call it.
     """
 
     keys: TableKeys | None = None
     economics: Economics | None = None
     slopes: Slopes | None = None
     covered: set[KeyPath] = field(default_factory=set)
-    unnamed: dict[str, int] = field(default_factory=dict)
+    unnamed: dict[tuple[str, str], int] = field(default_factory=dict)
 
     def covers(self, key: KeyPath) -> bool:
         """Whether an error of a key hangs on one that was told."""
@@ -206,8 +212,8 @@ class _Partly:
         """The errors that hang on none that was told, with the keys that the file has."""
         found = [error for error in errors if not self.covers(error.key)]
         for error in found:
-            if error.key[:2] == ("economics", study_keys.METALS) and len(error.key) > 2:
-                at = self.unnamed.get(str(error.key[2]), error.key[2])
+            if _is_of_list(error.key):
+                at = self.unnamed.get((str(error.key[1]), str(error.key[2])), error.key[2])
                 error.key = (*error.key[:2], at, *error.key[3:])
         return found
 
@@ -254,14 +260,17 @@ class Parts:
             section: study_keys.with_defaults(section, self.document.get(section, {}))
             for section in study_keys.SECTIONS
         }
-        rates = {
+        rates: dict[str, Any] = {
             name: self.document["shells"][name]
             for name in _RATES
             if name in self.document.get("shells", {})
         }
+        rates |= self.economics.rates
         digest = hashlib.sha256(
             json.dumps(
-                [self.document[name] for name in study_keys.NEEDED], sort_keys=True, default=str
+                [_built_of(name, self.document[name]) for name in study_keys.NEEDED],
+                sort_keys=True,
+                default=str,
             ).encode()
         ).hexdigest()
         return StudyFile(
@@ -277,6 +286,15 @@ class Parts:
         )
 
 
+def _built_of(name: str, section: Mapping[str, Any]) -> Mapping[str, Any]:
+    """What a built model rests on of a section: the rates of processes aren't of it."""
+    processes = section.get(study_keys.PROCESSES) if name == "economics" else None
+    if not processes:
+        return section
+    kept = [{key: value for key, value in each.items() if key != "rate"} for each in processes]
+    return {**section, study_keys.PROCESSES: kept}
+
+
 def _parts_of(path: Path, document: Mapping[str, Any], read: Document | None = None) -> Parts:
     """The sections of a study.toml as what they say, with each error that hangs on no other one;
     `read` has those of statements that are no TOML."""
@@ -286,7 +304,7 @@ def _parts_of(path: Path, document: Mapping[str, Any], read: Document | None = N
         refuse_digits("", document)
     if len(found.errors.errors) > len(broken.errors):
         return found
-    found.errors.add(_wrong_sections(document))
+    found.errors.add([*_wrong_sections(document), *_mill_rates(document)])
     sections = {
         name: document.get(name, None if name in study_keys.NEEDED else {})
         for name in study_keys.SECTIONS
@@ -295,7 +313,7 @@ def _parts_of(path: Path, document: Mapping[str, Any], read: Document | None = N
     for name, section in sections.items():
         if isinstance(section, Mapping):
             wrong = [error for error in broken.errors if error.key[:1] == (name,)]
-            wrong += _wrong_in_section(name, section, {error.key[1]: True for error in wrong})
+            wrong += _wrong_in_section(name, section, [error.key for error in wrong])
             found.errors.add(wrong)
             right += [] if wrong else [name]
             if wrong:
@@ -335,13 +353,16 @@ def _of_right_keys(
         with errors.part("model"):
             partly.keys = _made("model", TableKeys, right)
     elif name == "economics":
-        metals = right.get(study_keys.METALS, [{}])
-        if study_keys.KINDS["metals"].holds(metals):
-            right[study_keys.METALS] = [
-                _right_metal(partly, metal, at, wrong) for at, metal in enumerate(metals)
-            ]
+        right.setdefault(study_keys.METALS, [{}])
+        for kind in study_keys.LISTS:
+            if study_keys.KINDS[kind].holds(right.get(kind)):
+                right[kind] = [
+                    _right_part(partly, (kind, part, at), wrong)
+                    for at, part in enumerate(right[kind])
+                ]
         with errors.part("economics"):
-            partly.economics = economics_of({**_NOTHING, **right})
+            asked = {"mining"} if study_keys.PROCESSES in right else set(_NOTHING)
+            partly.economics = economics_of({key: _NOTHING[key] for key in asked} | right)
     elif name == "slopes":
         usual = study_keys.keys_of("slopes")["angles"].default
         bad = {error.key[2] for error in wrong if _is_of_region(error.key)}
@@ -360,19 +381,23 @@ def _of_right_keys(
     found.errors.add(partly.to_tell(errors.errors))
 
 
-def _right_metal(
-    partly: _Partly, metal: Mapping[str, Any], at: int, wrong: Sequence[PlanError]
+def _right_part(
+    partly: _Partly, listed: tuple[str, Mapping[str, Any], int], wrong: Sequence[PlanError]
 ) -> dict[str, Any]:
-    """The right keys of one of the metals."""
-    path = _metal_path(metal, at)
-    hidden = _hidden_keys(
-        study_keys.METALS, metal, [error for error in wrong if error.key[:3] == path], path
-    )
+    """The right keys of one of the metals or processes: of its list, itself, and its place there."""
+    kind, part, at = listed
+    path = _part_path(kind, part, at)
+    hidden = _hidden_keys(kind, part, [error for error in wrong if error.key[:3] == path], path)
     name = str(path[2]) if isinstance(path[2], str) else f"{at + 1}"
-    partly.unnamed |= {} if isinstance(path[2], str) else {name: at}
-    partly.covered |= {("economics", study_keys.METALS, name, key) for key in hidden}
-    needed = {"name": name, "grade": _STAND_IN, "price": 0}
-    return needed | {key: value for key, value in metal.items() if key not in hidden}
+    partly.unnamed |= {} if isinstance(path[2], str) else {(kind, name): at}
+    partly.covered |= {("economics", kind, name, key) for key in hidden}
+    needed = {"name": name} | _STAND_INS[kind]
+    return needed | {key: value for key, value in part.items() if key not in hidden}
+
+
+def _is_of_list(key: KeyPath) -> bool:
+    """Whether a key is that of one metal or process, or of something in it."""
+    return key[:1] == ("economics",) and len(key) > 2 and key[1] in study_keys.LISTS
 
 
 def _is_of_region(key: KeyPath) -> bool:
@@ -388,7 +413,7 @@ def _hidden_keys(
     known, found = study_keys.keys_of(section), set[str]()
     for error in wrong:
         name = str(error.key[len(at)]) if len(error.key) > len(at) else ""
-        is_of_part = name == study_keys.METALS and len(error.key) > 2 and len(at) == 1
+        is_of_part = _is_of_list(error.key) and len(at) == 1
         if name in known and not is_of_part and not _is_of_region(error.key):
             found.add(name)
         elif name and name not in known:
@@ -429,36 +454,52 @@ def _wrong_sections(document: Mapping[str, Any]) -> list[PlanError]:
     return found
 
 
+def _mill_rates(document: Mapping[str, Any]) -> list[PlanError]:
+    """Rates of a mill where several processes have rates of their own."""
+    economics = document.get("economics")
+    if not isinstance(economics, Mapping) or not economics.get(study_keys.PROCESSES):
+        return []
+    return [
+        PlanError(
+            f"[{name}] mill_rate says the rate of a mill, and there are processes: of which is it?",
+            try_this=f"take it out, and rate = {spelled(section['mill_rate'])} in one of [[economics.processes]]",
+            key=(name, "mill_rate"),
+        )
+        for name in ("shells", "schedule")
+        if isinstance(section := document.get(name), Mapping) and "mill_rate" in section
+    ]
+
+
 def _wrong_in_section(
-    section: str, values: Mapping[str, Any], broken: Mapping[Any, bool] = MappingProxyType({})
+    section: str, values: Mapping[str, Any], broken: Sequence[KeyPath] = ()
 ) -> list[PlanError]:
-    """What is wrong with each key of a section, and with each of the metals; the broken ones aren't
-    missing."""
+    """What is wrong with each key of a section, and with each of the metals and processes; the
+    broken ones aren't missing."""
     found = study_keys.wrong_in(section, values)
-    found += study_keys.missing_in(section, {**values, **broken})
-    metals = values.get(study_keys.METALS) if section == "economics" else None
-    if study_keys.KINDS["metals"].holds(metals):
-        for at, metal in enumerate(metals or ()):
-            found += _wrong_in_metal(metal, at)
+    found += study_keys.missing_in(section, {**values, **{str(key[1]): True for key in broken}})
+    for kind in study_keys.LISTS if section == "economics" else ():
+        if study_keys.KINDS[kind].holds(values.get(kind)):
+            for at, part in enumerate(values[kind]):
+                there = [key[3] for key in broken if key[1:3] == (kind, at) and len(key) > 3]
+                found += _wrong_in_part(kind, part, at, {str(name): True for name in there})
     return found
 
 
-def _wrong_in_metal(metal: Mapping[str, Any], at: int) -> list[PlanError]:
-    """What is wrong with each key of one of the metals."""
-    path = _metal_path(metal, at)
-    where = f"[economics] metal {at + 1 if path[2] == at else path[2]}"
-    return study_keys.wrong_in(study_keys.METALS, metal, where, path) + study_keys.missing_in(
-        study_keys.METALS, metal, where, path
+def _wrong_in_part(
+    kind: str, part: Mapping[str, Any], at: int, broken: Mapping[str, bool]
+) -> list[PlanError]:
+    """What is wrong with each key of one of the metals or processes."""
+    path = _part_path(kind, part, at)
+    where = f"[economics] {_CALLED[kind]} {at + 1 if path[2] == at else path[2]}"
+    return study_keys.wrong_in(kind, part, where, path) + study_keys.missing_in(
+        kind, {**part, **broken}, where, path
     )
 
 
-def _metal_path(metal: Mapping[str, Any], at: int) -> KeyPath:
-    """Where one of the metals stands: by its name, or by its number where it has none."""
-    return (
-        "economics",
-        study_keys.METALS,
-        metal["name"] if isinstance(metal.get("name"), str) else at,
-    )
+def _part_path(kind: str, part: Mapping[str, Any], at: int) -> KeyPath:
+    """Where one of the metals or processes stands: by its name, or by its number where it has
+    none."""
+    return ("economics", kind, part["name"] if isinstance(part.get("name"), str) else at)
 
 
 def _made(section: str, kind: Any, found: Mapping[str, Any]) -> Any:
@@ -478,12 +519,15 @@ def economics_of(found: Mapping[str, Any]) -> Economics:
     wrong = Gathered()
     wrong.add(_wrong_in_section("economics", found))
     wrong.tell()
-    metals = []
-    for at, metal in enumerate(found["metals"]):
-        with wrong.part("economics", study_keys.METALS, metal["name"]):
-            metals.append(_made(study_keys.METALS, Metal, metal))
+    made: dict[str, list[Any]] = {kind: [] for kind in study_keys.LISTS}
+    for kind, of_part in ((study_keys.METALS, Metal), (study_keys.PROCESSES, Process)):
+        for part in found.get(kind, ()):
+            with wrong.part("economics", kind, part["name"]):
+                made[kind].append(_made(kind, of_part, part))
     wrong.tell()
-    economics: Economics = _made("economics", Economics, {**found, "metals": tuple(metals)})
+    economics: Economics = _made(
+        "economics", Economics, {**found, **{kind: tuple(parts) for kind, parts in made.items()}}
+    )
     return economics
 
 

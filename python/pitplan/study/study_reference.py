@@ -13,7 +13,7 @@ from pathlib import Path
 from typing import Any
 
 from ..base.errors import spelled
-from ..table.study_keys import KEYS, KINDS, METALS, NEEDED, SECTIONS, Key
+from ..table.study_keys import KEYS, KINDS, LISTS, METALS, NEEDED, PROCESSES, SECTIONS, Key
 
 _BEGIN, _END = "<!-- keys: made by study_reference.py -->\n", "<!-- end of keys -->\n"
 _HEAD = "| Key | What it says | What it may be | Unless given |\n|---|---|---|---|\n"
@@ -21,9 +21,10 @@ _DIALECT = "https://json-schema.org/draft/2020-12/schema"
 
 
 def tables() -> str:
-    """The tables of the reference, one for each section and one for a metal."""
+    """The tables of the reference: one for each section, for a metal and for a process."""
     titles = {section: f"## [{section}]" for section in SECTIONS} | {
-        METALS: "## A metal of [economics]"
+        METALS: "## A metal of [economics]",
+        PROCESSES: "## A process of [economics]",
     }
     return "\n".join(
         f"{title}\n\n{_HEAD}" + "".join(row(key) for key in KEYS if key.section == section)
@@ -37,6 +38,8 @@ def row(key: Key) -> str:
     default = (
         "needed"
         if key.is_needed
+        else f"needed, or `{key.unless}`"
+        if key.unless
         else f"`{spelled(key.default)}`"
         if key.default is not None
         else ""
@@ -70,14 +73,19 @@ def schema() -> dict[str, Any]:
 
 
 def _table_of(section: str) -> dict[str, Any]:
-    """The schema of a section, or of a metal."""
+    """The schema of a section, of a metal or of a process."""
     keys = [key for key in KEYS if key.section == section]
+    either = [
+        {"oneOf": [{"required": [key.name]}, {"required": [key.unless]}]}
+        for key in keys
+        if key.unless
+    ]
     return {
         "type": "object",
         "properties": {key.name: _value_of(key) for key in keys},
         "required": [key.name for key in keys if key.is_needed],
         "additionalProperties": False,
-    }
+    } | ({"allOf": either} if either else {})
 
 
 def _value_of(key: Key) -> dict[str, Any]:
@@ -91,8 +99,8 @@ def _value_of(key: Key) -> dict[str, Any]:
         found["properties"], found["additionalProperties"] = {
             name: {"type": "string"} for name in key.choices
         }, False
-    if key.kind == "metals":
-        found["items"] = _table_of(METALS)
+    if key.name in LISTS:
+        found["items"] = _table_of(key.name)
     bounds = {
         "exclusiveMinimum" if key.above else "minimum": key.least,
         "exclusiveMaximum" if key.below else "maximum": key.most,

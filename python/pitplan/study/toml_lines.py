@@ -4,6 +4,7 @@ from __future__ import annotations
 
 import re
 import tomllib
+from collections import Counter
 from collections.abc import Callable, Iterator, Sequence
 from dataclasses import dataclass, field
 from pathlib import Path
@@ -19,6 +20,7 @@ _LONGEST, _WIDEST = (
 )
 _SAY = "numbers with a point as 2.4, words in quotes, every bracket closed"
 _HEADER = re.compile(r"\s*\[\s*([\w-]+)\s*\]\s*(#.*)?")
+_LISTED = re.compile(r"\s*\[\[\s*([\w-]+)\s*\.\s*([\w-]+)\s*\]\]\s*(#.*)?")  # of one of a list
 _BEGINS = re.compile(r"\s*([\w-]+)\s*[=: ]")  # a statement
 _QUOTES = str.maketrans({"“": '"', "”": '"', "„": '"', "‘": "'", "’": "'"})
 _NUMBER = r"[+-]?\d+(?:\.\d+)?(?:[eE][+-]?\d+)?"
@@ -82,11 +84,17 @@ def read(text: str, path: Path) -> Document:
 def _by_statements(lines: list[str], path: Path) -> Document:
     """The file without its wrong statements, and an error for each of these."""
     found, section, sections, seen = Document(), "", set[str](), dict[KeyPath, int]()
-    kept = list(lines)
+    kept, listed = list(lines), Counter[KeyPath]()
+    within: KeyPath = ()
     for start, end in _statements(lines):
-        header = _HEADER.fullmatch(lines[start])
+        header, part = _HEADER.fullmatch(lines[start]), _LISTED.fullmatch(lines[start])
+        if part:
+            each = (part[1], part[2])
+            section, within = part[1], (*each, listed[each])
+            listed[each] += 1
+            continue
         if header:
-            section = header[1]
+            section, within = header[1], (header[1],)
             if section in sections:
                 what = f"line {start + 1}: the section [{section}] stands here again"
                 found.errors.append(
@@ -101,7 +109,7 @@ def _by_statements(lines: list[str], path: Path) -> Document:
             sections.add(section)
             continue
         name = _BEGINS.match(lines[start])
-        key = (section, name[1]) if name and section else ()
+        key = (*within, name[1]) if name and section else ()
         error = _wrong_statement(lines, start, end, path)
         if not error and key and key in seen:
             what = f"line {start + 1}: {key[-1]} stands here again, after line {seen[key] + 1}"
@@ -131,7 +139,7 @@ def _statements(lines: Sequence[str]) -> Iterator[tuple[int, int]]:
             continue
         end = at + 1
         while end < len(lines) and end - at < _LONGEST and not _is_whole(lines[at:end]):
-            if _HEADER.fullmatch(lines[end]) or _BEGINS.match(lines[end]):
+            if any(begins.match(lines[end]) for begins in (_HEADER, _LISTED, _BEGINS)):
                 break
             end += 1
         if not _is_whole(lines[at:end]) and _is_one_line(lines[at]):

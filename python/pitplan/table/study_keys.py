@@ -31,7 +31,11 @@ _SEPARATED = (
     "amount",
     "angles",
 )
-METALS = "metals"  # the section of the keys of a metal, each a table in the list of that name in [economics]
+# the sections of the keys of a metal and of a process, each a table in the list of that name in
+# [economics]
+METALS, PROCESSES = "metals", "processes"
+LISTS = (METALS, PROCESSES)
+MOST_PROCESSES = 8  # that `pit` reads
 
 
 @dataclass(frozen=True)
@@ -78,7 +82,9 @@ class Key:
     default : Any
         What counts where the key isn't there; None where something is found out or left out then.
     is_needed : bool
-        Whether a section (or a metal) has to have it.
+        Whether a section (or a metal, or a process) has to have it.
+    unless : str
+        A key that may stand in its place: one of the two is needed.
     wrong : str
         What a value has to be, in place of the words of the kind and its range.
     instead : str
@@ -94,7 +100,7 @@ class Key:
         Whether `init` writes it as a comment.
     is_written : bool
         Whether `init` writes it by itself: not what it writes where a table asks for it, nor the
-        keys of a metal, which stand in one line.
+        keys of a metal or a process, which stand in one line.
     """
 
     section: str
@@ -110,6 +116,7 @@ class Key:
     below: bool = False
     default: Any = None
     is_needed: bool = False
+    unless: str = ""
     wrong: str = ""
     instead: str = ""
     example: str = ""
@@ -120,10 +127,11 @@ class Key:
 
     @property
     def path(self) -> KeyPath:
-        """Where it stands in study.toml; a metal's keys stand in each of the metals."""
+        """Where it stands in study.toml; a metal's keys stand in each of the metals, and those of a
+        process in each of the processes."""
         return (
-            ("economics", METALS, self.name)
-            if self.section == METALS
+            ("economics", self.section, self.name)
+            if self.section in LISTS
             else (self.section, self.name)
         )
 
@@ -196,6 +204,23 @@ def is_table(value: object) -> bool:
     return isinstance(value, Mapping)
 
 
+def _is_amount(value: Any) -> bool:
+    """Whether this is a number, words, or a table of numbers."""
+    return (
+        _is_number(value)
+        or isinstance(value, str)
+        or is_table(value)
+        and all(map(_is_number, value.values()))
+    )
+
+
+def _are_paid(value: Any) -> bool:
+    """Whether this is a table of shares."""
+    return is_table(value) and all(
+        _is_number(share) and 0 <= share <= 1 for share in value.values()
+    )
+
+
 def _are_angles(value: Any) -> bool:
     """Whether these are a number, or pairs of numbers."""
     return (
@@ -259,6 +284,7 @@ _FAR = 1e9  # more than any wall has, in metres or in feet
 SERIES = ("from", "to", "step")
 _UNITS = {"length": tuple(LENGTHS), "weight": tuple(WEIGHTS)}
 _NUMBER, _WORD = {"type": "number"}, {"type": "string"}
+_AMOUNT = {"oneOf": [_NUMBER, _WORD, {"type": "object", "additionalProperties": _NUMBER}]}
 _WORDS = {"type": "array", "items": _WORD}
 _ANGLES = {
     "oneOf": [
@@ -366,12 +392,24 @@ KINDS: dict[str, _Kind] = {
     ),
     "amount": _Kind(
         "a number, a column, a formula, or a number for each rock, as { OXI = 7.5, other = 9 }",
-        lambda value: _is_number(value)
-        or isinstance(value, str)
-        or is_table(value)
-        and all(map(_is_number, value.values())),
-        {"oneOf": [_NUMBER, _WORD, {"type": "object", "additionalProperties": _NUMBER}]},
+        _is_amount,
+        _AMOUNT,
         "2.50",
+    ),
+    "recoveries": _Kind(
+        'a table by metal as { copper = 0.6, gold = "0.3 + 0.2 * AU" }, each a number, a column, a formula, or a number for each rock',
+        lambda value: is_table(value) and all(map(_is_amount, value.values())),
+        {"type": "object", "additionalProperties": _AMOUNT},
+        "{ copper = 0.6 }",
+    ),
+    "payables": _Kind(
+        "a table by metal as { copper = 0.96 }, each a number from 0 to 1",
+        _are_paid,
+        {
+            "type": "object",
+            "additionalProperties": {"type": "number", "minimum": 0, "maximum": 1},
+        },
+        "{ copper = 0.96 }",
     ),
     "angles": _Kind(
         "degrees as 45, or by bearing as [[0, 38], [90, 45], [180, 50], [270, 45]]",
@@ -418,6 +456,14 @@ KINDS: dict[str, _Kind] = {
         lambda value: _is_list(value) and all(map(is_table, value)),
         {"type": "array", "minItems": 1},
         '[ { name = "copper", grade = "CU", price = 8500 } ]',
+    ),
+    "processes": _Kind(
+        f"a list of 1 to {MOST_PROCESSES} tables",
+        lambda value: _is_list(value)
+        and 1 <= len(value) <= MOST_PROCESSES
+        and all(map(is_table, value)),
+        {"type": "array", "minItems": 1, "maxItems": MOST_PROCESSES},
+        '[ { name = "leach", cost = 4.0 } ]',
     ),
 }
 KEYS = (
@@ -600,7 +646,7 @@ KEYS = (
         "what treating a tonne of the mill's feed costs",
         "Treating",
         "{currency} a tonne of feed",
-        is_needed=True,
+        unless="processes",
         instead="processing = 9.00",
         example="9.00",
         note="for a tonne of the mill's feed, likewise",
@@ -618,7 +664,7 @@ KEYS = (
         "economics",
         "dilution",
         "number",
-        "tonnes of waste that come to the mill with each tonne of ore",
+        "tonnes of waste that come to the mill with each tonne of ore; that of each process that says nothing of it",
         "Dilution",
         "tonnes a tonne of ore",
         least=0,
@@ -629,7 +675,7 @@ KEYS = (
         "economics",
         "mining_recovery",
         "number",
-        "the share of the ore that reaches the mill",
+        "the share of the ore that reaches the mill; that of each process that says nothing of it",
         "Mining recovery",
         "share",
         least=0,
@@ -696,6 +742,15 @@ KEYS = (
         + " ".join(PRICES)
         + "; recovery: a number, a column, a formula, or by rock;\n"
         "payable: the share of the price that is paid; selling: what selling a unit of metal costs, whatever its price; not multiplied by payable",
+    ),
+    Key(
+        "economics",
+        PROCESSES,
+        "processes",
+        "several ways to treat a block, as a mill and a heap leach, in place of `processing` and `mill`: a list of tables `[[economics.processes]]`, each with the keys below. A block goes where it is worth most at the price in question, the first of these of as much, and to waste where none pays",
+        "Processes",
+        default=[],
+        is_written=False,
     ),
     Key(
         "slopes",
@@ -787,7 +842,7 @@ KEYS = (
         "shells",
         "mill_rate",
         "number",
-        "tonnes of the mill's feed a year, likewise",
+        "tonnes of the mill's feed a year, likewise; `processes` have rates of their own",
         "Milling",
         "tonnes a year",
         least=0,
@@ -857,7 +912,7 @@ KEYS = (
         "schedule",
         "mill_rate",
         "rates",
-        "tonnes of the mill's feed a year, likewise",
+        "tonnes of the mill's feed a year, likewise; `processes` have rates of their own",
         "Milling",
         "tonnes a year",
         least=0,
@@ -1010,6 +1065,87 @@ KEYS = (
         "Currency",
         is_written=False,
     ),
+    Key(
+        PROCESSES,
+        "name",
+        "text",
+        "what tables, pictures and files call it",
+        "Process",
+        is_needed=True,
+    ),
+    Key(
+        PROCESSES,
+        "rocks",
+        "rocks",
+        "the rocks that it takes; all but air unless given",
+        "Rocks",
+        example='["OXI"]',
+    ),
+    Key(
+        PROCESSES,
+        "cost",
+        "amount",
+        "what treating a tonne of its feed costs",
+        "Treating",
+        "{currency} a tonne of feed",
+        is_needed=True,
+        instead="cost = 9.00",
+        example="9.00",
+    ),
+    Key(
+        PROCESSES,
+        "recovery",
+        "recoveries",
+        "of each metal the share that this process recovers; that of the metal unless given",
+        "Recovery",
+        "share",
+        default={},
+        example="{ copper = 0.6 }",
+    ),
+    Key(
+        PROCESSES,
+        "payable",
+        "payables",
+        "of each metal the share of the price that is paid for what this process makes of it; that of the metal unless given",
+        "Payable",
+        "share",
+        default={},
+        is_written=False,
+    ),
+    Key(
+        PROCESSES,
+        "dilution",
+        "number",
+        "tonnes of waste that come to it with each tonne of ore; that of [economics] unless given",
+        "Dilution",
+        "tonnes a tonne of ore",
+        least=0,
+        most=1,
+        is_written=False,
+    ),
+    Key(
+        PROCESSES,
+        "mining_recovery",
+        "number",
+        "the share of the ore that reaches it; that of [economics] unless given",
+        "Mining recovery",
+        "share",
+        least=0,
+        most=1,
+        above=True,
+        is_written=False,
+    ),
+    Key(
+        PROCESSES,
+        "rate",
+        "number",
+        "tonnes of its feed a year, for the discounted cases and the plan by years; the largest pit takes 15 years unless given, and a plan by years has no limit for it",
+        "Rate",
+        "tonnes of feed a year",
+        least=0,
+        above=True,
+        is_written=False,
+    ),
 )
 
 
@@ -1017,7 +1153,7 @@ _PRICE = ("economics", METALS, "price")
 
 
 def keys_of(section: str) -> dict[str, Key]:
-    """The keys of a section, or of a metal, by name."""
+    """The keys of a section, of a metal or of a process, by name."""
     return {key.name: key for key in KEYS if key.section == section}
 
 
@@ -1030,7 +1166,7 @@ def wrong_in(
     Parameters
     ----------
     section : str
-        One of `SECTIONS`, or `METALS` for one metal.
+        One of `SECTIONS`, or of `LISTS` for one metal or process.
     values : mapping
         As the TOML file has them. None counts as left out.
     where : str
@@ -1221,7 +1357,7 @@ def _unquoted(value: Any) -> Any:
 def missing_in(
     section: str, values: Mapping[str, Any], where: str = "", at: KeyPath = ()
 ) -> list[PlanError]:
-    """The keys that a section, or a metal, needs and hasn't."""
+    """The keys that a section, a metal or a process needs and hasn't."""
     return [
         PlanError(
             f"{where or f'[{section}]'} has no {key.name}: {key.help}",
@@ -1229,7 +1365,8 @@ def missing_in(
             key=at or (section,),
         )
         for key in keys_of(section).values()
-        if key.is_needed and values.get(key.name) is None
+        if (key.is_needed or key.unless and values.get(key.unless) is None)
+        and values.get(key.name) is None
     ]
 
 

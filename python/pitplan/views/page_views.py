@@ -238,31 +238,47 @@ def pits(shells: Shells, table: pd.DataFrame) -> View:
         names,
         start,
         _added(table["rock_t"]),
-        more=by_classes(shells.study, {name: shells.holds(i) for i, name in enumerate(names)}),
+        more=by_kinds(shells.study, {name: shells.holds(i) for i, name in enumerate(names)}),
     )
 
 
-def by_classes(study: Study, sets: Mapping[str, Bools], factor: int = THOUSAND) -> list[Table]:
-    """A table of what each set of blocks has of each resource class; none where the table has no
-    classes. Ore is what goes to the mill at a factor (in thousandths)."""
-    if study.classes is None:
-        return []
+def by_kinds(study: Study, sets: Mapping[str, Bools], factor: int = THOUSAND) -> list[Table]:
+    """Tables of what each set of blocks has of each process, where there are several, and of each
+    resource class, where the table has some. Ore is what is treated at a factor (in
+    thousandths)."""
+    found = []
+    if study.priced.names:
+        found.append(
+            _by_kind(study, sets, factor, ("By process", "Of, to", study.priced.goes(factor)))
+        )
+    if study.classes is not None:
+        classes = ("By resource class", "Of, class", study.classes.masks())
+        found.append(_by_kind(study, sets, factor, classes))
+    return found
+
+
+def _by_kind(
+    study: Study,
+    sets: Mapping[str, Bools],
+    factor: int,
+    kinds: tuple[str, str, Mapping[str, Bools]],
+) -> Table:
+    """A table of what each set has of each kind: its title, its first heading, and their blocks."""
+    title, heading, masks = kinds
     rows = pd.concat(
         amounts_of(study, [held & kind for held in sets.values()], factor).assign(
             of=list(sets), kind=name
         )
-        for name, kind in study.classes.masks().items()
+        for name, kind in masks.items()
     ).sort_values("of", key=lambda names: names.map(list(sets).index), kind="stable")
     rows = rows[rows["blocks"] > 0]
     columns = [("Blocks", [f"{v:,}" for v in rows["blocks"]])]
-    return [
-        Table(
-            "By resource class",
-            "Of, class",
-            [f"{row.of}, {row.kind}" for row in rows.itertuples()],
-            columns + rock_and_metal(rows, study.manifest["metals"], study.model.units.weight),
-        )
-    ]
+    return Table(
+        title,
+        heading,
+        [f"{row.of}, {row.kind}" for row in rows.itertuples()],
+        columns + rock_and_metal(rows, study.manifest["metals"], study.model.units.weight),
+    )
 
 
 def _added(rock: Any) -> list[float]:
@@ -306,7 +322,7 @@ def phases(found: Phases, table: pd.DataFrame | None = None) -> View:
         names,
         count,
         table["rock_t"].tolist(),
-        more=by_classes(study, {name: found.pushback == int(name) for name in names}),
+        more=by_kinds(study, {name: found.pushback == int(name) for name in names}),
     )
 
 
@@ -357,7 +373,7 @@ def design(study: Study, found: Comparison) -> View:
         said=said,
         more=[
             _bench_by_bench(study, found),
-            *by_classes(study, {found.design.name: held, "best pit": best}, found.factor),
+            *by_kinds(study, {found.design.name: held, "best pit": best}, found.factor),
         ],
     )
 
@@ -388,7 +404,7 @@ def amounts_of(study: Study, masks: Sequence[Bools], factor: int) -> pd.DataFram
     """What lies in sets of blocks, in columns as `Shells.table`; ore is what goes to the mill at a
     factor (in thousandths)."""
     priced, tonnes = study.priced, study.model.blocks["tonnes"].to_numpy(float)
-    milled, weight, rows = priced.milled(factor), priced.ore_of(tonnes, factor), []
+    metal, weight, rows = priced.metal_of(factor), priced.ore_of(tonnes, factor), []
     for mask in masks:
         ore = weight[mask].sum()
         row = {
@@ -400,7 +416,7 @@ def amounts_of(study: Study, masks: Sequence[Bools], factor: int) -> pd.DataFram
         for name, grade in priced.grade.items():
             row |= {
                 f"grade_{name}": (grade * weight)[mask].sum() / ore if ore else np.nan,
-                f"metal_{name}": priced.metal[name][mask & milled].sum(),
+                f"metal_{name}": metal[name][mask].sum(),
             }
         rows.append(row)
     return pd.DataFrame(rows)

@@ -6,6 +6,7 @@ direction and lines differ in their strokes, so that a picture says the same in 
 from __future__ import annotations
 
 import os
+import re
 from dataclasses import dataclass
 from pathlib import Path
 from typing import Any
@@ -113,11 +114,15 @@ def paint(shells: Shells, colour: str) -> Paint:
             np.where(priced.forbidden, np.nan, priced.worth(THOUSAND)),
             f"Worth of a block at factor 1 ({shells.study.currency})",
         )
-    blocks = shells.study.model.blocks
+    blocks, names = shells.study.model.blocks, shells.study.priced.names
+    if colour == "to" and names and colour not in blocks.columns:
+        goes = pd.Series(shells.study.priced.destinations(THOUSAND))
+        return paint_words(goes, "Where a block goes at factor 1")
     if colour not in blocks.columns:
         known = [
             "shell",
             "value",
+            *(["to"] if names else []),
             *(str(c) for c in blocks.columns if c not in ("ix", "iy", "iz", "row")),
         ]
         raise PlanError(
@@ -542,15 +547,7 @@ def pit_by_pit(
     axes = figure.add_axes((0.085, 0.27, 0.825, 0.67))
     at = np.arange(len(table))
     rock = scale_of(table["ore_t"] + table["waste_t"], weight)
-    axes.bar(
-        at,
-        table["ore_t"] / rock.divisor,
-        color="#8a8a8a",
-        edgecolor="black",
-        linewidth=0.4,
-        width=0.8,
-        label="Ore",
-    )
+    add_ore(axes, at, table, rock.divisor)
     axes.bar(
         at,
         table["waste_t"] / rock.divisor,
@@ -575,6 +572,36 @@ def pit_by_pit(
     title = "Pit by pit: ore, waste and worth at each factor of the price"
     axes.set_title(f"{title}\n{name}" if name else title, fontsize=12)
     return figure
+
+
+def processes_in(table: pd.DataFrame) -> list[str]:
+    """The processes of which a table has columns, as `Cells.by_process` names them; none where all
+    ore goes to one mill.
+
+    >>> processes_in(pd.DataFrame(columns=["ore_t", "process_heap leach_ore_t"]))
+    ['heap leach']
+    """
+    found = (re.fullmatch("process_(.*)_ore_t", str(column)) for column in table.columns)
+    return [each[1] for each in found if each]
+
+
+def add_ore(axes: Any, at: Array, table: pd.DataFrame, divisor: float) -> None:
+    """Bars of ore; of several processes one above the other, each in a lighter grey."""
+    names, bottom = processes_in(table), np.zeros(len(table))
+    columns = [(f"process_{name}_ore_t", f"Ore to {name}") for name in names] or [("ore_t", "Ore")]
+    for i, (column, label) in enumerate(columns):
+        ore = table[column].to_numpy(float) / divisor
+        axes.bar(
+            at,
+            ore,
+            bottom=bottom,
+            color=f"{0.3 + 0.5 * i / (len(names) - 1):.2f}" if names else "#8a8a8a",
+            edgecolor="black",
+            linewidth=0.4,
+            width=0.8,
+            label=label,
+        )
+        bottom = bottom + ore
 
 
 def add_worths(right: Any, left: Any, table: pd.DataFrame, at: Ints, currency: str) -> None:

@@ -23,17 +23,21 @@ from .pictures import (
     Paint,
     add_colour_bar,
     add_north_and_scale,
+    add_ore,
     exaggeration_of,
     fullest_row,
     hatch,
+    processes_in,
     second_line,
     shades,
     sheet,
 )
 from .plane import Plane
 
-_ORE, _WASTE, _FLOW, _DISCOUNTED = "#8a8a8a", "#f1efe9", "#c9d9e6", "#5b86a8"
-_MINING, _MILL, _WORTH = "#a3341f", "#1b5e8c", "black"
+_WASTE, _FLOW, _DISCOUNTED = "#f1efe9", "#c9d9e6", "#5b86a8"
+_MINING, _WORTH = "#a3341f", "black"
+# of the mill, or of each process
+_MILLS = ("#1b5e8c", "#7a4a9e", "#2e7d32", "#b26a00", "#5d4037", "#00838f", "#ad1457")
 _LEFT, _WIDE, _GAP = 0.09, 0.87, 0.09  # of the figure's width, between grades the last
 
 
@@ -94,7 +98,7 @@ def _add_tonnes(axes: Any, found: Schedule, years: pd.DataFrame) -> None:
     at, unit = years["period"].to_numpy(), found.shells.study.model.units.weight
     rock = scale_of(years["rock_t"], unit)
     ore, waste = (years[name] / rock.divisor for name in ("ore_t", "waste_t"))
-    axes.bar(at, ore, color=_ORE, edgecolor="black", linewidth=0.4, label="Ore")
+    add_ore(axes, at, years, rock.divisor)
     axes.bar(
         at,
         waste,
@@ -105,21 +109,25 @@ def _add_tonnes(axes: Any, found: Schedule, years: pd.DataFrame) -> None:
         linewidth=0.4,
         label="Waste",
     )
-    axes.plot(
-        at,
-        years["feed_t"] / rock.divisor,
-        linestyle="none",
-        marker="o",
-        markersize=4,
-        color=_MILL,
-        path_effects=CASING,
-        label="Feed of the mill",
-    )
+    names = processes_in(years)
+    feeds = [(f"process_{name}_feed_t", f"Feed of {name}") for name in names]
+    for (column, label), colour in zip(feeds or [("feed_t", "Feed of the mill")], _MILLS):
+        axes.plot(
+            at,
+            years[column] / rock.divisor,
+            linestyle="none",
+            marker="o",
+            markersize=4,
+            color=colour,
+            path_effects=CASING,
+            label=label,
+        )
+    may_be = [f"Feed that {name} may get" for name in names] or ["Feed that may be milled"]
     for capacity, stroke, colour, label in zip(
         found.production.terms.capacities,
-        ("--", ":"),
-        (_MINING, _MILL),
-        ("Rock that may be dug", "Feed that may be milled"),
+        ("--", *(":" for _ in may_be)),
+        (_MINING, *_MILLS),
+        ("Rock that may be dug", *may_be),
     ):
         if capacity:
             room = np.array(capacity[: len(at)]) / THOUSAND / rock.divisor

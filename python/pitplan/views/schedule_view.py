@@ -9,7 +9,7 @@ import pandas as pd
 from ..base.units_shown import lengths, scale_of
 from ..schedule.tables import binds_text
 from .levels import surfaces
-from .page_views import Table, View, by_classes, rock_and_metal, scaled
+from .page_views import Table, View, by_kinds, rock_and_metal, scaled
 
 if TYPE_CHECKING:
     from ..schedule.plan import Schedule
@@ -68,5 +68,5 @@ def schedule(found: Schedule, years: pd.DataFrame) -> View:
             *([found.end.words[0].upper() + found.end.words[1:]] if found.end else []),
             *([_NO_CLASSES] if terms.is_by_year and study.classes else []),
         ],
-        more=[] if terms.is_by_year else by_classes(study, own),
+        more=[] if terms.is_by_year else by_kinds(study, own),
     )

@@ -4,7 +4,7 @@ from decimal import Decimal
 import numpy as np
 from hypothesis import given, strategies as st
 
-from pitplan.base.amounts import Priced, exact_sum, rounding_of, spelled
+from pitplan.base.amounts import Priced, Way, exact_sum, rounding_of, spelled
 
 
 @given(st.lists(st.integers(-(2**62), 2**62), max_size=50))
@@ -26,7 +26,7 @@ def test_sums_are_exact(values):
 def test_worths_are_exact(blocks, factor, rounding):
     r, p, m = (np.array(v, np.int64) for v in zip(*blocks))
     unit = Decimal(rounding)
-    found = Priced(r, p, m, unit).worth_of(np.ones(len(blocks), bool), factor)
+    found = Priced((Way("mill", r, p),), m, unit).worth_of(np.ones(len(blocks), bool), factor)
     assert Decimal(found) == sum(
         (max(Decimal(a) * factor / 1000 - b, 0) - c) * unit for a, b, c in blocks
     )

@@ -800,7 +800,7 @@ def test_a_mine_that_takes_for_ever_is_worth_nothing_and_no_warning():
     with warnings.catch_warnings():
         warnings.simplefilter("error")
         worth, years = discounted(
-            np.full(3, 1e6), np.full(3, 1e5), np.full(3, 1e9), Rates(1e6, 1.5, 0.08)
+            np.full(3, 1e6), [np.full(3, 1e5)], np.full(3, 1e9), Rates(1e6, 1.5, 0.08)
         )
     assert worth == 0.0
     assert years == pytest.approx(2e5)

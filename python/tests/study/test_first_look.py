@@ -216,3 +216,44 @@ def test_a_metal_with_unknown_words_among_its_grades_is_told(tmp_path):
     assert any(
         "column CU, row 9: the cell is no number: it is 'pendiente'" in note for note in look.notes
     )
+
+
+@pytest.mark.parametrize(
+    "rocks, oxides, sulphides",
+    [
+        (["OXI", "SUL"], ["OXI"], ["SUL"]),
+        (["Oxide", "sulphide", "waste"], ["Oxide"], ["sulphide"]),
+        (["OX_N", "OX_S", "SULF"], ["OX_N", "OX_S"], ["SULF"]),
+        (["OXIDOS", "SULFUROS"], ["OXIDOS"], ["SULFUROS"]),
+        (["OXI", "FRESH"], [], []),
+        (["BOX", "SULTAN"], [], []),
+        (["SUL"], [], ["SUL"]),
+    ],
+)
+def test_rocks_that_are_called_oxide_and_sulphide(tmp_path, rocks, oxides, sulphides):
+    frame = table(6, 5, 3, 3)
+    frame["ROCK"] = [rocks[i % len(rocks)] for i in range(len(frame))]
+    frame.to_csv(tmp_path / "t.csv", index=False)
+    look = first_look.look_at(tmp_path / "t.csv")
+    assert (sorted(look.oxides), sorted(look.sulphides)) == (oxides, sulphides)
+    text = first_look.written(look, "t.csv")
+    assert ("[[economics.processes]]" in text) == bool(oxides)
+    said = pitplan("init", str(tmp_path / "t.csv"), "--study", str(tmp_path / "s")).stdout
+    assert ("processes, if you want them: " in said) == bool(oxides)
+
+
+def test_the_processes_that_init_offers_are_a_study_once_they_are_no_comment(tmp_path):
+    table(6, 5, 3, 3).to_csv(tmp_path / "t.csv", index=False)
+    text = first_look.written(first_look.look_at(tmp_path / "t.csv"), "t.csv")
+    lines = text.split("\n")
+    at = next(i for i, line in enumerate(lines) if "in place of processing and mill" in line)
+    end = next(i for i in range(at, len(lines)) if not lines[i].startswith("#"))
+    lines[at + 1 : end] = [line[2:] for line in lines[at + 1 : end]]
+    kept = [line for line in lines if not re.match(r"(processing|mill_rate) =", line)]
+    (tmp_path / "study.toml").write_text("\n".join(kept))
+    told = read_study_file(tmp_path)
+    (mill, leach) = told.economics.processes
+    assert (mill.name, sorted(mill.rocks), mill.cost) == ("mill", ["OXI", "SUL"], 9.0)
+    assert (leach.name, leach.rocks, leach.recovery) == ("leach", ["OXI"], {"copper": 0.6})
+    goes = told.economics.priced(told.read_model()).destinations(1000)
+    assert set(goes) == {"mill", "leach", "waste"}

@@ -39,7 +39,7 @@ def table_of(
         has resource classes, ``tonnes``, ``shell`` (the factor of the first pit that has it, as a
         share of the price; of pushbacks ``pushback`` and of a schedule ``year``, its number),
         ``worth`` (at factor 1) and
-        ``to`` (``mill`` or ``waste``, at factor 1 or as a schedule sends it; ``forbidden`` for a block that may not be dug,
+        ``to`` (``mill``, or the name of a process where there are some, or ``waste``, at factor 1 or as a schedule sends it; ``forbidden`` for a block that may not be dug,
         whose worth is what it would be if it might).
     """
     from .vtu import columns_of, free
@@ -74,7 +74,7 @@ def table_of(
 
 def _ways_of(priced: Priced) -> Array:
     """Where each block goes at factor 1."""
-    found: Array = np.where(priced.milled(THOUSAND), "mill", "waste").astype(object)
+    found: Array = priced.destinations(THOUSAND)
     found[priced.forbidden] = "forbidden"
     return found
 

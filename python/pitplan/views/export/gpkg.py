@@ -10,6 +10,7 @@ from typing import TYPE_CHECKING, Any
 import numpy as np
 
 from ...base.amounts import THOUSAND
+from ...base.arrays import Floats
 from ...base.errors import PlanError
 from ...base.files import whole_file
 from ...model import outlines
@@ -41,7 +42,7 @@ def write(
     schedule ``year``, at whose end the mine is so), ``toe``,
     ``crest`` (elevations of the bench's faces), ``blocks``, ``area`` (square units of the
     coordinates), ``volume`` (area times height), ``rock_t`` and ``ore_t`` (in place, ore at factor
-    1). ``rims`` has the outline of each pit as seen from above: ``factor`` or ``year``, ``blocks``,
+    1; of several processes ``process_<name>_ore_t`` too). ``rims`` has the outline of each pit as seen from above: ``factor`` or ``year``, ``blocks``,
     ``area``, ``worth`` (text, as `pit` states it; of a year's end what all so far is worth,
     undiscounted).
 
@@ -71,10 +72,11 @@ def write(
     system = system_of(crs)
     chosen = list(range(len(shells.factors))) if pits is None else list(pits)
     benches, rims = features(shells, chosen)
+    fields = {**_FIELDS, "benches": (*_FIELDS["benches"], *_of_processes(shells))}
     with whole_file(path) as part:
         for layer, rows in (("benches", benches), ("rims", rims)):
             frame = geopandas.GeoDataFrame(
-                {name: [row[name] for row in rows] for name in (shells.by, *_FIELDS[layer])},
+                {name: [row[name] for row in rows] for name in (shells.by, *fields[layer])},
                 geometry=[row["geometry"] for row in rows],
                 crs=system,
             )
@@ -82,6 +84,11 @@ def write(
                 warnings.simplefilter("ignore")  # of layers without features: no pit has a block
                 frame.to_file(part, layer=layer, driver="GPKG", index=False)
     return len(benches) + len(rims)
+
+
+def _of_processes(shells: Shells) -> list[str]:
+    """The fields of ore by process, where there are several."""
+    return [f"process_{name}_ore_t" for name in shells.priced.names]
 
 
 def system_of(crs: str | None) -> Any:
@@ -118,10 +125,18 @@ def features(
     cube = outlines.cube_of(model, shells.dug, count)
     tonnes = model.blocks.tonnes.to_numpy(float)
     cell = model.blocks.iz.to_numpy().astype(np.int64) * (count + 1) + shells.shell
-    rock, ore = (
-        np.bincount(cell, weight, grid.shape[2] * (count + 1)).reshape(-1, count + 1).cumsum(axis=1)
-        for weight in (tonnes, priced.ore_of(tonnes, THOUSAND))
-    )
+
+    def summed(weight: Floats) -> Floats:
+        each = np.bincount(cell, weight, grid.shape[2] * (count + 1)).reshape(-1, count + 1)
+        found: Floats = each.cumsum(axis=1)
+        return found
+
+    rock, ore_in_place = summed(tonnes), priced.ore_of(tonnes, THOUSAND)
+    ore, goes = summed(ore_in_place), priced.goes(THOUSAND)
+    by_process = {
+        field: summed(ore_in_place * goes[name])
+        for field, name in zip(_of_processes(shells), priced.names)
+    }
     benches, rims = [], []
     for i in chosen:
         mark, held = shells.mark(i), cube <= i
@@ -138,6 +153,7 @@ def features(
                     "volume": area * grid.size[2],
                     "rock_t": float(rock[level, i]),
                     "ore_t": float(ore[level, i]),
+                    **{name: float(each[level, i]) for name, each in by_process.items()},
                     "geometry": outlines.placed(shape, grid),
                 }
             )

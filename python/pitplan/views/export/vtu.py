@@ -86,16 +86,21 @@ def mesh_of(
         "block": kept.astype(np.int32),
     }
     legend = []
+    if shells.priced.names:
+        goes = pd.Series(shells.priced.destinations(THOUSAND)[kept])
+        data["to"], words = numbered(goes, "to", model.name)
+        legend += [("to", i, word) for i, word in enumerate(words)]
     for name in columns_of(model, columns):
-        values = model.blocks[name].iloc[kept]
+        values, key = model.blocks[name].iloc[kept], free(name, shells.called)
+        key = f"{name} of the table" if key in data else key
         if values.dtype.kind in "iufb":
-            data[free(name, shells.called)] = values.to_numpy().astype(
+            data[key] = values.to_numpy().astype(
                 np.int32 if values.dtype.kind == "b" else values.dtype
             )
             continue
         truths = yes_or_no(values)
         codes, found = (truths, []) if truths is not None else numbered(values, name, model.name)
-        data[free(name, shells.called)] = codes
+        data[key] = codes
         legend += [(name, i, word) for i, word in enumerate(found)]
     mesh = meshio.Mesh(
         points, [("hexahedron", cells)], cell_data={name: [values] for name, values in data.items()}

@@ -15,7 +15,7 @@ from ... import __version__
 from ...base.amounts import THOUSAND
 from ...base.digests import sha256
 from ...base.units_shown import alike, factor_text, printed_scale, separated, share_text
-from ...model.tonnage import by_class, by_rock
+from ...model.tonnage import by_class, by_process, by_rock
 from ...study import edges
 from .. import pictures, slope_rose
 
@@ -156,12 +156,13 @@ def gathered(
     tables = [
         _of_rocks(shells),
         _of_pits(shells, table),
+        *of_processes(shells),
         *of_classes(shells),
         _of_benches(shells, chosen),
         _of_shells(shells),
     ]
     if phases is not None:
-        tables += [*_of_phases(phases), *of_phase_classes(phases)]
+        tables += [*_of_phases(phases), *of_phase_processes(phases), *of_phase_classes(phases)]
     by_year = _of_years(years) if years is not None else []
     tables += [table for table, _ in by_year]
     tables += [_of_slopes(plan, shells), _of_digests(plan, shells)]
@@ -298,6 +299,23 @@ def of_classes(shells: Shells) -> list[Table]:
     return [Table("Classes", "Pits by resource class, at the full price", columns)]
 
 
+def of_processes(shells: Shells) -> list[Table]:
+    """What goes to each process, in place and of each pit; none where there is one."""
+    study = shells.study
+    if not study.priced.names:
+        return []
+    metals, sets = study.manifest["metals"], {"in place": np.ones(len(study.model), bool)}
+    factors = {factor_text(factor): factor / THOUSAND for factor in shells.factors}
+    sets |= {name: shells.holds(i) for i, name in enumerate(factors)}
+    lines = by_process(study.model, study.priced, metals, sets)
+    columns = [
+        Column("Pit at factor", "", "factor", [factors.get(name, name) for name in lines["of"]]),
+        Column("To", "", "text", lines["to"].tolist()),
+    ]
+    columns += _tonnages(lines, study)
+    return [Table("Processes", "Pits by process, at the full price", columns)]
+
+
 def _tonnages(lines: pd.DataFrame, study: Study) -> list[Column]:
     """The columns of a table of grade and tonnage, as `tonnage.by_rock` gives it, after its
     words."""
@@ -419,6 +437,21 @@ def of_phase_classes(phases: Phases) -> list[Table]:
     ]
     title = f"Pushbacks by resource class, at the full price; pushbacks {phases.set_name}"
     return [Table("Pushback classes", title, [*columns, *_tonnages(lines, study)])]
+
+
+def of_phase_processes(phases: Phases) -> list[Table]:
+    """What goes to each process, of each pushback; none where there is one."""
+    study = phases.shells.study
+    if not study.priced.names:
+        return []
+    sets = {str(k): phases.pushback == k for k in range(1, len(phases) + 1)}
+    lines = by_process(study.model, study.priced, study.manifest["metals"], sets)
+    columns = [
+        Column("Pushback", "", "count", lines["of"].astype(int).tolist()),
+        Column("To", "", "text", lines["to"].tolist()),
+    ]
+    title = f"Pushbacks by process, at the full price; pushbacks {phases.set_name}"
+    return [Table("Pushback processes", title, [*columns, *_tonnages(lines, study)])]
 
 
 def _of_phases(phases: Phases) -> list[Table]:

@@ -1,0 +1,174 @@
+"""A plan by years over several processes: each has its own rate, and tables tell what each gets; added up again by two_ways.py alone."""
+import re
+import shutil
+import subprocess
+import sys
+from decimal import Decimal
+
+import pytest
+
+import two_ways
+from pitplan import PlanError, Study
+from pitplan.audit.bundle import write_bundle
+from pitplan.plans import vary
+from pitplan.schedule import Schedule
+from pitplan.schedule.tables import Tables, binds_text
+from pitplan.schedule.terms import terms_of
+from pitplan.schedule.what_ifs import _changed_terms
+from pitplan.schedule.year_ends import YearEnds
+from pitplan.study.study_file import read_study_file
+from pitplan.views.export.csv import table_of
+from planned import WEIGHTS
+from two_ways import COLUMNS, NAMES, added_up, rows_at
+
+TERMS = "\n[schedule]\nyears = 6\nmining_rate = [600e3, 500e3]\n"
+ROOM = {"mill": 250e3, "leach": 120e3}
+
+
+@pytest.fixture(scope="module")
+def found(tmp_path_factory):
+    """A schedule of the mine of two ways, and its bundle."""
+    folder = tmp_path_factory.mktemp("two") / "s"
+    plan = read_study_file(two_ways.written(folder, TERMS))
+    Study.create(folder, plan.read_model(), plan.economics, plan.slopes, None, plan.digest)
+    shells, told = Study(folder).shells(plan.factors), plan.values["schedule"]
+    made = Schedule.of(shells, told, plan.rates, (0.02, 300))
+    dialect = plan.keys.dialect(plan.table)
+    write_bundle(shells, folder / "bundle", plan.path, dialect, plan.rates, told)
+    return made
+
+
+@pytest.fixture(scope="module")
+def rows(found):
+    """The planner's rows with the year of each, from 1; 0 where it stays."""
+    year = dict(zip(found.shells.study.model.blocks.id, found.years.tolist()))
+    made = rows_at(two_ways.frame())
+    for row in made:
+        row["year"] = year[row["IJK"]]
+    return made
+
+
+def test_each_year_is_what_the_planners_rows_come_to(found, rows):
+    years = Tables(found).years().set_index("year")
+    assert list(years.index) == list(range(1, max(row["year"] for row in rows) + 1))
+    npv = Decimal(0)
+    for year, line in years.iterrows():
+        wanted = added_up([row for row in rows if row["year"] == year])
+        for column in COLUMNS:
+            for before in ("", *(f"process_{name}_" for name in NAMES)):
+                by_hand = pytest.approx(wanted[f"{before}{column}"], rel=1e-9, nan_ok=True)
+                assert line[f"{before}{column}"] == by_hand, (year, before, column)
+        assert line.cash_flow == pytest.approx(wanted["worth"], rel=1e-12)
+        assert line.mining_used == pytest.approx(
+            wanted["rock_t"] / (600e3 if year == 1 else 500e3), rel=1e-9
+        )
+        tight = ["mining"] if line.mining_used >= 0.995 else []
+        for name in NAMES:
+            share = wanted[f"process_{name}_feed_t"] / ROOM[name]
+            assert line[f"process_{name}_used"] == pytest.approx(share, rel=1e-9)
+            assert share <= 1
+            tight += [name] if share >= 0.995 else []
+        assert binds_text(line) == " ".join(tight)
+        npv += sum(
+            Decimal(str(WEIGHTS[year])) * int(row["worth"]) for row in rows if row["year"] == year
+        )
+    assert found.npv == npv
+    assert (years.process_leach_feed_t > 0).all()
+
+
+def test_where_blocks_go_is_told_by_name(found, rows):
+    """In the planner's own table and in exported files."""
+    at = {name: b for b, name in enumerate(found.shells.study.model.blocks.id)}
+    for row in rows:
+        assert found.ways[at[row["IJK"]]] == (row["to"] if row["year"] else "")
+    exported = table_of(YearEnds(found)).set_index("id")
+    assert set(exported["to"]) == {"mill", "leach", "waste"}
+    for row in rows:
+        if row["year"]:
+            assert exported["to"][row["IJK"]] == row["to"]
+            assert exported.worth[row["IJK"]] == row["worth"]
+
+
+def checked(bundle):
+    ran = subprocess.run(
+        [sys.executable, "-I", bundle / "recheck_schedule.py"], capture_output=True, text=True
+    )
+    assert not ran.stderr
+    return ran.returncode, ran.stdout
+
+
+def test_the_bundles_checker_adds_it_up_again(found):
+    status, said = checked(found.shells.study.folder / "bundle")
+    assert status == 0, said
+    (npv,) = re.findall(r"capacities, and is worth ([\d,.]+)\n", said)
+    assert Decimal(npv.replace(",", "")) == found.npv
+
+
+def of_file(name, was, now):
+    def change(bundle):
+        path = bundle / name
+        text = path.read_text()
+        assert re.search(was, text)
+        path.write_text(re.sub(was, now, text, count=1))
+
+    return change
+
+
+def of_other_uses(bundle):
+    """The feeds of the two processes change places."""
+    path = bundle / "schedule" / "uses.blocks"
+    lines = [line.split() for line in open(path)]
+    path.write_text("".join(" ".join([*row[:5], row[6], row[5]]) + "\n" for row in lines))
+
+
+@pytest.mark.parametrize(
+    "change, words",
+    [
+        (of_file("study.toml", "rate = 120e3", "rate = 121e3"), "of leach, and by study.toml"),
+        (of_file("study.toml", "rate = 250e3", "rate = 120e3"), "of mill, and by study.toml"),
+        (of_file("study.toml", "years = 6", "years = 6\nmill_rate = 4e5"), "a mill_rate beside"),
+        (of_other_uses, "uses|flows"),
+        (of_file("schedule/periods.toml", r"capacities = \[\[", "capacities = [[9, "), "resources"),
+    ],
+)
+def test_what_is_changed_is_told(found, tmp_path, change, words):
+    bundle = shutil.copytree(found.shells.study.folder / "bundle", tmp_path / "bundle")
+    change(bundle)
+    status, said = checked(bundle)
+    assert status == 1, said
+    assert re.search(words, said), said
+
+
+def test_what_a_plan_cant_have_of_processes():
+    rates = {"process_rates": {"mill": 1e5, "leach": None}, "discount": 0.08}
+    told = terms_of({"years": 2}, rates, 1.0, [1.0, 1.0])
+    assert told.resources == ("mining", "mill", "leach")
+    assert told.capacities == ((), (10**8, 10**8), ())
+    with pytest.raises(PlanError, match="chooses between one mill and waste"):
+        terms_of({"cutoff": "by year"}, rates, 1.0, [1.0, 1.0])
+    with pytest.raises(PlanError, match="the feed of 7 processes at most, and there are 8"):
+        many = {"process_rates": {f"p{i}": 1.0 for i in range(8)}}
+        terms_of({}, many, 1.0, [1.0] * 8)
+    with pytest.raises(PlanError, match="neither mining_rate nor a process that has a rate"):
+        terms_of({}, {"process_rates": {"mill": None}}, 1.0, [1.0])
+
+
+def test_years_are_as_many_as_the_slowest_process_needs():
+    rates = {"process_rates": {"mill": 400.0, "leach": 100.0}, "mining_rate": 1000.0}
+    assert terms_of({}, rates, 1000, [800, 350]).periods == 1 + 4  # 3.5 years of leaching
+    assert terms_of({}, rates, 1000, [2200, 350]).periods == 1 + 6  # 5.5 of milling
+
+
+def test_what_ifs_of_the_rate_of_a_process():
+    rates = {"process_rates": {"mill": 1e5, "leach": 5e4}}
+    (one,), (both,) = vary.changes_of(["rate:leach=10"]), vary.changes_of(["rate=-50"])
+    assert _changed_terms({}, rates, one)["process_rates"] == {
+        "mill": 1e5,
+        "leach": pytest.approx(5.5e4),
+    }
+    assert _changed_terms({}, rates, both)["process_rates"] == {"mill": 5e4, "leach": 2.5e4}
+    none = {"process_rates": {"mill": 1e5, "leach": None}}
+    with pytest.raises(PlanError, match="leach has no rate"):
+        _changed_terms({}, none, one)
+    with pytest.raises(PlanError, match="there are no processes, and the mill has mill_rate"):
+        _changed_terms({}, {"mill_rate": 1e5}, one)
