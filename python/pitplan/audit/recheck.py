@@ -28,6 +28,7 @@ import subprocess
 import tomllib
 import unicodedata
 import zlib
+from bisect import bisect_right
 from collections import Counter, defaultdict
 from collections.abc import Callable, Collection, Iterator, Mapping
 from decimal import Decimal
@@ -82,6 +83,18 @@ FAR, LONGEST = (
 )
 ROUNDED = 1e-6  # degrees: so little is what arithmetic leaves
 MOST = 10**18  # millionths that `pit` reads for a block
+TOLD = 12  # offsets that a line names
+# degrees that a wall may err by: on average, at the worst bearing, on average with its sign; of the
+# worst errors to both sides the lesser is at least this share of the greater
+MEAN, WORST, SIGNED, SIDE = 0.5, 1.0, 0.25, 0.25
+NEAR = 1e-6  # relative: numbers so near to each other are one
+# what a wall that is too steep weighs where none may be, and degrees that are none
+TOO_STEEP, EVEN = 1000, math.degrees(NEAR) / 2
+OFFSETS_AT_MOST, MOST_LEVELS = 4096, 200
+# the blocks that a wall comes out, and at how many stretches of its cone it is looked for
+TRIES = (10, 400), (24, 300)
+NARROWEST, WIDEST = 0.9, 1.6  # the stretches
+UNION = 64  # columns of blocks that are joined ahead
 # what Python raises over a text that is no formula
 UNWORKABLE = (
     ArithmeticError,
@@ -254,6 +267,7 @@ STUDY: dict[str, dict[str, Kind]] = {
             "a table of angles, each " + ANGLES.must, lambda value: is_table(value, is_angles)
         ),
         "safe": IS_SO,
+        "levels": Kind("a whole number from 1 to 200", lambda value: is_whole(value, 1, 200)),
         "ramp": Kind(
             "a table of width, grade, height, and turns or around, each above 0; or such a table for each region",
             lambda value: has_ramp(value) or is_table(value, has_ramp),
@@ -2157,7 +2171,7 @@ def check_slopes(report: Report, blocks: Blocks, regions: list[int | None] | Non
     that the slopes of model/settings.toml make."""
     if len(blocks.slopes) > 1:
         check_regions(report, blocks, regions)
-    tell_walls(report, blocks.slopes)
+    check_walls(report, blocks.slopes)
 
 
 def check_closed(report: Report, blocks: Blocks, shell: list[int]) -> None:
@@ -2190,20 +2204,42 @@ def check_regions(report: Report, blocks: Blocks, regions: list[int | None] | No
     )
 
 
-def tell_walls(report: Report, lists: list[list[list[int]]]) -> None:
-    """How far the walls that the offsets build are from the angles of study.toml: the planner's
-    bounds aren't known here, so it is the auditor's to judge; but with `safe` no wall is
-    steeper."""
-    grid, slopes = facts_of()["grid"], study_of("slopes", "angles", "regions", "safe", "ramp")
+def check_walls(report: Report, lists: list[list[list[int]]]) -> None:
+    """The offsets of each region are those that its angles come to, none left out and none added;
+    and how far the walls that they build are from the angles of study.toml: the planner's bounds
+    aren't known here, so it is the auditor's to judge; but with `safe` no wall is steeper."""
+    grid, slopes = facts_of()["grid"], study_of("slopes", *STUDY["slopes"])
     asked = {"default": slopes.get("angles", 45.0), **slopes.get("regions", {})}
+    is_safe = slopes.get("safe", False)
     for offsets, (region, between) in zip(lists, asked.items()):
-        angles = with_ramp(between, slopes.get("ramp", {}), region)
-        steeper, flatter = wall_errors(offsets, grid, Angles.of(angles))
-        what = f"the slopes of {region}: a deep wall of model/settings.toml is at most {degrees(steeper)} degrees steeper and {degrees(flatter)} flatter than study.toml asks"
-        if slopes.get("safe") and steeper > ROUNDED:
+        wall = Wall(Angles.of(with_ramp(between, slopes.get("ramp", {}), region)), grid)
+        step = f"the offsets of {region}"
+        report.attempt(step, check_offsets, report, step, offsets, wall, slopes)
+        steeper, flatter = Outline(wall, offsets).extremes(True)
+        what = f"the slopes of {region}: a deep wall of model/settings.toml is at most {degrees(max(0.0, steeper))} degrees steeper and {degrees(max(0.0, -flatter))} flatter than study.toml asks"
+        if is_safe and steeper > ROUNDED:
             report.check(False, f"{what}, by safe = true never steeper")
         else:
             report.say("look", what)
+
+
+def check_offsets(
+    report: Report, step: str, listed: list[list[int]], wall: Wall, slopes: dict[str, Any]
+) -> None:
+    """The offsets that settings list for a region are the fewest of a wall as steep as asked."""
+    there = Counter((i, j, k) for i, j, k in listed)
+    wanted = Counter(fewest(wall, slopes.get("safe", False), slopes.get("levels"), set(there)))
+    faults = [("lack", [*wanted - there]), ("have too much", [*there - wanted])]
+    report.check(
+        there == wanted,
+        f"{step} in model/settings.toml are the {len(wanted):,} that its angles in study.toml come to"
+        + "".join(
+            f"; they {what} {', '.join(str([*offset]) for offset in sorted(some)[:TOLD])}"
+            + (f" and {len(some) - TOLD:,} more" if len(some) > TOLD else "")
+            for what, some in faults
+            if some
+        ),
+    )
 
 
 def with_ramp(angles: Any, ramp: dict[str, Any], region: str) -> Any:
@@ -2259,66 +2295,304 @@ class Angles(NamedTuple):
         }
 
 
-def wall_errors(
-    offsets: list[list[int]], grid: dict[str, Any], asked: Angles
-) -> tuple[float, float]:
-    """By how many degrees a deep wall is at most steeper and at most flatter than asked, of all
-    bearings.
+class Wall:
+    """What is asked of a wall: its angles, in blocks of the grid."""
 
-    Over many levels a pit opens to the hull of its offsets, each divided by its level. An edge of
-    the hull is d out for each metre of height where it is nearest; at an angle a from there its
-    wall stands at atan(cos a / d), which rises by -d sin a / (d^2 + cos^2 a) for each degree. So
-    the error is greatest or least at a corner, at a bearing that study.toml names, or where this is
-    the lean of what is asked.
+    def __init__(self, asked: Angles, grid: dict[str, Any]) -> None:
+        self.asked, (self.x, self.y, self.z) = asked, map(float, grid["size"])
+        turn = math.radians(grid["rotation"])
+        self.sin, self.cos = math.sin(turn), math.cos(turn)
+        self.by_degree, self.leans = [asked.at(bearing) for bearing in range(360)], asked.leans()
+        degrees_of = [angle for _, angle in asked.pairs]
+        self.flattest, self.steepest = (
+            math.tan(math.radians(angle)) for angle in (min(degrees_of), max(degrees_of))
+        )
+
+    def plan(self, i: float, j: float) -> tuple[float, float]:
+        """Metres east and north of so many blocks along the model's axes."""
+        u, v = i * self.x, j * self.y
+        return u * self.cos + v * self.sin, v * self.cos - u * self.sin
+
+    def levels_to(self, i: int, j: int) -> float:
+        """How many levels up a cone of these angles comes to a column of blocks."""
+        if i == j == 0:
+            return 0.0
+        east, north = self.plan(i, j)
+        angle = self.asked.at(math.degrees(math.atan2(east, north)))
+        return math.hypot(east, north) * math.tan(math.radians(angle)) / self.z
+
+    def levels(self, blocks: float) -> int:
+        """How many levels up the wall is so many blocks out, where it is steepest."""
+        return math.ceil(blocks * max(self.x, self.y) * self.steepest / self.z * (1 - NEAR))
+
+
+class Outline:
+    """A deep pit in plan for each metre of its height: the hull of its offsets, each divided by its
+    level.
+
+    Attributes
+    ----------
+    at : list of tuples
+        The corners as offsets of one level.
+    corners : list of pairs
+        The same in metres east and north, by their bearings.
+    is_open : bool
+        Whether the pit opens to all sides; where it doesn't its walls are upright.
     """
-    (x, y, z), turn = grid["size"], math.radians(grid["rotation"])
-    flat = [(i * x / (k * z), j * y / (k * z)) for i, j, k in offsets]
-    points = sorted(
-        {
-            (u * math.cos(turn) + v * math.sin(turn), v * math.cos(turn) - u * math.sin(turn))
-            for u, v in flat
-        }
-    )
-    corners = [*half_hull(points), *half_hull(points[::-1])]
-    bearings = [math.degrees(math.atan2(east, north)) for east, north in corners]
-    bearings += [bearing for bearing, _ in asked.pairs]
-    for (a, b), (c, d) in zip(corners, corners[1:] + corners[:1]):
-        long = math.hypot(c - a, d - b)
-        out = abs(a * d - b * c) / long if long else 0.0
-        if not out:
-            continue
-        foot = -(a * (c - a) + b * (d - b)) / long**2
-        nearest = math.degrees(math.atan2(a + (c - a) * foot, b + (d - b) * foot))
-        for lean in asked.leans():
-            rise = lean * (out**2 + 1)
-            sine = -2 * rise / (out + math.sqrt(out**2 + 4 * lean * rise))
-            if abs(sine) < 1:
-                bearings.append(nearest + math.degrees(math.asin(sine)))
-    errors = [built_angle(corners, bearing) - asked.at(bearing) for bearing in bearings]
-    return max(0.0, *errors), max(0.0, *(-error for error in errors))
+
+    def __init__(self, wall: Wall, offsets: Collection[Collection[int]]) -> None:
+        self.wall, level = wall, math.lcm(*(k for _, _, k in offsets))
+        points = sorted({(i * (level // k), j * (level // k)) for i, j, k in offsets})
+        hull = [*half_hull(points), *half_hull(points[::-1])]
+        self.at = [(i, j, level) for i, j in hull]
+        high = level * wall.z
+        placed = [wall.plan(i / high, j / high) for i, j in hull]
+        by_bearing = sorted((math.degrees(math.atan2(e, n)) % 360, e, n) for e, n in placed)
+        self.bearings = [bearing for bearing, _, _ in by_bearing]
+        self.corners = [(e, n) for _, e, n in by_bearing]
+        self.edges = list(zip(self.corners, self.corners[1:] + self.corners[:1]))
+        self.is_open = len(hull) > 2 and all(a * d - b * c < 0 for (a, b), (c, d) in self.edges)
+
+    def angle(self, bearing: float) -> float:
+        """Degrees of the wall at a bearing."""
+        if not self.is_open:
+            return 90.0
+        (a, b), (c, d) = self.edges[bisect_right(self.bearings, bearing % 360) - 1]
+        east, north = math.sin(math.radians(bearing)), math.cos(math.radians(bearing))
+        return math.degrees(math.atan2((c - a) * north - (d - b) * east, b * c - a * d))
+
+    def flattest(self) -> float:
+        """The error of the wall at the corner where it is least; above 0 is steeper than asked."""
+        return min(
+            (self.angle(bearing) - self.wall.asked.at(bearing) for bearing in self.bearings),
+            default=90.0,
+        )
+
+    def extremes(self, is_exact: bool) -> tuple[float, float]:
+        """By how many degrees the wall is steeper than asked, at most and at least; of all bearings
+        if that shall be exact.
+
+        An edge of the hull is d out for each metre of height where it is nearest; at an angle a
+        from there its wall stands at atan(cos a / d), which rises by -d sin a / (d^2 + cos^2 a) for
+        each degree. So the error is least at a corner, and greatest where an edge is nearest, at a
+        bearing that study.toml names, or where this is the lean of what is asked.
+        """
+        bearings = [bearing for bearing, _ in self.wall.asked.pairs]
+        for (a, b), (c, d) in self.edges if self.is_open else []:
+            nearest = math.degrees(math.atan2(b - d, c - a))
+            bearings.append(nearest)
+            out = (b * c - a * d) / math.hypot(c - a, d - b)
+            for lean in self.wall.leans if is_exact else ():
+                rise = lean * (out**2 + 1)
+                sine = -2 * rise / (out + math.sqrt(out**2 + 4 * lean * rise))
+                if abs(sine) < 1:
+                    bearings.append(nearest + math.degrees(math.asin(sine)))
+        errors = [self.angle(bearing) - self.wall.asked.at(bearing) for bearing in bearings]
+        return max(errors), min(self.flattest(), *errors)
+
+    def by_degree(self) -> list[float]:
+        """By how many degrees the wall is steeper than asked at each whole degree of bearing."""
+        return [self.angle(bearing) - asked for bearing, asked in enumerate(self.wall.by_degree)]
 
 
-def built_angle(corners: list[tuple[float, float]], bearing: float) -> float:
-    """Degrees of a deep wall at a bearing; 90 where the hull doesn't reach there."""
-    east, north, out = math.sin(math.radians(bearing)), math.cos(math.radians(bearing)), 0.0
-    for (a, b), (c, d) in zip(corners, corners[1:] + corners[:1]):
-        left, right = a * north - b * east, c * north - d * east
-        if left * right <= 0 and left != right:  # the edge crosses the bearing: so far out
-            share = left / (left - right)
-            out = max(out, (a + (c - a) * share) * east + (b + (d - b) * share) * north)
-    return math.degrees(math.atan2(1.0, out))
-
-
-def half_hull(points: list[tuple[float, float]]) -> list[tuple[float, float]]:
+def half_hull(points: list[tuple[int, int]]) -> list[tuple[int, int]]:
     """The corners on one side of the hull of sorted points, without the last."""
-    found: list[tuple[float, float]] = []
-    for e, n in points:
-        while len(found) > 1 and (found[-1][0] - found[-2][0]) * (n - found[-2][1]) <= (
+    found: list[tuple[int, int]] = []
+    for i, j in points:
+        while len(found) > 1 and (found[-1][0] - found[-2][0]) * (j - found[-2][1]) <= (
             found[-1][1] - found[-2][1]
-        ) * (e - found[-2][0]):
+        ) * (i - found[-2][0]):
             found.pop()
-        found.append((e, n))
+        found.append((i, j))
     return found[:-1]
+
+
+class Cones:
+    """The cones of a wall, up to some levels, the angles of each stretched by a share of their
+    tangents. A set of columns of blocks is a whole number, a bit for each column, so that sets are
+    moved and joined at once."""
+
+    def __init__(self, wall: Wall, levels: int, widest: float) -> None:
+        self.top, self.widest = levels, widest
+        reach = widest * levels * wall.z / wall.flattest
+        across, along = int(reach / wall.x) + 1, int(reach / wall.y) + 1
+        self.across, self.along, self.wide = across, along, 2 * across + 1
+        columns = sorted(
+            (wall.levels_to(i, j), i, j)
+            for i in range(-across, across + 1)
+            for j in range(-along, along + 1)
+        )
+        columns = [column for column in columns if column[0] <= widest * levels * (1 + NEAR)]
+        self.far = [far for far, _, _ in columns]
+        self.bits = [1 << ((j + along) * self.wide + i + across) for _, i, j in columns]
+        self.unions = [0]
+        for at in range(0, len(self.bits), UNION):
+            self.unions.append(self.unions[-1] | sum(self.bits[at : at + UNION]))
+
+    def nearest(self, levels: float) -> int:
+        """The columns that a cone comes to within some levels; of columns as far away as each other
+        all or none."""
+        count = bisect_right(self.far, levels * (1 + NEAR))
+        while 0 < count < len(self.far) and self.far[count] <= self.far[count - 1] * (1 + NEAR):
+            count += 1
+        return self.unions[count // UNION] | sum(self.bits[count // UNION * UNION : count])
+
+    def stretches(self, narrowest: float, most: int) -> list[float]:
+        """The shares at which a cone has one block more, ascending; where there are too many, those
+        of the lower levels."""
+        found, low, high = [1.0], narrowest * (1 - NEAR), self.widest * (1 + NEAR)
+        for k in range(1, self.top + 1):
+            found = sorted([*found, *(far / k for far in self.far if low <= far / k <= high)])
+            found = [
+                each for before, each in zip([-1.0, *found], found) if each > before * (1 + NEAR)
+            ]
+            if len(found) >= most:
+                break
+        return found[:: -(-len(found) // most)]
+
+    def grown(self, stretch: float) -> Iterator[list[tuple[int, int, int]]]:
+        """The offsets of a cone that no sum of others comes to: all of them up to each level that
+        has one, as long as `pit` takes so many."""
+        found, reached = list[tuple[int, int, int]](), [1 << (self.along * self.wide + self.across)]
+        for k in range(1, self.top + 1):
+            sums = 0
+            for i, j, up in found:
+                by = j * self.wide + i
+                sums |= reached[k - up] << by if by >= 0 else reached[k - up] >> -by
+            held = self.nearest(stretch * k)
+            reached.append(sums | held)
+            new = held & ~sums
+            if len(found) + new.bit_count() > OFFSETS_AT_MOST:
+                return
+            while new:
+                row, at = divmod((new & -new).bit_length() - 1, self.wide)
+                found.append((at - self.across, row - self.along, k))
+                new &= new - 1
+            if found and found[-1][2] == k:
+                yield found.copy()
+
+
+class Found(NamedTuple):
+    """Offsets, the share by which the worst of their wall's errors passes what is allowed (at most
+    1 where none does), and the greatest error."""
+
+    offsets: list[tuple[int, int, int]]
+    badness: float
+    steepest: float
+
+    @property
+    def is_held(self) -> bool:
+        return self.badness <= 1 + NEAR
+
+    def is_better(self, other: Found | None) -> bool:
+        """Whether these are fewer, or as few and the wall errs less; a wall that errs too much comes
+        after each that doesn't."""
+        if other is None or self.is_held != other.is_held:
+            return other is None or self.is_held
+        if self.is_held and len(self.offsets) != len(other.offsets):
+            return len(self.offsets) < len(other.offsets)
+        return self.badness < other.badness * (1 - NEAR)
+
+
+class Search:
+    """Looks for the fewest offsets whose wall errs by no more than is allowed.
+
+    Parameters
+    ----------
+    listed : set of tuples
+        Of several answers as good as each other these offsets are the one.
+    """
+
+    def __init__(self, wall: Wall, is_safe: bool, listed: set[tuple[int, int, int]]) -> None:
+        self.wall, self.is_safe, self.listed = wall, is_safe, listed
+
+    def judged(self, outline: Outline, least: float) -> tuple[float, float]:
+        """The badness of a wall, and its greatest error. Where the extremes alone are worse than
+        `least`, nothing more is looked at."""
+        steepest, flattest = outline.extremes(self.is_safe)
+        if self.worst(steepest, flattest) > least:
+            return math.inf, steepest
+        even = outline.by_degree()
+        steepest, flattest = max(steepest, *even), min(flattest, *even)
+        worst, mean = self.worst(steepest, flattest), sum(abs(off) for off in even) / 360 / MEAN
+        if self.is_safe:
+            return max(worst, mean), steepest
+        most, less = max(steepest, -flattest), min(steepest, -flattest)
+        is_one_sided = most > EVEN and less < SIDE * most
+        lean = abs(sum(even)) / 360 / SIGNED
+        return max(worst, mean, lean, 1.5 if is_one_sided else 0), steepest
+
+    def worst(self, steepest: float, flattest: float) -> float:
+        """The badness of a wall by its extremes alone."""
+        steep = TOO_STEEP * (1 + steepest) if self.is_safe and steepest > EVEN else 0.0
+        return max(steepest, -flattest) / WORST + steep
+
+    def best(self, cones: Cones, stretches: list[float]) -> Found | None:
+        """The best offsets of these cones, up to whichever level; None where there are none."""
+        best: Found | None = None
+        seen = dict[tuple[Any, ...], tuple[float, float]]()
+        for stretch in stretches:
+            corners, count = list[tuple[int, int, int]](), 0
+            least = math.inf if best is None else max(1.0, best.badness) * (1 + NEAR)
+            for offsets in cones.grown(stretch):
+                if best and best.is_held and len(offsets) > len(best.offsets):
+                    break
+                outline = Outline(self.wall, corners + offsets[count:])
+                corners, count = outline.at or list(offsets), len(offsets)
+                if -outline.flattest() > least * WORST:
+                    break  # further levels make it flatter still
+                key = tuple(outline.corners)
+                if key not in seen:
+                    seen[key] = self.judged(outline, least)
+                found = Found(offsets, *seen[key])
+                is_listed = set(offsets) == self.listed
+                if found.is_better(best) or is_listed and best and not best.is_better(found):
+                    best = found
+                    least = max(1.0, best.badness) * (1 + NEAR)
+        return best
+
+    def flatter(self, levels: int) -> Found | None:
+        """The best of cones that are stretched so far that none of their walls is too steep; None
+        where one level of them has more offsets than `pit` takes."""
+        narrow = WIDEST
+        while next(Cones(self.wall, 1, narrow).grown(narrow), None):
+            cones = Cones(self.wall, levels, 2 * narrow)
+            found = self.best(cones, [*cones.stretches(narrow, TRIES[0][1]), cones.widest])
+            if found and found.steepest <= EVEN:
+                return found
+            narrow = cones.widest
+        return None
+
+
+def fewest(
+    wall: Wall, is_safe: bool, levels: int | None, listed: set[tuple[int, int, int]]
+) -> list[tuple[int, int, int]]:
+    """The fewest offsets of a wall that is as steep as asked: of cones stretched a little, without
+    each offset that sums of others come to. It is looked for so many levels up that the wall comes
+    10 blocks out, and where none is good enough 24.
+
+    Raises
+    ------
+    Bad
+        Where no wall that has to be safe is.
+    """
+    search, best, before, most_up = Search(wall, is_safe, listed), None, 0, levels or MOST_LEVELS
+    for blocks, most in TRIES:
+        high = min(most_up, wall.levels(blocks))
+        if high == before:
+            break
+        before, cones = high, Cones(wall, high, WIDEST)
+        found = search.best(cones, cones.stretches(NARROWEST, most))
+        found = found or search.best(cones, cones.stretches(0.0, most))
+        if found and found.is_better(best):
+            best = found
+        if best and best.is_held:
+            break
+    if is_safe and best and best.steepest > EVEN:
+        best = search.flatter(min(before, wall.levels(3)))
+    if best is None:
+        raise Bad("no offsets make a wall that study.toml asks for")
+    return best.offsets
 
 
 def check_all(report: Report, pit: str, is_plain: bool) -> None:

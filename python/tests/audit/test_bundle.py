@@ -576,6 +576,18 @@ CHANGES = {
         lambda f: replaced(f / "model" / "settings.toml", "\n]\n", "\n    [[0, 0, 1]],\n]\n"),
         "as many lists of offsets as slopes in study.toml",
     ),
+    "an offset that is left out": (
+        lambda f: replaced(f / "model" / "settings.toml", "[0, 0, 1], ", ""),
+        "that its angles in study.toml come to; they lack [0, 0, 1]",
+    ),
+    "an offset that is added": (
+        lambda f: replaced(f / "model" / "settings.toml", "[0, 0, 1]", "[0, 0, 1], [9, 0, 1]"),
+        "that its angles in study.toml come to; they have too much [9, 0, 1]",
+    ),
+    "an angle": (
+        lambda f: replaced(f / "study.toml", "angles = 45", "angles = 47"),
+        "the offsets of default in model/settings.toml are the",
+    ),
     "how many blocks a region has": (
         told_otherwise("model/manifest.json", "regions", "default", value=7),
         "in each region of slopes as many",
@@ -1144,6 +1156,82 @@ def test_the_walls_of_the_offsets_are_held_against_the_angles(tmp_path, angles):
     assert walls(folder)[1][1][2] > found[1][2] + 4.9
 
 
+def offsets_checked(offsets, wall, is_safe=False, levels=None):
+    """What recheck.py says of the offsets of a region of that name."""
+    said = []
+    report = SimpleNamespace(check=lambda holds, what: said.append((holds, what)))
+    slopes = {"safe": is_safe, "levels": levels}
+    recheck.check_offsets(report, "the offsets of EAST", offsets, wall, slopes)
+    return said[0]
+
+
+@pytest.mark.parametrize("angles, is_safe", [(42, True), ([[0, 38], [90, 45], [300, 42]], False)])
+def test_each_offset_that_is_left_out_or_added_is_named(angles, is_safe):
+    """Low ones too, of which no deep wall tells anything."""
+    found = offsets.search(offsets.wall((20, 20, 10), angles, 30.0), safe=is_safe, levels=4)
+    listed = [list(offset) for offset in found.offsets]
+    wall = recheck.Wall(recheck.Angles.of(angles), {"size": [20, 20, 10], "rotation": 30.0})
+    assert offsets_checked(listed, wall, is_safe, 4)[0]
+    assert len(listed) > 9
+    for i, offset in enumerate(listed):
+        holds, what = offsets_checked(listed[:i] + listed[i + 1 :], wall, is_safe, 4)
+        assert (holds, what.partition("; ")[2]) == (False, f"they lack {offset}")
+    for more in ([1, -1, 2], [0, 0, 7], [40, 0, 1]):
+        holds, what = offsets_checked([*listed, more], wall, is_safe, 4)
+        assert (holds, what.partition("; ")[2]) == (False, f"they have too much {more}")
+    holds, what = offsets_checked([*listed, listed[3]], wall, is_safe, 4)
+    assert (holds, what.partition("; ")[2]) == (False, f"they have too much {listed[3]}")
+
+
+def test_a_region_has_the_offsets_of_its_own_angles(tmp_path):
+    """Two lists that change places, and an offset that the second region alone lacks."""
+    folder = bundled(tmp_path, SECTORS)
+    settings = folder / "model" / "settings.toml"
+    text = settings.read_text()
+    first, second = re.findall(r"(?m)^    \[\[.*\],$", text)
+    settings.write_text(text.replace(first, "?").replace(second, first).replace("?", second))
+    told_otherwise(
+        "model/manifest.json",
+        "files",
+        "settings.toml",
+        value=hashlib.sha256(settings.read_bytes()).hexdigest(),
+    )(folder)
+    summed(folder)
+    wrong = [line for line in rechecked(folder)[0] if "the offsets of" in line]
+    assert [line.split()[:4] for line in wrong] == [["WRONG", "the", "offsets", "of"]] * 2
+    settings.write_text(text.replace(second, second.replace("[0, 0, 1], ", "")))
+    summed(folder)
+    wrong = [line for line in rechecked(folder)[0] if "the offsets of" in line]
+    assert len(wrong) == 1, wrong
+    assert wrong[0].startswith("WRONG   the offsets of EAST in model/settings.toml"), wrong
+    assert wrong[0].endswith("they lack [0, 0, 1]"), wrong
+
+
+@pytest.mark.parametrize("seed", range(4))
+def test_the_offsets_are_found_again_by_other_code(seed):
+    """`fewest` of recheck.py, which shares nothing with pitplan's search."""
+    random = np.random.default_rng(seed)
+    for _ in range(2):
+        size = [20.0, float(random.choice([16, 20, 25])), float(random.choice([10, 15, 20]))]
+        bearings = sorted(random.choice(360, random.integers(1, 4), replace=False).tolist())
+        angles = [[bearing, random.uniform(36, 55)] for bearing in bearings]
+        rotation, is_safe = float(random.choice([0, 17.3, 45])), bool(random.random() < 0.4)
+        levels = random.choice([None, 2, 5])
+        asked = offsets.wall(size, angles, rotation)
+        pattern = offsets.search(asked, safe=is_safe, levels=levels)
+        wall = recheck.Wall(recheck.Angles.of(angles), {"size": size, "rotation": rotation})
+        again = recheck.fewest(wall, is_safe, levels, set())
+        assert sorted(again) == sorted(pattern.offsets), (size, angles, rotation, is_safe, levels)
+
+
+def test_offsets_that_are_known_by_hand_are_found():
+    """A wall that is nowhere steeper than 45 degrees, in cubes over one level: without the corners
+    of the square of nine it would be steeper between its sides."""
+    wall = recheck.Wall(recheck.Angles.of(45), {"size": [10, 10, 10], "rotation": 0})
+    nine = [(i, j, 1) for i in (-1, 0, 1) for j in (-1, 0, 1)]
+    assert sorted(recheck.fewest(wall, True, 1, set())) == nine
+
+
 def dense(pattern, grid, angles, step):
     """The errors of a wall at bearings a small step apart, by SciPy's hull of the offsets: along a ray it ends at the nearest of its half planes."""
     (x, y, z), turn = grid["size"], np.radians(grid["rotation"])
@@ -1174,9 +1262,9 @@ def test_a_wall_errs_at_any_bearing(angles, size, rotation):
     """What recheck.py says is the most of all bearings, and not of those alone that it looks at."""
     pattern = offsets.search(offsets.wall(size, angles, rotation))
     grid = {"size": size, "rotation": rotation}
-    steeper, flatter = recheck.wall_errors(
-        [list(at) for at in pattern.offsets], grid, recheck.Angles.of(angles)
-    )
+    wall = recheck.Wall(recheck.Angles.of(angles), grid)
+    steeper, least = recheck.Outline(wall, pattern.offsets).extremes(True)
+    flatter = -least
     errors = dense(pattern, grid, angles, 0.001)
     assert (steeper, flatter) == pytest.approx((errors.max(), -errors.min()), abs=2e-4)
     assert steeper >= errors.max() - 1e-9
