@@ -1,8 +1,10 @@
 //! The pairs of a search, by its numbers.
 
-ghost use Rattle.std.specs.Prelude.{◌≡◌, ◌<◌, All, IfOk, IfSome};
+ghost use Rattle.std.specs.Prelude.{◌≡◌, ◌<◌, ◌≤◌, ℕ, All, IfOk, IfSome, length};
 
 use crate::fault::PseudoflowFault;
+use crate::labels::Labels;
+use crate::leading::{Look, WaysUp};
 use crate::links::Link;
 use prec_file::Rests;
 use std::alloc::Global;
@@ -88,25 +90,68 @@ impl Arcs {
         })
     }
 
-    /// How many blocks there are.
-    pub(crate) fn len(&self) -> u32
-        ensures { result ≡ self.now }
-    {
-        self.blocks
-    }
-
-    /// What the blocks rest on, one block behind the other.
-    pub(crate) fn above(&self) -> &[u32]
-        ensures { All (λ p. p < self.now) result.now }
-    {
-        &self.above
-    }
-
-    /// Where the predecessors of a block end.
-    pub(crate) fn end(&self, block: usize) -> u32 {
+    // Where the predecessors of a block end.
+    fn end(&self, block: usize) -> u32 {
         match self.ends.get(block) {
             Some(end) => *end,
             None => 0,
         }
+    }
+}
+
+/// The first place in a range of a block with the label, or the end of the range where none has it.
+pub(crate) fn first_with_label(
+    labels: &Labels,
+    blocks: &[u32],
+    from: usize,
+    to: usize,
+    label: u32,
+) -> usize
+    requires known { All (λ b. b < labels.now) blocks.now }
+    requires to { to ≤ length blocks.now }
+    ensures { result ≤ to }
+{
+    for place in from..to {
+        if labels.at(blocks[place]) == label {
+            return place;
+        }
+    }
+    to
+}
+
+// The block at a place before an end, if the place is one, of so many blocks.
+fn block_before(blocks: &[u32], place: usize, end: usize, count: u32) -> Option<u32>
+    requires { All (λ b. b < count) blocks.now }
+    ensures { IfSome result (λ b. b < count) }
+{
+    if place < end && place < blocks.len() {
+        Some(blocks[place])
+    } else {
+        None
+    }
+}
+
+impl WaysUp for Arcs {
+    ghost count = { λ a. a };
+
+    fn len(&self) -> u32 {
+        self.blocks
+    }
+
+    fn ends(&self, b: u32) -> (u32, u32) {
+        let first = match (b as usize).checked_sub(1) {
+            Some(before) => self.end(before),
+            None => 0,
+        };
+        (first, self.end(b as usize))
+    }
+
+    fn find(&self, labels: &Labels, b: u32, look: Look) -> (u32, Option<u32>) {
+        let to = (look.to as usize).min(self.above.len());
+        let place = first_with_label(labels, &self.above, look.from as usize, to, look.label);
+        (
+            place as u32,
+            block_before(&self.above, place, to, self.blocks),
+        )
     }
 }

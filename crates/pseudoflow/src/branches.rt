@@ -1,6 +1,7 @@
 //! The forest that a search leaves, as a list.
 
-ghost use Rattle.std.specs.Prelude.{◌≡◌, ◌<◌, length};
+ghost use Rattle.std.specs.Prelude.{◌≡◌, ◌<◌, ◌≤◌, All, length, IfOk, IfSome};
+ghost use Rattle.prec_file.specs.Rests.{IsKnown};
 
 use crate::amounts::Amount;
 use crate::budget::Budget;
@@ -11,7 +12,7 @@ use std::alloc::Global;
 
 /// A block of a finished forest.
 #[derive(Clone, Copy)]
-pub(crate) struct Branch {
+pub struct Branch {
     /// The block of the net.
     pub(crate) block: Link,
     /// The place of its parent in its tree, before its own. A root, which begins a tree, has none.
@@ -102,4 +103,43 @@ pub(crate) fn branches_of<A: Amount>(
         }
     }
     Ok(branches)
+}
+
+// The pair of the arc of a branch and its parent, which stands so many places behind where its tree begins, of n blocks.
+fn pair_of(branches: &[Branch], begin: usize, branch: Branch, n: u32) -> Option<(u32, u32)>
+    ensures { IfSome result (IsKnown n) }
+{
+    let parent = branch.parent.block(branches.len())?;
+    let place = begin.saturating_add(parent as usize);
+    let other = branches.get(place)?.block.block(n as usize)?;
+    let block = branch.block.block(n as usize)?;
+    match branch.direction {
+        Direction::Up => Some((block, other)),
+        Direction::Down => Some((other, block)),
+    }
+}
+
+/// The pairs of the arcs of a forest, among n blocks: those over which anything can flow.
+///
+/// # Errors
+/// `NoMemory` where memory was refused.
+pub fn pairs_of(
+    alloc: Global,
+    branches: &[Branch],
+    n: u32,
+) -> Result<Vec<(u32, u32)>, PseudoflowFault>
+    ensures known { IfOk result (λ v. All (IsKnown n) v.items) }
+{
+    let mut pairs: Vec<(u32, u32)> = Vec::new(alloc);
+    let mut begin = 0;
+    for place in 0..branches.len() {
+        let branch = branches[place];
+        if branch.parent.block(branches.len()).is_none() {
+            begin = place;
+        }
+        if let Some(pair) = pair_of(branches, begin, branch, n) {
+            pairs.push(pair).map_err(|_| PseudoflowFault::NoMemory)?;
+        }
+    }
+    Ok(pairs)
 }

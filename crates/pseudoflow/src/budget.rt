@@ -7,16 +7,21 @@ use crate::fault::PseudoflowFault;
 /// The turns that are left to a search. One turn is one look: at a label, at a block, at a pair of a block, or at the
 /// parent or a child of one.
 #[derive(Drop)]
-pub(crate) struct Budget {
+pub struct Budget {
     pub(crate) left: u64,
 }
 
 impl Budget {
+    /// So many turns.
+    pub fn of_turns(turns: u64) -> Budget {
+        Budget { left: turns }
+    }
+
     /// Takes so many turns.
     ///
     /// # Errors
     /// `Unsettled`, exactly where fewer are left. None is left then.
-    pub(crate) fn spend(&mut self, turns: u64) -> Result<(), PseudoflowFault>
+    pub fn spend(&mut self, turns: u64) -> Result<(), PseudoflowFault>
         ensures taken { IfOk result (λ _. self.new.left + turns ≡ self.old.left) }
         ensures short { IfErr result (λ e. (e ≡ PseudoflowFault.Unsettled) × (self.old.left < turns)
             × (self.new.left ≡ 0)) }

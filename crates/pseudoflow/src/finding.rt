@@ -1,12 +1,13 @@
 //! The search of a strong tree for an arc over which it can be merged.
 
-ghost use Rattle.std.specs.Prelude.{◌≡◌, ◌+◌, ◌<◌, ◌≤◌, All, IfOk, IfSome, length, slice_index};
+ghost use Rattle.std.specs.Prelude.{◌≡◌, ◌+◌, ◌<◌, ◌≤◌, IfOk, IfSome};
 
 use crate::amounts::Amount;
 use crate::budget::Budget;
 use crate::fault::PseudoflowFault;
 use crate::forest::Forest;
 use crate::labels::Labels;
+use crate::leading::{Look, WaysUp};
 use crate::search::Search;
 
 /// An arc over which a strong tree is merged: a block of the tree, and one that it rests on whose label is one lower than
@@ -17,50 +18,18 @@ pub(crate) struct MergerArc {
     pub(crate) weak: u32,
 }
 
-// Up to which pair there are turns to look, from one on.
-fn end_of_look(from: usize, end: usize, turns: u64) -> usize
-    ensures pairs { result ≤ end }
+// Up to which way there are turns to look, from one on.
+fn end_of_look(from: u32, end: u32, turns: u64) -> u32
+    ensures ways { result ≤ end }
     ensures turns { result ≤ from + turns }
 {
-    let most = turns.min(end as u64) as usize;
+    let most = turns.min(end as u64) as u32;
     from.saturating_add(most).min(end)
 }
 
-/// The first place in a range of a block with the label, or the end of the range where none has it.
-pub(crate) fn first_with_label(
-    labels: &Labels,
-    blocks: &[u32],
-    from: usize,
-    to: usize,
-    label: u32,
-) -> usize
-    requires known { All (λ b. b < labels.now) blocks.now }
-    requires to { to ≤ length blocks.now }
-    ensures { result ≤ to }
-{
-    for place in from..to {
-        if labels.at(blocks[place]) == label {
-            return place;
-        }
-    }
-    to
-}
-
-// The block at a place before an end, if the place is one.
-fn block_before(blocks: &[u32], place: usize, end: usize) -> Option<u32>
-    ensures { IfSome result (λ b. (place < length blocks.now)
-        × (b ≡ slice_index blocks.now place)) }
-{
-    if place < end && place < blocks.len() {
-        Some(blocks[place])
-    } else {
-        None
-    }
-}
-
 // The first block of the label on which b rests, from the current arc of b on, which moves there.
-fn find_weak<A: Amount>(
-    above: &[u32],
+fn find_weak<A: Amount, W: WaysUp>(
+    above: &W,
     labels: &Labels,
     forest: &mut Forest<A>,
     b: u32,
@@ -68,18 +37,18 @@ fn find_weak<A: Amount>(
     budget: &mut Budget,
 ) -> Result<Option<u32>, PseudoflowFault>
     requires block { b < forest.old }
-    requires above { All (λ p. p < labels.now) above.now }
+    requires above { W.count above.now ≡ forest.old }
     requires labels { labels.now ≡ forest.old }
     ensures kept { forest.new ≡ forest.old }
     ensures less { budget.new.left ≤ budget.old.left }
     ensures known { IfOk result (λ found. IfSome found (λ p. p < forest.old)) }
 {
     let (from, end) = forest.arcs_left(b);
-    let to = end_of_look(from as usize, (end as usize).min(above.len()), budget.left);
-    let place = first_with_label(labels, above, from as usize, to, label);
-    forest.set_current_arc(b, place as u32);
-    budget.spend((place.saturating_sub(from as usize) as u64).saturating_add(1))?;
-    Ok(block_before(above, place, end as usize))
+    let to = end_of_look(from, end, budget.left);
+    let (arc, found) = above.find(labels, b, Look { from, to, label });
+    forest.set_current_arc(b, arc);
+    budget.spend((arc.saturating_sub(from) as u64).saturating_add(1))?;
+    Ok(found)
 }
 
 // Moves the walk over the children of b to the next one that has its label. Where there is none, b gets the next higher
@@ -109,7 +78,7 @@ fn check_children<A: Amount>(
     Ok(())
 }
 
-impl<A: Amount> Search<A> {
+impl<A: Amount, W: WaysUp> Search<A, W> {
     /// Merges a strong tree, and pushes its excess up. Where no arc is found over which it can be merged, it waits again:
     /// its root has got a higher label, as each block of the root's label that had no child of that label.
     pub(crate) fn process_root(
@@ -178,7 +147,7 @@ impl<A: Amount> Search<A> {
         let label = self.highest.checked_sub(1).ok_or(PseudoflowFault::Broken)?;
         self.forest.begin_visits(strong);
         let found = find_weak(
-            self.arcs.above(),
+            &self.above,
             &self.labels,
             &mut self.forest,
             strong,

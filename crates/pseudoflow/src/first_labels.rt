@@ -2,9 +2,9 @@
 
 ghost use Rattle.std.specs.Prelude.{◌≡◌, ◌<◌, ◌≤◌, length, IfOk};
 
+use crate::arcs::first_with_label;
 use crate::budget::Budget;
 use crate::fault::PseudoflowFault;
-use crate::finding::first_with_label;
 use crate::labels::Labels;
 use crate::links::Link;
 use closure_net::Net;

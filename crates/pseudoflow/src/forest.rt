@@ -3,14 +3,14 @@
 ghost use Rattle.std.specs.Prelude.{◌≡◌, ◌<◌, ◌≤◌, length, IfSome, IfOk};
 
 use crate::amounts::Amount;
-use crate::arcs::Arcs;
+use crate::leading::WaysUp;
 use crate::links::{Link, NO_LINK};
 use std::alloc::{AllocError, Global};
 use std::marker::Model;
 
 /// How the arc of a block and its parent points. An arc leads from a block to one that it rests on, and has no limit.
 #[derive(Clone, Copy, PartialEq, Eq)]
-pub(crate) enum Direction {
+pub enum Direction {
     /// To the parent: the block rests on it, and any amount can be pushed up.
     Up,
     /// To the block: the parent rests on it, and no more can be pushed up than the arc carries down.
@@ -88,15 +88,18 @@ impl<A: Amount> Model for Forest<A> {
 impl<A: Amount> Forest<A> {
     /// Each block a tree of its own. The arcs of the source and of the sink are saturated: what a block has left is what it is
     /// worth.
-    pub(crate) fn new(alloc: Global, worths: &[A], arcs: &Arcs) -> Result<Forest<A>, AllocError>
+    pub(crate) fn new<W: WaysUp>(
+        alloc: Global,
+        worths: &[A],
+        above: &W,
+    ) -> Result<Forest<A>, AllocError>
+        requires { length worths.now ≡ W.count above.now }
         ensures { IfOk result (λ f. f ≡ length worths.now) }
     {
         let mut nodes = Vec::with_capacity(alloc, worths.len())?;
-        let mut first_arc = 0;
-        for k in 0..worths.len() {
-            let end_of_arcs = arcs.end(k);
-            nodes.push_reserved(alone(worths[k], first_arc, end_of_arcs));
-            first_arc = end_of_arcs;
+        for k in 0..above.len() {
+            let (first_arc, end_of_arcs) = above.ends(k);
+            nodes.push_reserved(alone(worths[k as usize], first_arc, end_of_arcs));
         }
         Ok(Forest { nodes })
     }

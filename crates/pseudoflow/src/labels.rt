@@ -12,7 +12,7 @@ use std::marker::Model;
 /// push-relabel algorithms). Labels go from 0 to one more than the number of blocks, which is the label of those that
 /// were lifted out of the search.
 #[derive(Drop)]
-pub(crate) struct Labels {
+pub struct Labels {
     of_blocks: Vec<u32>,
     counts: Vec<u32>,
     highest: u32,
@@ -28,7 +28,7 @@ impl Model for Labels {
 
 impl Labels {
     /// So many blocks, each of label 0.
-    pub(crate) fn new(alloc: Global, n: u32) -> Result<Labels, AllocError>
+    pub fn new(alloc: Global, n: u32) -> Result<Labels, AllocError>
         requires { n < 2 ^ 32 - 2 }
         ensures { IfOk result (λ l. l ≡ n) }
     {
@@ -44,7 +44,7 @@ impl Labels {
     }
 
     /// The label of b.
-    pub(crate) fn at(&self, b: u32) -> u32
+    pub fn at(&self, b: u32) -> u32
         requires { b < self.now }
     {
         self.of_blocks[b as usize]
@@ -62,7 +62,7 @@ impl Labels {
     ///
     /// # Errors
     /// `Broken` where the label is above the highest, or no block is counted at the old one.
-    pub(crate) fn relabel(&mut self, b: u32, label: u32) -> Result<(), PseudoflowFault>
+    pub fn relabel(&mut self, b: u32, label: u32) -> Result<(), PseudoflowFault>
         requires { b < self.old }
         ensures { self.new ≡ self.old }
     {

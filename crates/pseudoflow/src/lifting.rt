@@ -8,6 +8,7 @@ use crate::budget::Budget;
 use crate::fault::PseudoflowFault;
 use crate::forest::Forest;
 use crate::labels::Labels;
+use crate::leading::WaysUp;
 use crate::search::Search;
 
 // Lifts the blocks of a tree out of the search.
@@ -98,7 +99,7 @@ fn raise_lowest<A: Amount>(
     Ok(())
 }
 
-impl<A: Amount> Search<A> {
+impl<A: Amount, W: WaysUp> Search<A, W> {
     /// Takes the first of the strong roots of the highest label. Where all that wait have label 0, they get label 1.
     pub(crate) fn highest_strong_root(
         &mut self,

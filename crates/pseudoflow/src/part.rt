@@ -7,6 +7,7 @@ use crate::budget::Budget;
 use crate::fault::PseudoflowFault;
 use crate::first_labels::first_labels;
 use crate::labels::Labels;
+use crate::leading::WaysUp;
 use crate::links::Link;
 use crate::numbering::{Numbering, numbering_of};
 use closure_net::Net;
@@ -18,24 +19,25 @@ use std::marker::Model;
 ///
 /// The other blocks take no part: a block under no ore is in no best pit, and ore that rests on ore alone is in each.
 #[derive(Drop)]
-pub(crate) struct Part {
+pub struct Part<W: WaysUp> {
     /// The blocks in the order of their numbers.
     pub(crate) blocks: Vec<Link>,
-    pub(crate) arcs: Arcs,
+    /// What they rest on.
+    pub(crate) above: W,
     /// The labels before the search, by number.
     pub(crate) labels: Labels,
     /// How many blocks of the net were lifted.
     pub(crate) lifted: u32,
 }
 
-impl Model for Part {
+impl<W: WaysUp> Model for Part<W> {
     ghost use Rattle.std.specs.Prelude.{◌≡◌, ℕ, length};
 
     ghost Value = { ℕ };
 
     ghost view = { λ p. length p.blocks.items };
 
-    ghost invariant = { λ p. (p.arcs ≡ length p.blocks.items)
+    ghost invariant = { λ p. (W.count p.above ≡ length p.blocks.items)
         × (p.labels ≡ length p.blocks.items) };
 }
 
@@ -76,7 +78,23 @@ fn labels_by_number(
     Ok(found)
 }
 
-impl Part {
+impl<W: WaysUp> Part<W> {
+    /// The part of these blocks of a net, which rest on one another in this way and have these labels before the search.
+    pub fn new(blocks: Vec<Link>, above: W, labels: Labels) -> Part<W>
+        requires above { W.count above ≡ length blocks.items }
+        requires labels { labels ≡ length blocks.items }
+        ensures { result ≡ length blocks.items }
+    {
+        Part {
+            blocks,
+            above,
+            labels,
+            lifted: 0,
+        }
+    }
+}
+
+impl Part<Arcs> {
     /// The part of a net that a search looks at.
     ///
     /// # Errors
@@ -85,7 +103,7 @@ impl Part {
         alloc: Global,
         net: &Net<G>,
         budget: &mut Budget,
-    ) -> Result<Part, PseudoflowFault>
+    ) -> Result<Part<Arcs>, PseudoflowFault>
         ensures { budget.new.left ≤ budget.old.left }
     {
         let rests = net.rests();
@@ -93,11 +111,11 @@ impl Part {
         let all = first_labels(alloc, net, budget)?;
         let Numbering { blocks, numbers } = numbering_of(alloc, rests, &all, budget)?;
         let count = count_of(&blocks, n)?;
-        let arcs = Arcs::of(alloc, rests, &blocks, &numbers, count)?;
+        let above = Arcs::of(alloc, rests, &blocks, &numbers, count)?;
         let labels = labels_by_number(alloc, &all, n, &blocks, count)?;
         Ok(Part {
             blocks,
-            arcs,
+            above,
             labels,
             lifted: all.lifted(),
         })

@@ -6,6 +6,7 @@ use crate::amounts::Amount;
 use crate::budget::Budget;
 use crate::fault::PseudoflowFault;
 use crate::forest::{Direction, Forest};
+use crate::leading::WaysUp;
 use crate::search::Search;
 
 // Pushes as much of a block's excess to its parent as their arc's residual capacity takes.
@@ -33,7 +34,7 @@ fn push_to_parent<A: Amount>(
     Ok(())
 }
 
-impl<A: Amount> Search<A> {
+impl<A: Amount, W: WaysUp> Search<A, W> {
     /// Pushes the excess of a block up to the root of its tree. A block that keeps some of it, since its arc's residual
     /// capacity is less, is split off: it becomes a strong root.
     pub(crate) fn push_excess(

@@ -235,7 +235,7 @@ fn ends_tree(branches: &[Branch], place: usize) -> bool
 /// under it are worth. What a strong root has left goes back to the source by the arcs that brought it, and what a weak root
 /// lacks is taken off what goes to the sink. Between the other blocks of the net nothing flows. Beside the flow it takes
 /// memory for the largest tree alone.
-pub(crate) fn flow_of_forest<G: OrderedGroup>(
+pub fn flow_of_forest<G: OrderedGroup>(
     alloc: Global,
     net: &Net<G>,
     branches: &[Branch],

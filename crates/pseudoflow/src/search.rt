@@ -3,12 +3,12 @@
 ghost use Rattle.std.specs.Prelude.{◌≡◌, ◌<◌, ◌≤◌, length, IfOk};
 
 use crate::amounts::Amount;
-use crate::arcs::Arcs;
 use crate::buckets::Buckets;
 use crate::budget::Budget;
 use crate::fault::PseudoflowFault;
 use crate::forest::Forest;
 use crate::labels::Labels;
+use crate::leading::WaysUp;
 use crate::reporting::Progress;
 use std::alloc::Global;
 use std::marker::Model;
@@ -19,8 +19,8 @@ const STRIDE: u64 = 1 << 16;
 /// A search: a pseudoflow whose arcs that carry something form a forest, and the labels that guide it. Its blocks go by the
 /// numbers of a part of the net.
 #[derive(Drop)]
-pub(crate) struct Search<A: Amount> {
-    pub(crate) arcs: Arcs,
+pub(crate) struct Search<A: Amount, W: WaysUp> {
+    pub(crate) above: W,
     pub(crate) forest: Forest<A>,
     pub(crate) labels: Labels,
     pub(crate) buckets: Buckets,
@@ -28,14 +28,14 @@ pub(crate) struct Search<A: Amount> {
     pub(crate) highest: u32,
 }
 
-impl<A: Amount> Model for Search<A> {
+impl<A: Amount, W: WaysUp> Model for Search<A, W> {
     ghost use Rattle.std.specs.Prelude.{◌≡◌, ℕ};
 
     ghost Value = { ℕ };
 
     ghost view = { λ s. s.forest };
 
-    ghost invariant = { λ s. (s.arcs ≡ s.forest) × (s.labels ≡ s.forest) };
+    ghost invariant = { λ s. (W.count s.above ≡ s.forest) × (s.labels ≡ s.forest) };
 }
 
 // Puts the blocks of positive worth, of which each is a tree of its own, into the buckets of their labels: the highest of
@@ -61,24 +61,24 @@ fn add_strong_blocks<A: Amount>(
     Ok(highest)
 }
 
-impl<A: Amount> Search<A> {
+impl<A: Amount, W: WaysUp> Search<A, W> {
     /// Each block is a tree of its own, and those of positive worth wait as strong roots.
     pub(crate) fn open(
         alloc: Global,
-        arcs: Arcs,
+        above: W,
         labels: Labels,
         worths: &[A],
-    ) -> Result<Search<A>, PseudoflowFault>
-        requires labels { labels ≡ arcs }
-        requires worths { length worths.now ≡ arcs }
-        ensures { IfOk result (λ s. s ≡ arcs) }
+    ) -> Result<Search<A, W>, PseudoflowFault>
+        requires labels { labels ≡ W.count above }
+        requires worths { length worths.now ≡ W.count above }
+        ensures { IfOk result (λ s. s ≡ W.count above) }
     {
-        let n = arcs.len();
-        let mut forest = Forest::new(alloc, worths, &arcs)?;
+        let n = above.len();
+        let mut forest = Forest::new(alloc, worths, &above)?;
         let mut buckets = Buckets::new(alloc, n as usize + 2)?;
         let highest = add_strong_blocks(&labels, n, &mut forest, &mut buckets)?;
         Ok(Search {
-            arcs,
+            above,
             forest,
             labels,
             buckets,

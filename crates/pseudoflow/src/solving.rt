@@ -4,9 +4,13 @@ ghost use Rattle.std.specs.Prelude.{◌≡◌, length, IfOk};
 ghost use Rattle.closure_net.specs.Network.{FlowFits};
 
 use crate::amounts::{Amount, amounts_of};
+use crate::arcs::Arcs;
 use crate::branches::{Branch, branches_of};
 use crate::budget::Budget;
 use crate::fault::PseudoflowFault;
+use crate::labels::Labels;
+use crate::leading::WaysUp;
+use crate::links::Link;
 use crate::part::Part;
 use crate::recovery::flow_of_forest;
 use crate::reporting::Progress;
@@ -16,47 +20,101 @@ use closure_net::{Flow, Net};
 use ordered_group::OrderedGroup;
 use std::alloc::Global;
 
-// The forest that a search of a part of a net of so many blocks leaves.
-fn searched<A: Amount, P: Progress>(
+/// The forest that a search leaves, and the pit that it found.
+#[derive(Drop)]
+pub struct Grown {
+    /// The forest, tree by tree.
+    pub branches: Vec<Branch>,
+    /// For each block of the mine whether it is in the pit.
+    pub pit: Vec<bool>,
+}
+
+// The forest that a search of a part of a net of so many blocks leaves, and the pit.
+fn searched<A: Amount, W: WaysUp, P: Progress>(
     alloc: Global,
-    part: Part,
+    part: Part<W>,
     worths: &[A],
     blocks: u32,
     budget: &mut Budget,
     progress: &P,
-) -> Result<Vec<Branch>, PseudoflowFault>
+) -> Result<Grown, PseudoflowFault>
     requires { length worths.now ≡ part }
 {
     let Part {
         blocks: of_net,
-        arcs,
+        above,
         labels,
         lifted,
     } = part;
-    let mut search = Search::open(alloc, arcs, labels, worths)?;
+    let mut search = Search::open(alloc, above, labels, worths)?;
     search.run(lifted, blocks, budget, progress)?;
-    branches_of(alloc, &search.forest, &of_net, budget)
+    let branches = branches_of(alloc, &search.forest, &of_net, budget)?;
+    let pit = lifted_blocks(alloc, &search.labels, &of_net, search.above.len(), blocks)?;
+    Ok(Grown { branches, pit })
+}
+
+// Of n blocks of a net those of a search, so many, that were lifted.
+fn lifted_blocks(
+    alloc: Global,
+    labels: &Labels,
+    of_net: &[Link],
+    count: u32,
+    n: u32,
+) -> Result<Vec<bool>, PseudoflowFault>
+    requires labels { count ≡ labels.now }
+    requires blocks { count ≡ length of_net.now }
+{
+    let mut pit = vec![in alloc; false; n as usize]?;
+    for k in 0..count {
+        if let Some(b) = of_net[k as usize].block(n as usize)
+            && labels.is_lifted(k)
+        {
+            pit[b as usize] = true;
+        }
+    }
+    Ok(pit)
+}
+
+/// Grows the forest of a part of a mine of so many blocks, whose blocks are worth so many billionths each, and finds the pit
+/// in it.
+///
+/// Nothing is promised of either: a checker judges what is made of them. [`flow_of_forest`](crate::flow_of_forest) makes the
+/// flow.
+///
+/// # Errors
+/// Those of [`solve`].
+pub fn grow<W: WaysUp, P: Progress>(
+    alloc: Global,
+    part: Part<W>,
+    worths: &[i64],
+    blocks: u32,
+    budget: &mut Budget,
+    progress: &P,
+) -> Result<Grown, PseudoflowFault>
+    requires { length worths.now ≡ part }
+{
+    let scale = Scale::of(worths, part.above.len());
+    if let Some(units) = scale.small_units(alloc, worths)? {
+        return searched(alloc, part, &units, blocks, budget, progress);
+    }
+    let units = scale.large_units(alloc, worths)?;
+    searched(alloc, part, &units, blocks, budget, progress)
 }
 
 // The forest that a search of a part of the net leaves: over units, of 64 bits where these do, or else over the net's amounts.
 fn forest_of<G: OrderedGroup, P: Progress>(
     alloc: Global,
     net: &Net<G>,
-    part: Part,
+    part: Part<Arcs>,
     budget: &mut Budget,
     progress: &P,
-) -> Result<Vec<Branch>, PseudoflowFault> {
+) -> Result<Grown, PseudoflowFault> {
     let n = net.len();
     let Some(worths) = small_worths(alloc, net, &part.blocks)? else {
         let amounts = amounts_of(alloc, net, &part.blocks)?;
         return searched(alloc, part, &amounts, n, budget, progress);
     };
-    let scale = Scale::of(&worths, part.arcs.len());
-    if let Some(units) = scale.small_units(alloc, &worths)? {
-        return searched(alloc, part, &units, n, budget, progress);
-    }
-    let units = scale.large_units(alloc, &worths)?;
-    searched(alloc, part, &units, n, budget, progress)
+    grow(alloc, part, &worths, n, budget, progress)
 }
 
 /// A flow of the net, by highest-label pseudoflow (Hochbaum 2008).
@@ -81,6 +139,6 @@ pub fn solve<G: OrderedGroup, P: Progress>(
 {
     let mut budget = Budget { left: turns };
     let part = Part::of(alloc, net, &mut budget)?;
-    let branches = forest_of(alloc, net, part, &mut budget, progress)?;
-    flow_of_forest(alloc, net, &branches)
+    let grown = forest_of(alloc, net, part, &mut budget, progress)?;
+    flow_of_forest(alloc, net, &grown.branches)
 }
