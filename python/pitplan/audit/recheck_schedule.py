@@ -354,13 +354,49 @@ def add_gates(mine: Mine, periods: Periods, above: list[set[int]]) -> list[int]:
     return sorted(rank, key=lambda unit: rank[unit])
 
 
+def counts_cones(periods: Periods) -> bool:
+    """Whether the bound counts cones: where units are panels, or have an order of pushbacks."""
+    return max(periods.pushback.values()) > 0 or len(set(periods.unit.values())) < len(periods.unit)
+
+
+def cone_periods(periods: Periods, order: list[int], above: list[set[int]]) -> list[int]:
+    """The first period by which each unit may be dug whole: all that it rests on, directly or not, is
+    dug by then too, and needs room in the capacities so far. That behind all where there is none.
+    """
+    found = [0] * len(above)
+    cones = [0] * len(above)  # a bit for each unit that it holds
+    for unit in order:
+        cones[unit] = 1 << unit
+        for other in above[unit]:
+            cones[unit] |= cones[other]
+    for uses, rooms in zip(least_uses(periods, len(above)), periods.capacities):
+        planes = [
+            sum(1 << unit for unit, use in enumerate(uses) if use >> place & 1)
+            for place in range(max(uses).bit_length())
+        ]
+        so_far = [sum(rooms[: t + 1]) for t in range(len(rooms))]
+        for unit, cone in enumerate(cones):
+            used = sum((cone & plane).bit_count() << k for k, plane in enumerate(planes))
+            found[unit] = max(found[unit], sum(room < used for room in so_far))
+    return found
+
+
+def least_uses(periods: Periods, units: int) -> Rows:
+    """What each unit uses of rock and feed whichever way its blocks go."""
+    found = [[0] * units for _ in periods.uses]
+    for block, unit in periods.unit.items():
+        found[0][unit] += periods.uses[0][block]
+        found[1][unit] += 0 if chooses(periods) else periods.uses[1][block]
+    return found
+
+
 def first_periods(
     periods: Periods, order: list[int], above: list[set[int]], sunk: list[set[int]]
 ) -> list[int]:
-    """The first period that the sink rate leaves each unit."""
-    found = [0] * len(above)
+    """The first period that the sink rate leaves each unit, and its cone where cones count."""
+    found = cone_periods(periods, order, above) if counts_cones(periods) else [0] * len(above)
     for unit in order:
-        least = [found[other] for other in above[unit]]
+        least = [found[unit], *(found[other] for other in above[unit])]
         least += [found[other] + periods.lag for other in sunk[unit]]
         found[unit] = min(max(least, default=0), len(periods.weights))
     return found
@@ -372,10 +408,11 @@ def check_bound(mine: Mine, periods: Periods, lagged: Rows) -> Decimal:
     sunk = of_units(lagged, periods.unit, False)
     order, count = add_gates(mine, periods, above), len(periods.weights)
     sunk += [set() for _ in above[len(sunk) :]]
-    is_plain = not any(sunk) and not any(mine.gains[b] for b in periods.unit if chooses(periods))
+    firsts = first_periods(periods, order, above, sunk)
+    is_free = not any(sunk) and not any(firsts)
+    is_plain = is_free and not any(mine.gains[b] for b in periods.unit if chooses(periods))
     leaves = left_by_units(mine, periods, len(above), THOUSAND if not is_plain else 1)
-    firsts = enumerate(first_periods(periods, order, above, sunk))
-    node = [(unit, t) for unit, first in firsts for t in range(first, count)]
+    node = [(unit, t) for unit, first in enumerate(firsts) for t in range(first, count)]
     grain = 1
     if is_plain:  # pit bound has judged it: node t * n + b of n units, and amounts in 10^-15
         node.sort(key=lambda each: each[1])

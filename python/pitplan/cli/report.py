@@ -8,6 +8,7 @@ import typer
 
 from ..base.errors import PlanError
 from ..base.next_command import command
+from ..study import older
 from .console import STUDY, app, described, err, results, say, shells_of, warn
 
 if TYPE_CHECKING:
@@ -65,6 +66,8 @@ def _years_of(plan: StudyFile, shells: Shells) -> Schedule | None:
             "the plan by years isn't in it: it was found for other terms, prices or pits than"
             f" those of study.toml now\n  try: {command('schedule', shells.study.named)}, and report again"
         )
+    else:
+        older.of_schedule(found.digest)
     return found
 
 

@@ -17,6 +17,7 @@ from ..base.errors import PlanError
 from ..base.files import whole_file
 from ..base.next_command import command
 from ..base.units_shown import counted, printed_scale
+from ..study import older
 from .console import (
     STUDY,
     app,
@@ -67,6 +68,7 @@ def schedule(
     values, limits = plan.values["schedule"], (gap / _PERCENT, minutes * _MINUTE)
     with _shown(gap / _PERCENT) as listener, _stopped(shells, limits) as heard:
         found = Schedule.of(shells, values, rates, limits, heard(listener))
+    _set_aside(found)
     tables = Tables(found, mining_width)
     years = tables.years()
     _write_facts(found.shells, found.facts)
@@ -92,7 +94,24 @@ def last_of(folder: Path) -> Schedule:
             "no schedule by the terms of study.toml has been found",
             try_this=command("schedule", folder),
         )
+    older.of_schedule(found.digest)
     return found
+
+
+def _set_aside(found: Schedule) -> None:
+    """Puts exports, reports and pictures of the schedule before out of the way, and says so."""
+    folder = results(found.shells.study)
+    moved, changed = older.set_schedules_aside(folder, found.digest)
+    older.of_schedule(found.digest)
+    if moved:
+        say(
+            f"{folder / older.OLDER} has what was written of the schedule before: {', '.join(moved)}"
+        )
+    for name in changed:
+        warn(
+            f"{folder / name} is of the schedule before; it was changed since it was written, so it"
+            " stays there"
+        )
 
 
 def _words(found: Found) -> str:

@@ -2,6 +2,7 @@
 with its bound."""
 from __future__ import annotations
 
+import hashlib
 import math
 from collections.abc import Mapping
 from dataclasses import dataclass
@@ -211,6 +212,14 @@ class Schedule:
             "periods_a_year": terms.per_year,
             "closures": self.closures,
         } | (self.end.facts if self.end else {})
+
+    @property
+    def digest(self) -> str:
+        """Of when each block is dug and where it goes, and of all that the bound rests on."""
+        found = hashlib.sha256(self.production.key.encode())
+        for each in (self.period, self.sent):
+            found.update(np.ascontiguousarray(each).tobytes())
+        return found.hexdigest()
 
     @property
     def periods(self) -> Indices:

@@ -19,6 +19,7 @@ from ..base.arrays import Array, Floats, Indices, Ints
 from ..base.errors import PlanError
 from ..base.next_command import command
 from ..base.units_shown import counted
+from .cones import first_by_cones
 from .pairs import Pairs
 from .sending import Millable, Timetable
 from .terms import GRAIN, Terms, refuse_missing
@@ -28,7 +29,7 @@ if TYPE_CHECKING:
     from ..study.shells import Shells
     from ..study.study import Study
 
-_FORM = 3  # of what is kept: another one is found anew
+_FORM = 4  # of what is kept: another one is found anew
 _MOST_NODES = 1 << 24  # units by periods that `pit` reads
 
 
@@ -82,8 +83,16 @@ class Production:
 
     @property
     def is_plain(self) -> bool:
-        """Whether `pit bound` can bound it: its periods have no lags and no choice of ways."""
-        return not len(self.sinking.other) and not len(self.millable.block)
+        """Whether `pit bound` can bound it: its periods have no lags and no choice of ways, and every
+        unit may be dug in the first."""
+        is_free = not len(self.sinking.other) and not self.earliest.any()
+        return is_free and not len(self.millable.block)
+
+    @property
+    def counts_cones(self) -> bool:
+        """Whether cones say from when on a unit may be dug: where units are panels or have an order of
+        pushbacks. Of single blocks that takes nothing off a bound."""
+        return bool(self.gates) or self.units < len(self.blocks)
 
     @property
     def units(self) -> int:
@@ -123,8 +132,11 @@ class Production:
 
     @cached_property
     def earliest(self) -> Ints:
-        """The first period that the sink rate leaves each unit, of shape (units,)."""
+        """The first period that the sink rate and cones, where they count, leave each unit, of shape
+        (units,)."""
         found, lag = np.zeros(self.units, np.int64), self.terms.per_year
+        if self.counts_cones:
+            found = first_by_cones(self.above, self.order, self.uses, self.capacities)
         if not len(self.sinking.other):
             return found
         for here in np.split(self.order, self.steps):

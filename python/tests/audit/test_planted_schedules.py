@@ -46,7 +46,7 @@ RIGHT = {name: getattr(Production, name) for name in ("blocks_sent", "of_blocks"
 def files(tmp_path_factory):
     """What `pit schedule --best` reads of the schedule of a tiny mine, which digs in two periods or more."""
     folder = tmp_path_factory.mktemp("files")
-    made = TinyMine(2, panel=2).production
+    made = TinyMine(2).production
     search = Search(folder / "search", made, Pit())
     search.run(0.0, 1e9)
     mine = Periodic(
@@ -288,6 +288,7 @@ STALE = {
     "half years": lambda made: {"terms": replace(made.terms, per_year=2)},
     "fixed cost": lambda made: {"terms": replace(made.terms, fixed_cost=1)},
     "slopes": lambda made: {"above": made.above.turned()},
+    "panels": lambda made: {"unit": np.roll(made.unit, 1)},
     "sink rate": lambda made: {"sinking": made.above},
 }
 

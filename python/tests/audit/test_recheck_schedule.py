@@ -115,8 +115,8 @@ def later(bundle):
         (told(sent=None), "uses|no pair|flows|schedule.csv|cut-off"),
         (told(fixed_cost=0), "flows|fixed cost|schedule.csv"),
         (told(fixed_cost=lambda cost: cost + 1), "fixed cost|schedule.csv"),
-        (told(pushbacks=[]), "pushbacks|no pair|IndexError|list index"),
-        (told(lead=1), "ahead of it|no pair|pushbacks"),
+        (told(pushbacks=[]), "pushbacks|no pair|flows|IndexError|list index"),
+        (told(lead=1), "ahead of it|no pair|flows|pushbacks"),
         (later, "ahead of it|is dug before|uses"),
     ],
 )

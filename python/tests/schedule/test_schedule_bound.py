@@ -116,10 +116,28 @@ def best_of_all(made, pairs, sinking):
     return most
 
 
+def first_by_room(made, pairs):
+    """The first period in which each block may be dug whole: all that it waits for has to have room by then."""
+    cones = [{b} for b in range(BLOCKS)]
+    while any(not cones[a] <= cones[b] for b, a in pairs):
+        for b, a in pairs:
+            cones[b] |= cones[a]
+    uses = made.uses.tolist()
+    return [
+        max(
+            sum(sum(room[: t + 1]) < sum(use[a] for a in cone) for t in range(PERIODS))
+            for use, room in zip(uses, made.terms.capacities)
+        )
+        for cone in cones
+    ]
+
+
 def whole_relaxation(made, pairs, sinking):
     """What the best schedule that may dig blocks and open periods in parts is worth, in millionths, by one linear program:
-    so much of a block, by a way, in a period; and so much of each period."""
+    so much of a block, by a way, in a period; and so much of each period. With pushbacks none of a block before all of it
+    might be dug."""
     ways = ways_of(made)
+    first = first_by_room(made, pairs) if made.gates else [0] * BLOCKS
     parts = [(b, d, t) for b in range(BLOCKS) for d in range(len(ways[b])) for t in range(PERIODS)]
     gain = [ways[b][d][0] * made.terms.weights[t] / 1e6 for b, d, t in parts]
     gain += [-made.terms.fixed_cost * weight / 1e6 for weight in made.terms.weights]
@@ -140,8 +158,9 @@ def whole_relaxation(made, pairs, sinking):
             opened = [-rooms[t] * (s == t) for s in range(PERIODS)]
             rows.append([ways[b][d][1][r] * (s == t) for b, d, s in parts] + opened)
             limits.append(0)
+    bounds = [(0, int(t >= first[b])) for b, _, t in parts] + [(0, 1)] * PERIODS
     found = linprog(
-        -np.array(gain), A_ub=np.array(rows), b_ub=limits, bounds=(0, 1), method="highs"
+        -np.array(gain), A_ub=np.array(rows), b_ub=limits, bounds=bounds, method="highs"
     )
     assert found.status == 0
     return -found.fun * 1e6

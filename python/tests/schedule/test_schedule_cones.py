@@ -1,0 +1,157 @@
+"""From when on a panel may be dug by all that it rests on, against sets of Python; and the bound by it, on mines whose every
+schedule is tried."""
+import shutil
+from dataclasses import replace
+
+import mines
+import numpy as np
+import pytest
+from pitplan import Study
+from pitplan.audit import recheck_schedule
+from pitplan.audit.bundle import write_bundle
+from pitplan.pit.program import Pit
+from pitplan.schedule import Schedule, production
+from pitplan.schedule.cones import first_by_cones
+from pitplan.schedule.pairs import Pairs
+from pitplan.schedule.search import Search
+from pitplan.study.study_file import read_study_file
+from tiny_mines import TinyMine
+
+RICH = mines.STUDY_TOML.replace("price = 8500", "price = 24000")
+TERMS = "\n[schedule]\nyears = 6\nmining_rate = 500e3\nmill_rate = 400e3\n"
+
+
+def cones_of(count, pairs):
+    """Of each unit all that it rests on and itself; a unit rests on those of lower numbers alone."""
+    found = []
+    for unit in range(count):
+        found.append({unit}.union(*(found[other] for low, other in pairs if low == unit)))
+    return found
+
+
+@pytest.mark.parametrize("count", [1, 9, 64, 65, 200])
+@pytest.mark.parametrize("seed", range(3))
+def test_it_is_the_first_period_with_room_for_all_that_a_unit_rests_on(count, seed):
+    r = np.random.default_rng(seed)
+    pairs = {(b, int(r.integers(b))) for b in r.integers(0, count, 3 * count).tolist() if b}
+    uses, rooms = r.integers(0, 50, (2, count)), r.integers(1, 8 * count, (2, 5))
+    name = r.permutation(count)
+    rows = np.array(sorted(pairs), np.int64).reshape(-1, 2)
+    turned = np.empty_like(uses)
+    turned[:, name] = uses
+    found = first_by_cones(Pairs.of(name[rows[:, 0]], name[rows[:, 1]], count), name, turned, rooms)
+    for unit, cone in enumerate(cones_of(count, pairs)):
+        needs = [sum(int(row[each]) for each in cone) for row in uses]
+        fits = [
+            t
+            for t in range(5)
+            if all(need <= row[: t + 1].sum() for need, row in zip(needs, rooms))
+        ]
+        assert found[name[unit]] == (fits[0] if fits else 5)
+
+
+def test_a_cone_that_just_fits_is_not_kept_out():
+    pairs = Pairs.of(np.array([1]), np.array([0]), 2)
+    uses, order = np.array([[3, 4], [0, 0]]), np.arange(2)
+    for room, first in ((7, 0), (6, 1)):
+        rooms = np.array([[room, 1], [0, 0]])
+        assert first_by_cones(pairs, order, uses, rooms).tolist() == [0, first]
+
+
+PANELS, BOTH = {"panel": 2}, {"panel": 2, "pushbacks": True, "lead": 1}
+CASES = [(seed, kind) for kind in (PANELS, BOTH) for seed in (2, 3, 9, 26)]
+
+
+@pytest.mark.parametrize(
+    "seed, kind", [*CASES, (0, {"pushbacks": True}), (46, {"pushbacks": True})]
+)
+def test_the_bound_by_cones_is_above_the_best_and_not_above_that_without(tmp_path, kind, seed):
+    mine = TinyMine(seed, **kind)
+    best, bounds = mine.best(), []
+    made = mine.production
+    for search in (Search(tmp_path / "cones", made, Pit()), without_cones(tmp_path / "free", made)):
+        search.run(0.0, 1e9)
+        bounds.append(search.found.bound)
+    assert best <= bounds[0] <= bounds[1] * (1 + 1e-4)
+
+
+def without_cones(folder, made):
+    """A search as if each unit might be dug in parts from the first period on."""
+    free = replace(made)
+    free.__dict__["earliest"] = np.zeros(made.units, np.int64)
+    return Search(folder, free, Pit())
+
+
+def test_of_some_mines_it_is_lower(tmp_path):
+    mine = TinyMine(25, panel=2).production
+    bounds = []
+    for search in (Search(tmp_path / "a", mine, Pit()), without_cones(tmp_path / "b", mine)):
+        search.run(0.0, 1e9)
+        bounds.append(search.found.bound)
+    assert mine.earliest.any()
+    assert bounds[0] < 0.99 * bounds[1]
+
+
+def bundled(folder, more):
+    """A bundle with a schedule, and that schedule."""
+    mines.written_study(folder / "s", mines.table(6, 6, 5, 5), RICH + TERMS + more)
+    plan = read_study_file(folder / "s")
+    Study.create(folder / "s", plan.read_model(), plan.economics, plan.slopes, None, plan.digest)
+    shells, told = Study(folder / "s").shells(plan.factors), plan.values["schedule"]
+    found = Schedule.of(shells, told, plan.rates, (0.005, 600))
+    dialect = plan.keys.dialect(plan.table)
+    write_bundle(shells, folder / "bundle", plan.path, dialect, plan.rates, told)
+    return folder / "bundle", found
+
+
+def checked(bundle, monkeypatch, capsys):
+    """What the bundle's checker says, in this process."""
+    for script in (recheck_schedule, recheck_schedule.recheck):
+        monkeypatch.setattr(script, "HERE", bundle)
+    return recheck_schedule.main(), capsys.readouterr().out
+
+
+@pytest.mark.parametrize("more", ["panel = 2\n", "pushbacks = [0.6]\n"])
+def test_the_bundles_checker_counts_cones_too(tmp_path, monkeypatch, capsys, more):
+    """And refuses a bound by cones that have one block too many, or by one panel that may come later than its cone says."""
+    bundle, found = bundled(tmp_path / "right", more)
+    assert found.production.earliest.any()
+    status, said = checked(bundle, monkeypatch, capsys)
+    assert status == 0, said
+
+    def too_heavy(above, order, uses, capacities):
+        """So many blocks too much in each cone that one of them comes later."""
+        right, is_first = first_by_cones(above, order, uses, capacities), np.arange(len(order))
+        for more in range(1, 100):
+            heavier = uses + more * uses.max(axis=1, keepdims=True) * (is_first == order[0])
+            found = first_by_cones(above, order, heavier, capacities)
+            if (found != right).any():
+                return found
+        raise AssertionError("all cones are as they were")
+
+    def a_year_late(above, order, uses, capacities):
+        """One unit, on which none rests."""
+        right = first_by_cones(above, order, uses, capacities)
+        is_free = (right < capacities.shape[1]) & ~np.isin(np.arange(len(right)), above.other)
+        return right + (np.arange(len(right)) == np.flatnonzero(is_free)[-1])
+
+    for mistake in (too_heavy, a_year_late):
+        monkeypatch.setattr(production, "first_by_cones", mistake)
+        wrong, _ = bundled(tmp_path / mistake.__name__, more)
+        monkeypatch.setattr(production, "first_by_cones", first_by_cones)
+        status, said = checked(wrong, monkeypatch, capsys)
+        assert status == 1, said
+        assert said.startswith("WRONG")
+
+
+def test_a_bound_is_read_for_its_own_panels_alone(tmp_path):
+    """One that was found for panels isn't there once the panel is changed, nor the one of blocks for panels."""
+    bundled(tmp_path, "panel = 2\n")
+    plan = read_study_file(tmp_path / "s")
+    shells = Study(tmp_path / "s").shells(plan.factors)
+    values = plan.values["schedule"]
+    assert Schedule.last(shells, values, plan.rates)
+    for panel in (None, 3):
+        assert Schedule.last(shells, {**values, "panel": panel}, plan.rates) is None
+    shutil.rmtree(tmp_path / "s" / "runs" / "schedule")
+    assert Schedule.last(shells, values, plan.rates) is None
